@@ -1,0 +1,19 @@
+-- When a call may answer that the outside failed.
+use Rattle.std.specs.Prelude.{ℕ, Bool, ◌+◌, ◌-◌, ◌^◌, ◌≤◌, min, Result, OnErr, if◌then◌else◌}
+
+-- one more, but no more than the last value of u64
+abbrev pub one_more : ℕ → ℕ
+one_more count = min (count + 1) (2 ^ 64 - 1)
+
+-- a count of faults rose, or stands at the last value of u64, where no count can rise
+abbrev pub Rose : ℕ → ℕ → Type 0
+Rose before now = one_more before ≤ now
+
+-- the count of faults never falls, and the call failed only where it rose
+pub record HasCause {T E : Type 0} (before now : ℕ) (result : Result T E) : Type 0 where
+  pub later : before ≤ now
+  pub failed : OnErr result (Rose before now)
+
+-- the count after a call that failed, or did not
+abbrev pub counted : Bool → ℕ → ℕ
+counted failed count = if failed then one_more count else count
