@@ -1,0 +1,12 @@
+//! Texts: names, whole numbers and lines, as they are read and written. Nothing here takes memory.
+#![tactic(auto)]
+
+mod laws;
+mod line;
+mod name;
+mod number;
+
+pub use laws::{fractions_read_back, numbers_and_names_read_back, words_read_back};
+pub use line::{LINE_ROOM, Line};
+pub use name::{Name, name_of};
+pub use number::{NumberFault, read_whole};

@@ -1,0 +1,89 @@
+//! Lines that are written: a text of at most 512 bytes in an array, so that writing one takes no memory.
+ghost use Rattle.std.specs.Prelude.{◌≡◌, ◌≤◌, ◌+◌, ◌++◌, [], length, take, decimal};
+
+use itoa::Buffer;
+use std::marker::Model;
+
+/// The most bytes that a line holds.
+pub const LINE_ROOM: usize = 512;
+
+/// A text of at most 512 bytes. Contracts see its bytes.
+#[derive(Drop)]
+pub struct Line {
+    bytes: [u8; LINE_ROOM],
+    len: usize,
+}
+
+impl Model for Line {
+    ghost use Rattle.std.specs.Prelude.{ℕ, List, ◌≡◌, ◌≤◌, take, length};
+
+    ghost Value = { List ℕ };
+
+    ghost view = { λ line. take line.len line.bytes };
+
+    ghost invariant = { λ line. (length line.bytes ≡ 512) × (line.len ≤ 512) };
+}
+
+// Writes a piece into a buffer from a place on, where it fits.
+fn write_at(buffer: &mut [u8], at: usize, piece: &[u8])
+    requires { at + length piece.now ≤ length buffer.old }
+    ensures { take (at + length piece.now) buffer.new ≡ take at buffer.old ++ piece.now }
+{
+    buffer[at..at + piece.len()].copy_from_slice(piece);
+}
+
+impl Line {
+    /// An empty line.
+    pub fn new() -> Line
+        ensures text { result ≡ [] }
+        ensures length { length result ≡ 0 }
+    {
+        Line {
+            bytes: [0; LINE_ROOM],
+            len: 0,
+        }
+    }
+
+    /// The bytes of the line so far.
+    pub fn bytes(&self) -> &[u8]
+        ensures { result.now ≡ self.now }
+    {
+        let len = self.len;
+        &self.bytes[..len]
+    }
+
+    /// Appends these bytes.
+    pub fn push_bytes(&mut self, bytes: &[u8])
+        requires { length self.old + length bytes.now ≤ 512 }
+        ensures text { self.new ≡ self.old ++ bytes.now }
+        ensures length { length self.new ≡ length self.old + length bytes.now }
+    {
+        write_at(&mut self.bytes, self.len, bytes);
+        self.len += bytes.len();
+    }
+
+    /// Appends a number in decimal digits.
+    pub fn push_whole(&mut self, number: u128)
+        requires { length self.old + length (decimal number) ≤ 512 }
+        ensures text { self.new ≡ self.old ++ decimal number }
+        ensures length { length self.new ≡ length self.old + length (decimal number) }
+    {
+        let mut digits = Buffer::new();
+        self.push_bytes(digits.format(number).as_bytes());
+    }
+}
+
+#[cfg(test)]
+mod tests {
+    use super::*;
+
+    #[test]
+    #[tactic(auto, using(crate::proofs::Decimals::short_decimal))]
+    fn a_line_is_its_pieces(rt: HostRuntime) {
+        let mut line = Line::new();
+        line.push_bytes(b"ok ");
+        line.push_whole(1_000_000_000_000);
+        line.push_bytes(b"\n");
+        assert_eq!(rt; line.bytes(), b"ok 1000000000000\n".as_slice());
+    }
+}
