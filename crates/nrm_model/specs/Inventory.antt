@@ -1,0 +1,36 @@
+-- What bookings draw on: the seats of each leg, and the fare and the legs of each product.
+use Rattle.std.specs.Prelude.{ℕ, Bool, ◌==◌, List, [], length, map, filter, slice_get, slice_index, unwrap_or}
+use Rattle.std.specs.List.{list_any, range_with_len}
+use Rattle.nrm_model.specs.declared.leg.Leg.{Leg}
+use Rattle.nrm_model.specs.declared.product.Product.{Product}
+use Rattle.nrm_model.specs.Network.{NetworkValue}
+
+pub record Inventory : Type 0 where
+  pub seats : List ℕ
+  pub fares : List ℕ
+  pub legs : List (List ℕ)
+
+-- that of a network
+abbrev pub inventory_of : NetworkValue → Inventory
+inventory_of net = record {
+  seats = map (λ (leg : Leg). leg.seats) net.legs;
+  fares = map (λ (product : Product). product.fare) net.products;
+  legs = map (λ (product : Product). product.legs) net.products;
+}
+
+-- the seats of a leg, the fare of a product and its legs, by number; past the last one there are none
+abbrev pub seats_of : Inventory → ℕ → ℕ
+seats_of inventory i = slice_index inventory.seats i
+
+abbrev pub fare_of : Inventory → ℕ → ℕ
+fare_of inventory j = slice_index inventory.fares j
+
+abbrev pub legs_of : Inventory → ℕ → List ℕ
+legs_of inventory j = unwrap_or (slice_get inventory.legs j) []
+
+-- whether a product uses a leg, and the products that do, in file order
+abbrev pub uses_leg : Inventory → ℕ → ℕ → Bool
+uses_leg inventory i j = list_any (λ leg. leg == i) (legs_of inventory j)
+
+abbrev pub products_on : Inventory → ℕ → List ℕ
+products_on inventory i = filter (uses_leg inventory i) (range_with_len 0 (length inventory.legs))

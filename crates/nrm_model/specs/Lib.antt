@@ -1,0 +1,5 @@
+pub mod Demand
+pub mod Inventory
+pub mod Limits
+pub mod Network
+pub mod Tables

@@ -1,0 +1,37 @@
+-- A network of flight legs, the products that are sold on it, and the demand that earlier seasons saw.
+use Rattle.std.specs.Prelude.{ℕ, List, [], ◌∷◌, Option, slice_get, unwrap_or, map, bytes_eq, min}
+use Rattle.std.specs.List.{position_from}
+use Rattle.nrm_model.specs.declared.leg.Leg.{Leg}
+use Rattle.nrm_model.specs.declared.product.Product.{Product}
+
+-- a network: how many histories and periods it has, its legs, its products, and the demand product by product, in each history by history and period by period
+pub record NetworkValue : Type 0 where
+  pub histories : ℕ
+  pub periods : ℕ
+  pub legs : List Leg
+  pub products : List Product
+  pub demand : List ℕ
+
+-- the leg and the product of a number; past the last one they have no name, no seats and no fare
+abbrev pub leg_of : NetworkValue → ℕ → Leg
+leg_of net i = unwrap_or (slice_get net.legs i) (record { name = []; seats = 0; cuts = [] })
+
+abbrev pub product_of : NetworkValue → ℕ → Product
+product_of net j = unwrap_or (slice_get net.products j) (record { name = []; fare = 0; legs = [] })
+
+-- the number of the leg, or of the product, that has the name, if one has it
+abbrev pub leg_named : NetworkValue → List ℕ → Option ℕ
+leg_named net name = position_from (λ leg. bytes_eq leg.name name) 0 net.legs
+
+abbrev pub product_named : NetworkValue → List ℕ → Option ℕ
+product_named net name = position_from (λ product. bytes_eq product.name name) 0 net.products
+
+-- the least of these numbers, and 0 of none
+abbrev pub least_of : List ℕ → ℕ
+least_of [] = 0
+least_of (x ∷ []) = x
+least_of (x ∷ y ∷ more) = min x (least_of (y ∷ more))
+
+-- the least seats among a product's legs
+abbrev pub least_seats_of : NetworkValue → ℕ → ℕ
+least_seats_of net j = least_of (map (λ i. (leg_of net i).seats) (product_of net j).legs)

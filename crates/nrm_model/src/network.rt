@@ -1,0 +1,236 @@
+//! The network: legs and products in file order, tables of their names, and the demand of each product in each
+//! history and period, in one list. The tables hold the names in the order of the legs and the products.
+ghost use Rattle.std.specs.Prelude.{◌≡◌, ◌≢◌, ◌+◌, ◌<◌, ◌≤◌, ◌^◌, All, AllPairs, IfOk, IfSome, length, map, min, slice_get, sum, Some};
+ghost use Rattle.std.specs.Int.{IsInRange};
+
+use crate::{Leg, NameTable, Product};
+use nrm_text::Name;
+use std::alloc::{AllocError, Global};
+use std::marker::Model;
+
+/// A network within the limits: 1 to 64 legs and 1 to 256 products with distinct names, 1 to 32 histories of
+/// 1 to 16 periods, and at most 999 requested seats of a product in a history.
+#[derive(Drop)]
+pub struct Network {
+    histories: u8,
+    periods: u8,
+    legs: Vec<Leg>,
+    products: Vec<Product>,
+    demand: Vec<u16>,
+    leg_names: NameTable,
+    product_names: NameTable,
+}
+
+impl Model for Network {
+    ghost use Rattle.nrm_model.specs.Network.{NetworkValue};
+    ghost use Rattle.nrm_model.specs.Limits.{IsNetwork};
+    ghost use Rattle.nrm_model.specs.Tables.{NamesInOrder};
+
+    ghost Value = { NetworkValue };
+
+    ghost view = { λ n. record { histories = n.histories; periods = n.periods; legs = n.legs.items; products = n.products.items; demand = n.demand.items } };
+
+    ghost invariant = { λ n. NamesInOrder (record { histories = n.histories; periods = n.periods; legs = n.legs.items; products = n.products.items; demand = n.demand.items }) n.leg_names n.product_names };
+}
+
+impl Network {
+    ghost use Rattle.std.specs.List.{position_from};
+    ghost use Rattle.nrm_model.specs.Limits.{IsLeg, IsNetwork, IsProduct};
+    ghost use Rattle.nrm_model.specs.Network.{leg_named, least_seats_of, product_named};
+    ghost use Rattle.nrm_model.specs.Demand.{demand_in, demand_row, demand_to_come, total_to_come};
+
+    /// The network of these parts. `demand` is in seats, product by product, history by history, period by period.
+    ///
+    /// # Errors
+    /// Want of memory for the tables of names.
+    pub fn new(
+        alloc: Global,
+        histories: u8,
+        periods: u8,
+        legs: Vec<Leg>,
+        products: Vec<Product>,
+        demand: Vec<u16>,
+    ) -> Result<Network, AllocError>
+        requires { IsNetwork (record { histories = histories; periods = periods; legs = legs.items; products = products.items; demand = demand.items }) }
+        ensures { IfOk result (λ net. net ≡ record { histories = histories; periods = periods; legs = legs.items; products = products.items; demand = demand.items }) }
+    {
+        let leg_names = names_of_legs(alloc, &legs)?;
+        let product_names = names_of_products(alloc, &products)?;
+        Ok(Network {
+            histories,
+            periods,
+            legs,
+            products,
+            demand,
+            leg_names,
+            product_names,
+        })
+    }
+
+    /// How many histories there are: 1 to 32.
+    pub fn n(&self) -> u8
+        ensures histories { result ≡ self.now.histories }
+        ensures limits { IsNetwork self.now }
+    {
+        self.histories
+    }
+
+    /// How many periods each history has: 1 to 16.
+    pub fn t(&self) -> u8
+        ensures { result ≡ self.now.periods }
+    {
+        self.periods
+    }
+
+    /// How many legs there are: 1 to 64.
+    pub fn leg_count(&self) -> usize
+        ensures count { result ≡ length self.now.legs }
+        ensures within { IsInRange 1 64 result }
+    {
+        self.legs.len()
+    }
+
+    /// How many products there are: 1 to 256.
+    pub fn product_count(&self) -> usize
+        ensures count { result ≡ length self.now.products }
+        ensures within { IsInRange 1 256 result }
+    {
+        self.products.len()
+    }
+
+    /// A leg by its number.
+    pub fn leg_at(&self, i: u8) -> &Leg
+        requires { i < length self.now.legs }
+        ensures leg { Some result.now ≡ slice_get self.now.legs i }
+        ensures limits { IsLeg result.now }
+    {
+        &self.legs[i as usize]
+    }
+
+    /// A product by its number.
+    pub fn product_at(&self, j: u16) -> &Product
+        requires { j < length self.now.products }
+        ensures product { Some result.now ≡ slice_get self.now.products j }
+        ensures limits { IsProduct (length self.now.legs) result.now }
+    {
+        &self.products[j as usize]
+    }
+
+    /// The number of the product of this name. `None` exactly where no product has it.
+    pub fn find_product(&self, name: &Name) -> Option<u16>
+        ensures number { result ≡ product_named self.now name.now }
+        ensures within { IfSome result (λ j. j < length self.now.products) }
+    {
+        match self.product_names.number_of(name) {
+            Some(j) => Some(j as u16),
+            None => None,
+        }
+    }
+
+    /// The number of the leg of this name. `None` exactly where no leg has it.
+    pub fn find_leg(&self, name: &Name) -> Option<u8>
+        ensures number { result ≡ leg_named self.now name.now }
+        ensures within { IfSome result (λ i. i < length self.now.legs) }
+    {
+        match self.leg_names.number_of(name) {
+            Some(i) => Some(i as u8),
+            None => None,
+        }
+    }
+
+    /// The seats requested of a product in a history (counted from 0) and a period (counted from 1).
+    pub fn demand(&self, j: u16, h: u8, t: u8) -> u16
+        requires product { j < length self.now.products }
+        requires history { h < self.now.histories }
+        requires period { IsInRange 1 self.now.periods t }
+        ensures { result ≡ demand_in self.now j h t }
+    {
+        self.row(j, h)[t as usize - 1]
+    }
+
+    /// The demand to come of a product in a history (counted from 0): the seats requested from period `k` on.
+    pub fn to_come(&self, j: u16, h: u8, k: u8) -> u32
+        requires product { j < length self.now.products }
+        requires history { h < self.now.histories }
+        requires period { IsInRange 1 self.now.periods k }
+        ensures seats { result ≡ demand_to_come self.now j h k }
+        ensures within { result ≤ 999 }
+    {
+        sum_of(&self.row(j, h)[k as usize - 1..])
+    }
+
+    /// The demand to come of a product over all histories.
+    pub fn total(&self, j: u16, k: u8) -> u32
+        requires product { j < length self.now.products }
+        requires period { IsInRange 1 self.now.periods k }
+        ensures seats { result ≡ total_to_come self.now j k }
+        ensures within { result ≤ 31968 }
+    {
+        let mut total = 0;
+        for h in 0..self.histories {
+            total += self.to_come(j, h, k);
+        }
+        total
+    }
+
+    /// The least seats among a product's legs.
+    pub fn least_seats(&self, j: u16) -> u16
+        requires { j < length self.now.products }
+        ensures seats { result ≡ least_seats_of self.now j }
+        ensures within { result ≤ 999 }
+    {
+        let mut least = u16::MAX;
+        for i in self.products[j as usize].legs.as_slice() {
+            least = least.min(self.legs[*i as usize].seats);
+        }
+        least
+    }
+
+    // The demand of a product in a history, period by period.
+    fn row(&self, j: u16, h: u8) -> &[u16]
+        requires product { j < length self.now.products }
+        requires history { h < self.now.histories }
+        ensures row { result.now ≡ demand_row self.now j h }
+        ensures periods { length result.now ≡ self.now.periods }
+        ensures within { sum result.now ≤ 999 }
+    {
+        let from = (j as usize * self.histories as usize + h as usize) * self.periods as usize;
+        &self.demand[from..from + self.periods as usize]
+    }
+}
+
+// The sum of a few demands.
+fn sum_of(demands: &[u16]) -> u32
+    requires { sum demands.now ≤ 999 }
+    ensures { result ≡ sum demands.now }
+{
+    let mut sum = 0;
+    for demand in demands {
+        sum += u32::from(*demand);
+    }
+    sum
+}
+
+// The table of the legs' names, in their order.
+fn names_of_legs(alloc: Global, legs: &[Leg]) -> Result<NameTable, AllocError>
+    requires { AllPairs (λ a b. a ≢ b) (map (λ leg. leg.name) legs.now) }
+    ensures { IfOk result (λ names. names ≡ map (λ leg. leg.name) legs.now) }
+{
+    let mut names = NameTable::new(alloc);
+    for leg in legs {
+        names.add(leg.name)?;
+    }
+    Ok(names)
+}
+
+// The table of the products' names, in their order.
+fn names_of_products(alloc: Global, products: &[Product]) -> Result<NameTable, AllocError>
+    requires { AllPairs (λ a b. a ≢ b) (map (λ product. product.name) products.now) }
+    ensures { IfOk result (λ names. names ≡ map (λ product. product.name) products.now) }
+{
+    let mut names = NameTable::new(alloc);
+    for product in products {
+        names.add(product.name)?;
+    }
+    Ok(names)
+}

@@ -1,0 +1,43 @@
+//! What is sold.
+ghost use Rattle.std.specs.Prelude.{◌≡◌};
+
+use nrm_text::Name;
+use std::marker::Model;
+
+/// The numbers of a product's legs, in its own order. Contracts see a list.
+#[derive(Drop)]
+pub struct LegNumbers {
+    numbers: Vec<u8>,
+}
+
+impl Model for LegNumbers {
+    ghost use Rattle.std.specs.Prelude.{ℕ, List};
+
+    ghost Value = { List ℕ };
+
+    ghost view = { λ l. l.numbers.items };
+}
+
+impl LegNumbers {
+    /// The leg numbers in this list.
+    pub fn new(numbers: Vec<u8>) -> LegNumbers
+        ensures { result ≡ numbers.items }
+    {
+        LegNumbers { numbers }
+    }
+
+    /// The leg numbers, in the product's own order.
+    pub fn as_slice(&self) -> &[u8]
+        ensures { result.now ≡ self.now }
+    {
+        self.numbers.as_slice()
+    }
+}
+
+/// What is sold: its name, its fare (1 to 99,999,999 whole currency units) and its legs (1 to 4).
+#[derive(Drop)]
+pub struct Product {
+    pub name: Name,
+    pub fare: u32,
+    pub legs: LegNumbers,
+}
