@@ -1,0 +1,5 @@
+use Rattle.nrm_network.proofs.ReadNetwork.{read-is-network}
+use Rattle.nrm_network.proofs.laws.read_is_network.Goals as goal
+
+pub returns : goal.returns
+returns c = read-is-network

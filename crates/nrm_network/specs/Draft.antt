@@ -1,0 +1,73 @@
+-- The draft of a network, and the rows that it stands for.
+use Rattle.std.specs.Prelude.{ℕ, ◌≡◌, ◌+◌, ◌*◌, Bool, true, false, List, take, drop, slice_set, [], ◌∷◌, ◌++◌, length, map, find, replicate, flat_map, Option, None, Some, Result, Ok, Err, ⊤, All}
+use Rattle.std.specs.List.{list_any, range_with_len}
+use Rattle.std.specs.Option.{option_map_or}
+use Rattle.nrm_network.specs.Rows.{field, leg_rows, product_rows, demand_rows, histories_in, periods_in, is_named, further_numbers, gives_demand}
+use Rattle.nrm_network.specs.Checks.{why_refused}
+use Rattle.nrm_network.specs.File.{leg_in, product_in}
+use Rattle.nrm_network.specs.declared.fault.Why.{Why}
+use Rattle.nrm_network.specs.declared.fault.RowFault.{RowFault}
+use Rattle.nrm_network.specs.declared.fault.RowFault.TheVariants as fault
+use Rattle.nrm_model.specs.declared.leg.Leg.{Leg}
+use Rattle.nrm_model.specs.declared.product.Product.{Product}
+use Rattle.nrm_network.specs.declared.draft.Draft.{Draft}
+
+-- a cause refuses none of these rows, each against those before it
+abbrev pub Accepts : (List (List (List ℕ)) → List (List ℕ) → Option Why) → List (List (List ℕ)) → List (List (List ℕ)) → Type 0
+Accepts cause before [] = ⊤
+Accepts cause before (row ∷ rest) = (cause before row ≡ None) × Accepts cause (before ++ row ∷ []) rest
+
+-- the second fields of rows
+abbrev pub names_of : List (List (List ℕ)) → List (List ℕ)
+names_of rows = map (λ row. field row 1) rows
+
+-- the demand of products in each history and period by these demand rows, 0 where none gives it, and whether one gives it
+abbrev pub demand_by : ℕ → ℕ → List (List (List ℕ)) → List (List (List ℕ)) → List ℕ
+demand_by histories periods demands products =
+    flat_map (λ product. flat_map (λ history. option_map_or further_numbers (find (gives_demand (field product 1) history) demands) (replicate periods 0)) (range_with_len 1 histories)) products
+
+abbrev pub given_by : ℕ → List (List (List ℕ)) → List (List (List ℕ)) → List Bool
+given_by histories demands products =
+    flat_map (λ product. flat_map (λ history. list_any (gives_demand (field product 1) history) demands ∷ []) (range_with_len 1 histories)) products
+
+-- each of these rows gives the demand of one of the products
+abbrev pub NameProducts : List (List (List ℕ)) → List (List (List ℕ)) → Type 0
+NameProducts products demands = All (λ row. is_named products (field row 1) ≡ true) demands
+
+-- a draft stands for rows that were all taken
+pub record Stands (draft : Draft) (taken : List (List (List ℕ))) : Type 0 where
+  pub accepted : Accepts why_refused [] taken
+  pub histories : draft.histories ≡ histories_in taken
+  pub periods : draft.periods ≡ periods_in taken
+  pub legs : draft.legs.items ≡ map leg_in (leg_rows taken)
+  pub leg_names : draft.leg_names ≡ names_of (leg_rows taken)
+  pub products : draft.products.items ≡ map (product_in (leg_rows taken)) (product_rows taken)
+  pub product_names : draft.product_names ≡ names_of (product_rows taken)
+  pub named : NameProducts (product_rows taken) (demand_rows taken)
+  pub demand : draft.demand.items ≡ demand_by (histories_in taken) (periods_in taken) (demand_rows taken) (product_rows taken)
+  pub given : draft.given.items ≡ given_by (histories_in taken) (demand_rows taken) (product_rows taken)
+
+-- what a row does to a draft: it is refused as the checks say, or the draft then stands for it too; want of memory is free
+abbrev pub TakesRow : Draft → List (List (List ℕ)) → List (List ℕ) → Result Unit RowFault → Type 0
+TakesRow after taken row (Ok done) = (why_refused taken row ≡ None) × Stands after (taken ++ row ∷ [])
+TakesRow after taken row (Err (fault.Refused why)) = why_refused taken row ≡ Some why
+TakesRow after taken row (Err fault.NoMemory) = ⊤
+
+-- one leg more, after the others, and all else as it was
+abbrev pub AddsLeg : Draft → Draft → Leg → Type 0
+AddsLeg before after leg =
+    (after.legs.items ≡ before.legs.items ++ leg ∷ []) × (after.leg_names ≡ before.leg_names ++ leg.name ∷ []) × (after ≡ record before { legs = after.legs; leg_names = after.leg_names })
+
+-- one product more, with no demand, and all else as it was
+abbrev pub AddsProduct : Draft → Draft → Product → Type 0
+AddsProduct before after product =
+    (after.products.items ≡ before.products.items ++ product ∷ []) × (after.product_names ≡ before.product_names ++ product.name ∷ [])
+    × (after.demand.items ≡ before.demand.items ++ replicate (before.histories * before.periods) 0) × (after.given.items ≡ before.given.items ++ replicate before.histories false)
+    × (after ≡ record before { products = after.products; product_names = after.product_names; demand = after.demand; given = after.given })
+
+-- the demand of one cell, a product in a history, and all else as it was
+abbrev pub SetsDemand : Draft → Draft → ℕ → List ℕ → Type 0
+SetsDemand before after cell seats =
+    (after.demand.items ≡ take (cell * before.periods) before.demand.items ++ (seats ++ drop (cell * before.periods + length seats) before.demand.items))
+    × (after.given.items ≡ slice_set before.given.items cell true)
+    × (after ≡ record before { demand = after.demand; given = after.given })

@@ -1,0 +1,10 @@
+pub mod Answer
+pub mod Canonical
+pub mod Checks
+pub mod Draft
+pub mod Faults
+pub mod File
+pub mod RowText
+pub mod Rows
+pub mod Shape
+pub mod Valid

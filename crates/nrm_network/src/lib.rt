@@ -1,0 +1,17 @@
+//! The network file.
+#![tactic(auto)]
+
+mod draft;
+mod fault;
+mod laws;
+mod reading;
+mod row;
+mod shape;
+#[cfg(test)]
+mod tests;
+mod writing;
+
+pub use fault::{NetFault, Why};
+pub use laws::{printed_is_read, read_is_network};
+pub use reading::parse;
+pub use writing::print;

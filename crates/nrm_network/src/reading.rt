@@ -1,0 +1,56 @@
+//! A network file is read row by row: a draft takes each row as it comes, and no row is kept.
+ghost use Rattle.std.specs.Prelude.{◌≤◌, length};
+ghost use Rattle.nrm_network.specs.Answer.{AnswersFile};
+ghost use Rattle.nrm_network.specs.Checks.{why_refused};
+ghost use Rattle.nrm_network.specs.File.{file_of, network_or_refusal};
+ghost use Rattle.nrm_network.specs.Rows.{rows_of};
+ghost use Rattle.nrm_network.specs.declared.fault.Why.TheVariants as why;
+
+use crate::draft::Draft;
+use crate::fault::{NetFault, Why};
+use csv::ReaderBuilder;
+use nrm_model::Network;
+use std::alloc::Global;
+
+// How many bytes a file may have.
+const MOST_BYTES: usize = 4_194_304;
+
+// The network that the rows of a file give.
+fn read_rows(alloc: Global, bytes: &[u8]) -> Result<Network, NetFault>
+    requires { length bytes.now ≤ 4194304 }
+    ensures { AnswersFile result (network_or_refusal why_refused why.Empty (rows_of bytes.now)) }
+{
+    let rdr = ReaderBuilder::new()
+        .has_headers(false)
+        .flexible(true)
+        .from_reader(alloc, bytes);
+    let mut draft = Draft::new(alloc);
+    let mut taken = 0;
+    for row in rdr.into_byte_records() {
+        let Ok(row) = row else {
+            return Err(NetFault::NoMemory);
+        };
+        if let Err(fault) = draft.take(alloc, &row) {
+            return Err(fault.at(taken + 1));
+        }
+        taken += 1;
+    }
+    draft.finish(alloc, taken)
+}
+
+/// The network that a file gives. Rows count from 1.
+///
+/// # Errors
+/// The row that the file is refused at, and why: row 0 where the file is longer than 4,194,304 bytes, the place after
+/// the last row where there is no leg or no product. Or want of memory.
+pub fn parse(alloc: Global, bytes: &[u8]) -> Result<Network, NetFault>
+    ensures { AnswersFile result (file_of bytes.now) }
+{
+    if bytes.len() > MOST_BYTES {
+        return Err(NetFault::Refused {
+            row: 0,
+            why: Why::Size,
+        });
+    }
+    read_rows(alloc, bytes)
+}

@@ -1,0 +1,73 @@
+//! Files that are read, printed and refused.
+use crate::{NetFault, Why, parse, print};
+use std::alloc::{AllocError, Global};
+use std::test::Fail;
+
+#[test]
+fn what_is_read_is_printed(rt: HostRuntime) -> Result<(), Fail> {
+    let net = parse(
+        rt.alloc(),
+        b"periods,2,2\r\nleg,\"AB\",9\r\nproduct,P,100,AB\r\ndemand,P,2,1,0\r\ndemand,P,1,0,0\r\n",
+    )?;
+    let file = print(rt.alloc(), &net)?;
+    assert_eq!(rt;
+        file.as_slice(),
+        b"periods,2,2\nleg,AB,9\nproduct,P,100,AB\ndemand,P,2,1,0\n".as_slice()
+    );
+    Ok(())
+}
+
+// The row at which a file is refused, and why.
+fn refusal(alloc: Global, file: &[u8]) -> Option<(u32, Why)> {
+    match parse(alloc, file) {
+        Err(NetFault::Refused { row, why }) => Some((row, why)),
+        Ok(_) | Err(NetFault::NoMemory) => None,
+    }
+}
+
+#[test]
+fn each_cause_is_told_at_its_row(rt: HostRuntime) {
+    for (file, row, why) in [
+        ("periods,1,1\nfare,AB\n", 2, Why::Kind),
+        ("leg,AB,10\n", 1, Why::Order),
+        ("periods,1,1\nleg,AB,9\nperiods,1,1\n", 3, Why::Order),
+        ("periods,1\n", 1, Why::Fields),
+        ("periods,1,1\nleg,ab,010\n", 2, Why::Name),
+        ("periods,1,1\nleg,AB,010\n", 2, Why::Number),
+        ("periods,1,1\nleg,AB,1000\n", 2, Why::Range),
+        ("periods,1,1\nleg,AB,9\nleg,AB,9\n", 3, Why::Twice),
+        ("periods,1,1\nleg,AB,9\nproduct,P,5,AB,AB\n", 3, Why::Twice),
+        ("periods,1,1\nleg,AB,9\nproduct,P,5,BC\n", 3, Why::Missing),
+        ("periods,1,1\nleg,AB,9,100,100\n", 2, Why::Thresholds),
+        (
+            "periods,1,2\nleg,AB,9\nproduct,P,5,AB\ndemand,P,1,500,500\n",
+            4,
+            Why::Sum,
+        ),
+        ("periods,1,1\n", 2, Why::Empty),
+        ("", 1, Why::Empty),
+    ] {
+        assert_eq!(rt;
+            refusal(rt.alloc(), file.as_bytes()),
+            Some((row, why)),
+            "at {file:?}"
+        );
+    }
+}
+
+fn many_legs(alloc: Global) -> Result<String, AllocError> {
+    let mut file = String::from_str(alloc, "periods,1,1\n")?;
+    for i in 1..=65 {
+        write!(file, "leg,L{i:02},1\n")?;
+    }
+    Ok(file)
+}
+
+#[test]
+fn files_are_bounded(rt: HostRuntime) -> Result<(), Fail> {
+    let file = many_legs(rt.alloc())?;
+    assert_eq!(rt; refusal(rt.alloc(), file.as_bytes()), Some((66, Why::Many)));
+    let file = vec![in rt.alloc(); b'\n'; 4_194_305]?;
+    assert_eq!(rt; refusal(rt.alloc(), file.as_slice()), Some((0, Why::Size)));
+    Ok(())
+}
