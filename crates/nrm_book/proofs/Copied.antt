@@ -1,0 +1,59 @@
+-- What is copied out of a network, place by place, and the empty book of it.
+use Rattle.std.proofs.Common.{ℕ, ◌≡◌, ◌∙◌, ◌+◌, ◌<◌, ◌≤◌, All, List, [], ◌∷◌, ◌++◌, length, get_or, map, take, slice_get, Some, sym, ap, subst, arith}
+use Rattle.std.proofs.lemmas.List.{length-map, map-append, take_more}
+use Rattle.std.proofs.lemmas.List.Elements.{All-map}
+use Rattle.std.proofs.lemmas.Option.{get_or_from_slice_get}
+use Rattle.nrm_model.specs.declared.leg.Leg.{Leg}
+use Rattle.nrm_model.specs.declared.product.Product.{Product}
+use Rattle.nrm_model.specs.Network.{NetworkValue}
+use Rattle.nrm_model.specs.Limits.{IsNetwork}
+use Rattle.nrm_model.specs.Inventory.{Inventory, inventory_of}
+use Rattle.nrm_book.specs.declared.booking.Booking.{Booking}
+use Rattle.nrm_book.specs.Book.{BookValue, IsBook, IsInventory}
+use Rattle.nrm_book.proofs.Sold.{sold_on-by_booking}
+
+-- one more element
+pub map-more : {X Y : Type 0} (f : X → Y) (xs : List X) (i : ℕ) (x : X) → i < length xs → Some x ≡ slice_get xs i → map f (take i xs) ++ f x ∷ [] ≡ map f (take (i + 1) xs)
+map-more f xs i x short read =
+    let is : get_or xs i x ≡ x = get_or_from_slice_get xs i x x (sym read) in
+    let more = take_more xs i x short in
+    sym (ap (map f) more ∙ map-append f (take i xs) (get_or xs i x ∷ []) ∙ ap (λ y. map f (take i xs) ++ f y ∷ []) is)
+
+-- the inventory of a network is within its limits
+pub IsInventory-of : (net : NetworkValue) → IsNetwork net → IsInventory (inventory_of net)
+IsInventory-of net is =
+    let seats = length-map net.legs (λ (leg : Leg). leg.seats) in
+    let fares = length-map net.products (λ (product : Product). product.fare) in
+    let legs = length-map net.products (λ (product : Product). product.legs) in
+    record {
+      leg_count = omega (arith, is.leg_count);
+      seats = All-map (λ seats. seats ≤ 999) (λ (leg : Leg). leg.seats) net.legs (λ k d short. (is.legs k d short).seats);
+      product_count = omega (arith, is.product_count);
+      fare_count = fares ∙ sym legs;
+      fares = All-map (λ fare. fare ≤ 99999999) (λ (product : Product). product.fare) net.products (λ k d short. (is.products k d short).fare.1);
+      some_leg = All-map (λ (legs : List ℕ). 1 ≤ length legs) (λ (product : Product). product.legs) net.products (λ k d short. (is.products k d short).leg_count.0);
+      legs = All-map (λ (numbers : List ℕ). All (λ i. i < length (inventory_of net).seats) numbers) (λ (product : Product). product.legs) net.products
+          (λ k d short. subst (λ n. All (λ i. i < n) (get_or net.products k d).legs) (sym seats) (is.products k d short).legs);
+    }
+
+-- an empty book
+pub IsBook-empty : (inventory : Inventory) → IsInventory inventory → IsBook (record { inventory = inventory; bookings = []; next = 1 })
+IsBook-empty inventory is = record {
+  inventory = is;
+  next = omega arith;
+  rising = λ i j d low short. absurd (omega arith);
+  numbers = λ k d short. absurd (omega arith);
+  parties = λ k d short. absurd (omega arith);
+  products = λ k d short. absurd (omega arith);
+  seats = λ i short.
+      let none = sold_on-by_booking inventory i [] (λ k d short. absurd (omega arith)) in
+      omega arith;
+}
+
+-- that of the parts that were copied out of a network
+pub IsBook-of : (net : NetworkValue) (seats fares : List ℕ) (legs : List (List ℕ)) (bookings : List Booking) → IsNetwork net → seats ≡ (inventory_of net).seats → fares ≡ (inventory_of net).fares → legs ≡ (inventory_of net).legs → bookings ≡ []
+    → IsBook (record { inventory = record { seats = seats; fares = fares; legs = legs }; bookings = bookings; next = 1 })
+IsBook-of net seats fares legs bookings is seats_are fares_are legs_are none =
+    let same : ◌≡◌ {A = BookValue} (record { inventory = inventory_of net; bookings = []; next = 1 }) (record { inventory = record { seats = seats; fares = fares; legs = legs }; bookings = bookings; next = 1 }) =
+    λ k. record { inventory = record { seats = sym seats_are k; fares = sym fares_are k; legs = sym legs_are k }; bookings = sym none k; next = 1 } in
+    subst IsBook same (IsBook-empty (inventory_of net) (IsInventory-of net is))

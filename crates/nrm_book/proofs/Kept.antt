@@ -1,0 +1,152 @@
+-- What a sale and a cancellation keep.
+use Rattle.std.proofs.Common.{ℕ, ◌≡◌, ◌∙◌, ◌+◌, ◌<◌, ◌≤◌, All, Bool, true, false, not, cond, eqb, List, [], ◌∷◌, ◌++◌, length, get_or, filter, sum, Some, None, inl, inr, refl, sym, ap, subst, suc, zero, ◌-◌, ◌==◌, nat_lt, arith, length-append}
+use Rattle.std.specs.Int.{IsInRange}
+use Rattle.std.specs.List.{position, position_or_len, remove, slice_get}
+use Rattle.std.proofs.lemmas.Bool.{cases_Bool, eqb-true}
+use Rattle.std.proofs.lemmas.Bool.Decides.{nat_tests}
+use Rattle.std.proofs.lemmas.List.Elements.{All-filter, All-head, All-push, All-tail}
+use Rattle.std.proofs.lemmas.List.Filters.{sum_by-filter_both}
+use Rattle.std.proofs.lemmas.List.Folds.{Any-from_list_any, find_at}
+use Rattle.std.proofs.lemmas.List.Kept.{AllPairs-filter}
+use Rattle.std.proofs.lemmas.List.Quantifiers.{all_pairs_push, position-Some}
+use Rattle.std.proofs.lemmas.List.Sums.{fails_before_first}
+use Rattle.std.proofs.lemmas.Option.{cond_some, none-some, slice_get_past, slice_get_read}
+use Rattle.nrm_model.specs.Inventory.{Inventory, seats_of, legs_of, uses_leg}
+use Rattle.nrm_book.specs.declared.booking.Booking.{Booking}
+use Rattle.nrm_book.specs.Bookings.{NumbersRise, booking_numbered, left_on, sold_on, without}
+use Rattle.nrm_book.specs.Book.{BookValue, IsBook, with_booking}
+use Rattle.nrm_book.proofs.Sold.{no_booking, AreProducts, taken_on, sold_on-by_booking, sold_on-push, count-le-seats}
+
+-- a leg that the product uses is one of its legs, so the seats left there are as many
+covers : (inventory : Inventory) (product i : ℕ) (P : ℕ → Type 0) → All P (legs_of inventory product) → uses_leg inventory i product ≡ true → P i
+covers inventory product i P all uses =
+    let (k, leg, short, at, test) = Any-from_list_any (λ leg. eqb leg i) (legs_of inventory product) uses in
+    let same : leg ≡ i = eqb-true leg i test in
+    subst P (at ∙ same) (all k leg short)
+
+pub seats-added : (inventory : Inventory) (bookings : List Booking) (b : Booking) (i : ℕ) → AreProducts inventory bookings → b.product < length inventory.legs
+    → All (λ i. b.party ≤ left_on inventory bookings i) (legs_of inventory b.product) → sold_on inventory bookings i ≤ seats_of inventory i → sold_on inventory (bookings ++ b ∷ []) i ≤ seats_of inventory i
+seats-added inventory bookings b i are short fits within =
+    let more = sold_on-push inventory i bookings b are short in
+    elim (cases_Bool (uses_leg inventory i b.product)) [
+      | inl uses ↦
+          let left : b.party ≤ seats_of inventory i - sold_on inventory bookings i = covers inventory b.product i (λ i. b.party ≤ left_on inventory bookings i) fits uses in
+          let taken : taken_on inventory i b ≡ b.party = rw uses refl in
+          omega arith
+      | inr apart ↦
+          let taken : taken_on inventory i b ≡ 0 = rw apart refl in
+          omega arith
+    ]
+
+-- with a party that is no larger than the seats left on each leg of its product
+pub IsBook-added : (book : BookValue) (product party : ℕ) → IsBook book → product < length book.inventory.legs → IsInRange 1 999 party → All (λ i. party ≤ left_on book.inventory book.bookings i) (legs_of book.inventory product) → book.next < 1000000000000 → IsBook (with_booking book product party)
+IsBook-added book product party is short sized fits low = record {
+  inventory = is.inventory;
+  next = omega (arith, is.next);
+  rising = all_pairs_push (λ (earlier later : Booking). earlier.number < later.number) book.bookings (record { number = book.next; product = product; party = party }) is.rising
+      (λ k d at. (is.numbers k d at).1);
+  numbers = All-push (λ (booking : Booking). (1 ≤ booking.number) × (booking.number < book.next + 1)) book.bookings (record { number = book.next; product = product; party = party })
+      (λ k d at. let old = is.numbers k d at in (old.0, omega (arith, old.1))) (omega (arith, is.next), omega arith);
+  parties = All-push (λ (booking : Booking). IsInRange 1 999 booking.party) book.bookings (record { number = book.next; product = product; party = party }) is.parties sized;
+  products = All-push (λ (booking : Booking). booking.product < length book.inventory.legs) book.bookings (record { number = book.next; product = product; party = party }) is.products short;
+  seats = λ i at. seats-added book.inventory book.bookings (record { number = book.next; product = product; party = party }) i is.products short fits (is.seats i at);
+}
+
+-- without a booking no more is sold
+pub sold_on-without : (inventory : Inventory) (bookings : List Booking) (number i : ℕ) → AreProducts inventory bookings → sold_on inventory (without bookings number) i ≤ sold_on inventory bookings i
+sold_on-without inventory bookings number i are =
+    let before = sold_on-by_booking inventory i bookings are in
+    let after = sold_on-by_booking inventory i (without bookings number) (All-filter (λ (booking : Booking). not (booking.number == number)) (λ (booking : Booking). booking.product < length inventory.legs) bookings are) in
+    let fewer = sum_by-filter_both (λ (booking : Booking). not (booking.number == number)) (λ (booking : Booking). not (not (booking.number == number))) (λ _. refl) (taken_on inventory i) bookings in
+    omega arith
+
+pub IsBook-without : (book : BookValue) (number : ℕ) → IsBook book → IsBook (record book { bookings = without book.bookings number })
+IsBook-without book number is = record {
+  inventory = is.inventory;
+  next = is.next;
+  rising = AllPairs-filter (λ (earlier later : Booking). earlier.number < later.number) (λ (booking : Booking). not (booking.number == number)) book.bookings is.rising;
+  numbers = All-filter (λ (booking : Booking). not (booking.number == number)) (λ (booking : Booking). (1 ≤ booking.number) × (booking.number < book.next)) book.bookings is.numbers;
+  parties = All-filter (λ (booking : Booking). not (booking.number == number)) (λ (booking : Booking). IsInRange 1 999 booking.party) book.bookings is.parties;
+  products = All-filter (λ (booking : Booking). not (booking.number == number)) (λ (booking : Booking). booking.product < length book.inventory.legs) book.bookings is.products;
+  seats = λ i at. omega (arith, sold_on-without book.inventory book.bookings number i is.products, is.seats i at);
+}
+
+-- a filter that each element passes keeps them all
+filter-all : {X : Type 0} (p : X → Bool) (xs : List X) → All (λ x. p x ≡ true) xs → filter p xs ≡ xs
+filter-all p [] all = refl
+filter-all p (x ∷ xs) all =
+    let first : p x ≡ true = All-head (λ x. p x ≡ true) x xs all in
+    rw first (ap (λ ys. x ∷ ys) (filter-all p xs (All-tail (λ x. p x ≡ true) x xs all)))
+
+removed-at : (bookings : List Booking) (k number : ℕ) → NumbersRise bookings → k < length bookings → (get_or bookings k no_booking).number ≡ number → remove bookings k ≡ without bookings number
+removed-at [] k number rise short has = absurd (omega arith)
+removed-at (b ∷ bs) zero number rise short has =
+    let same : (b.number == number) ≡ true = grind (arith, nat_tests) in
+    let others : All (λ (booking : Booking). not (booking.number == number) ≡ true) bs =
+    λ k d at.
+    let more : b.number < (get_or bs k d).number = rise 0 (suc k) d (omega arith) (omega arith) in
+    let other : ((get_or bs k d).number == number) ≡ false = grind (arith, nat_tests) in
+    rw other refl in
+    rw same (sym (filter-all (λ (booking : Booking). not (booking.number == number)) bs others))
+removed-at (b ∷ bs) (suc k) number rise short has =
+    let rest = removed-at bs k number (λ i j d low high. rise (suc i) (suc j) d (omega arith) (omega arith)) (omega arith) has in
+    let less : b.number < (get_or bs k no_booking).number = rise 0 (suc k) no_booking (omega arith) short in
+    let other : (b.number == number) ≡ false = grind (arith, nat_tests) in
+    rw other (ap (λ (ys : List Booking). b ∷ ys) rest)
+
+-- where the numbers rise, only one booking has the number
+pub removed-is : (bookings : List Booking) (k number : ℕ) → NumbersRise bookings → position (λ (booking : Booking). booking.number == number) bookings ≡ Some k → remove bookings k ≡ without bookings number
+removed-is bookings k number rise at =
+    let (short, has, before) = position-Some (λ (booking : Booking). booking.number == number) bookings k no_booking at in
+    removed-at bookings k number rise short (eqb-true _ number has)
+
+none-past : (test : Bool) (place : ℕ) → cond test (Some place) None ≡ None → test ≡ false
+none-past true place none = absurd (none-some place (sym none))
+none-past false place none = refl
+
+-- that of the place
+pub found-is : (bookings : List Booking) (k number : ℕ) (b : Booking) → position (λ (booking : Booking). booking.number == number) bookings ≡ Some k → b ≡ get_or bookings k b → Some b ≡ booking_numbered bookings number
+found-is bookings k number b at read =
+    let (short, has, before) = position-Some (λ (booking : Booking). booking.number == number) bookings k b at in
+    let (test, place) = cond_some (nat_lt (position_or_len (λ (booking : Booking). booking.number == number) bookings) (length bookings)) (position_or_len (λ (booking : Booking). booking.number == number) bookings) k at in
+    sym (find_at (λ (booking : Booking). booking.number == number) bookings ∙ ap (slice_get bookings) place ∙ slice_get_read bookings (length bookings) k b refl short read)
+
+-- none has it
+pub absent-is : (bookings : List Booking) (number : ℕ) → position (λ (booking : Booking). booking.number == number) bookings ≡ None → (None ≡ booking_numbered bookings number) × (bookings ≡ without bookings number)
+absent-is bookings number at =
+    let past = none-past (nat_lt (position_or_len (λ (booking : Booking). booking.number == number) bookings) (length bookings)) (position_or_len (λ (booking : Booking). booking.number == number) bookings) at in
+    let end : length bookings ≤ position_or_len (λ (booking : Booking). booking.number == number) bookings = grind (arith, nat_tests) in
+    let others : All (λ (booking : Booking). not (booking.number == number) ≡ true) bookings =
+    λ k d short.
+    let other = fails_before_first (λ (booking : Booking). booking.number == number) bookings k d (omega arith) in
+    rw other refl in (
+      sym (find_at (λ (booking : Booking). booking.number == number) bookings ∙ slice_get_past bookings (position_or_len (λ (booking : Booking). booking.number == number) bookings) end),
+      sym (filter-all (λ (booking : Booking). not (booking.number == number)) bookings others),
+    )
+
+-- the book after a sale, of the parts that the list's own call tells
+pub IsBook-sold : (book now : BookValue) (product party : ℕ) (bookings : List Booking) → book ≡ now → IsBook book → product < length now.inventory.legs → IsInRange 1 999 party
+    → All (λ i. party ≤ left_on now.inventory now.bookings i) (legs_of now.inventory product) → now.next < 1000000000000 → bookings ≡ book.bookings ++ record { number = book.next; product = product; party = party } ∷ []
+    → IsBook (record { inventory = book.inventory; bookings = bookings; next = book.next + 1 })
+IsBook-sold book now product party bookings same is short sized fits low are =
+    let Sells : BookValue → Type 0 = λ book. (product < length book.inventory.legs) × All (λ i. party ≤ left_on book.inventory book.bookings i) (legs_of book.inventory product) × (book.next < 1000000000000) in
+    let sells : Sells book = subst Sells (sym same) (short, fits, low) in
+    let P : List Booking → Type 0 = λ bookings. IsBook (record { inventory = book.inventory; bookings = bookings; next = book.next + 1 }) in
+    subst P (sym are) (IsBook-added book product party is sells.0 sized sells.1 sells.2)
+
+-- and so there was room for it
+pub room-left : (book now : BookValue) (product party : ℕ) → book ≡ now → IsBook book → product < length now.inventory.legs → IsInRange 1 999 party
+    → All (λ i. party ≤ left_on now.inventory now.bookings i) (legs_of now.inventory product) → now.next < 1000000000000 → length book.bookings < sum book.inventory.seats
+room-left book now product party same is short sized fits low =
+    let b : Booking = record { number = book.next; product = product; party = party } in
+    let after = IsBook-sold book now product party (book.bookings ++ record { number = book.next; product = product; party = party } ∷ []) same is short sized fits low refl in
+    let count = count-le-seats (record { inventory = book.inventory; bookings = book.bookings ++ record { number = book.next; product = product; party = party } ∷ []; next = book.next + 1 }) after in
+    omega (arith, length-append book.bookings (record { number = book.next; product = product; party = party } ∷ []))
+
+-- the book after a cancellation, likewise
+pub IsBook-removed : (book now : BookValue) (number k : ℕ) (bookings : List Booking) → book ≡ now → IsBook book → position (λ (booking : Booking). booking.number == number) now.bookings ≡ Some k → bookings ≡ remove book.bookings k
+    → IsBook (record { inventory = book.inventory; bookings = bookings; next = book.next })
+IsBook-removed book now number k bookings same is at are =
+    let here = subst (λ (book : BookValue). position (λ (booking : Booking). booking.number == number) book.bookings ≡ Some k) (sym same) at in
+    let P : List Booking → Type 0 = λ bookings. IsBook (record { inventory = book.inventory; bookings = bookings; next = book.next }) in
+    subst P (sym (are ∙ removed-is book.bookings k number is.rising here)) (IsBook-without book number is)

@@ -1,0 +1,5 @@
+pub mod Sums
+pub mod Sold
+pub mod Kept
+pub mod Copied
+pub mod Totals

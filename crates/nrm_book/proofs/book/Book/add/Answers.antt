@@ -1,0 +1,15 @@
+use Rattle.std.proofs.Common.{arith}
+use Rattle.nrm_book.proofs.Kept.{IsBook-sold, room-left}
+use Rattle.nrm_book.proofs.book.Book.add.Goals as goal
+
+pub push_reserved-requires : goal.push_reserved-requires
+push_reserved-requires c =
+    let left = room-left _ c.args.self.now c.args.product c.args.party c.self.view_is c.self.invariant.kept c.requires.product c.requires.party c.requires.seats c.requires.next in
+    let room = c.self.invariant.room in
+    omega (arith, c.self.inside.bookings.ok.0)
+
+pub invariant_of-self : goal.invariant_of-self
+invariant_of-self c = record {
+  kept = IsBook-sold _ c.args.self.now c.args.product c.args.party _ c.self.view_is c.self.invariant.kept c.requires.product c.requires.party c.requires.seats c.requires.next c.push_reserved.ensures.items;
+  room = omega (arith, c.self.invariant.room, c.push_reserved.ensures.capacity);
+}

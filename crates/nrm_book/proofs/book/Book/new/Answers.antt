@@ -1,0 +1,20 @@
+use Rattle.std.proofs.Common.{◌∙◌, length, sum, ap, arith}
+use Rattle.std.proofs.lemmas.List.{length-map}
+use Rattle.nrm_model.specs.declared.leg.Leg.{Leg}
+use Rattle.nrm_book.proofs.Copied.{IsBook-of}
+use Rattle.nrm_book.proofs.book.Book.new.Goals as goal
+
+pub seats_in_all-requires : goal.seats_in_all-requires
+seats_in_all-requires c =
+    let same = ap length (c.deref.ensures.value ∙ c.in_ok-seats.ensures) in
+    let count = c.n.ensures.limits.leg_count in
+    omega (arith, length-map c.args.net.now.legs (λ (leg : Leg). leg.seats))
+
+pub invariant_of-result : goal.invariant_of-result
+invariant_of-result c = record {
+  kept = IsBook-of c.args.net.now _ _ _ _ c.n.ensures.limits c.in_ok-seats.ensures c.in_ok-fares.ensures c.in_ok-legs.ensures c.in_ok-bookings.ensures.items;
+  room =
+      let seats = c.seats_in_all.ensures ∙ ap sum c.deref.ensures.value in
+      let exact = c.in_ok-bookings.ensures.exact in
+      omega arith;
+}

@@ -1,0 +1,34 @@
+-- The bookings that stand, and the seats that they take and leave.
+use Rattle.std.specs.Prelude.{ℕ, ◌<◌, ◌-◌, ◌*◌, ◌==◌, not, List, filter, find, sum_by, AllPairs, Option, if◌then◌else◌}
+use Rattle.nrm_model.specs.Inventory.{Inventory, seats_of, fare_of, products_on}
+use Rattle.nrm_book.specs.declared.booking.Booking.{Booking}
+
+-- the seats sold of a product: the parties of its bookings
+abbrev pub sold_of : List Booking → ℕ → ℕ
+sold_of bookings j = sum_by (λ booking. if booking.product == j then booking.party else 0) bookings
+
+-- the seats sold on a leg: those of the products that use it
+abbrev pub sold_on : Inventory → List Booking → ℕ → ℕ
+sold_on inventory bookings i = sum_by (sold_of bookings) (products_on inventory i)
+
+-- the seats left on a leg
+abbrev pub left_on : Inventory → List Booking → ℕ → ℕ
+left_on inventory bookings i = seats_of inventory i - sold_on inventory bookings i
+
+-- what a booking is worth, and all of them
+abbrev pub worth_of : Inventory → Booking → ℕ
+worth_of inventory booking = booking.party * fare_of inventory booking.product
+
+abbrev pub revenue_of : Inventory → List Booking → ℕ
+revenue_of inventory bookings = sum_by (worth_of inventory) bookings
+
+-- the booking with a number, if it is live, and the others
+abbrev pub booking_numbered : List Booking → ℕ → Option Booking
+booking_numbered bookings number = find (λ booking. booking.number == number) bookings
+
+abbrev pub without : List Booking → ℕ → List Booking
+without bookings number = filter (λ booking. not (booking.number == number)) bookings
+
+-- the numbers rise
+abbrev pub NumbersRise : List Booking → Type 0
+NumbersRise bookings = AllPairs (λ (earlier later : Booking). earlier.number < later.number) bookings

@@ -1,0 +1,218 @@
+//! The book: a plain list of bookings by rising number, with the seats, the fares and the leg lists of its network.
+//! Its room is reserved when it is made, for as many bookings as there are seats in all: each live booking holds at
+//! least one seat, so that no later call takes memory. Every answer is summed from the list.
+ghost use Rattle.std.specs.Prelude.{◌≡◌, ◌+◌, ◌<◌, ◌≤◌, ◌==◌, [], All, IfNone, IfOk, IfSome, length, map, position, sum, true};
+ghost use Rattle.std.specs.Int.{IsInRange};
+ghost use Rattle.nrm_model.specs.Inventory.{inventory_of, legs_of, seats_of, uses_leg};
+ghost use Rattle.nrm_book.specs.Bookings.{booking_numbered, left_on, revenue_of, sold_of, sold_on, without};
+
+use crate::Booking;
+use nrm_model::Network;
+use std::alloc::{AllocError, Global};
+use std::marker::Model;
+
+/// The bookings that stand on a network.
+#[derive(Drop)]
+pub struct Book {
+    seats: Vec<u16>,
+    fares: Vec<u32>,
+    legs: Vec<Vec<u8>>,
+    bookings: Vec<Booking>,
+    next: u64,
+}
+
+impl Model for Book {
+    ghost use Rattle.std.specs.Prelude.{map};
+    ghost use Rattle.nrm_book.specs.Book.{BookValue};
+    ghost use Rattle.nrm_book.specs.Room.{HasRoom};
+
+    ghost Value = { BookValue };
+
+    ghost view = { λ b. record { inventory = record { seats = b.seats.items; fares = b.fares.items; legs = map (λ v. v.items) b.legs.items }; bookings = b.bookings.items; next = b.next } };
+
+    ghost invariant = { λ b. HasRoom (record { inventory = record { seats = b.seats.items; fares = b.fares.items; legs = map (λ v. v.items) b.legs.items }; bookings = b.bookings.items; next = b.next }) b.bookings };
+}
+
+impl Book {
+    ghost use Rattle.nrm_book.specs.Book.{IsBook, with_booking};
+
+    /// An empty book of a network, with the next number 1 and room for as many bookings as there are seats in all.
+    ///
+    /// # Errors
+    /// Want of memory.
+    pub fn new(alloc: Global, net: &Network) -> Result<Book, AllocError>
+        ensures { IfOk result (λ book. book ≡ record { inventory = inventory_of net.now; bookings = []; next = 1 }) }
+    {
+        // For its clause alone: a network is within its limits.
+        let _ = net.n();
+        let seats = seats_of_legs(alloc, net)?;
+        let fares = fares_of_products(alloc, net)?;
+        let legs = legs_of_products(alloc, net)?;
+        let bookings = Vec::with_capacity(alloc, seats_in_all(&seats))?;
+        Ok(Book {
+            seats,
+            fares,
+            legs,
+            bookings,
+            next: 1,
+        })
+    }
+
+    /// The seats left on a leg: with those sold they make up its seats.
+    pub fn left(&self, leg: u8) -> u16
+        requires { leg < length self.now.inventory.seats }
+        ensures left { result ≡ left_on self.now.inventory self.now.bookings leg }
+        ensures sold { sold_on self.now.inventory self.now.bookings leg + result ≡ seats_of self.now.inventory leg }
+    {
+        let mut left = self.seats[leg as usize];
+        for booking in &self.bookings {
+            if self.uses(leg, booking.product) {
+                left -= booking.party;
+            }
+        }
+        left
+    }
+
+    /// The seats sold of a product on one of its legs.
+    pub fn sold(&self, leg: u8, product: u16) -> u16
+        requires leg { leg < length self.now.inventory.seats }
+        requires product { product < length self.now.inventory.legs }
+        requires uses { uses_leg self.now.inventory leg product ≡ true }
+        ensures { result ≡ sold_of self.now.bookings product }
+    {
+        let mut sold = 0;
+        for booking in &self.bookings {
+            if booking.product == product {
+                sold += booking.party;
+            }
+        }
+        sold
+    }
+
+    /// The bookings that stand, by rising number.
+    pub fn bookings(&self) -> &[Booking]
+        ensures bookings { result.now ≡ self.now.bookings }
+        ensures kept { IsBook self.now }
+    {
+        &self.bookings
+    }
+
+    /// The booking with a number. `None` exactly where it isn't live.
+    pub fn find(&self, number: u64) -> Option<Booking>
+        ensures { result ≡ booking_numbered self.now.bookings number }
+    {
+        self.bookings
+            .iter()
+            .find(|booking| booking.number == number)
+            .copied()
+    }
+
+    /// What the bookings are worth: party times fare, in whole currency units.
+    pub fn revenue(&self) -> u64
+        ensures { result ≡ revenue_of self.now.inventory self.now.bookings }
+    {
+        let mut revenue = 0;
+        for booking in &self.bookings {
+            revenue += u64::from(booking.party) * u64::from(self.fares[booking.product as usize]);
+        }
+        revenue
+    }
+
+    /// The number of the next booking. Numbers begin at 1 and are never used again.
+    pub fn next(&self) -> u64
+        ensures next { result ≡ self.now.next }
+        ensures kept { IsBook self.now }
+    {
+        self.next
+    }
+
+    /// Books a party, and gives its number. It takes no memory.
+    pub fn add(&mut self, product: u16, party: u16) -> u64
+        requires product { product < length self.old.inventory.legs }
+        requires party { IsInRange 1 999 party }
+        requires seats { All (λ i. party ≤ left_on self.old.inventory self.old.bookings i) (legs_of self.old.inventory product) }
+        requires next { self.old.next < 1000000000000 }
+        ensures number { result ≡ self.old.next }
+        ensures added { self.new ≡ with_booking self.old product party }
+    {
+        let number = self.next;
+        let booking = Booking {
+            number,
+            product,
+            party,
+        };
+        self.bookings.push_reserved(booking);
+        self.next = number + 1;
+        number
+    }
+
+    /// Takes a booking out of the book; the others and the next number stay. `None` exactly where it isn't live, and
+    /// then nothing changes.
+    pub fn remove(&mut self, number: u64) -> Option<Booking>
+        ensures booking { result ≡ booking_numbered self.old.bookings number }
+        ensures removed { self.new ≡ record self.old { bookings = without self.old.bookings number } }
+        ensures within { IfSome result (λ booking. booking.product < length self.old.inventory.legs) }
+        ensures kept { IfNone result (self.new ≡ self.old) }
+    {
+        let place = self.place_of(number)?;
+        Some(self.bookings.remove(place))
+    }
+
+    // Whether a product uses a leg.
+    fn uses(&self, leg: u8, product: u16) -> bool
+        requires { product < length self.now.inventory.legs }
+        ensures { result ≡ uses_leg self.now.inventory leg product }
+    {
+        self.legs[product as usize].contains(&leg)
+    }
+
+    // The place of a number in the list.
+    fn place_of(&self, number: u64) -> Option<usize>
+        ensures { result ≡ position (λ booking. booking.number == number) self.now.bookings }
+    {
+        self.bookings
+            .iter()
+            .position(|booking| booking.number == number)
+    }
+}
+
+// The seats of each leg.
+fn seats_of_legs(alloc: Global, net: &Network) -> Result<Vec<u16>, AllocError>
+    ensures { IfOk result (λ seats. seats.items ≡ (inventory_of net.now).seats) }
+{
+    let mut seats = Vec::new(alloc);
+    for i in 0..net.leg_count() as u8 {
+        seats.push(net.leg_at(i).seats)?;
+    }
+    Ok(seats)
+}
+
+// The fare of each product.
+fn fares_of_products(alloc: Global, net: &Network) -> Result<Vec<u32>, AllocError>
+    ensures { IfOk result (λ fares. fares.items ≡ (inventory_of net.now).fares) }
+{
+    let mut fares = Vec::new(alloc);
+    for j in 0..net.product_count() as u16 {
+        fares.push(net.product_at(j).fare)?;
+    }
+    Ok(fares)
+}
+
+// The legs of each product.
+fn legs_of_products(alloc: Global, net: &Network) -> Result<Vec<Vec<u8>>, AllocError>
+    ensures { IfOk result (λ legs. map (λ v. v.items) legs.items ≡ (inventory_of net.now).legs) }
+{
+    let mut legs = Vec::new(alloc);
+    for j in 0..net.product_count() as u16 {
+        legs.push(Vec::from_slice(alloc, net.product_at(j).legs.as_slice())?)?;
+    }
+    Ok(legs)
+}
+
+// The seats of all legs together.
+fn seats_in_all(seats: &[u16]) -> usize
+    requires { length seats.now ≤ 64 }
+    ensures { result ≡ sum seats.now }
+{
+    seats.iter().map(|seats| usize::from(*seats)).sum()
+}

@@ -1,0 +1,11 @@
+//! The book: the bookings that stand, and the seats that they take of a network's legs.
+#![tactic(auto)]
+
+mod book;
+mod booking;
+
+pub use book::Book;
+pub use booking::Booking;
+
+#[cfg(test)]
+mod tests;
