@@ -1,0 +1,74 @@
+-- Lines, and what they ask for.
+use Rattle.std.specs.Prelude.{◌≡◌, [], ◌∷◌, codes, refl, replicate}
+use Rattle.nrm_stream.specs.Lines.{lines_of, whole_lines}
+use Rattle.nrm_stream.specs.Commands.{command_of, commands_of}
+use Rattle.nrm_stream.specs.declared.command.Command.TheVariants as command
+
+longest_name : command_of (codes "book ABCDEFGHIJKL 999") ≡ command.Book (codes "ABCDEFGHIJKL") 999
+longest_name = refl
+
+too_long_a_name : command_of (codes "book ABCDEFGHIJKLM 999") ≡ command.Bad
+too_long_a_name = refl
+
+many_bytes : command_of (replicate 1000 120) ≡ command.Bad
+many_bytes = refl
+
+one_seat : command_of (codes "book ABL 1") ≡ command.Book (codes "ABL") 1
+one_seat = refl
+
+carriage_return : command_of (codes "book ABL 1\r") ≡ command.Book (codes "ABL") 1
+carriage_return = refl
+
+cancel_nought : command_of (codes "cancel 0") ≡ command.Cancel 0
+cancel_nought = refl
+
+cancel_last : command_of (codes "cancel 999999999999") ≡ command.Cancel 999999999999
+cancel_last = refl
+
+cancel_too_great : command_of (codes "cancel 1000000000000") ≡ command.Bad
+cancel_too_great = refl
+
+the_plan : command_of (codes "plan") ≡ command.Plan
+the_plan = refl
+
+first_period : command_of (codes "reoptimise 1") ≡ command.Reoptimise 1
+first_period = refl
+
+no_period : command_of (codes "reoptimise 0") ≡ command.Bad
+no_period = refl
+
+a_leg : command_of (codes "leg AB") ≡ command.Leg (codes "AB")
+a_leg = refl
+
+looking_back : command_of (codes "hindsight") ≡ command.Hindsight
+looking_back = refl
+
+no_party : command_of (codes "book ABL 0") ≡ command.Bad
+no_party = refl
+
+too_great_a_party : command_of (codes "book ABL 1000") ≡ command.Bad
+too_great_a_party = refl
+
+two_spaces : command_of (codes "book ABL  1") ≡ command.Bad
+two_spaces = refl
+
+upper_case : command_of (codes "BOOK ABL 1") ≡ command.Bad
+upper_case = refl
+
+nothing : command_of [] ≡ command.Bad
+nothing = refl
+
+three_lines : lines_of (codes "plan\n\nleg AB") ≡ codes "plan" ∷ [] ∷ codes "leg AB" ∷ []
+three_lines = refl
+
+two_whole : whole_lines (codes "plan\n\nleg AB") ≡ codes "plan" ∷ [] ∷ []
+two_whole = refl
+
+no_line : lines_of [] ≡ []
+no_line = refl
+
+ended : lines_of (codes "plan\n") ≡ codes "plan" ∷ []
+ended = refl
+
+asked : commands_of (codes "book THRU 2\nbook X 1") ≡ command.Book (codes "THRU") 2 ∷ command.Book (codes "X") 1 ∷ []
+asked = refl

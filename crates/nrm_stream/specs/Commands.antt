@@ -1,0 +1,61 @@
+-- The command of a line.
+use Rattle.std.specs.Prelude.{ℕ, ◌==◌, List, [], ◌∷◌, map, codes, bytes_eq, Option, Some, None, ⊤, if◌then◌else◌}
+use Rattle.std.specs.Int.{IsInRange}
+use Rattle.std.specs.Option.{option_map_or}
+use Rattle.std.specs.List.{slice_split}
+use Rattle.std.specs.Str.Lines.{strip_carriage_return}
+use Rattle.nrm_text.specs.Names.{name_in}
+use Rattle.nrm_text.specs.Numbers.{whole_between}
+use Rattle.nrm_stream.specs.Lines.{lines_of}
+use Rattle.nrm_stream.specs.declared.command.Command.{Command}
+use Rattle.nrm_stream.specs.declared.command.Command.TheVariants as command
+
+-- a request, where the name is a name and the party a whole number from 1 to 999
+abbrev pub booking_of : Option (List ℕ) → Option ℕ → Command
+booking_of (Some product) (Some party) = command.Book product party
+booking_of (Some product) None = command.Bad
+booking_of None party = command.Bad
+
+-- a word, and what follows it
+abbrev pub one_word : List ℕ → Command
+one_word word =
+    if bytes_eq word (codes "hindsight") then command.Hindsight
+    else if bytes_eq word (codes "plan") then command.Plan
+    else command.Bad
+
+abbrev pub two_words : List ℕ → List ℕ → Command
+two_words word next =
+    if bytes_eq word (codes "cancel") then option_map_or command.Cancel (whole_between 0 999999999999 next) command.Bad
+    else if bytes_eq word (codes "reoptimise") then option_map_or command.Reoptimise (whole_between 1 99 next) command.Bad
+    else if bytes_eq word (codes "leg") then option_map_or command.Leg (name_in next) command.Bad
+    else command.Bad
+
+abbrev pub three_words : List ℕ → List ℕ → List ℕ → Command
+three_words word name party =
+    if bytes_eq word (codes "book") then booking_of (name_in name) (whole_between 1 999 party) else command.Bad
+
+-- the command of the words; every other line is bad
+abbrev pub command_of_words : List (List ℕ) → Command
+command_of_words [] = command.Bad
+command_of_words (word ∷ []) = one_word word
+command_of_words (word ∷ next ∷ []) = two_words word next
+command_of_words (word ∷ name ∷ party ∷ []) = three_words word name party
+command_of_words (word ∷ name ∷ party ∷ further ∷ more) = command.Bad
+
+-- the command of a line: one carriage return at its end is dropped, and one space stands between each two words
+abbrev pub command_of : List ℕ → Command
+command_of line = command_of_words (slice_split (λ c. c == 32) (strip_carriage_return line))
+
+-- a request is for a party of 1 to 999
+abbrev pub IsCommand : Command → Type 0
+IsCommand (command.Book product party) = IsInRange 1 999 party
+IsCommand (command.Cancel number) = ⊤
+IsCommand (command.Reoptimise period) = ⊤
+IsCommand (command.Leg name) = ⊤
+IsCommand command.Hindsight = ⊤
+IsCommand command.Plan = ⊤
+IsCommand command.Bad = ⊤
+
+-- the commands of a stream
+abbrev pub commands_of : List ℕ → List Command
+commands_of bytes = map command_of (lines_of bytes)

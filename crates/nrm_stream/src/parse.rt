@@ -1,0 +1,116 @@
+//! Commands as they are read: lower-case words with one space between each two, and one carriage return dropped at the
+//! end of the line.
+ghost use Rattle.std.specs.Prelude.{◌≡◌, ◌==◌, bytes_eq};
+ghost use Rattle.std.specs.List.{slice_split};
+ghost use Rattle.std.specs.Str.Lines.{strip_carriage_return};
+ghost use Rattle.nrm_stream.specs.Commands.{command_of, command_of_words, IsCommand, one_word, three_words, two_words};
+
+use crate::Command;
+use crate::cut::split_once;
+use nrm_text::{name_of, read_whole};
+
+const MOST_CANCELLED: u64 = 999_999_999_999;
+
+const LAST_PERIOD: u64 = 99;
+
+const LARGEST_PARTY: u64 = 999;
+
+// Whether a word is this one.
+fn is_word(word: &[u8], wanted: &[u8]) -> bool
+    ensures { result ≡ bytes_eq word.now wanted.now }
+{
+    word == wanted
+}
+
+// The line without one carriage return at its end.
+fn without_carriage_return(line: &[u8]) -> &[u8]
+    ensures { result.now ≡ strip_carriage_return line.now }
+{
+    match line {
+        [front @ .., b'\r'] => front,
+        _ => line,
+    }
+}
+
+// A command of one word.
+fn command_of_one(word: &[u8]) -> Command
+    ensures command { result ≡ one_word word.now }
+    ensures within { IsCommand result }
+{
+    if is_word(word, b"hindsight") {
+        Command::Hindsight
+    } else if is_word(word, b"plan") {
+        Command::Plan
+    } else {
+        Command::Bad
+    }
+}
+
+// A command of two words.
+fn command_of_two(word: &[u8], next: &[u8]) -> Command
+    ensures command { result ≡ two_words word.now next.now }
+    ensures within { IsCommand result }
+{
+    if is_word(word, b"cancel") {
+        match read_whole(next, MOST_CANCELLED) {
+            Ok(number) => Command::Cancel { number },
+            Err(_) => Command::Bad,
+        }
+    } else if is_word(word, b"reoptimise") {
+        match read_whole(next, LAST_PERIOD) {
+            Ok(period) if period >= 1 => Command::Reoptimise {
+                period: period as u8,
+            },
+            _ => Command::Bad,
+        }
+    } else if is_word(word, b"leg") {
+        match name_of(next) {
+            Some(name) => Command::Leg { name },
+            None => Command::Bad,
+        }
+    } else {
+        Command::Bad
+    }
+}
+
+// A command of three words.
+fn command_of_three(word: &[u8], name: &[u8], party: &[u8]) -> Command
+    ensures command { result ≡ three_words word.now name.now party.now }
+    ensures within { IsCommand result }
+{
+    if !is_word(word, b"book") {
+        return Command::Bad;
+    }
+    match (name_of(name), read_whole(party, LARGEST_PARTY)) {
+        (Some(product), Ok(party)) if party >= 1 => Command::Book {
+            product,
+            party: party as u16,
+        },
+        _ => Command::Bad,
+    }
+}
+
+// What the words of a line ask for.
+fn command_in(line: &[u8]) -> Command
+    ensures command { result ≡ command_of_words (slice_split (λ c. c == 32) line.now) }
+    ensures within { IsCommand result }
+{
+    let Some((first, rest)) = split_once(line, b' ') else {
+        return command_of_one(line);
+    };
+    let Some((second, rest)) = split_once(rest, b' ') else {
+        return command_of_two(first, rest);
+    };
+    match split_once(rest, b' ') {
+        None => command_of_three(first, second, rest),
+        Some(_) => Command::Bad,
+    }
+}
+
+/// What a line asks for; the line has no line feed.
+pub fn command_of(line: &[u8]) -> Command
+    ensures command { result ≡ command_of line.now }
+    ensures within { IsCommand result }
+{
+    command_in(without_carriage_return(line))
+}
