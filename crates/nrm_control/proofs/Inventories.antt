@@ -1,0 +1,69 @@
+-- A network's inventory, and what is known of its legs.
+use Rattle.std.proofs.Common.{ℕ, ◌≡◌, ◌∙◌, ◌*◌, ◌<◌, ◌≤◌, List, [], ◌∷◌, length, map, find, slice_get, unwrap_or, option_map, Option, Some, None, Bool, true, false, nat_lt, refl, sym, ap, subst, arith, All}
+use Rattle.std.specs.Option.{option_map_or}
+use Rattle.std.proofs.lemmas.Bool.{ltb-false}
+use Rattle.std.proofs.lemmas.List.Elements.{All-cons, All-head, All-tail}
+use Rattle.std.proofs.lemmas.List.{length-map}
+use Rattle.nrm_model.specs.declared.leg.Leg.{Leg}
+use Rattle.nrm_model.specs.declared.product.Product.{Product}
+use Rattle.nrm_model.specs.Inventory.{Inventory, inventory_of, legs_of, fare_of}
+use Rattle.nrm_model.specs.Network.{NetworkValue, product_of}
+use Rattle.nrm_model.proofs.Inventories.{fare_of-product, legs_of-product, product_of-found}
+use Rattle.nrm_book.specs.declared.booking.Booking.{Booking}
+use Rattle.nrm_book.specs.Bookings.{booking_numbered, left_on, worth_of}
+use Rattle.nrm_control.specs.Verdict.{verdict_of}
+use Rattle.nrm_control.specs.declared.answer.Answer.TheVariants as answer
+
+-- where no leg of a list refuses a party, each has the seats for it
+pub none-refuses : (left : ℕ → ℕ) (party : ℕ) (legs : List ℕ) → find (λ i. nat_lt (left i) party) legs ≡ None → All (λ i. party ≤ left i) legs
+none-refuses left party [] none = λ k d short. absurd (omega (arith, short))
+none-refuses left party (i ∷ legs) none = by (nat_lt (left i) party) refl (none-refuses left party legs)
+  where
+    by : (b : Bool) → nat_lt (left i) party ≡ b → (find (λ i. nat_lt (left i) party) legs ≡ None → All (λ i. party ≤ left i) legs) → All (λ i. party ≤ left i) (i ∷ legs)
+    by true e more = let some : Some i ≡ None = rw e at none in cc
+    by false e more = let rest : find (λ i. nat_lt (left i) party) legs ≡ None = rw e at none in All-cons (λ i. party ≤ left i) i legs (ltb-false (left i) party e) (more rest)
+
+-- the legs of a product are legs of the inventory
+pub legs-within : (net : NetworkValue) (inventory : Inventory) (legs own : List ℕ) → inventory ≡ inventory_of net → legs ≡ own → All (λ i. i < length net.legs) own → All (λ i. i < length inventory.seats) legs
+legs-within net inventory legs own is same within =
+    let count : length inventory.seats ≡ length net.legs = ap (λ (v : Inventory). length v.seats) is ∙ length-map net.legs (λ (leg : Leg). leg.seats) in
+    rw (same, count) within
+
+-- so that the product's legs, if none refuses, have the seats
+pub seats-cover : (net : NetworkValue) (inventory : Inventory) (bookings : List Booking) (party j : ℕ) (product : Product) (legs : List ℕ)
+    → inventory ≡ inventory_of net → Some product ≡ slice_get net.products j → legs ≡ product.legs → None ≡ find (λ i. nat_lt (left_on inventory bookings i) party) legs
+    → All (λ i. party ≤ left_on inventory bookings i) (legs_of inventory j)
+seats-cover net inventory bookings party j product legs is found same none =
+    let own : legs_of inventory j ≡ legs = ap (λ (v : Inventory). legs_of v j) is ∙ legs_of-product net j product found ∙ sym same in
+    rw own (none-refuses (left_on inventory bookings) party legs (sym none))
+
+-- what the first leg that refuses, if there is one, says of the verdict
+pub verdict-is : (net : NetworkValue) (inventory : Inventory) (bookings : List Booking) (next party j : ℕ) (product : Product) (legs : List ℕ) (refusing : Option ℕ)
+    → inventory ≡ inventory_of net → Some product ≡ slice_get net.products j → legs ≡ product.legs → refusing ≡ find (λ i. nat_lt (left_on inventory bookings i) party) legs
+    → option_map_or answer.Leg refusing (answer.Sold next) ≡ verdict_of net bookings next j party
+verdict-is net inventory bookings next party j product legs refusing is found same refuses =
+    let own : legs ≡ (product_of net j).legs = same ∙ ap (λ (p : Product). p.legs) (sym (product_of-found net j product found)) in
+    ap (λ o. option_map_or answer.Leg o (answer.Sold next))
+      (refuses ∙ ap (λ ls. find (λ i. nat_lt (left_on inventory bookings i) party) ls) own ∙ ap (λ (v : Inventory). find (λ i. nat_lt (left_on v bookings i) party) (product_of net j).legs) is)
+
+-- a product of the inventory is one of the network, with its fare
+pub product-within : (net : NetworkValue) (inventory : Inventory) (j : ℕ) → inventory ≡ inventory_of net → j < length inventory.legs → j < length net.products
+product-within net inventory j is below =
+    let count : length inventory.legs ≡ length net.products = ap (λ (v : Inventory). length v.legs) is ∙ length-map net.products (λ (p : Product). p.legs) in
+    omega (arith, count)
+
+-- what a booking was worth
+pub refund-is : (net : NetworkValue) (bookings : List Booking) (number : ℕ) (booking : Booking) (product : Product) (party fare : ℕ)
+    → Some booking ≡ booking_numbered bookings number → Some product ≡ slice_get net.products booking.product → party ≡ booking.party → fare ≡ product.fare
+    → Some (party * fare) ≡ option_map (worth_of (inventory_of net)) (booking_numbered bookings number)
+refund-is net bookings number booking product party fare live found its_party its_fare =
+    ap Some ((λ k. its_party k * its_fare k) ∙ ap (λ f. booking.party * f) (fare_of-product net booking.product product found)) ∙ ap (option_map (worth_of (inventory_of net))) live
+
+-- a leg that was found is one of the list
+pub found-within : (p : ℕ → Bool) (n : ℕ) (legs : List ℕ) (i : ℕ) → Some i ≡ find p legs → All (λ k. k < n) legs → i < n
+found-within p n [] i found within = cc
+found-within p n (leg ∷ legs) i found within = by (p leg) refl (found-within p n legs i)
+  where
+    by : (b : Bool) → p leg ≡ b → (Some i ≡ find p legs → All (λ k. k < n) legs → i < n) → i < n
+    by true e more = let same : Some i ≡ Some leg = rw e at found in let is : leg ≡ i = cc in subst (λ k. k < n) is (All-head (λ k. k < n) leg legs within)
+    by false e more = let rest : Some i ≡ find p legs = rw e at found in more rest (All-tail (λ k. k < n) leg legs within)

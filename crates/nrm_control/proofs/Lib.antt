@@ -1,0 +1,2 @@
+pub mod Inventories
+pub mod States

@@ -1,0 +1,5 @@
+use Rattle.std.proofs.Common.{[], refl}
+use Rattle.nrm_control.proofs.laws.stands_for_some.Goals as goal
+
+pub returns : goal.returns
+returns c = λ control. (record { bookings = control.bookings; next = control.next; requests = [] }, record { bookings = refl; next = refl })

@@ -1,0 +1,47 @@
+-- What callers see of a controller, and the states that it stands for.
+use Rattle.std.specs.Prelude.{ℕ, ◌≡◌, ◌<◌, ◌+◌, List, ◌∷◌, [], ◌++◌, length, ⊤}
+use Rattle.nrm_model.specs.Inventory.{inventory_of}
+use Rattle.nrm_model.specs.Network.{NetworkValue}
+use Rattle.nrm_model.specs.Limits.{IsNetwork}
+use Rattle.nrm_book.specs.declared.booking.Booking.{Booking}
+use Rattle.nrm_book.specs.Book.{BookValue, IsBook}
+use Rattle.nrm_control.specs.State.{SeatState}
+use Rattle.nrm_control.specs.declared.answer.Answer.{Answer}
+use Rattle.nrm_control.specs.declared.answer.Answer.TheVariants as answer
+
+-- the network, the bookings that stand and the next number
+pub record ControlValue : Type 0 where
+  pub net : NetworkValue
+  pub bookings : List Booking
+  pub next : ℕ
+
+-- the controller's book
+abbrev pub book_of : ControlValue → BookValue
+book_of control = record { inventory = inventory_of control.net; bookings = control.bookings; next = control.next }
+
+-- A controller stands for each state that has its bookings and its number. It doesn't keep the requests, so they may be any.
+pub record StandsFor (control : ControlValue) (s : SeatState) : Type 0 where
+  pub bookings : s.bookings ≡ control.bookings
+  pub next : s.next ≡ control.next
+
+-- its network is within the limits, and its book is one of that network: no leg has more seats sold than it has
+pub record IsControl (control : ControlValue) : Type 0 where
+  pub network : IsNetwork control.net
+  pub book : IsBook (book_of control)
+
+-- the controller after a request was answered: what was sold is booked, and a refusal changes nothing
+abbrev pub with_answer : ControlValue → ℕ → ℕ → Answer → ControlValue
+with_answer control j party (answer.Sold number) = record control {
+  bookings = control.bookings ++ record { number = number; product = j; party = party } ∷ [];
+  next = number + 1;
+}
+with_answer control j party (answer.Leg i) = control
+
+-- a leg that refuses is one of the network
+abbrev pub IsOnNetwork : NetworkValue → Answer → Type 0
+IsOnNetwork net (answer.Sold number) = ⊤
+IsOnNetwork net (answer.Leg i) = i < length net.legs
+
+-- each controller stands for some state
+abbrev pub StandsForSome : Type 0
+StandsForSome = (control : ControlValue) → (s : SeatState) × StandsFor control s

@@ -1,0 +1,43 @@
+-- What the controller remembers, and how each call changes it.
+use Rattle.std.specs.Prelude.{ℕ, ◌+◌, List, [], ◌∷◌, ◌++◌}
+use Rattle.nrm_model.specs.Network.{NetworkValue}
+use Rattle.nrm_book.specs.declared.booking.Booking.{Booking}
+use Rattle.nrm_book.specs.Bookings.{without}
+use Rattle.nrm_control.specs.Verdict.{verdict_of}
+use Rattle.nrm_control.specs.declared.answer.Answer.{Answer}
+use Rattle.nrm_control.specs.declared.answer.Answer.TheVariants as answer
+
+-- a past request: a product and a party
+pub record Request : Type 0 where
+  pub product : ℕ
+  pub party : ℕ
+
+-- the bookings that stand, the next number, and the requests so far, sold or not
+pub record SeatState : Type 0 where
+  pub bookings : List Booking
+  pub next : ℕ
+  pub requests : List Request
+
+-- no booking, number 1, and no request
+abbrev pub opening : SeatState
+opening = record { bookings = []; next = 1; requests = [] }
+
+-- what a request is answered in a state
+abbrev pub answer_in : NetworkValue → SeatState → ℕ → ℕ → Answer
+answer_in net s j party = verdict_of net s.bookings s.next j party
+
+-- the state after a request, by its answer: each is remembered, and one that was sold is booked
+abbrev pub after_answer : SeatState → ℕ → ℕ → Answer → SeatState
+after_answer s j party (answer.Sold number) = record {
+  bookings = s.bookings ++ record { number = number; product = j; party = party } ∷ [];
+  next = number + 1;
+  requests = s.requests ++ record { product = j; party = party } ∷ [];
+}
+after_answer s j party (answer.Leg i) = record s { requests = s.requests ++ record { product = j; party = party } ∷ [] }
+
+abbrev pub after_request : NetworkValue → SeatState → ℕ → ℕ → SeatState
+after_request net s j party = after_answer s j party (answer_in net s j party)
+
+-- the state after the booking with a number is cancelled
+abbrev pub after_cancellation : SeatState → ℕ → SeatState
+after_cancellation s number = record s { bookings = without s.bookings number }

@@ -1,0 +1,7 @@
+//! Laws of controllers and states. Each is the contract of a function that does nothing.
+ghost use Rattle.nrm_control.specs.Standing.{StandsForSome};
+
+/// Each controller stands for some state, so that what is said of all states that it stands for isn't empty.
+pub fn stands_for_some()
+    ensures { StandsForSome }
+{}
