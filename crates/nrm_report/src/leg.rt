@@ -1,0 +1,122 @@
+//! The leg text: a line for the leg, and one for each product on it with a seat sold.
+ghost use Rattle.std.specs.Prelude.{◌≡◌, ◌<◌, ◌∷◌, [], codes, decimal, flat_map, length, OnErr, OnOk, true};
+ghost use Rattle.std.specs.Io.KnownBytes.{Appends};
+ghost use Rattle.nrm_edge.specs.Causes.{HasCause};
+ghost use Rattle.nrm_edge.specs.Pieces.{AppendsFront};
+ghost use Rattle.nrm_text.specs.Words.{text_line};
+ghost use Rattle.nrm_model.specs.Inventory.{inventory_of, products_on, uses_leg};
+ghost use Rattle.nrm_report.specs.Texts.{leg_line, leg_text, on_line};
+
+use nrm_book::Book;
+use nrm_edge::{Failed, Sink, put_all};
+use nrm_model::Network;
+use nrm_text::{Line, Name};
+
+// The line of a leg, from its numbers.
+#[tactic(auto, using(nrm_text::proofs::Decimals::short_decimal))]
+fn line_of_leg(name: &Name, seats: u16, sold: u16, left: u16) -> Line
+    ensures { result ≡ text_line (codes "leg" ∷ name.now ∷ codes "seats" ∷ decimal seats ∷ codes "sold" ∷ decimal sold ∷ codes "left" ∷ decimal left ∷ []) }
+{
+    let mut line = Line::new();
+    line.push_bytes(b"leg ");
+    line.push_bytes(name.bytes());
+    line.push_bytes(b" seats ");
+    line.push_whole(u128::from(seats));
+    line.push_bytes(b" sold ");
+    line.push_whole(u128::from(sold));
+    line.push_bytes(b" left ");
+    line.push_whole(u128::from(left));
+    line.push_bytes(b"\n");
+    line
+}
+
+// The line of a product on a leg, with the seats that it has sold.
+#[tactic(auto, using(nrm_text::proofs::Decimals::short_decimal))]
+fn line_of_product(leg: &Name, product: &Name, sold: u16) -> Line
+    ensures { result ≡ text_line (codes "on" ∷ leg.now ∷ product.now ∷ decimal sold ∷ []) }
+{
+    let mut line = Line::new();
+    line.push_bytes(b"on ");
+    line.push_bytes(leg.bytes());
+    line.push_bytes(b" ");
+    line.push_bytes(product.bytes());
+    line.push_bytes(b" ");
+    line.push_whole(u128::from(sold));
+    line.push_bytes(b"\n");
+    line
+}
+
+// Puts the line of a product that uses the leg, where it has sold a seat.
+fn put_product<K: Sink>(
+    net: &Network,
+    book: &Book,
+    leg: u8,
+    product: u16,
+    sink: &mut K,
+) -> Result<(), Failed>
+    requires book { book.now.inventory ≡ inventory_of net.now }
+    requires leg { leg < length net.now.legs }
+    requires product { product < length net.now.products }
+    requires uses { uses_leg (inventory_of net.now) leg product ≡ true }
+    ensures whole { OnOk result (Appends (K.held sink.old) (K.held sink.new) (on_line net.now book.now.bookings leg product)) }
+    ensures cut { OnErr result (AppendsFront (K.held sink.old) (K.held sink.new) (on_line net.now book.now.bookings leg product)) }
+    ensures cause { HasCause (K.faults sink.old) (K.faults sink.new) result }
+{
+    let sold = book.sold(leg, product);
+    if sold == 0 {
+        return Ok(());
+    }
+    let line = line_of_product(&net.leg_at(leg).name, &net.product_at(product).name, sold);
+    put_all(sink, line.bytes())
+}
+
+// Whether a product uses a leg.
+fn uses(net: &Network, leg: u8, product: u16) -> bool
+    requires { product < length net.now.products }
+    ensures { result ≡ uses_leg (inventory_of net.now) leg product }
+{
+    net.product_at(product).legs.as_slice().contains(&leg)
+}
+
+// The line of the leg.
+fn line_for_leg(net: &Network, book: &Book, leg: u8) -> Line
+    requires book { book.now.inventory ≡ inventory_of net.now }
+    requires leg { leg < length net.now.legs }
+    ensures { result ≡ leg_line net.now book.now.bookings leg }
+{
+    let seats = net.leg_at(leg).seats;
+    let left = book.left(leg);
+    line_of_leg(&net.leg_at(leg).name, seats, seats - left, left)
+}
+
+// Puts the lines of the products on the leg, in file order.
+fn put_products<K: Sink>(net: &Network, book: &Book, leg: u8, sink: &mut K) -> Result<(), Failed>
+    requires book { book.now.inventory ≡ inventory_of net.now }
+    requires leg { leg < length net.now.legs }
+    ensures whole { OnOk result (Appends (K.held sink.old) (K.held sink.new) (flat_map (on_line net.now book.now.bookings leg) (products_on (inventory_of net.now) leg))) }
+    ensures cut { OnErr result (AppendsFront (K.held sink.old) (K.held sink.new) (flat_map (on_line net.now book.now.bookings leg) (products_on (inventory_of net.now) leg))) }
+    ensures cause { HasCause (K.faults sink.old) (K.faults sink.new) result }
+{
+    for product in 0..net.product_count() as u16 {
+        if uses(net, leg, product) {
+            put_product(net, book, leg, product, sink)?;
+        }
+    }
+    Ok(())
+}
+
+/// Puts how a leg stands: `leg NAME seats s sold a left b`, then `on LEG PRODUCT a` for each product on it, in file
+/// order, with a seat sold.
+///
+/// # Errors
+/// A put failed; a front of the text went out.
+pub fn leg_text<K: Sink>(net: &Network, book: &Book, leg: u8, sink: &mut K) -> Result<(), Failed>
+    requires book { book.now.inventory ≡ inventory_of net.now }
+    requires leg { leg < length net.now.legs }
+    ensures whole { OnOk result (Appends (K.held sink.old) (K.held sink.new) (leg_text net.now book.now.bookings leg)) }
+    ensures cut { OnErr result (AppendsFront (K.held sink.old) (K.held sink.new) (leg_text net.now book.now.bookings leg)) }
+    ensures cause { HasCause (K.faults sink.old) (K.faults sink.new) result }
+{
+    put_all(sink, line_for_leg(net, book, leg).bytes())?;
+    put_products(net, book, leg, sink)
+}

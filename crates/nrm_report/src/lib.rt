@@ -1,0 +1,6 @@
+//! Texts about the state of the seats, put line by line. Nothing here takes memory.
+#![tactic(auto)]
+
+mod leg;
+
+pub use leg::leg_text;
