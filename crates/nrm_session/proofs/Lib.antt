@@ -1,0 +1,4 @@
+pub mod Determined
+pub mod Seats
+pub mod SoFar
+pub mod Steps

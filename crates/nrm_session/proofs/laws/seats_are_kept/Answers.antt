@@ -1,0 +1,5 @@
+use Rattle.nrm_session.proofs.Seats.{kept}
+use Rattle.nrm_session.proofs.laws.seats_are_kept.Goals as goal
+
+pub returns : goal.returns
+returns c = kept

@@ -1,0 +1,6 @@
+pub mod Answering
+pub mod Laws
+pub mod Replies
+pub mod Run
+pub mod Serving
+pub mod Step

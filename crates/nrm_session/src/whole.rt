@@ -1,0 +1,36 @@
+//! A session over a stream that was read whole.
+ghost use Rattle.std.specs.Prelude.{◌≤◌, ◌^◌, length};
+ghost use Rattle.nrm_session.specs.Serving.{ServesWhole};
+
+use crate::reply::answer;
+use nrm_control::Controller;
+use nrm_edge::Sink;
+use nrm_stream::{command_of, next_line};
+
+/// How a session over a whole stream ended.
+#[derive(Clone, Copy, Debug, PartialEq, Eq)]
+pub enum WholeEnd {
+    /// The replies to all lines were written.
+    Done,
+    /// A put failed. The replies to the lines before one were written, and a front of its own; the controller stands
+    /// for the state after that line.
+    WriteFault,
+}
+
+/// Answers each line of a stream, in order, one line of reply a put; a leg's text takes one put a line. It takes no
+/// memory.
+pub fn serve_whole<K: Sink>(controller: &mut Controller, stream: &[u8], sink: &mut K) -> WholeEnd
+    requires stream { length stream.now ≤ 2 ^ 32 }
+    requires next { controller.old.next ≤ 100000000000 }
+    ensures serves { ServesWhole controller.old controller.new stream.now (K.held sink.old) (K.held sink.new) (K.faults sink.old) (K.faults sink.new) result }
+    ensures later { K.faults sink.old ≤ K.faults sink.new }
+{
+    let mut rest = stream;
+    while let Some((line, after)) = next_line(rest) {
+        match answer(controller, &command_of(line), sink) {
+            Ok(()) => rest = after,
+            Err(_) => return WholeEnd::WriteFault,
+        }
+    }
+    WholeEnd::Done
+}
