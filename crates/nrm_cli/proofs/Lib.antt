@@ -1,0 +1,4 @@
+pub mod Complete
+pub mod Fetched
+pub mod Replies
+pub mod Without

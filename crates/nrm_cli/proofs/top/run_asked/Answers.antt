@@ -1,0 +1,18 @@
+use Rattle.std.proofs.Common.{◌≡◌, ◌∙◌, Option, Some, ap, option_map, subst, sym}
+use Rattle.nrm_cli.specs.Ends.{Ends}
+use Rattle.nrm_cli.specs.Outside.{Outside}
+use Rattle.nrm_cli.specs.Parts.{job_in}
+use Rattle.nrm_cli.specs.declared.status.Status.{Status}
+use Rattle.nrm_cli.specs.declared.words.Asked.{Asked}
+use Rattle.nrm_cli.proofs.top.run_asked.Goals as goal
+
+-- what holds of a job holds of the words that ask for it
+of-words : (asked known : Option Asked) (before after : Outside) (s : Status) → asked ≡ known → Ends (option_map job_in known) before after s → Ends (option_map job_in asked) before after s
+of-words asked known before after s is ends = subst (λ (a : Option Asked). Ends (option_map job_in a) before after s) (sym is) ends
+
+pub returns-in-Some-Print-clause-ends : goal.returns-in-Some-Print-clause-ends
+returns-in-Some-Print-clause-ends g c =
+    let printed = c.in-Some-Print.field-0 in
+    let is = rw c.in-Some-Print.is at c.in-Some-Print.field-0-is in
+    of-words c.args.asked (Some printed) _ _ c.print_file.result c.in-Some-Print.is
+      (of-words (Some printed) _ _ _ c.print_file.result (ap Some is) (c.print_file.ensures.ends (g.S.Source.coming c.args.source.now) (g.S.Source.faults c.args.source.now)))

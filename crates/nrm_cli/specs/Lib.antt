@@ -1,0 +1,6 @@
+pub mod Ends
+pub mod Jobs
+pub mod Numbers
+pub mod Outside
+pub mod Parts
+pub mod Refusals

@@ -1,0 +1,12 @@
+//! The top call of the program: words, files, statuses, and what is written.
+#![tactic(auto)]
+
+mod line;
+mod opening;
+mod status;
+mod stream;
+mod top;
+mod words;
+
+pub use status::Status;
+pub use top::run;

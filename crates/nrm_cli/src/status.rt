@@ -1,0 +1,37 @@
+//! Statuses.
+ghost use Rattle.std.specs.Prelude.{◌≡◌};
+ghost use Rattle.nrm_cli.specs.Numbers.{number_of};
+
+/// How the program ended. Those that come with a line of text write it to standard output.
+#[derive(Clone, Copy, Debug, PartialEq, Eq)]
+pub enum Status {
+    /// The output was written whole.
+    Done,
+    /// A certificate fails a condition.
+    Wrong,
+    /// The words ask for nothing that is known; the usage line was written.
+    Usage,
+    /// A file is refused; a line says why.
+    Refused,
+    /// Standard input failed.
+    ReadFault,
+    /// Standard output failed.
+    WriteFault,
+    /// Want of memory, before anything was written.
+    NoMemory,
+    /// The opening program leaves the range of the solver's numbers.
+    Overflow,
+    /// The stream is too long.
+    TooLong,
+    /// The files failed; a line says so.
+    FileFault,
+}
+
+impl Status {
+    /// The exit status.
+    pub fn number(self) -> u8
+        ensures { result ≡ number_of self }
+    {
+        self as u8
+    }
+}
