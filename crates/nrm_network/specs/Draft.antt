@@ -2,8 +2,9 @@
 use Rattle.std.specs.Prelude.{ℕ, ◌≡◌, ◌+◌, ◌*◌, Bool, true, false, List, take, drop, slice_set, [], ◌∷◌, ◌++◌, length, map, find, replicate, flat_map, Option, None, Some, Result, Ok, Err, ⊤, All}
 use Rattle.std.specs.List.{list_any, range_with_len}
 use Rattle.std.specs.Option.{option_map_or}
-use Rattle.nrm_network.specs.Rows.{field, leg_rows, product_rows, demand_rows, histories_in, periods_in, is_named, further_numbers, gives_demand}
+use Rattle.nrm_network.specs.Rows.{Kind, field, leg_rows, product_rows, demand_rows, histories_in, periods_in, is_named, further_numbers, gives_demand}
 use Rattle.nrm_network.specs.Checks.{why_refused}
+use Rattle.nrm_network.specs.Shape.{HasShape}
 use Rattle.nrm_network.specs.File.{leg_in, product_in}
 use Rattle.nrm_network.specs.declared.fault.Why.{Why}
 use Rattle.nrm_network.specs.declared.fault.RowFault.{RowFault}
@@ -52,6 +53,18 @@ abbrev pub TakesRow : Draft → List (List (List ℕ)) → List (List ℕ) → R
 TakesRow after taken row (Ok done) = (why_refused taken row ≡ None) × Stands after (taken ++ row ∷ [])
 TakesRow after taken row (Err (fault.Refused why)) = why_refused taken row ≡ Some why
 TakesRow after taken row (Err fault.NoMemory) = ⊤
+
+-- whatever rows the draft stands for, the row is taken or refused so
+abbrev pub Takes : Draft → Draft → List (List ℕ) → Result Unit RowFault → Type 0
+Takes before after row result = (taken : List (List (List ℕ))) → Stands before taken → TakesRow after taken row result
+
+-- the draft stands for some rows, and after them the row has the shape of its kind
+abbrev pub Awaits : Draft → List (List ℕ) → Kind → Type 0
+Awaits before row kind = (taken : List (List (List ℕ))) × Stands before taken × HasShape taken row kind
+
+-- and where it has that shape after the rows, the row is taken or refused as the other checks say
+abbrev pub TakesAs : Kind → Draft → Draft → List (List ℕ) → Result Unit RowFault → Type 0
+TakesAs kind before after row result = (taken : List (List (List ℕ))) → Stands before taken → HasShape taken row kind → TakesRow after taken row result
 
 -- one leg more, after the others, and all else as it was
 abbrev pub AddsLeg : Draft → Draft → Leg → Type 0

@@ -11,8 +11,8 @@ ghost use Rattle.nrm_network.specs.Answer.{AnswersFile};
 ghost use Rattle.nrm_network.specs.Checks.{why_refused};
 ghost use Rattle.nrm_network.specs.File.{lacks_a_kind, network_or_refusal, number_of_leg};
 ghost use Rattle.nrm_network.specs.declared.fault.Why.TheVariants as why;
-ghost use Rattle.nrm_network.specs.Draft.{AddsLeg, AddsProduct, SetsDemand, Stands, TakesRow, names_of};
-ghost use Rattle.nrm_network.specs.Shape.{Counted, HasShape};
+ghost use Rattle.nrm_network.specs.Draft.{AddsLeg, AddsProduct, Awaits, SetsDemand, Stands, Takes, TakesAs, names_of};
+ghost use Rattle.nrm_network.specs.Shape.{Counted};
 
 use crate::fault::{NetFault, RowFault, Why};
 use crate::row::{RowKind, differ, field, numbers, seats, value};
@@ -87,8 +87,8 @@ impl Draft {
     }
 
     fn take_periods(&mut self, row: &ByteRecord)
-        requires { (taken : List (List (List ℕ))) × HasShape taken (fields_of row.now) periods_kind }
-        ensures { (taken : List (List (List ℕ))) → Stands self.old taken → HasShape taken (fields_of row.now) periods_kind → TakesRow self.new taken (fields_of row.now) (Ok tt) }
+        requires { Awaits self.old (fields_of row.now) periods_kind }
+        ensures { TakesAs periods_kind self.old self.new (fields_of row.now) (Ok tt) }
     {
         self.histories = value(field(row, 1)) as u8;
         self.periods = value(field(row, 2)) as u8;
@@ -104,8 +104,8 @@ impl Draft {
     }
 
     fn take_leg(&mut self, alloc: Global, row: &ByteRecord) -> Result<(), RowFault>
-        requires { (taken : List (List (List ℕ))) × Stands self.old taken × HasShape taken (fields_of row.now) leg_kind }
-        ensures { (taken : List (List (List ℕ))) → Stands self.old taken → HasShape taken (fields_of row.now) leg_kind → TakesRow self.new taken (fields_of row.now) result }
+        requires { Awaits self.old (fields_of row.now) leg_kind }
+        ensures { TakesAs leg_kind self.old self.new (fields_of row.now) result }
     {
         let Some(name) = name_of(field(row, 1)) else {
             return Err(RowFault::Refused(Why::Name));
@@ -165,8 +165,8 @@ impl Draft {
     }
 
     fn take_product(&mut self, alloc: Global, row: &ByteRecord) -> Result<(), RowFault>
-        requires { (taken : List (List (List ℕ))) × Stands self.old taken × HasShape taken (fields_of row.now) product_kind }
-        ensures { (taken : List (List (List ℕ))) → Stands self.old taken → HasShape taken (fields_of row.now) product_kind → TakesRow self.new taken (fields_of row.now) result }
+        requires { Awaits self.old (fields_of row.now) product_kind }
+        ensures { TakesAs product_kind self.old self.new (fields_of row.now) result }
     {
         let Some(name) = name_of(field(row, 1)) else {
             return Err(RowFault::Refused(Why::Name));
@@ -208,8 +208,8 @@ impl Draft {
     }
 
     fn take_demand(&mut self, alloc: Global, row: &ByteRecord) -> Result<(), RowFault>
-        requires { (taken : List (List (List ℕ))) × Stands self.old taken × HasShape taken (fields_of row.now) demand_kind }
-        ensures { (taken : List (List (List ℕ))) → Stands self.old taken → HasShape taken (fields_of row.now) demand_kind → TakesRow self.new taken (fields_of row.now) result }
+        requires { Awaits self.old (fields_of row.now) demand_kind }
+        ensures { TakesAs demand_kind self.old self.new (fields_of row.now) result }
     {
         let Some(name) = name_of(field(row, 1)) else {
             return Err(RowFault::Refused(Why::Name));
@@ -235,7 +235,7 @@ impl Draft {
     /// The first check that refuses the row against those before it, or want of memory.
     pub fn take(&mut self, alloc: Global, row: &ByteRecord) -> Result<(), RowFault>
         requires { (taken : List (List (List ℕ))) × Stands self.old taken }
-        ensures { (taken : List (List (List ℕ))) → Stands self.old taken → TakesRow self.new taken (fields_of row.now) result }
+        ensures { Takes self.old self.new (fields_of row.now) result }
     {
         match shape_of(self.counts(), row) {
             Ok(RowKind::Periods) => {

@@ -1,26 +1,39 @@
 //! Why a file gives no network.
-use std::alloc::{AllocError, AllocFailed};
+use std::alloc::AllocError;
 use thiserror::Error;
 
-/// Why a row is refused.
+/// Why a file is refused: the first check that a row fails, in this order, or what the file lacks.
 #[derive(Clone, Copy, Debug, PartialEq, Eq)]
 pub enum Why {
+    /// The first field is none of the four words.
     Kind,
+    /// The first row isn't of periods, or a later row is.
     Order,
+    /// The number of fields isn't one that the kind allows.
     Fields,
+    /// A leg after 64 legs, or a product after 256 products.
     Many,
+    /// A field that must be a name is none.
     Name,
+    /// A field that must be a whole number is none.
     Number,
+    /// A number is below its least or above its greatest value.
     Range,
+    /// A name is taken among its kind, a product names one leg twice, or a demand was given.
     Twice,
+    /// A named leg or product isn't there.
     Missing,
+    /// The thresholds of a leg are not strictly falling.
     Thresholds,
+    /// The demands of a row add up to more than 999.
     Sum,
+    /// There is no leg or no product: told at the place after the last row.
     Empty,
+    /// The file is longer than 4,194,304 bytes: told at row 0.
     Size,
 }
 
-/// A file that gives no network: it is refused at a row, or memory ran out.
+/// A file that gives no network: it is refused at a row, counted from 1, or memory ran out.
 #[derive(Debug, Drop, Error)]
 pub enum NetFault {
     #[error("refused at row {row}")]
@@ -58,17 +71,6 @@ impl From<AllocError> for RowFault {
     ghost from_gives = { λ _ e. e ≡ NoMemory };
 
     fn from(_: AllocError) -> RowFault {
-        RowFault::NoMemory
-    }
-}
-
-impl<T: Drop> From<AllocFailed<T>> for RowFault {
-    ghost use Rattle.std.specs.Prelude.{◌≡◌};
-    ghost use Rattle.nrm_network.specs.declared.fault.RowFault.TheVariants.{NoMemory};
-
-    ghost from_gives = { λ _ e. e ≡ NoMemory };
-
-    fn from(_: AllocFailed<T>) -> RowFault {
         RowFault::NoMemory
     }
 }

@@ -147,7 +147,8 @@ fn push_products(text: &mut Vec<u8>, net: &Network) -> Result<(), AllocError>
 fn push_demands(text: &mut Vec<u8>, net: &Network) -> Result<(), AllocError>
     ensures { OnOk result (text.new.items ≡ text.old.items ++ flat_map (λ j. flat_map (history_text net.now j) (range_with_len 0 net.now.histories)) (range_with_len 0 (length net.now.products))) }
 {
-    for j in 0..net.product_count() {
+    let products = net.product_count();
+    for j in 0..products {
         push_histories(text, net, j as u16)?;
     }
     Ok(())
