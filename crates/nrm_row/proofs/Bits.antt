@@ -1,0 +1,65 @@
+-- What the code's numbers are at 64 and at 128 bits.
+use Rattle.std.proofs.Common.{sym, to_z-of_z, ◌≡◌, ℕ, zero, suc, ◌^◌, ◌<◌, ℤ, pos, negsuc, ◌-ℤ◌, ◌*ℤ◌, subst, ◌<ℤ◌, nat_abs, arith, ap, ◌∙◌, List, length, get_or, leb, false, leb-false, All}
+use Rattle.std.proofs.lemmas.List.{get_or_default}
+use Rattle.std.proofs.lemmas.Int.{ints, to_z_pos, unsigned_abs-mul}
+use Rattle.std.proofs.lemmas.Nat.{mul-lt}
+use mir.Syntax.{w64, w128}
+use mir.Val.{to_z, of_z, SFits}
+use Rattle.nrm_row.specs.Numbers.{IsSmall}
+
+-- a number below the limit is the same at 64 bits
+pub small_fits : (n : ℤ) → leb (2 ^ 48) (nat_abs n) ≡ false → to_z w64 (of_z w64 n) ≡ n
+small_fits n h = let l : nat_abs n < 2 ^ 48 = omega (arith, leb-false (2 ^ 48) (nat_abs n) h) in omega (arith, ints)
+
+pub small_same : (n : ℤ) → IsSmall n → to_z w64 (of_z w64 n) ≡ n
+small_same n h = omega (arith, ints)
+
+-- a number read at a column, as the code has it
+pub read_at : (ns : List ℤ) (i col : ℕ) (n : ℤ) → All IsSmall ns → col < length ns → i ≡ col → n ≡ get_or ns i n → to_z w64 (of_z w64 n) ≡ get_or ns col (pos 0)
+read_at ns i col n smalls h e r =
+    ap (λ z. to_z w64 (of_z w64 z)) read ∙ small_same (get_or ns col (pos 0)) (smalls col (pos 0) h)
+  where
+    read : n ≡ get_or ns col (pos 0)
+    read = r ∙ ap (λ j. get_or ns j n) e ∙ get_or_default ns col n (pos 0) h
+
+-- a difference of two products, as the code has it at 128 bits
+pub difference_is : (p q : ℤ) → nat_abs p < 2 ^ 96 → nat_abs q < 2 ^ 96 → to_z w128 (of_z w128 (to_z w128 (of_z w128 p) -ℤ to_z w128 (of_z w128 q))) ≡ p -ℤ q
+difference_is p q h k = omega (arith, ints)
+
+pub difference_fits : (p q : ℤ) → nat_abs p < 2 ^ 96 → nat_abs q < 2 ^ 96 → SFits w128 (to_z w128 (of_z w128 p) -ℤ to_z w128 (of_z w128 q))
+difference_fits p q h k = omega (arith, ints)
+
+pub difference_bound : (p q : ℤ) → nat_abs p < 2 ^ 96 → nat_abs q < 2 ^ 96 → nat_abs (p -ℤ q) < 2 ^ 97
+difference_bound p q h k = omega (arith, ints)
+
+-- and a product
+wide_same : (p : ℤ) → nat_abs p < 2 ^ 96 → to_z w128 (of_z w128 p) ≡ p
+wide_same p h = omega (arith, ints)
+
+product_bound : (x y : ℤ) → IsSmall x → IsSmall y → nat_abs (x *ℤ y) < 2 ^ 96
+product_bound x y h k = subst (λ t. t < 2 ^ 96) (sym (unsigned_abs-mul x y)) (mul-lt (nat_abs x) (nat_abs y) (2 ^ 48) (2 ^ 48) h k)
+
+pub product_small : (x y : ℤ) → IsSmall x → IsSmall y → nat_abs (to_z w128 (of_z w128 (to_z w128 (of_z w128 (to_z w64 (of_z w64 x))) *ℤ to_z w128 (of_z w128 (to_z w64 (of_z w64 y)))))) < 2 ^ 96
+product_small x y h k =
+    subst (λ z. nat_abs z < 2 ^ 96) (sym ((λ i. to_z w128 (of_z w128 (number x h i *ℤ number y k i))) ∙ wide_same (x *ℤ y) (product_bound x y h k))) (product_bound x y h k)
+  where
+    number : (n : ℤ) → IsSmall n → to_z w128 (of_z w128 (to_z w64 (of_z w64 n))) ≡ n
+    number n l = ap (λ z. to_z w128 (of_z w128 z)) (small_same n l) ∙ wide_same n (omega arith)
+
+pub short_positive_bits : (g : ℤ) → pos 0 <ℤ g → 0 < of_z w64 g
+short_positive_bits (pos zero) h = absurd (omega (arith, ints))
+short_positive_bits (pos (suc n)) h = omega arith
+short_positive_bits (negsuc n) h = absurd (omega (arith, ints))
+
+pub one_from_bits : (g : ℤ) → pos 0 <ℤ g → of_z w64 g ≡ 1 → nat_abs g ≡ 1
+one_from_bits (pos n) h e = e
+one_from_bits (negsuc n) h e = absurd (omega (arith, ints))
+
+pub cast_small : (g : ℕ) → g < 2 ^ 96 → to_z w128 g ≡ pos g
+cast_small g h = to_z_pos w128 g (omega arith)
+
+pub zero_from_bits : (n : ℤ) → SFits w64 n → of_z w64 n ≡ 0 → n ≡ pos 0
+zero_from_bits n f e = sym (to_z-of_z f) ∙ ap (to_z w64) e
+
+pub wide_zero_from_bits : (n : ℤ) → SFits w128 n → of_z w128 n ≡ 0 → n ≡ pos 0
+wide_zero_from_bits n f e = sym (to_z-of_z f) ∙ ap (to_z w128) e

@@ -1,0 +1,125 @@
+-- A row made of numbers over a denominator, in lowest terms: that it is a row, which fractions it stands for, and
+-- whether it is Large. Then what a row's parts are of its fractions.
+use Rattle.std.proofs.Common.{◌≡◌, ℕ, zero, suc, ◌/◌, ◌^◌, ◌<◌, ℤ, pos, negsuc, ◌<ℤ◌, nat_abs, arith, refl, sym, ap, ap₂, ◌∙◌, subst, List, [], ◌∷◌, length, get_or, leb, cond, Bool, true, false, Some, None, leb-false, All}
+use Rattle.std.specs.Int.{IsInRange}
+use Rattle.std.proofs.lemmas.Bool.Decides.{nat_tests}
+use Rattle.std.proofs.lemmas.Int.{ints}
+use Rattle.std.proofs.lemmas.List.{length-map}
+use Rattle.std.proofs.lemmas.List.Elements.{All-map, All-weaker, All-head, All-tail, All-cons}
+use native.Mathlib.Nat.{div-mul_cancel, div-le_self}
+use Rattle.nrm_number.specs.Gcd.{shrink}
+use Rattle.nrm_number.proofs.GcdLaws.{nat_abs-shrink}
+use Rattle.nrm_fraction.specs.Fraction.{Fraction, ◌over◌}
+use Rattle.nrm_fraction.specs.Large.{fractions, gcd_all, first_reaching, common, numerators, large_number}
+use Rattle.nrm_fraction.proofs.Lowest.{common_is, numerators_are}
+use Rattle.nrm_row.specs.Numbers.{shrunk, IsSmall, IsRow}
+use Rattle.nrm_row.proofs.Divisors.{gcd_all_pos, gcd_all-dvd, gcd_all-divides, shrunk_same, shrunk_lowest, reduced_below}
+
+pub reaching_yes : (n : ℤ) (ns : List ℤ) → leb (2 ^ 48) (nat_abs n) ≡ true → first_reaching (2 ^ 48) (n ∷ ns) ≡ Some n
+reaching_yes n ns h = ap (λ b. cond b (Some n) (first_reaching (2 ^ 48) ns)) h
+
+pub reaching_no : (n : ℤ) (ns : List ℤ) → leb (2 ^ 48) (nat_abs n) ≡ false → first_reaching (2 ^ 48) (n ∷ ns) ≡ first_reaching (2 ^ 48) ns
+reaching_no n ns h = ap (λ b. cond b (Some n) (first_reaching (2 ^ 48) ns)) h
+
+some_not_none : (n : ℤ) → Some n ≡ None → ⊥
+some_not_none n e = cc
+
+-- where none reaches the limit, all are small
+pub small_from_none : (ns : List ℤ) → first_reaching (2 ^ 48) ns ≡ None → All IsSmall ns
+small_from_none [] h k d l = absurd (omega arith)
+small_from_none (n ∷ ns) h k d l = go (leb (2 ^ 48) (nat_abs n)) refl (small_from_none ns) h k l
+  where
+    go : (b : Bool) → leb (2 ^ 48) (nat_abs n) ≡ b → (first_reaching (2 ^ 48) ns ≡ None → All IsSmall ns) → cond b (Some n) (first_reaching (2 ^ 48) ns) ≡ None → (k : ℕ) → k < suc (length ns) → IsSmall (get_or (n ∷ ns) k d)
+    go true e rest h k l = absurd (some_not_none n h)
+    go false e rest h zero l = leb-false (2 ^ 48) (nat_abs n) e
+    go false e rest h (suc k) l = rest h k d (omega arith)
+
+-- and the other way round
+none_reaches : (ns : List ℤ) → All IsSmall ns → first_reaching (2 ^ 48) ns ≡ None
+none_reaches [] h = refl
+none_reaches (n ∷ ns) h = reaching_no n ns (not_reached (nat_abs n) (All-head IsSmall n ns h)) ∙ none_reaches ns (All-tail IsSmall n ns h)
+  where
+    not_reached : (m : ℕ) → m < 2 ^ 48 → leb (2 ^ 48) m ≡ false
+    not_reached m l = grind (arith, nat_tests)
+
+pub positive_abs : (d : ℤ) → pos 0 <ℤ d → (d ≡ pos (nat_abs d)) × (0 < nat_abs d)
+positive_abs (pos zero) h = absurd (omega (arith, ints))
+positive_abs (pos (suc n)) h = (refl, omega arith)
+positive_abs (negsuc n) h = absurd (omega (arith, ints))
+
+-- ---- lowest terms
+lowest_parts : (d : ℤ) (ns : List ℤ) → pos 0 <ℤ d → (shrink d (gcd_all (nat_abs d) ns) ≡ pos (nat_abs d / gcd_all (nat_abs d) ns)) × (0 < nat_abs d / gcd_all (nat_abs d) ns)
+lowest_parts (pos zero) ns h = absurd (omega (arith, ints))
+lowest_parts (pos (suc d)) ns h = (refl, reduced_below (suc d) (gcd_all (suc d) ns) (omega arith) (div-mul_cancel (gcd_all (suc d) ns) (gcd_all-dvd (suc d) ns)))
+lowest_parts (negsuc d) ns h = absurd (omega (arith, ints))
+
+pub divisor_positive : (d : ℤ) (ns : List ℤ) → pos 0 <ℤ d → pos 0 <ℤ pos (gcd_all (nat_abs d) ns)
+divisor_positive d ns h = omega (arith, ints, gcd_all_pos (nat_abs d) ns (positive_abs d h).1)
+
+-- numbers over a denominator, divided by what they have in common, are a row if they are small
+pub lowest_is_row : (d : ℤ) (ns : List ℤ) → pos 0 <ℤ d → IsSmall (shrink d (gcd_all (nat_abs d) ns)) → All IsSmall (shrunk (gcd_all (nat_abs d) ns) ns) → IsInRange 1 577 (length ns) → IsRow (shrink d (gcd_all (nat_abs d) ns)) (shrunk (gcd_all (nat_abs d) ns) ns)
+lowest_is_row d ns h small smalls w = record {
+  positive = subst (λ z. pos 0 <ℤ z) (sym (lowest_parts d ns h).0) (omega (arith, ints, (lowest_parts d ns h).1));
+  small = small;
+  smalls = smalls;
+  lowest = ap (λ z. gcd_all (nat_abs z) (shrunk (gcd_all (nat_abs d) ns) ns)) (lowest_parts d ns h).0 ∙ shrunk_lowest (nat_abs d) ns (positive_abs d h).1;
+  width = subst (IsInRange 1 577) (sym (length-map ns (λ n. shrink n (gcd_all (nat_abs d) ns)))) w;
+}
+
+shrink_small : (g : ℕ) (n : ℤ) → IsSmall n → IsSmall (shrink n g)
+shrink_small g n h = omega (arith, nat_abs-shrink n g, div-le_self (nat_abs n) g)
+
+-- numbers below the limit stay below it
+pub small_is_row : (d : ℤ) (ns : List ℤ) → pos 0 <ℤ d → IsSmall d → All IsSmall ns → IsInRange 1 577 (length ns) → IsRow (shrink d (gcd_all (nat_abs d) ns)) (shrunk (gcd_all (nat_abs d) ns) ns)
+small_is_row d ns h small smalls w =
+    lowest_is_row d ns h (shrink_small (gcd_all (nat_abs d) ns) d small)
+    (All-map IsSmall (λ n. shrink n (gcd_all (nat_abs d) ns)) ns (All-weaker IsSmall (λ n. IsSmall (shrink n (gcd_all (nat_abs d) ns))) (shrink_small (gcd_all (nat_abs d) ns)) ns smalls)) w
+
+-- and stand for the same fractions
+pub lowest_same : (d : ℤ) (ns : List ℤ) → pos 0 <ℤ d → fractions (nat_abs (shrink d (gcd_all (nat_abs d) ns))) (shrunk (gcd_all (nat_abs d) ns) ns) ≡ fractions (nat_abs d) ns
+lowest_same d ns h =
+    ap (λ z. fractions (nat_abs z) (shrunk (gcd_all (nat_abs d) ns) ns)) (lowest_parts d ns h).0
+    ∙ shrunk_same (nat_abs d) (gcd_all (nat_abs d) ns) ns (positive_abs d h).1 (lowest_parts d ns h).1 (div-mul_cancel (gcd_all (nat_abs d) ns) (gcd_all-dvd (nat_abs d) ns)) (gcd_all_pos (nat_abs d) ns (positive_abs d h).1) (gcd_all-divides (nat_abs d) ns)
+
+-- a row, by the tests of its numbers
+pub made_is_row : (d : ℤ) (ns : List ℤ) → pos 0 <ℤ d → leb (2 ^ 48) (nat_abs (shrink d (gcd_all (nat_abs d) ns))) ≡ false → first_reaching (2 ^ 48) (shrunk (gcd_all (nat_abs d) ns) ns) ≡ None → IsInRange 1 577 (length ns) → IsRow (shrink d (gcd_all (nat_abs d) ns)) (shrunk (gcd_all (nat_abs d) ns) ns)
+made_is_row d ns h small none w = lowest_is_row d ns h (leb-false (2 ^ 48) (nat_abs (shrink d (gcd_all (nat_abs d) ns))) small) (small_from_none (shrunk (gcd_all (nat_abs d) ns) ns) none) w
+
+-- the first number of the exact row that reaches a limit
+pub large_is : (limit : ℕ) (d : ℤ) (ns : List ℤ) → pos 0 <ℤ d → large_number limit (fractions (nat_abs d) ns) ≡ first_reaching limit (shrink d (gcd_all (nat_abs d) ns) ∷ shrunk (gcd_all (nat_abs d) ns) ns)
+large_is limit d ns h =
+    ap (large_number limit) (sym (lowest_same d ns h) ∙ ap (λ z. fractions (nat_abs z) N) (lowest_parts d ns h).0)
+    ∙ ap₂ (λ m ms. first_reaching limit (pos m ∷ ms)) common_here (ap (λ m. numerators m (fractions M N)) common_here ∙ numerators_are M N (lowest_parts d ns h).1)
+    ∙ ap (λ z. first_reaching limit (z ∷ N)) (sym (lowest_parts d ns h).0)
+  where
+    M : ℕ
+    M = nat_abs d / gcd_all (nat_abs d) ns
+
+    N : List ℤ
+    N = shrunk (gcd_all (nat_abs d) ns) ns
+
+    common_here : common (fractions M N) ≡ M
+    common_here = common_is M N (lowest_parts d ns h).1 (shrunk_lowest (nat_abs d) ns (positive_abs d h).1)
+
+-- a row isn't Large
+pub row_not_large : (d : ℤ) (ns : List ℤ) → IsRow d ns → large_number (2 ^ 48) (fractions (nat_abs d) ns) ≡ None
+row_not_large d ns r =
+    ap₂ (λ m ms. first_reaching (2 ^ 48) (pos m ∷ ms)) common_here (ap (λ m. numerators m (fractions (nat_abs d) ns)) common_here ∙ numerators_are (nat_abs d) ns (positive_abs d r.positive).1)
+    ∙ none_reaches (pos (nat_abs d) ∷ ns) (All-cons IsSmall (pos (nat_abs d)) ns r.small r.smalls)
+  where
+    common_here : common (fractions (nat_abs d) ns) ≡ nat_abs d
+    common_here = common_is (nat_abs d) ns (positive_abs d r.positive).1 r.lowest
+
+-- ---- what a row's parts are of its fractions
+pub row_den : (d : ℤ) (ns : List ℤ) (row : List Fraction) → IsRow d ns → fractions (nat_abs d) ns ≡ row → d ≡ pos (common row)
+row_den d ns row r e =
+    (positive_abs d r.positive).0 ∙ ap pos (sym (common_is (nat_abs d) ns (positive_abs d r.positive).1 r.lowest)) ∙ ap (λ t. pos (common t)) e
+
+pub row_nums : (d : ℤ) (ns : List ℤ) (row : List Fraction) → IsRow d ns → fractions (nat_abs d) ns ≡ row → numerators (common row) row ≡ ns
+row_nums d ns row r e =
+    sym (ap (λ t. numerators (common t) t) e)
+    ∙ ap (λ m. numerators m (fractions (nat_abs d) ns)) (common_is (nat_abs d) ns (positive_abs d r.positive).1 r.lowest)
+    ∙ numerators_are (nat_abs d) ns (positive_abs d r.positive).1
+
+pub row_length : (d : ℤ) (ns : List ℤ) (row : List Fraction) → fractions (nat_abs d) ns ≡ row → length row ≡ length ns
+row_length d ns row e = sym (ap length e) ∙ length-map ns (λ n. n over nat_abs d)

@@ -1,0 +1,8 @@
+use Rattle.std.proofs.Common.{pos, ap, ◌∙◌}
+use Rattle.std.specs.Int.RustNames.{int_lt}
+use Rattle.nrm_row.proofs.Bits.{small_same}
+use Rattle.nrm_row.proofs.Entries.{positive_is}
+use Rattle.nrm_row.proofs.row.Row.is_positive.Goals as goal
+
+pub returns : goal.returns
+returns c = ap (λ z. int_lt (pos 0) z) (small_same c.num.result c.num.ensures.small ∙ c.num.ensures.num) ∙ positive_is c.args.self.now c.args.col c.requires

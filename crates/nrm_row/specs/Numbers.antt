@@ -1,0 +1,41 @@
+-- The whole numbers of a row: what they are when two rows are combined, and what a row keeps.
+use Rattle.std.specs.Prelude.{ℕ, ◌≡◌, ◌<◌, ◌^◌, ℤ, pos, ◌-ℤ◌, ◌*ℤ◌, ◌<ℤ◌, unsigned_abs, int_lt, Bool, true, false, cond, get_or, List, [], ◌∷◌, map, length, All, AllPairs}
+use Rattle.std.specs.Int.{IsInRange}
+use Rattle.nrm_number.specs.Gcd.{shrink}
+use Rattle.nrm_fraction.specs.Large.{gcd_all}
+
+-- the numbers x e - a u, of a row's numbers x and another's numbers u
+abbrev pub crossed : ℤ → ℤ → List ℤ → List ℤ → List ℤ
+crossed a e [] xs = []
+crossed a e (u ∷ us) [] = []
+crossed a e (u ∷ us) (x ∷ xs) = (x *ℤ e -ℤ a *ℤ u) ∷ crossed a e us xs
+
+-- each number divided by g
+abbrev pub shrunk : ℕ → List ℤ → List ℤ
+shrunk g ns = map (λ n. shrink n g) ns
+
+-- whether the numbers x q at these columns come before the numbers y p in the order of a dictionary
+abbrev pub crossed_below : ℤ → ℤ → List ℤ → List ℤ → List ℕ → Bool
+crossed_below p q xs ys [] = false
+crossed_below p q xs ys (c ∷ cs) =
+    let x = get_or xs c (pos 0) *ℤ q in
+    let y = get_or ys c (pos 0) *ℤ p in
+    cond (int_lt x y) true (cond (int_lt y x) false (crossed_below p q xs ys cs))
+
+-- below the limit in size
+abbrev pub IsSmall : ℤ → Type 0
+IsSmall n = unsigned_abs n < 2 ^ 48
+
+-- columns that rise, each below the width, with numbers below the limit
+pub record AreEntries (width : ℕ) (entries : List (ℕ × ℤ)) : Type 0 where
+  pub rising : AllPairs (λ (a b : ℕ × ℤ). a.0 < b.0) entries
+  pub within : All (λ (e : ℕ × ℤ). e.0 < width) entries
+  pub small : All (λ (e : ℕ × ℤ). IsSmall e.1) entries
+
+-- one positive denominator and 1 to 577 numbers, in lowest terms and below the limit
+pub record IsRow (den : ℤ) (nums : List ℤ) : Type 0 where
+  pub positive : pos 0 <ℤ den
+  pub small : IsSmall den
+  pub smalls : All IsSmall nums
+  pub lowest : gcd_all (unsigned_abs den) nums ≡ 1
+  pub width : IsInRange 1 577 (length nums)

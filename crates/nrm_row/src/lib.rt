@@ -1,0 +1,16 @@
+//! Rows of exact fractions: whole numbers over one denominator, in lowest terms, all below 2^48 in size.
+#![tactic(auto)]
+
+mod crossed;
+mod euclid;
+mod fault;
+mod lowest;
+mod numbers;
+mod ratios;
+mod row;
+#[cfg(test)]
+mod tests;
+
+pub use euclid::gcd;
+pub use fault::RowFault;
+pub use row::Row;

@@ -1,0 +1,72 @@
+//! The arithmetic of single numbers: those of rows are below 2^48 in size, and products are wide until they are
+//! divided again.
+#![tactic(auto)]
+
+ghost use Rattle.std.specs.Prelude.{◌≡◌, ◌<◌, ◌^◌, pos, ◌-ℤ◌, ◌*ℤ◌, ◌<ℤ◌, unsigned_abs, leb};
+ghost use Rattle.nrm_number.specs.Gcd.{gcd as gcd_of, shrink};
+ghost use Rattle.nrm_row.specs.Numbers.{IsSmall};
+
+use crate::euclid::short_gcd;
+
+const LIMIT: i128 = 1 << 48;
+
+pub fn product(x: i64, y: i64) -> i128
+    requires x_small { IsSmall x }
+    requires y_small { IsSmall y }
+    ensures value { result ≡ x *ℤ y }
+    ensures bound { unsigned_abs result < 2 ^ 96 }
+{
+    x as i128 * y as i128
+}
+
+// x e - a u
+pub fn cross(x: i64, e: i64, a: i64, u: i64) -> i128
+    requires x_small { IsSmall x }
+    requires e_small { IsSmall e }
+    requires a_small { IsSmall a }
+    requires u_small { IsSmall u }
+    ensures value { result ≡ x *ℤ e -ℤ a *ℤ u }
+    ensures bound { unsigned_abs result < 2 ^ 97 }
+{
+    let left = product(x, e);
+    let right = product(a, u);
+    left - right
+}
+
+// Whether a number reaches the limit in size.
+pub fn is_large(n: i128) -> bool
+    ensures { result ≡ leb (2 ^ 48) (unsigned_abs n) }
+{
+    n >= LIMIT || n <= -LIMIT
+}
+
+// What a number and a denominator have in common.
+pub fn shared_divisor(n: i64, den: i64) -> i64
+    requires positive { pos 0 <ℤ den }
+    requires small { IsSmall den }
+    ensures { result ≡ pos (gcd_of (unsigned_abs n) (unsigned_abs den)) }
+{
+    short_gcd(n.unsigned_abs(), den.unsigned_abs()) as i64
+}
+
+// n divided by g, which is meant to divide it.
+pub fn quotient(n: i64, g: i64) -> i64
+    requires { pos 0 <ℤ g }
+    ensures { result ≡ shrink n (unsigned_abs g) }
+{
+    n / g
+}
+
+// The same of a wide number, at 64 bits where both fit.
+pub fn wide_quotient(t: i128, g: i128) -> i128
+    requires { pos 0 <ℤ g }
+    ensures { result ≡ shrink t (unsigned_abs g) }
+{
+    if g == 1 {
+        t
+    } else if let (Ok(short), Ok(divisor)) = (i64::try_from(t), i64::try_from(g)) {
+        i128::from(quotient(short, divisor))
+    } else {
+        t / g
+    }
+}
