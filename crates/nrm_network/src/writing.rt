@@ -6,6 +6,7 @@ ghost use Rattle.nrm_model.specs.Demand.{demand_row};
 ghost use Rattle.nrm_model.specs.Limits.{IsNetwork};
 ghost use Rattle.nrm_model.specs.Network.{leg_of};
 ghost use Rattle.nrm_network.specs.Canonical.{canonical_file, leg_fields, periods_fields, product_fields};
+ghost use Rattle.nrm_network.specs.File.{file_of};
 ghost use Rattle.nrm_network.specs.RowText.{after_commas, history_fields, history_text, row_text};
 
 use itoa::Buffer;
@@ -35,7 +36,8 @@ fn push_numbers(text: &mut Vec<u8>, numbers: &[u32]) -> Result<(), AllocError>
 }
 
 fn push_periods(text: &mut Vec<u8>, net: &Network) -> Result<(), AllocError>
-    ensures { OnOk result (text.new.items ≡ text.old.items ++ row_text (periods_fields net.now)) }
+    ensures pushed { OnOk result (text.new.items ≡ text.old.items ++ row_text (periods_fields net.now)) }
+    ensures limits { OnOk result (IsNetwork net.now) }
 {
     text.extend_from_slice(b"periods")?;
     push_number(text, u32::from(net.n()))?;
@@ -157,10 +159,13 @@ fn push_demands(text: &mut Vec<u8>, net: &Network) -> Result<(), AllocError>
 /// The canonical file of a network: the periods, the legs, the products, and the demand of each product in each history
 /// in which a seat was requested.
 ///
+/// It is read back as the same network.
+///
 /// # Errors
 /// Want of memory.
 pub fn print(alloc: Global, net: &Network) -> Result<Vec<u8>, AllocError>
-    ensures { IfOk result (λ file. file.items ≡ canonical_file net.now) }
+    ensures file { IfOk result (λ file. file.items ≡ canonical_file net.now) }
+    ensures read { IfOk result (λ file. file_of file.items ≡ Ok net.now) }
 {
     let mut text = Vec::new(alloc);
     push_periods(&mut text, net)?;
