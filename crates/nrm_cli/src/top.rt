@@ -1,5 +1,6 @@
 //! The top call.
 ghost use Rattle.std.specs.Prelude.{ℕ, List, Option, Some, ◌≡◌, ◌≤◌, map, option_map, string_bytes};
+ghost use Rattle.nrm_session.specs.Laws.{RepliesAreDetermined, SeatsAreKept};
 ghost use Rattle.nrm_cli.specs.Ends.{Completes, Ends};
 ghost use Rattle.nrm_cli.specs.Jobs.{job_of, print_file as print_job, run_first as run_job};
 ghost use Rattle.nrm_cli.specs.Outside.{Goes};
@@ -130,12 +131,14 @@ fn run_asked<F: Files, S: Source, K: Sink>(
     }
 }
 
-#[tactic(auto, using(crate::proofs::Complete::completes))]
 /// Does what the words (without the program's own name) ask for: `run first FILE` answers the lines of the stream on
 /// the network of the file, and `print FILE` writes its canonical form. All other words get the usage line.
 ///
 /// What each status says of the words, the files, the stream and what was written is in the clause `ends`; that good
-/// words, a valid file and no fault give the whole output, or want of memory with nothing written, in `complete`.
+/// words, a valid file and no fault give the whole output, or want of memory with nothing written, in `complete`. In no
+/// state of a session that it answers has a leg more seats sold than it has (`seats`), and network and commands determine
+/// the replies (`determined`).
+#[tactic(auto, using(crate::proofs::Complete::completes))]
 pub fn run<F: Files, S: Source, K: Sink>(
     alloc: Global,
     words: &[String],
@@ -154,6 +157,8 @@ pub fn run<F: Files, S: Source, K: Sink>(
         (record { files = F.contents files.old; coming = S.coming source.old; held = K.held sink.old; file_faults = F.faults files.old; source_faults = S.faults source.old; sink_faults = K.faults sink.old })
         (record { files = F.contents files.new; coming = S.coming source.new; held = K.held sink.new; file_faults = F.faults files.new; source_faults = S.faults source.new; sink_faults = K.faults sink.new })
         result }
+    ensures seats { SeatsAreKept }
+    ensures determined { RepliesAreDetermined }
 {
     run_asked(alloc, asked_in(words), files, source, sink)
 }
