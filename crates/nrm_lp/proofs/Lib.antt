@@ -1,0 +1,16 @@
+pub mod Pivot
+pub mod Leaving
+pub mod Duality
+pub mod Runs
+pub mod Tables
+pub mod Rule
+pub mod Closing
+pub mod Optimal
+pub mod Path
+pub mod Measure
+pub mod Rising
+pub mod Slackness
+pub mod Overflows
+pub mod Meeting
+pub mod Facts
+pub mod Positive

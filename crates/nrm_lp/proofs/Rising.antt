@@ -1,0 +1,83 @@
+-- At each pivot of a path the value row's number rises, where no row made is Large: so a path of such rows ends.
+use Rattle.std.proofs.Common.{◌≡◌, ℕ, zero, suc, ◌+◌, ◌*◌, ◌/◌, ◌<◌, ◌≤◌, ℤ, pos, ◌*ℤ◌, nat_abs, arith, refl, sym, ap, ◌∙◌, subst, List, [], ◌∷◌, map, length, get_or, Some, None, Bool, true, false, cond, leb, leb-false}
+use Rattle.std.proofs.lemmas.Int.{unsigned_abs-mul}
+use Rattle.std.proofs.lemmas.List.{length-map, get_or-map}
+use Prim.Native.Nat.{◌∣◌}
+use native.Mathlib.Nat.{le_of_dvd, mul-le-mul_left, le-div_iff_mul-le}
+use Rattle.nrm_fraction.specs.Fraction.{Fraction, negative, whole, ◌<ᶠ◌, ◌-ᶠ◌}
+use Rattle.nrm_fraction.specs.Large.{common, numerators, large_number, first_reaching}
+use Rattle.nrm_lp.specs.Program.{ProgramValue}
+use Rattle.nrm_lp.specs.Tableau.{Tableau, row_count, right_side, key_columns, entering, pivot}
+use Rattle.nrm_fraction.specs.Rows.{at}
+use Rattle.nrm_fraction.proofs.Values.{den_pos}
+use Rattle.nrm_fraction.proofs.Field.{IsPositive, difference_positive, positive_by, ring_F}
+use Rattle.nrm_fraction.proofs.Embed.{den-dvd-common}
+use Rattle.nrm_fraction.proofs.Lowest.{common_pos}
+use Rattle.nrm_lp.proofs.Positive.{value_rises}
+use Rattle.nrm_lp.proofs.Measure.{IsBelow, AreBelow, number, number_rises}
+use Rattle.nrm_lp.proofs.Tables.{table, pivot_is}
+use Rattle.nrm_lp.proofs.Pivot.{IsPivot}
+use Rattle.nrm_lp.proofs.Rule.{IsKept, IsLeaving}
+use Rattle.nrm_lp.proofs.Path.{entering_is}
+use Rattle.nrm_number.proofs.Ring.{solve, ◌⊖◌, v0}
+use Rattle.nrm_number.proofs.Ring.Expr.{minus, e0}
+
+-- no number reaches the limit
+none_reaches : (l : ℕ) (ns : List ℤ) → first_reaching l ns ≡ None → (k : ℕ) → k < length ns → nat_abs (get_or ns k (pos 0)) < l
+none_reaches l [] h k m = absurd (omega arith)
+none_reaches l (n ∷ ns) h k m = go (leb l (nat_abs n)) refl (none_reaches l ns) h k m
+  where
+    some_not_none : Some n ≡ None → ⊥
+    some_not_none e = cc
+
+    go : (b : Bool) → leb l (nat_abs n) ≡ b → (first_reaching l ns ≡ None → (k : ℕ) → k < length ns → nat_abs (get_or ns k (pos 0)) < l) → cond b (Some n) (first_reaching l ns) ≡ None → (k : ℕ) → k < suc (length ns) → nat_abs (get_or (n ∷ ns) k (pos 0)) < l
+    go true e rest h k m = absurd (some_not_none h)
+    go false e rest h zero m = leb-false l (nat_abs n) e
+    go false e rest h (suc k) m = rest h k (omega arith)
+
+-- an entry of a row that isn't Large is below the limit
+entry_below : (l : ℕ) (xs : List Fraction) (k : ℕ) → large_number l xs ≡ None → k < length xs → IsBelow l (at xs k)
+entry_below l xs k h m = record { num_below = omega (arith, sizes, numerator, mul-le-mul_left (nat_abs (at xs k).num) quotient); den_below = omega (arith, le_of_dvd (common_pos xs) divides, none_reaches l (pos (common xs) ∷ numerators (common xs) xs) h 0 (omega arith)) }
+  where
+    divides : (at xs k).den ∣ common xs
+    divides = den-dvd-common xs k m (whole (pos 0))
+
+    numerator : nat_abs (get_or (numerators (common xs) xs) k (pos 0)) < l
+    numerator = none_reaches l (pos (common xs) ∷ numerators (common xs) xs) h (suc k) (omega (arith, length-map xs (λ x. x.num *ℤ pos (common xs / x.den))))
+
+    sizes : nat_abs (get_or (numerators (common xs) xs) k (pos 0)) ≡ nat_abs (at xs k).num * (common xs / (at xs k).den)
+    sizes = ap nat_abs (get_or-map (λ x. x.num *ℤ pos (common xs / x.den)) xs k (whole (pos 0)) (pos 0) m) ∙ unsigned_abs-mul (at xs k).num (pos (common xs / (at xs k).den))
+
+    quotient : 1 ≤ common xs / (at xs k).den
+    quotient = (le-div_iff_mul-le (den_pos (at xs k))).1 (omega (arith, le_of_dvd (common_pos xs) divides))
+
+pub keys_below : (l : ℕ) (xs : List Fraction) (cs : List ℕ) → large_number l xs ≡ None → ((k : ℕ) → k < length cs → get_or cs k 0 < length xs) → AreBelow l (map (λ c. at xs c) cs)
+keys_below l xs [] h within = tt
+keys_below l xs (c ∷ cs) h within = (entry_below l xs c h (within 0 (omega arith)), keys_below l xs cs h (λ k m. within (suc k) (omega arith)))
+
+pub value_number : ℕ → ProgramValue → Tableau → ℕ
+value_number l a t = number l (map (λ c. at t.value c) (key_columns a))
+
+pub value_number_rises : (l : ℕ) (a : ProgramValue) (t : Tableau) (s r : ℕ) → IsKept a t → entering t ≡ Some s → IsLeaving a t s r → ((k : ℕ) → k < length (key_columns a) → get_or (key_columns a) k 0 < suc (right_side a)) → length (pivot t r s).value ≡ suc (right_side a) → large_number l t.value ≡ None → large_number l (pivot t r s).value ≡ None → value_number l a t < value_number l a (pivot t r s)
+unfolding value_number
+value_number_rises l a t s r h e w within width small small' =
+    number_rises l (map (λ c. at t.value c) (key_columns a)) (map (λ c. at (pivot t r s).value c) (key_columns a))
+    (length-map (key_columns a) (λ c. at t.value c) ∙ sym (length-map (key_columns a) (λ c. at (pivot t r s).value c)))
+    (keys_below l t.value (key_columns a) small (λ k m. omega (arith, within k m, h.value_width)))
+    (keys_below l (pivot t r s).value (key_columns a) small' (λ k m. omega (arith, within k m, width)))
+    (value_rises (row_count a) (key_columns a) (table t) (table (pivot t r s)) r s is_pivot h.positive below)
+  where
+    is_pivot : IsPivot (row_count a) (table t) (table (pivot t r s)) r s
+    is_pivot = subst (λ n. IsPivot n (table t) (table (pivot t r s)) r s) h.shape (pivot_is t r s (subst (λ n. r < n) (sym h.shape) w.row_below) (h.basis_shape ∙ sym h.shape) w.entry)
+
+    found : (i : ℕ) × (s ≡ 0 + i) × (suc i < length t.value) × (at t.value i <ᶠ whole (pos 0))
+    found = entering_is 0 t.value s e
+
+    below : IsPositive (negative (at t.value s))
+    below =
+        positive_by (negative (at t.value s)) (whole (pos 0) -ᶠ at t.value s)
+        (difference_positive (at t.value s) (whole (pos 0)) (subst (λ i. at t.value i <ᶠ whole (pos 0)) (sym (found.1 ∙ zero_plus found.0)) found.3))
+        (solve ring_F (at t.value s ∷ []) (minus v0) (e0 ⊖ v0) refl)
+      where
+        zero_plus : (i : ℕ) → 0 + i ≡ i
+        zero_plus i = omega arith

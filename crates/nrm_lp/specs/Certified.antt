@@ -1,0 +1,28 @@
+-- Complementary slackness: an allocation and bid prices that meet, and that the closing of a path is such a pair.
+use Rattle.std.specs.Prelude.{ℕ, ◌≡◌, ◌<◌, ◌≤◌, ◌*◌, List, [], length, get_or}
+use Rattle.nrm_lp.specs.Program.{ProgramValue, IsProgram, IsAllocation, IsPrices, load, price_sum, gain, cost}
+use Rattle.nrm_lp.specs.Tableau.{Tableau}
+use Rattle.nrm_lp.specs.Path.{IsLast}
+use Rattle.nrm_lp.specs.Closing.{closing}
+use Rattle.nrm_lp.specs.Overflow.{Closes, value_over}
+
+-- an allocation and bid prices that meet: a leg with a price above 0 is full, a product short of its bound isn't worth more than
+-- the bid prices of its legs, and one that is sold isn't worth less; the value is the cost of the prices, and the revenue
+pub record Meet (a : ProgramValue) (q : ℕ) (x : List ℕ) (d : ℕ) (p : List ℕ) (value : ℕ) : Type 0 where
+  pub allocation : IsAllocation a q x
+  pub prices : IsPrices a d p
+  pub full : (i : ℕ) → i < length a.caps → 0 < get_or p i 0 → load i a.legs x ≡ q * get_or a.caps i 0
+  pub unmet : (j : ℕ) → j < length a.bounds → get_or x j 0 < q * get_or a.bounds j 0 → d * get_or a.fares j 0 ≤ price_sum p (get_or a.legs j [])
+  pub used : (j : ℕ) → j < length a.bounds → 0 < get_or x j 0 → price_sum p (get_or a.legs j []) ≤ d * get_or a.fares j 0
+  pub value_is : value ≡ cost a d p
+  pub worth : value * q ≡ gain a x * d
+
+-- where a path ends, its closing is such a pair
+abbrev pub EndsMeet : Type 0
+EndsMeet = (a : ProgramValue) → IsProgram a → (t : Tableau) → IsLast a t
+    → Meet a (closing a t).q (closing a t).x (closing a t).den (closing a t).p (value_over a t (closing a t).den)
+
+-- and so is the closing of a path that ends and isn't Large
+abbrev pub ClosesMeet : Type 0
+ClosesMeet = (limit : ℕ) (a : ProgramValue) → IsProgram a → (n : ℕ) (t : Tableau) → Closes limit a n t
+    → Meet a (closing a t).q (closing a t).x (closing a t).den (closing a t).p (value_over a t (closing a t).den)

@@ -1,0 +1,9 @@
+pub mod Program
+pub mod Tableau
+pub mod Closing
+pub mod Path
+pub mod Facts
+pub mod Laws
+pub mod Overflow
+pub mod Certified
+pub mod Limits

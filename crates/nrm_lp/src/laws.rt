@@ -1,0 +1,31 @@
+//! Laws over the definitions. Each is the contract of a function that does nothing.
+ghost use Rattle.nrm_lp.specs.Laws.{EndsOptimal, WeakDuality};
+ghost use Rattle.nrm_lp.specs.Facts.{PathHasFacts};
+ghost use Rattle.nrm_lp.specs.Certified.{ClosesMeet, EndsMeet};
+
+/// No allocation gains more than any prices cost.
+pub fn weakly_dual()
+    ensures { WeakDuality }
+{}
+
+/// Every tableau of a path has unit columns at its basic columns and constraint rows above 0 in the order of the rule,
+/// is made of the first rows and makes them again, and whichever column enters, exactly one row is to leave.
+pub fn path_has_facts()
+    ensures { PathHasFacts }
+{}
+
+/// Where the path ends, its closing is optimal.
+pub fn ends_optimal()
+    ensures { EndsOptimal }
+{}
+
+/// Where the path ends, its closing is an allocation and prices that meet, with both kinds of complementary
+/// slackness, and its value is the cost and the gain.
+pub fn ends_meet()
+    ensures { EndsMeet }
+{}
+
+/// The same of a path that ends without a Large pivot and with a closing that isn't Large.
+pub fn closes_meet()
+    ensures { ClosesMeet }
+{}

@@ -1,0 +1,12 @@
+//! The deterministic linear program of a network (chapter 3 of Talluri and van Ryzin), its certificates, its
+//! allocations and prices, and the path of the simplex method on it. The laws over these definitions are functions
+//! with no body to speak of: each carries its law as its contract.
+#![tactic(auto)]
+
+mod certificate;
+mod laws;
+mod program;
+
+pub use certificate::{Certificate, Numbers};
+pub use laws::{closes_meet, ends_meet, ends_optimal, path_has_facts, weakly_dual};
+pub use program::Program;

@@ -1,0 +1,5 @@
+pub mod Filling
+pub mod FirstEntries
+pub mod Turns
+pub mod Faults
+pub mod Paths

@@ -1,0 +1,5 @@
+use Rattle.nrm_lp.proofs.Facts.{path_has_facts}
+use Rattle.nrm_tableau.proofs.laws.on_path_has_facts.Goals as goal
+
+pub returns : goal.returns
+returns c = λ s h. path_has_facts s.program h.pivots s.table h.reached.path

@@ -1,0 +1,6 @@
+use Rattle.std.proofs.Common.{◌≡◌, drop}
+use Rattle.nrm_lp.specs.Tableau.{entering_from}
+use Rattle.nrm_tableau.proofs.leaving.entering_column.Given as goal
+
+abbrev pub invariant-loop-col : goal.invariant-loop-col
+invariant-loop-col l = entering_from l.col (drop l.col l.value) ≡ entering_from 0 l.value

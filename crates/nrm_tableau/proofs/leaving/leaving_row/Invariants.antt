@@ -1,0 +1,10 @@
+use Rattle.std.proofs.Common.{◌≡◌, drop}
+use Rattle.nrm_lp.specs.Tableau.{leaving_from, key_columns}
+use Rattle.nrm_tableau.specs.Best.{IsCandidate, listed}
+use Rattle.nrm_tableau.proofs.leaving.leaving_row.Given as goal
+
+abbrev pub invariant-loop-row : goal.invariant-loop-row
+invariant-loop-row l = record {
+  candidate : IsCandidate l.rows l.col l.best;
+  found : listed l.program l.rows l.col l.best ≡ leaving_from (key_columns l.program) l.col l.row (drop l.row l.rows);
+}

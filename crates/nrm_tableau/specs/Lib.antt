@@ -1,0 +1,4 @@
+pub mod Value
+pub mod Entries
+pub mod Best
+pub mod Laws

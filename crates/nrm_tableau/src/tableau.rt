@@ -1,0 +1,130 @@
+//! A tableau: its rows as exact fractions, and the basic column of each constraint row. It is kept on its program's path.
+#![tactic(auto)]
+
+ghost use Rattle.std.specs.Prelude.{◌≡◌, ◌<◌, ◌^◌, pos, true, IfOk, IfErr, OnOk, OnErr, Some, None};
+ghost use Rattle.std.specs.Option.{option_map};
+ghost use Rattle.nrm_fraction.specs.Fraction.{less, whole};
+ghost use Rattle.nrm_fraction.specs.Rows.{at};
+ghost use Rattle.nrm_row.specs.Fault.{IsFault};
+ghost use Rattle.nrm_lp.specs.Tableau.{first_tableau, right_side, entering, leaving, pivot};
+ghost use Rattle.nrm_lp.specs.Overflow.{pivot_large};
+ghost use Rattle.nrm_tableau.specs.Value.{IsOnPath};
+
+use crate::first::{first_basis, first_rows, first_value};
+use crate::leaving::{entering_column, leaving_row};
+use crate::pivot::changed_rows;
+use nrm_lp::Program;
+use nrm_row::{Row, RowFault};
+use std::alloc::{AllocError, Global};
+use std::marker::Model;
+
+/// A tableau of the simplex method on a program: its constraint rows, the value row, and the basic column of each
+/// constraint row.
+#[derive(Drop)]
+pub struct Tableau<'a> {
+    program: &'a Program,
+    rows: Vec<Row>,
+    value: Row,
+    basis: Vec<u16>,
+}
+
+impl<'a> Model for Tableau<'a> {
+    ghost use Rattle.nrm_tableau.specs.Value.{TableauValue, IsOnPath};
+
+    ghost Value = { TableauValue };
+
+    ghost view = { λ t. record { program = t.program.now; table = record { rows = t.rows.items; value = t.value; basis = t.basis.items } } };
+
+    ghost invariant = { λ t. IsOnPath (record { program = t.program.now; table = record { rows = t.rows.items; value = t.value; basis = t.basis.items } }) };
+}
+
+impl<'a> Tableau<'a> {
+    /// The first tableau of a program: every slack is basic.
+    pub fn first(alloc: Global, program: &'a Program) -> Result<Tableau<'a>, AllocError>
+        ensures { IfOk result (λ t. t ≡ record { program = program.now; table = first_tableau program.now }) }
+    {
+        let rows = first_rows(alloc, program)?;
+        let value = first_value(alloc, program)?;
+        let basis = first_basis(alloc, program)?;
+        Ok(Tableau {
+            program,
+            rows,
+            value,
+            basis,
+        })
+    }
+
+    /// The lowest-numbered column before the right side with a negative entry in the value row; `None` exactly where
+    /// there is none.
+    pub fn entering(&self) -> Option<u16>
+        ensures column { result ≡ entering self.now.table }
+        ensures on_path { IsOnPath self.now }
+    {
+        entering_column(&self.value)
+    }
+
+    /// The row that leaves for the column: among the rows with a positive entry in it, the one whose list (right side,
+    /// then the slack columns), divided by that entry, is lexicographically least.
+    pub fn leaving(&self, col: u16) -> u16
+        requires before { col < right_side self.now.program }
+        requires negative { less (at self.now.table.value col) (whole (pos 0)) ≡ true }
+        ensures row { option_map (λ found. found.0) (leaving self.now.program self.now.table col) ≡ Some result }
+    {
+        leaving_row(self.program, &self.rows, col).unwrap()
+    }
+
+    /// Makes the next tableau: the pivot row first, then the other constraint rows by number, then the value row. After
+    /// an error the tableau is as it was. The number of a fault is the first that reaches 2^48 in size, in this order.
+    pub fn pivot(&mut self, alloc: Global, row: u16, col: u16) -> Result<(), RowFault>
+        requires enters { entering self.old.table ≡ Some col }
+        requires leaves { option_map (λ found. found.0) (leaving self.old.program self.old.table col) ≡ Some row }
+        ensures next { OnOk result (self.new ≡ record self.old { table = pivot self.old.table row col }) }
+        ensures small { OnOk result (pivot_large (2 ^ 48) self.old.program self.old.table ≡ None) }
+        ensures fault { IfErr result (λ f. IsFault f (pivot_large (2 ^ 48) self.old.program self.old.table)) }
+        ensures kept { OnErr result (self.new ≡ self.old) }
+    {
+        let rows = changed_rows(alloc, &self.rows, row, col)?;
+        let value = self.value.combine(alloc, &rows[usize::from(row)], col)?;
+        self.rows = rows;
+        self.value = value;
+        self.basis[usize::from(row)] = col;
+        Ok(())
+    }
+}
+
+#[cfg(test)]
+mod tests {
+    use super::*;
+    use std::test::Fail;
+
+    // Two legs of 40 seats, and five products at 400, 150, 500, 80 and 229.
+    #[test]
+    fn takes_the_pivots_of_two_legs(rt: HostRuntime) -> Result<(), Fail> {
+        let alloc = rt.alloc();
+        let caps = vec![in alloc; 40, 40]?;
+        let bounds = vec![in alloc; 12, 28, 16, 32, 0]?;
+        let fares = vec![in alloc; 400, 150, 500, 80, 229]?;
+        let both = vec![in alloc; 0, 1]?;
+        let both_again = vec![in alloc; 0, 1]?;
+        let legs = vec![in alloc;
+            vec![in alloc; 0]?,
+            vec![in alloc; 0]?,
+            both,
+            vec![in alloc; 1]?,
+            both_again,
+        ]?;
+        let program = Program::new(caps, bounds, fares, legs);
+        let mut tableau = Tableau::first(alloc, &program)?;
+        for (col, row) in [(0, 2), (1, 3), (2, 0), (3, 5), (7, 1), (8, 1), (10, 4)] {
+            let Some(enters) = tableau.entering() else {
+                assert!(rt; false, "no column enters at {col}");
+                return Ok(());
+            };
+            let leaves = tableau.leaving(enters);
+            assert_eq!(rt; (enters, leaves), (col, row));
+            assert!(rt; tableau.pivot(alloc, leaves, enters).is_ok());
+        }
+        assert!(rt; tableau.entering().is_none());
+        Ok(())
+    }
+}
