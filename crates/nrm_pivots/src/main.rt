@@ -1,0 +1,90 @@
+//! Runs the pivots of a large program, for the clock: 64 legs of 100 seats, and 256 products, each over four legs and
+//! with at most 9 seats. Its tableaux have 320 rows of 577 columns.
+#![tactic(auto)]
+
+ghost use Rattle.std.specs.Prelude.{◌≡◌, ◌<◌, All, IfOk, length, map};
+ghost use Rattle.nrm_pivots.specs.Parts.{AreFares, AreFourLegs};
+
+use nrm_lp::Program;
+use nrm_tableau::Tableau;
+use std::alloc::{AllocError, Global};
+use std::io::{self, Write};
+use std::process::ExitCode;
+
+// The pivots that are made at most.
+const MOST_PIVOTS: u32 = 20_000;
+
+// Fares that rise and fall over the products.
+fn fares(alloc: Global) -> Result<Vec<u32>, AllocError>
+    ensures { IfOk result (λ fares. (length fares.items ≡ 256) × AreFares fares.items) }
+{
+    let mut fares = Vec::new(alloc);
+    for j in 0..256u32 {
+        fares.push(100 + j * 7919 % 1009)?;
+    }
+    Ok(fares)
+}
+
+// The legs of a product: one out of each quarter of the legs.
+fn legs_of(alloc: Global, j: u32) -> Result<Vec<u8>, AllocError>
+    requires { j < 256 }
+    ensures { IfOk result (λ legs. AreFourLegs legs.items) }
+{
+    let legs = vec![in alloc;
+        (j % 16) as u8,
+        (16 + j * 3 % 16) as u8,
+        (32 + j * 5 / 3 % 16) as u8,
+        (48 + j / 16) as u8,
+    ]?;
+    Ok(legs)
+}
+
+fn legs(alloc: Global) -> Result<Vec<Vec<u8>>, AllocError>
+    ensures { IfOk result (λ legs. (length legs.items ≡ 256) × All AreFourLegs (map (λ v. v.items) legs.items)) }
+{
+    let mut legs = Vec::new(alloc);
+    for j in 0..256u32 {
+        let product = legs_of(alloc, j)?;
+        legs.push(product)?;
+    }
+    Ok(legs)
+}
+
+fn program(alloc: Global) -> Result<Program, AllocError> {
+    let caps = vec![in alloc; 100u32; 64]?;
+    let bounds = vec![in alloc; 9u32; 256]?;
+    Ok(Program::new(caps, bounds, fares(alloc)?, legs(alloc)?))
+}
+
+// How many pivots there are up to the end of the path, or to the first that is too large or finds no memory, and whether
+// the path ended.
+fn pivots(alloc: Global, program: &Program) -> Result<(u32, bool), AllocError> {
+    let mut tableau = Tableau::first(alloc, program)?;
+    let mut count = 0;
+    while count < MOST_PIVOTS {
+        let Some(col) = tableau.entering() else {
+            return Ok((count, true));
+        };
+        let row = tableau.leaving(col);
+        if tableau.pivot(alloc, row, col).is_err() {
+            break;
+        }
+        count += 1;
+    }
+    Ok((count, false))
+}
+
+fn counted(alloc: Global) -> Result<(u32, bool), AllocError> {
+    let program = program(alloc)?;
+    pivots(alloc, &program)
+}
+
+fn main(rt: HostRuntime) -> ExitCode {
+    match counted(rt.alloc()) {
+        Ok((count, ended)) => {
+            let _ = writeln!(io::writer(&rt), "pivots {count} ended {ended}");
+            ExitCode::SUCCESS
+        }
+        Err(_) => ExitCode::FAILURE,
+    }
+}
