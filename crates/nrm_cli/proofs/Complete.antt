@@ -1,5 +1,5 @@
 -- Where the words are good, the files are told and the file is valid, and no count rose, the job is done.
-use Rattle.std.proofs.Common.{ℕ, ◌≡◌, ◌≤◌, ◌⊎◌, ◌++◌, List, length, Option, Some, None, Ok, Err, refl, ap, sym, ◌∙◌, inl, inr, arith, append-nil, length-append, subst}
+use Rattle.std.proofs.Common.{ℕ, ◌≡◌, ◌≤◌, ◌++◌, List, length, Option, Some, None, Ok, Err, refl, ap, sym, ◌∙◌, inl, inr, arith, append-nil, length-append, subst}
 use Rattle.std.specs.Io.KnownBytes.{Consumes, IsAtEnd}
 use Rattle.nrm_edge.specs.Causes.{Rose}
 use Rattle.nrm_edge.specs.Fetch.{Folder}
@@ -55,12 +55,12 @@ module _ (asked : Option Job) (before after : Outside) (job : Job) (files : Fold
   pub complete : (s : Status) → Ends asked before after s → CompletesJob job net before after s
   complete status.Done (inl (file, given, taken, output, opens, read, writes, wrote)) =
       subst (Complete status.Done) (same-job (run_first file) opens.0) (λ stream coming short.
-          let all : taken ≡ stream = all-taken stream taken after.coming (rw coming at read.taken) read.ended in
-          let of_net = subst (λ (n : NetworkValue). RunWrites n taken output) (same-net (run_first file) given opens) writes in
-          inl (refl, (output, subst (λ (t : List ℕ). RunWrites net t output) all of_net, wrote)))
+      let all : taken ≡ stream = all-taken stream taken after.coming (rw coming at read.taken) read.ended in
+      let of_net = subst (λ (n : NetworkValue). RunWrites n taken output) (same-net (run_first file) given opens) writes in
+      inl (refl, (output, subst (λ (t : List ℕ). RunWrites net t output) all of_net, wrote)))
   complete status.Done (inr (file, given, opens, wrote, left)) =
       subst (Complete status.Done) (same-job (print_file file) opens.0)
-        (inl (refl, subst (λ (n : NetworkValue). Wrote before after (canonical_file n)) (same-net (print_file file) given opens) wrote))
+      (inl (refl, subst (λ (n : NetworkValue). Wrote before after (canonical_file n)) (same-net (print_file file) given opens) wrote))
   complete status.Usage ends = let none : None ≡ Some job = sym ends.0 ∙ asks in cc
   complete status.Refused (refusal, refuses, wrote, left) = absurd (not-refused refusal refuses)
   complete status.ReadFault (file, given, opens, rose, few, wrote) = absurd (no_source_fault rose)
@@ -68,8 +68,8 @@ module _ (asked : Option Job) (before after : Outside) (job : Job) (files : Fold
   complete status.NoMemory ends = ran-complete job net before after (rw asks at ends)
   complete status.TooLong (file, given, opens, too_much, wrote) =
       subst (Complete status.TooLong) (same-job (run_first file) opens.0) (λ stream coming short.
-          let few = no-more stream too_much.stream after.coming (rw coming at too_much.taken) in
-          absurd (omega (arith, few, too_much.long, short)))
+      let few = no-more stream too_much.stream after.coming (rw coming at too_much.taken) in
+      absurd (omega (arith, few, too_much.long, short)))
   complete status.FileFault (other, is, rose, wrote, left) = absurd (no_file_fault rose)
   complete status.Wrong ends = absurd ends
   complete status.Overflow ends = absurd ends

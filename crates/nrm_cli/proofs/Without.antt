@@ -1,5 +1,5 @@
 -- How a job ends where its file gives no network.
-use Rattle.std.proofs.Common.{◌≡◌, ℕ, List, Option, Some, Err, inl, inr, refl}
+use Rattle.std.proofs.Common.{Some, Err, inl, inr, refl}
 use Rattle.nrm_cli.specs.Ends.{Ends}
 use Rattle.nrm_cli.specs.Jobs.{Job, run_first, print_file, file_of_job}
 use Rattle.nrm_cli.specs.Outside.{Outside, LeftStream}
@@ -8,7 +8,6 @@ use Rattle.nrm_cli.specs.Refusals.{no_file, at_row}
 use Rattle.nrm_cli.specs.declared.opening.NoNetwork.{NoNetwork}
 use Rattle.nrm_cli.specs.declared.opening.NoNetwork.TheVariants as none
 use Rattle.nrm_cli.specs.declared.status.Status.{Status}
-use Rattle.nrm_cli.specs.declared.status.Status.TheVariants as status
 
 -- nothing was written and the stream was left
 ran-out : (job : Job) (before after : Outside) (s : Status) → PutsReason none.NoMemory before.held after.held before.sink_faults after.sink_faults s → LeftStream before after → Ends (Some job) before after s

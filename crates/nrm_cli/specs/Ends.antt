@@ -70,7 +70,7 @@ Cut asked before after =
     ⊎ ((refusal : Refusal) × Refuses asked before refusal × WroteFront before after (refusal_line refusal) × LeftStream before after)
     ⊎ ((job : Job) × (asked ≡ Some job) × Rose before.file_faults after.file_faults × WroteFront before after file_fault_line × LeftStream before after)
     ⊎ ((file : List ℕ) × (net : NetworkValue) × (stream : List ℕ) × (output : List ℕ)
-        × Opens asked (run_first file) before net × ReadToEnd before after stream × RunWritesCut net stream output × Wrote before after output)
+    × Opens asked (run_first file) before net × ReadToEnd before after stream × RunWritesCut net stream output × Wrote before after output)
     ⊎ ((file : List ℕ) × (net : NetworkValue) × Opens asked (print_file file) before net × WroteFront before after (canonical_file net) × LeftStream before after)
 
 -- memory ran out before anything was written; only a run may have taken bytes of the stream

@@ -1,5 +1,5 @@
 -- Why there is no network, and the line that says so.
-use Rattle.std.specs.Prelude.{ℕ, List, [], ◌∷◌, ◌++◌, decimal, codes, Option, Some, None, Result, Ok, Err}
+use Rattle.std.specs.Prelude.{ℕ, List, [], ◌∷◌, decimal, codes, Option, Some, None, Result, Ok, Err}
 use Rattle.nrm_text.specs.Words.{text_line}
 use Rattle.nrm_model.specs.Network.{NetworkValue}
 use Rattle.nrm_network.specs.File.{file_of}

@@ -5,6 +5,8 @@ mod line;
 mod opening;
 mod status;
 mod stream;
+#[cfg(test)]
+mod tests;
 mod top;
 mod words;
 

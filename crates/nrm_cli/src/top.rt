@@ -84,12 +84,7 @@ fn run_first<F: Files, S: Source, K: Sink>(
 }
 
 // Writes the canonical file of a network.
-fn print_file<F: Files, K: Sink>(
-    alloc: Global,
-    name: &str,
-    files: &mut F,
-    sink: &mut K,
-) -> Status
+fn print_file<F: Files, K: Sink>(alloc: Global, name: &str, files: &mut F, sink: &mut K) -> Status
     ensures ends { (coming : Option (List ℕ)) (faults : ℕ) → Ends (Some (print_job name.now))
         (record { files = F.contents files.old; coming = coming; held = K.held sink.old; file_faults = F.faults files.old; source_faults = faults; sink_faults = K.faults sink.old })
         (record { files = F.contents files.new; coming = coming; held = K.held sink.new; file_faults = F.faults files.new; source_faults = faults; sink_faults = K.faults sink.new })

@@ -1,12 +1,12 @@
 -- A network's inventory, and what is known of its legs.
-use Rattle.std.proofs.Common.{ℕ, ◌≡◌, ◌∙◌, ◌*◌, ◌<◌, ◌≤◌, List, [], ◌∷◌, length, map, find, slice_get, unwrap_or, option_map, Option, Some, None, Bool, true, false, nat_lt, refl, sym, ap, subst, arith, All}
+use Rattle.std.proofs.Common.{ℕ, ◌≡◌, ◌∙◌, ◌*◌, ◌<◌, ◌≤◌, List, [], ◌∷◌, length, find, slice_get, option_map, Option, Some, None, Bool, true, false, nat_lt, refl, sym, ap, subst, arith, All}
 use Rattle.std.specs.Option.{option_map_or}
 use Rattle.std.proofs.lemmas.Bool.{ltb-false}
 use Rattle.std.proofs.lemmas.List.Elements.{All-cons, All-head, All-tail}
 use Rattle.std.proofs.lemmas.List.{length-map}
 use Rattle.nrm_model.specs.declared.leg.Leg.{Leg}
 use Rattle.nrm_model.specs.declared.product.Product.{Product}
-use Rattle.nrm_model.specs.Inventory.{Inventory, inventory_of, legs_of, fare_of}
+use Rattle.nrm_model.specs.Inventory.{Inventory, inventory_of, legs_of}
 use Rattle.nrm_model.specs.Network.{NetworkValue, product_of}
 use Rattle.nrm_model.proofs.Inventories.{fare_of-product, legs_of-product, product_of-found}
 use Rattle.nrm_book.specs.declared.booking.Booking.{Booking}
@@ -44,7 +44,7 @@ pub verdict-is : (net : NetworkValue) (inventory : Inventory) (bookings : List B
 verdict-is net inventory bookings next party j product legs refusing is found same refuses =
     let own : legs ≡ (product_of net j).legs = same ∙ ap (λ (p : Product). p.legs) (sym (product_of-found net j product found)) in
     ap (λ o. option_map_or answer.Leg o (answer.Sold next))
-      (refuses ∙ ap (λ ls. find (λ i. nat_lt (left_on inventory bookings i) party) ls) own ∙ ap (λ (v : Inventory). find (λ i. nat_lt (left_on v bookings i) party) (product_of net j).legs) is)
+    (refuses ∙ ap (λ ls. find (λ i. nat_lt (left_on inventory bookings i) party) ls) own ∙ ap (λ (v : Inventory). find (λ i. nat_lt (left_on v bookings i) party) (product_of net j).legs) is)
 
 -- a product of the inventory is one of the network, with its fare
 pub product-within : (net : NetworkValue) (inventory : Inventory) (j : ℕ) → inventory ≡ inventory_of net → j < length inventory.legs → j < length net.products

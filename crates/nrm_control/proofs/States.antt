@@ -21,7 +21,7 @@ pub request-stands : (old new : ControlValue) (j party : ℕ) (given : Answer) �
 request-stands old new j party given is changed s stands =
     let after : after_answer s j party given ≡ after_request old.net s j party = ap (after_answer s j party) (is ∙ sym (answer-same old s j party stands)) in
     subst (λ (control : ControlValue). StandsFor control (after_request old.net s j party)) (sym changed)
-      (subst (λ (s' : SeatState). StandsFor (with_answer old j party given) s') after (answered old s j party given stands))
+    (subst (λ (s' : SeatState). StandsFor (with_answer old j party given) s') after (answered old s j party given stands))
 
 -- the same where the controller is seen through its parts
 pub request-stands-through : (inside old new : ControlValue) (j party : ℕ) (given : Answer) → inside ≡ old → given ≡ verdict_of old.net old.bookings old.next j party → new ≡ with_answer inside j party given

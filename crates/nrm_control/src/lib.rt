@@ -8,3 +8,6 @@ mod laws;
 pub use answer::Answer;
 pub use controller::Controller;
 pub use laws::stands_for_some;
+
+#[cfg(test)]
+mod tests;

@@ -4,3 +4,6 @@
 mod leg;
 
 pub use leg::leg_text;
+
+#[cfg(test)]
+mod tests;

@@ -3,6 +3,8 @@
 
 mod laws;
 mod reply;
+#[cfg(test)]
+mod tests;
 mod whole;
 
 pub use laws::{replies_are_determined, seats_are_kept};

@@ -9,8 +9,8 @@ returns-in-Refused-clause-puts g c =
     let faults = g.K.Sink.faults in
     let put = c.put_line-in-Refused in
     rw c.in-Refused.is
-      (subst (λ (line : List ℕ). PutsLine line status.Refused (held c.args.sink.now) (held put.new.sink) (faults c.args.sink.now) (faults put.new.sink) put.result)
-         (c.bytes.ensures ∙ c.line_at_row.ensures) put.ensures.puts)
+    (subst (λ (line : List ℕ). PutsLine line status.Refused (held c.args.sink.now) (held put.new.sink) (faults c.args.sink.now) (faults put.new.sink) put.result)
+    (c.bytes.ensures ∙ c.line_at_row.ensures) put.ensures.puts)
 
 pub returns-in-Fault-clause-puts : goal.returns-in-Fault-clause-puts
 returns-in-Fault-clause-puts g c = rw c.in-Fault.is c.put_line-in-Fault.ensures.puts

@@ -1,4 +1,4 @@
-use Rattle.std.proofs.Common.{◌≡◌, ◌∙◌, Option, Some, ap, option_map, subst, sym}
+use Rattle.std.proofs.Common.{◌≡◌, Option, Some, ap, option_map, subst, sym}
 use Rattle.nrm_cli.specs.Ends.{Ends}
 use Rattle.nrm_cli.specs.Outside.{Outside}
 use Rattle.nrm_cli.specs.Parts.{job_in}
@@ -15,4 +15,4 @@ returns-in-Some-Print-clause-ends g c =
     let printed = c.in-Some-Print.field-0 in
     let is = rw c.in-Some-Print.is at c.in-Some-Print.field-0-is in
     of-words c.args.asked (Some printed) _ _ c.print_file.result c.in-Some-Print.is
-      (of-words (Some printed) _ _ _ c.print_file.result (ap Some is) (c.print_file.ensures.ends (g.S.Source.coming c.args.source.now) (g.S.Source.faults c.args.source.now)))
+    (of-words (Some printed) _ _ _ c.print_file.result (ap Some is) (c.print_file.ensures.ends (g.S.Source.coming c.args.source.now) (g.S.Source.faults c.args.source.now)))

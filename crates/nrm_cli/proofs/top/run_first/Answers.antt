@@ -39,8 +39,7 @@ pub returns-clause-ends : goal.returns-clause-ends
 returns-clause-ends g c =
     let (taken, ended, short) = c.in-Ok-read_stream.ensures.reads in
     let stream = c.in-Ok-read_stream.stream.items in
-    let (rose, output, wrote, refines) = rw c.deref.ensures.value at c.in-WriteFault.ensures.serves in
-    (
+    let (rose, output, wrote, refines) = rw c.deref.ensures.value at c.in-WriteFault.ensures.serves in (
       rose,
       inr (inr (inr (inl (
         c.args.name.now,

@@ -11,5 +11,5 @@ product_at-requires c = product-within c.self.inside.network c.self.inside.book.
 pub returns-clause-refund : goal.returns-clause-refund
 returns-clause-refund c =
     refund-is c.self.inside.network c.self.inside.book.bookings c.args.number c.in_ok-booking.booking c.product_at.result.now c.from.result c.from-2.result
-      c.in_ok-booking.ensures.booking c.product_at.ensures.product c.from.ensures c.from-2.ensures
+    c.in_ok-booking.ensures.booking c.product_at.ensures.product c.from.ensures c.from-2.ensures
     ∙ ap (λ (control : ControlValue). option_map (worth_of (inventory_of control.net)) (booking_numbered control.bookings c.args.number)) c.self.view_is
