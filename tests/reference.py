@@ -1,0 +1,306 @@
+#!/usr/bin/env python3
+"""An independent account of the rules: a plain, slow model against which cases are made.
+
+    tests/reference.py replies FILE           the replies to standard input, on the network of FILE, first come, first served
+    tests/reference.py print FILE             the canonical form of FILE
+    tests/reference.py stream FILE SEED N     a made stream of N mixed lines for the network of FILE; a seed gives one stream
+
+It was written from the rules alone and shares nothing with the program. It keeps no counters: seats are summed anew
+from the list of bookings at each line. A refused FILE gets its line and status 3. The cases named `session-mixed-...`
+have a stream of `stream` and the replies of `replies`.
+"""
+import random
+import re
+import sys
+
+LONGEST_FILE = 4_194_304
+MOST_LEGS, MOST_PRODUCTS = 64, 256
+MOST_MONEY = 99_999_999
+
+NAME = re.compile(rb"[A-Z0-9-]{1,12}")
+WHOLE = re.compile(rb"0|[1-9][0-9]*")
+
+
+class Refused(Exception):
+    """The row that a file is refused at, and why."""
+
+
+# The network file
+
+
+def rows_of(data):
+    """The records of a file. A blank line is none; a carriage return or a line feed ends one outside quotes."""
+    if data.startswith(b"\xef\xbb\xbf"):
+        data = data[3:]
+    rows, row, field = [], [], b""
+    place = "before a row"
+    for at in range(len(data)):
+        byte = data[at:at + 1]
+        if place == "in quotes":
+            if byte == b'"':
+                place = "after quotes"
+            else:
+                field += byte
+        elif place == "after quotes" and byte == b'"':
+            field, place = field + byte, "in quotes"
+        elif place == "before a row" and byte in b"\r\n":
+            pass
+        elif place in ("before a row", "before a field") and byte == b'"':
+            place = "in quotes"
+        elif byte == b",":
+            row, field, place = row + [field], b"", "before a field"
+        elif byte in b"\r\n":
+            rows, row, field, place = rows + [row + [field]], [], b"", "before a row"
+        else:
+            field, place = field + byte, "in a field"
+    if place != "before a row":
+        rows = rows + [row + [field]]
+    return rows
+
+
+class Network:
+    """What the rows taken so far say."""
+
+    def __init__(self):
+        self.rows = 0
+        self.histories = self.periods = 0
+        self.legs = {}  # name: (seats, thresholds), in file order
+        self.products = {}  # name: (fare, leg names), in file order
+        self.demand = {}  # (product, history): demand by period
+
+    def allowed_fields(self, kind):
+        return {b"periods": [3], b"leg": range(3, 13), b"product": range(4, 8), b"demand": [3 + self.periods]}[kind]
+
+    def is_full(self, kind):
+        return kind == b"leg" and len(self.legs) >= MOST_LEGS or kind == b"product" and len(self.products) >= MOST_PRODUCTS
+
+    def limits(self, row):
+        """Each number field of a row, with its least and its greatest value."""
+        kind, rest = row[0], row[3:]
+        if kind == b"periods":
+            return [(row[1], 1, 32), (row[2], 1, 16)]
+        if kind == b"leg":
+            return [(row[2], 0, 999)] + [(field, 1, MOST_MONEY) for field in rest]
+        if kind == b"product":
+            return [(row[2], 1, MOST_MONEY)]
+        return [(row[2], 1, self.histories)] + [(field, 0, 999) for field in rest]
+
+    def is_twice(self, row):
+        kind, name, rest = row[0], row[1], row[3:]
+        if kind == b"leg":
+            return name in self.legs
+        if kind == b"product":
+            return name in self.products or len(set(rest)) < len(rest)
+        return kind == b"demand" and (name, int(row[2])) in self.demand
+
+    def lacks(self, row):
+        kind, name, rest = row[0], row[1], row[3:]
+        return kind == b"product" and any(leg not in self.legs for leg in rest) or kind == b"demand" and name not in self.products
+
+    def fault(self, row):
+        """The first check that a row fails, against the rows before it."""
+        kind, rest = row[0], row[3:]
+        if kind not in (b"periods", b"leg", b"product", b"demand"):
+            return "1 kind"
+        if (kind == b"periods") != (self.rows == 0):
+            return "2 order"
+        if len(row) not in self.allowed_fields(kind):
+            return "3 fields"
+        if self.is_full(kind):
+            return "4 many"
+        names = {b"periods": [], b"leg": row[1:2], b"product": row[1:2] + rest, b"demand": row[1:2]}[kind]
+        if not all(NAME.fullmatch(name) for name in names):
+            return "5 name"
+        if not all(WHOLE.fullmatch(field) for field, _, _ in self.limits(row)):
+            return "6 number"
+        if not all(least <= int(field) <= greatest for field, least, greatest in self.limits(row)):
+            return "7 range"
+        if self.is_twice(row):
+            return "8 twice"
+        if self.lacks(row):
+            return "9 missing"
+        numbers = [int(field) for field in rest] if kind in (b"leg", b"demand") else []
+        if kind == b"leg" and any(high <= low for high, low in zip(numbers, numbers[1:])):
+            return "10 thresholds"
+        if kind == b"demand" and sum(numbers) > 999:
+            return "11 sum"
+        return None
+
+    def take(self, row):
+        kind, name, rest = row[0], row[1], row[3:]
+        if kind == b"periods":
+            self.histories, self.periods = int(row[1]), int(row[2])
+        elif kind == b"leg":
+            self.legs[name] = (int(row[2]), [int(field) for field in rest])
+        elif kind == b"product":
+            self.products[name] = (int(row[2]), rest)
+        else:
+            self.demand[name, int(row[2])] = [int(field) for field in rest]
+        self.rows += 1
+
+
+def network_of(data):
+    """The network of a file's bytes."""
+    if len(data) > LONGEST_FILE:
+        raise Refused("refused row 0 why 13 size")
+    network = Network()
+    for number, row in enumerate(rows_of(data), 1):
+        why = network.fault(row)
+        if why:
+            raise Refused(f"refused row {number} why {why}")
+        network.take(row)
+    if not network.legs or not network.products:
+        raise Refused(f"refused row {network.rows + 1} why 12 empty")
+    return network
+
+
+def canonical(network):
+    """The canonical file: no quotes, one order, and no demand that is 0 in all periods."""
+    rows = [[b"periods", network.histories, network.periods]]
+    rows += [[b"leg", name, seats] + thresholds for name, (seats, thresholds) in network.legs.items()]
+    rows += [[b"product", name, fare] + legs for name, (fare, legs) in network.products.items()]
+    for name in network.products:
+        for history in range(1, network.histories + 1):
+            demand = network.demand.get((name, history), [])
+            if sum(demand) > 0:
+                rows.append([b"demand", name, history] + demand)
+    written = [[field if isinstance(field, bytes) else b"%d" % field for field in row] for row in rows]
+    return b"".join(b",".join(row) + b"\n" for row in written)
+
+
+# The session
+
+
+def lines_of(stream):
+    """The stream cut at each line feed; a last part that isn't empty counts."""
+    lines = stream.split(b"\n")
+    return lines if lines[-1] else lines[:-1]
+
+
+class Session:
+    """The surviving bookings, and the number of the next one."""
+
+    def __init__(self, network):
+        self.network = network
+        self.book = []  # (number, product, party), in the order in which they were made
+        self.next = 1
+
+    def sold(self, leg, product=None):
+        """The seats sold on a leg, in all or by one product."""
+        return sum(party for _, name, party in self.book
+                   if leg in self.network.products[name][1] and product in (None, name))
+
+    def left(self, leg):
+        return self.network.legs[leg][0] - self.sold(leg)
+
+    def request(self, product, party):
+        if product not in self.network.products:
+            return b"unknown\n"
+        for leg in self.network.products[product][1]:
+            if self.left(leg) < party:
+                return b"no %s\n" % leg
+        self.book.append((self.next, product, party))
+        self.next += 1
+        return b"ok %d\n" % (self.next - 1)
+
+    def cancel(self, number):
+        for booking in self.book:
+            if booking[0] == number:
+                self.book.remove(booking)
+                return b"cancelled %d %d\n" % (number, booking[2] * self.network.products[booking[1]][0])
+        return b"unknown\n"
+
+    def report(self, leg):
+        if leg not in self.network.legs:
+            return b"unknown\n"
+        text = b"leg %s seats %d sold %d left %d\n" % (leg, self.network.legs[leg][0], self.sold(leg), self.left(leg))
+        for product in self.network.products:
+            if self.sold(leg, product) > 0:
+                text += b"on %s %s %d\n" % (leg, product, self.sold(leg, product))
+        return text
+
+    def reply(self, line):
+        """The reply to a line that comes without its line feed."""
+        if line.endswith(b"\r"):
+            line = line[:-1]
+        words = line.split(b" ")
+        numbers = [int(word) if WHOLE.fullmatch(word) and len(word) <= 12 else -1 for word in words]
+        if len(words) == 3 and words[0] == b"book" and NAME.fullmatch(words[1]) and 1 <= numbers[2] <= 999:
+            return self.request(words[1], numbers[2])
+        if len(words) == 2 and words[0] == b"cancel" and numbers[1] >= 0:
+            return self.cancel(numbers[1])
+        if len(words) == 2 and words[0] == b"leg" and NAME.fullmatch(words[1]):
+            return self.report(words[1])
+        return b"bad\n"
+
+
+def replies(network, stream):
+    session = Session(network)
+    return b"".join(session.reply(line) for line in lines_of(stream))
+
+
+# A made stream
+
+BAD = [b"", b" ", b"book", b"cancel", b"leg", b"\r\r", b"book %s", b"book %s ", b"book %s 0", b"book %s 1000", b"book %s 01",
+       b"book  %s 1", b"book %s  1", b" book %s 1", b"book %s 1 ", b"book %s 1 1", b"BOOK %s 1", b"Book %s 1", b"book %s +1",
+       b"book %s -1", b"book %s 1.0", b"book %s one", b"book %s 18446744073709551617", b"book\t%s\t1", b"book %s\r 1",
+       b"book %s\x00 1", b"book %s\xff 1", b"book %sABCDEFGHIJKL 1", b"books %s 1", b"book,%s,1", b"leg %s ", b"leg %s 1",
+       b"LEG %s", b"cancel %s", b"cancel 00", b"cancel 07", b"cancel -1", b"cancel 1 1", b"cancel 1000000000000",
+       b"cancel  1", b"\xef\xbb\xbfbook %s 1", b"# %s", b"%s", b"xxxxxxxxxxxxxxxxxxxxxxxxxxxxxxxxxxxxxxxxxxxxxxxxxx"]
+
+
+def made_line(session, draw):
+    """A line; `draw` is the source of chance, and the session knows which numbers are live."""
+    products, legs = list(session.network.products), list(session.network.legs)
+    kind = draw.randrange(100)
+    if kind < 48:
+        party = draw.choice([draw.randint(1, 4), draw.randint(1, 4), draw.randint(1, 30), draw.randint(1, 999)])
+        return b"book %s %d" % (draw.choice(products), party)
+    if kind < 52:
+        return b"book %s %d" % (draw.choice(legs + [b"NONE", b"ABCDEFGHIJKL", b"-", b"0"]), draw.randint(1, 999))
+    if kind < 70:
+        live = [number for number, _, _ in session.book]
+        return b"cancel %d" % (draw.choice(live) if live else 1)
+    if kind < 78:
+        dead = draw.choice([draw.randint(0, session.next), session.next, draw.randint(0, 999_999_999_999), 0])
+        return b"cancel %d" % dead
+    if kind < 88:
+        return b"leg %s" % draw.choice(legs)
+    if kind < 90:
+        return b"leg %s" % draw.choice(products + [b"NONE"])
+    line = draw.choice(BAD)
+    return line % draw.choice(products) if b"%s" in line else line
+
+
+def made_stream(network, seed, count):
+    """Lines of all kinds; some end with a carriage return, and the last one isn't ended."""
+    draw, session, lines = random.Random(seed), Session(network), []
+    while len(lines) < count:
+        line = made_line(session, draw) + (b"\r" if draw.randrange(20) == 0 else b"")
+        session.reply(line)
+        lines.append(line)
+    return b"\n".join(lines[:-1] + [b"book %s 1" % next(iter(network.products))])
+
+
+def main():
+    verb, path, *rest = sys.argv[1:] if len(sys.argv) > 2 else sys.exit(__doc__)
+    with open(path, "rb") as file:
+        data = file.read()
+    try:
+        network = network_of(data)
+    except Refused as refused:
+        print(refused)
+        sys.exit(3)
+    if verb == "replies":
+        text = replies(network, sys.stdin.buffer.read())
+    elif verb == "print":
+        text = canonical(network)
+    elif verb == "stream":
+        text = made_stream(network, int(rest[0]), int(rest[1]))
+    else:
+        sys.exit(__doc__)
+    sys.stdout.buffer.write(text)
+
+
+if __name__ == "__main__":
+    main()
