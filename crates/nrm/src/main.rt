@@ -25,11 +25,7 @@ fn status_of(rt: &HostRuntime) -> io::Result<Status> {
     let words = words_given(rt)?;
     let mut files = DirFiles::new(rt);
     let mut source = StdSource::new(rt.stdin());
-    let mut sink = StdSink::new(BufWriter::with_capacity(
-        rt.alloc(),
-        GATHERED,
-        io::writer(rt),
-    )?);
+    let mut sink = StdSink::new(BufWriter::with_capacity(rt.alloc(), GATHERED, io::writer(rt))?);
     let status = run(rt.alloc(), &words, &mut files, &mut source, &mut sink);
     match sink.flush() {
         Ok(()) => Ok(status),

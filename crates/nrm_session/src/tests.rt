@@ -22,8 +22,7 @@ fn lines_are_answered_by_hand(rt: HostRuntime) -> Result<(), Fail> {
     assert_eq!(rt; end, WholeEnd::Done);
     assert_eq!(rt;
         sink.held(),
-        b"ok 1\ncancelled 1 1000\nunknown\nok 2\nleg AB seats 3 sold 1 left 2\non AB LOC 1\nbad\n"
-            .as_slice()
+        b"ok 1\ncancelled 1 1000\nunknown\nok 2\nleg AB seats 3 sold 1 left 2\non AB LOC 1\nbad\n".as_slice()
     );
     Ok(())
 }
