@@ -1,4 +1,5 @@
 pub mod Complete
+pub mod Examples
 pub mod Fetched
 pub mod Replies
 pub mod Without

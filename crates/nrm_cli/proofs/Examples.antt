@@ -1,0 +1,113 @@
+-- Sessions and refusals written down, from the bytes of the file and of the stream to the bytes that are written.
+use Rattle.std.specs.Prelude.{◌≡◌, ℕ, List, [], ◌∷◌, codes, refl, Some, None, Ok, Err}
+use Rattle.std.specs.Fmt.{digits}
+use Rattle.nrm_model.specs.Network.{NetworkValue}
+use Rattle.nrm_network.specs.Canonical.{canonical_file}
+use Rattle.nrm_network.specs.declared.fault.Why.TheVariants as why
+use Rattle.nrm_network.proofs.OnLiterals.{network_on_literals}
+use Rattle.nrm_control.specs.State.{SeatState, opening, after_request, after_cancellation}
+use Rattle.nrm_session.specs.Replies.{bad, unknown, sold, no_leg, cancelled, leg_told}
+use Rattle.nrm_cli.specs.Ends.{RunWrites}
+use Rattle.nrm_cli.specs.Jobs.{job_of, run_first, print_file}
+use Rattle.nrm_cli.specs.Refusals.{network_under, refusal_line, no_file, at_row, file_fault_line}
+
+abbrev pub two_legs : NetworkValue
+two_legs = record {
+  histories = 1;
+  periods = 1;
+  legs = record { name = codes "AB"; seats = 3; cuts = [] } ∷ record { name = codes "BC"; seats = 2; cuts = [] } ∷ [];
+  products = record { name = codes "THRU"; fare = 500; legs = 0 ∷ 1 ∷ [] } ∷ record { name = codes "LOC"; fare = 200; legs = 0 ∷ [] } ∷ [];
+  demand = 0 ∷ 0 ∷ [];
+}
+
+abbrev two_legs_file : List ℕ
+two_legs_file = codes "periods,1,1\nleg,AB,3\nleg,BC,2\nproduct,THRU,500,AB,BC\nproduct,LOC,200,AB\n"
+
+opened : network_under (Some two_legs_file) ≡ Ok two_legs
+unfolding network_on_literals
+opened = refl
+
+printed : canonical_file two_legs ≡ two_legs_file
+unfolding digits
+printed = refl
+
+-- two requests are refused, by the second leg and by the first; then a product that isn't there
+abbrev requests : List ℕ
+requests = codes "book THRU 2\nbook THRU 1\nbook LOC 1\nbook LOC 1\nbook X 1\n"
+
+abbrev after_two_seats : SeatState
+after_two_seats = after_request two_legs opening 0 2
+
+abbrev after_refusal : SeatState
+after_refusal = after_request two_legs after_two_seats 0 1
+
+abbrev after_three_seats : SeatState
+after_three_seats = after_request two_legs after_refusal 1 1
+
+abbrev after_requests : SeatState
+after_requests = after_request two_legs after_three_seats 1 1
+
+answered : RunWrites two_legs requests (codes "ok 1\nno BC\nok 2\nno AB\nunknown\n")
+unfolding digits
+answered = (
+  after_requests,
+  record {
+    replies = sold 1 ∷ no_leg (codes "BC") ∷ sold 2 ∷ no_leg (codes "AB") ∷ unknown ∷ [];
+    run = (after_two_seats, (refl, refl), (after_refusal, (refl, refl), (after_three_seats, (refl, refl), (after_requests, (refl, refl), (after_requests, (refl, refl), refl)))));
+    output = refl;
+  },
+)
+
+-- a booking is cancelled, once; a leg is told; lines that are no good ones, and a last line without its end
+abbrev mixed : List ℕ
+mixed = codes "book THRU 2\ncancel 1\ncancel 1\nleg AB\nplan\n\nbook  LOC 1\nbook LOC 1"
+
+abbrev after_cancel : SeatState
+after_cancel = after_cancellation after_two_seats 1
+
+abbrev after_mixed : SeatState
+after_mixed = after_request two_legs after_cancel 1 1
+
+answered_mixed : RunWrites two_legs mixed (codes "ok 1\ncancelled 1 1000\nunknown\nleg AB seats 3 sold 0 left 3\nbad\nbad\nbad\nok 2\n")
+unfolding digits
+answered_mixed = (
+  after_mixed,
+  record {
+    replies = sold 1 ∷ cancelled 1 1000 ∷ unknown ∷ leg_told (codes "leg AB seats 3 sold 0 left 3\n") ∷ bad ∷ bad ∷ bad ∷ sold 2 ∷ [];
+    run = (after_two_seats, (refl, refl), (after_cancel, (refl, refl), (after_cancel, (refl, refl), (after_cancel, (refl, refl), (after_cancel, (refl, refl), (after_cancel, (refl, refl), (after_cancel, (refl, refl), (after_mixed, (refl, refl), refl))))))));
+    output = refl;
+  },
+)
+
+refused_kind : network_under (Some (codes "periods,1,1\nfare,AB\n")) ≡ Err (at_row 2 why.Kind)
+unfolding network_on_literals
+refused_kind = refl
+
+line_of_no_file : refusal_line no_file ≡ codes "refused no file\n"
+line_of_no_file = refl
+
+line_of_a_kind : refusal_line (at_row 2 why.Kind) ≡ codes "refused row 2 why 1 kind\n"
+unfolding digits
+line_of_a_kind = refl
+
+line_of_a_size : refusal_line (at_row 0 why.Size) ≡ codes "refused row 0 why 13 size\n"
+unfolding digits
+line_of_a_size = refl
+
+line_of_a_fault : file_fault_line ≡ codes "file fault\n"
+line_of_a_fault = refl
+
+words_of_a_run : job_of (codes "run" ∷ codes "first" ∷ codes "F" ∷ []) ≡ Some (run_first (codes "F"))
+words_of_a_run = refl
+
+words_of_a_print : job_of (codes "print" ∷ codes "F" ∷ []) ≡ Some (print_file (codes "F"))
+words_of_a_print = refl
+
+one_word : job_of (codes "run" ∷ []) ≡ None
+one_word = refl
+
+other_mode : job_of (codes "run" ∷ codes "bid" ∷ codes "F" ∷ []) ≡ None
+other_mode = refl
+
+one_word_more : job_of (codes "print" ∷ codes "F" ∷ codes "G" ∷ []) ≡ None
+one_word_more = refl
