@@ -1,5 +1,5 @@
 -- A table on its program's path: what is known of it, and the one after it.
-use Rattle.std.proofs.Common.{◌≡◌, ℕ, zero, suc, ◌+◌, ◌<◌, ◌^◌, ◌⊎◌, inl, inr, pos, arith, refl, sym, ap, ◌∙◌, subst, List, [], ◌∷◌, ◌++◌, map, set, length, get_or, All, Option, Some, None, true}
+use Rattle.std.proofs.Common.{◌≡◌, ℕ, zero, suc, ◌+◌, ◌<◌, ◌^◌, ◌⊎◌, inl, inr, pos, arith, refl, sym, ap, ◌∙◌, subst, List, [], ◌∷◌, ◌++◌, map, set, length, get_or, All, Option, Some, None, IfSome, true}
 use Rattle.std.specs.Option.{option_map, IsSome}
 use Rattle.std.proofs.lemmas.List.{get_or_default, length-map, length-set}
 use Rattle.nrm_fraction.specs.Fraction.{Fraction, ◌<ᶠ◌, ◌/ᶠ◌, less, whole}
@@ -58,6 +58,15 @@ entering_negative s col enters =
     let w : (i : ℕ) × (col ≡ 0 + i) × (suc i < length s.table.value) × (at s.table.value i <ᶠ whole (pos 0)) = entering_is 0 s.table.value col enters in
     let same : w.0 ≡ col = omega (arith, w.1) in
     subst (λ i. less (at s.table.value i) (whole (pos 0)) ≡ true) same (less_if (at s.table.value w.0) (whole (pos 0)) w.3)
+
+-- the same of a column that may be none
+pub found_before : (s : TableauValue) → IsOnPath s → (found : Option ℕ) → found ≡ entering s.table → IfSome found (λ col. col < right_side s.program)
+found_before s h None is = tt
+found_before s h (Some col) is = entering_before s h col (sym is)
+
+pub found_negative : (s : TableauValue) (found : Option ℕ) → found ≡ entering s.table → IfSome found (λ col. less (at s.table.value col) (whole (pos 0)) ≡ true)
+found_negative s None is = tt
+found_negative s (Some col) is = entering_negative s col (sym is)
 
 -- ---- the pivot on the entering column and the leaving row
 module _ (s : TableauValue) (h : IsOnPath s) (col row : ℕ) (enters : entering s.table ≡ Some col) (left : option_map (λ (found : ℕ × List Fraction). found.0) (leaving s.program s.table col) ≡ Some row) where

@@ -1,7 +1,7 @@
 //! A tableau: its rows as exact fractions, and the basic column of each constraint row. It is kept on its program's path.
 #![tactic(auto)]
 
-ghost use Rattle.std.specs.Prelude.{◌≡◌, ◌<◌, ◌^◌, pos, true, IfOk, IfErr, OnOk, OnErr, Some, None};
+ghost use Rattle.std.specs.Prelude.{◌≡◌, ◌<◌, ◌^◌, pos, true, IfOk, IfErr, IfSome, OnOk, OnErr, Some, None};
 ghost use Rattle.std.specs.Option.{option_map};
 ghost use Rattle.nrm_fraction.specs.Fraction.{less, whole};
 ghost use Rattle.nrm_fraction.specs.Rows.{at};
@@ -56,9 +56,12 @@ impl<'a> Tableau<'a> {
 
     /// The lowest-numbered column before the right side with a negative entry in the value row; `None` exactly where
     /// there is none.
+    #[tactic(auto, using(crate::proofs::Paths::found_before, crate::proofs::Paths::found_negative))]
     pub fn entering(&self) -> Option<u16>
         ensures column { result ≡ entering self.now.table }
         ensures on_path { IsOnPath self.now }
+        ensures before { IfSome result (λ col. col < right_side self.now.program) }
+        ensures negative { IfSome result (λ col. less (at self.now.table.value col) (whole (pos 0)) ≡ true) }
     {
         entering_column(&self.value)
     }
