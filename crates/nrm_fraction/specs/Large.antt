@@ -8,6 +8,11 @@ abbrev pub common : List Fraction → ℕ
 common [] = 1
 common (x ∷ xs) = lcm x.den (common xs)
 
+-- the least common denominators of the first fraction, of the first two, and so on to all, where d is that of those before
+abbrev pub running : ℕ → List Fraction → List ℤ
+running d [] = []
+running d (x ∷ xs) = pos (lcm x.den d) ∷ running (lcm x.den d) xs
+
 -- the numerators over a common denominator d
 abbrev pub numerators : ℕ → List Fraction → List ℤ
 numerators d xs = map (λ x. x.num *ℤ pos (d / x.den)) xs

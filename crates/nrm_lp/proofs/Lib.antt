@@ -12,5 +12,7 @@ pub mod Rising
 pub mod Slackness
 pub mod Overflows
 pub mod Meeting
+pub mod Small
+pub mod Certify
 pub mod Facts
 pub mod Positive

@@ -3,9 +3,8 @@ use Rattle.std.proofs.Common.{◌≡◌, ℕ, ◌*◌, nat_abs, arith, sym, ap, 
 use Rattle.nrm_lp.specs.Program.{ProgramValue, IsProgram, IsAllocation, IsPrices, gain, cost}
 use Rattle.nrm_fraction.specs.Large.{common, over_common}
 use Rattle.nrm_lp.specs.Tableau.{Tableau}
-use Rattle.nrm_lp.specs.Closing.{product_values, leg_prices}
+use Rattle.nrm_lp.specs.Closing.{product_values, leg_prices, value_over}
 use Rattle.nrm_lp.specs.Path.{IsLast}
-use Rattle.nrm_lp.specs.Overflow.{value_over}
 use Rattle.nrm_lp.specs.Certified.{Meet}
 use Rattle.nrm_fraction.proofs.Embed.{W-num}
 use Rattle.nrm_lp.proofs.Rule.{IsKept}

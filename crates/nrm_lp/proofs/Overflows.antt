@@ -4,11 +4,11 @@ use Rattle.nrm_number.specs.Gcd.{gcd, lcm, in_lowest_terms}
 use Rattle.nrm_fraction.specs.Fraction.{◌over◌, ◌+ᶠ◌, ◌*ᶠ◌, inverse, negative, less, whole}
 use Rattle.nrm_lp.specs.Program.{ProgramValue}
 use Rattle.nrm_lp.specs.Tableau.{Tableau, first_tableau, entering}
-use Rattle.nrm_lp.specs.Closing.{closing}
-use Rattle.nrm_fraction.specs.Large.{first_reaching, first_large}
+use Rattle.nrm_lp.specs.Closing.{closing, value_over}
+use Rattle.nrm_fraction.specs.Large.{running, first_reaching, first_large}
 use Rattle.nrm_lp.specs.Path.{after, next}
 use Rattle.nrm_lp.proofs.Runs.{network_a}
-use Rattle.nrm_lp.specs.Overflow.{Overflows, Closes, running, pivot_large, closing_large, value_over, rows_but}
+use Rattle.nrm_lp.specs.Overflow.{Overflows, Closes, pivot_large, closing_large, rows_but}
 
 -- three legs, and a product on each two of them: each is sold by halves
 abbrev pub triangle : ProgramValue

@@ -54,7 +54,7 @@ pivot_is t r s l shape p = record {
 }
 
 -- ---- the first tableau
-made_at : (f : ℕ → Fraction) (n c : ℕ) → c < n → at (map f (range_with_len 0 n)) c ≡ f c
+pub made_at : (f : ℕ → Fraction) (n c : ℕ) → c < n → at (map f (range_with_len 0 n)) c ≡ f c
 made_at f n c l = get_or-map f (range_with_len 0 n) c 0 (whole (pos 0)) (omega (arith, length-range_with_len 0 n)) ∙ ap f (get_or-range_with_len 0 n c 0 l ∙ omega arith)
 
 pub first_rows : (a : ProgramValue) → length (first_tableau a).rows ≡ row_count a

@@ -1,7 +1,8 @@
 -- The closing of a path: the allocation and the bid prices that its last tableau shows, as whole numbers over two denominators.
-use Rattle.std.specs.Prelude.{ℕ, pos, cond, eqb, List, ◌∷◌, map, length}
+use Rattle.std.specs.Prelude.{ℕ, pos, nat_abs, cond, eqb, List, ◌∷◌, map, length}
 use Rattle.std.specs.List.{range_with_len}
-use Rattle.nrm_fraction.specs.Fraction.{Fraction, whole}
+use Rattle.nrm_fraction.specs.Fraction.{Fraction, ◌*ᶠ◌, whole}
+use Rattle.nrm_lp.specs.declared.certificate.Certificate.{Certificate}
 use Rattle.nrm_lp.specs.Program.{ProgramValue}
 use Rattle.nrm_fraction.specs.Large.{common, over_common}
 use Rattle.nrm_lp.specs.Tableau.{Tableau, product_count, slack, right_side}
@@ -29,3 +30,17 @@ pub record Closing : Type 0 where
 
 abbrev pub closing : ProgramValue → Tableau → Closing
 closing a t = record { q = common (product_values a t); x = over_common (product_values a t); den = common (leg_prices a t); p = over_common (leg_prices a t) }
+
+-- the value over the denominator d of the bid prices: the value row's right side times d, which is whole
+abbrev pub value_over : ProgramValue → Tableau → ℕ → ℕ
+value_over a t d = nat_abs (at t.value (right_side a) *ᶠ whole (pos d)).num
+
+-- the closing and its value, as the certificate of the program
+abbrev pub certificate : ProgramValue → Tableau → Certificate
+certificate a t = record {
+  q = pos (closing a t).q;
+  x = map (λ n. pos n) (closing a t).x;
+  den = pos (closing a t).den;
+  p = map (λ n. pos n) (closing a t).p;
+  value = pos (value_over a t (closing a t).den);
+}

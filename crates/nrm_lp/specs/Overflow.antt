@@ -1,11 +1,9 @@
 -- When a pivot or a closing is Large, which is when one of its numbers reaches a limit, and with which number.
-use Rattle.std.specs.Prelude.{ℕ, zero, suc, ◌<◌, ◌≡◌, ◌⊎◌, ℤ, pos, nat_abs, List, [], ◌∷◌, ◌++◌, get_or, Option, Some, None}
-use Rattle.nrm_number.specs.Gcd.{lcm}
-use Rattle.nrm_fraction.specs.Fraction.{Fraction, ◌*ᶠ◌, whole}
+use Rattle.std.specs.Prelude.{ℕ, zero, suc, ◌<◌, ◌≡◌, ◌⊎◌, ℤ, List, [], ◌∷◌, ◌++◌, get_or, Option, Some, None}
+use Rattle.nrm_fraction.specs.Fraction.{Fraction}
 use Rattle.nrm_lp.specs.Program.{ProgramValue}
-use Rattle.nrm_fraction.specs.Large.{common, numerators, first_reaching, first_large}
-use Rattle.nrm_lp.specs.Tableau.{Tableau, right_side, entering, leaving, pivot}
-use Rattle.nrm_fraction.specs.Rows.{at}
+use Rattle.nrm_fraction.specs.Large.{common, running, numerators, first_reaching, first_large}
+use Rattle.nrm_lp.specs.Tableau.{Tableau, entering, leaving, pivot}
 use Rattle.nrm_lp.specs.Path.{after, row_number}
 use Rattle.nrm_lp.specs.Closing.{product_values}
 
@@ -27,18 +25,9 @@ large_at limit a t (Some s) = made_large limit (row_number (leaving a t s)) (piv
 abbrev pub pivot_large : ℕ → ProgramValue → Tableau → Option ℤ
 pivot_large limit a t = large_at limit a t (entering t)
 
--- the least common denominators of the first value, of the first two, and so on to all
-abbrev pub running : ℕ → List Fraction → List ℤ
-running d [] = []
-running d (x ∷ xs) = pos (lcm x.den d) ∷ running (lcm x.den d) xs
-
 -- the number of a Large closing: the running denominators of the allocation, then its numbers over the last of them
 abbrev pub closing_large : ℕ → ProgramValue → Tableau → Option ℤ
 closing_large limit a t = first_reaching limit (running 1 (product_values a t) ++ numerators (common (product_values a t)) (product_values a t))
-
--- the value over the denominator d of the bid prices: the value row's right side times d, which is whole
-abbrev pub value_over : ProgramValue → Tableau → ℕ → ℕ
-value_over a t d = nat_abs (at t.value (right_side a) *ᶠ whole (pos d)).num
 
 -- the first n pivots are not Large, and make this tableau
 pub record Reaches (limit : ℕ) (a : ProgramValue) (n : ℕ) (t : Tableau) : Type 0 where

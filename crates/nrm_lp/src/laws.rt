@@ -1,7 +1,7 @@
 //! Laws over the definitions. Each is the contract of a function that does nothing.
 ghost use Rattle.nrm_lp.specs.Laws.{EndsOptimal, WeakDuality};
 ghost use Rattle.nrm_lp.specs.Facts.{PathHasFacts};
-ghost use Rattle.nrm_lp.specs.Certified.{ClosesMeet, EndsMeet};
+ghost use Rattle.nrm_lp.specs.Certified.{ClosesCertify, ClosesMeet, EndsMeet};
 
 /// No allocation gains more than any prices cost.
 pub fn weakly_dual()
@@ -28,4 +28,10 @@ pub fn ends_meet()
 /// The same of a path that ends without a Large pivot and with a closing that isn't Large.
 pub fn closes_meet()
     ensures { ClosesMeet }
+{}
+
+/// The certificate of such a closing shows what it should: its numbers are not negative and below the limit, its
+/// allocation and its bid prices meet, and both are optimal.
+pub fn closes_certify()
+    ensures { ClosesCertify }
 {}

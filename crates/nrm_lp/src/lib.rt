@@ -8,5 +8,5 @@ mod laws;
 mod program;
 
 pub use certificate::{Certificate, Numbers};
-pub use laws::{closes_meet, ends_meet, ends_optimal, path_has_facts, weakly_dual};
+pub use laws::{closes_certify, closes_meet, ends_meet, ends_optimal, path_has_facts, weakly_dual};
 pub use program::Program;
