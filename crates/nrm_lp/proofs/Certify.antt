@@ -47,7 +47,7 @@ record Bounds (limit : ℕ) (a : ProgramValue) (t : Tableau) : Type 0 where
 
 module _ (limit : ℕ) (room : 1 < limit) (a : ProgramValue) where
   -- the first tableau has 0 there
-  first_nought : (c : ℕ) → product_count a ≤ c → c < suc (right_side a) → at (first_tableau a).value c ≡ W 0
+  pub first_nought : (c : ℕ) → product_count a ≤ c → c < suc (right_side a) → at (first_tableau a).value c ≡ W 0
   first_nought c l u = first_value_at a c u ∙ ap (λ b. cond b (whole (neg_ℤ (pos (get_or a.fares c 0)))) (whole (pos 0))) (le-ltb c (product_count a) l)
 
   first_bounds : Bounds limit a (first_tableau a)
@@ -77,7 +77,7 @@ module _ (limit : ℕ) (room : 1 < limit) (a : ProgramValue) where
       }
 
   -- the last tableau is the first one, or a pivot made it that isn't Large
-  last_value : (n : ℕ) (t : Tableau) → Reaches limit a n t → (first_tableau a ≡ t) ⊎ (large_number limit t.value ≡ None)
+  pub last_value : (n : ℕ) (t : Tableau) → Reaches limit a n t → (first_tableau a ≡ t) ⊎ (large_number limit t.value ≡ None)
   last_value zero t r = inl (some_tableau (first_tableau a) t r.path)
   last_value (suc n) t r = inr (from (after a n) refl r.path)
     where

@@ -14,5 +14,6 @@ pub mod Overflows
 pub mod Meeting
 pub mod Small
 pub mod Certify
+pub mod Ends
 pub mod Facts
 pub mod Positive

@@ -1,5 +1,5 @@
 -- At each pivot of a path the value row's number rises, where no row made is Large: so a path of such rows ends.
-use Rattle.std.proofs.Common.{◌≡◌, ℕ, zero, suc, ◌+◌, ◌*◌, ◌/◌, ◌<◌, ◌≤◌, ℤ, pos, ◌*ℤ◌, nat_abs, arith, refl, sym, ap, ◌∙◌, subst, List, [], ◌∷◌, map, length, get_or, Some, None, Bool, true, false, cond, leb, leb-false}
+use Rattle.std.proofs.Common.{◌≡◌, ℕ, zero, suc, ◌+◌, ◌*◌, ◌/◌, ◌^◌, ◌<◌, ◌≤◌, ℤ, pos, ◌*ℤ◌, nat_abs, arith, refl, sym, ap, ◌∙◌, subst, List, [], ◌∷◌, map, length, get_or, Some, None, Bool, true, false, cond, leb, leb-false}
 use Rattle.std.proofs.lemmas.Int.{unsigned_abs-mul}
 use Rattle.std.proofs.lemmas.List.{length-map, get_or-map}
 use Prim.Native.Nat.{◌∣◌}
@@ -7,14 +7,14 @@ use native.Mathlib.Nat.{le_of_dvd, mul-le-mul_left, le-div_iff_mul-le}
 use Rattle.nrm_fraction.specs.Fraction.{Fraction, negative, whole, ◌<ᶠ◌, ◌-ᶠ◌}
 use Rattle.nrm_fraction.specs.Large.{common, numerators, large_number, first_reaching}
 use Rattle.nrm_lp.specs.Program.{ProgramValue}
-use Rattle.nrm_lp.specs.Tableau.{Tableau, row_count, right_side, key_columns, entering, pivot}
+use Rattle.nrm_lp.specs.Tableau.{Tableau, row_count, key_columns, entering, pivot}
 use Rattle.nrm_fraction.specs.Rows.{at}
 use Rattle.nrm_fraction.proofs.Values.{den_pos}
 use Rattle.nrm_fraction.proofs.Field.{IsPositive, difference_positive, positive_by, ring_F}
 use Rattle.nrm_fraction.proofs.Embed.{den-dvd-common}
 use Rattle.nrm_fraction.proofs.Lowest.{common_pos}
 use Rattle.nrm_lp.proofs.Positive.{value_rises}
-use Rattle.nrm_lp.proofs.Measure.{IsBelow, AreBelow, number, number_rises}
+use Rattle.nrm_lp.proofs.Measure.{IsBelow, AreBelow, number, number_below, number_rises}
 use Rattle.nrm_lp.proofs.Tables.{table, pivot_is}
 use Rattle.nrm_lp.proofs.Pivot.{IsPivot}
 use Rattle.nrm_lp.proofs.Rule.{IsKept, IsLeaving}
@@ -55,16 +55,28 @@ pub keys_below : (l : ℕ) (xs : List Fraction) (cs : List ℕ) → large_number
 keys_below l xs [] h within = tt
 keys_below l xs (c ∷ cs) h within = (entry_below l xs c h (within 0 (omega arith)), keys_below l xs cs h (λ k m. within (suc k) (omega arith)))
 
-pub value_number : ℕ → ProgramValue → Tableau → ℕ
-value_number l a t = number l (map (λ c. at t.value c) (key_columns a))
+-- the value row's list, of which the measure is made
+abbrev pub value_keys : ProgramValue → Tableau → List Fraction
+value_keys a t = map (λ c. at t.value c) (key_columns a)
 
-pub value_number_rises : (l : ℕ) (a : ProgramValue) (t : Tableau) (s r : ℕ) → IsKept a t → entering t ≡ Some s → IsLeaving a t s r → ((k : ℕ) → k < length (key_columns a) → get_or (key_columns a) k 0 < suc (right_side a)) → length (pivot t r s).value ≡ suc (right_side a) → large_number l t.value ≡ None → large_number l (pivot t r s).value ≡ None → value_number l a t < value_number l a (pivot t r s)
+-- the measure of a tableau, and what it stays below
+pub value_number : ℕ → ProgramValue → Tableau → ℕ
+value_number l a t = number l (value_keys a t)
+
+pub value_bound : ℕ → ProgramValue → ℕ
+value_bound l a = (2 * (l * (l * l))) ^ length (key_columns a)
+
+pub value_number_below : (l : ℕ) (a : ProgramValue) (t : Tableau) → AreBelow l (value_keys a t) → value_number l a t < value_bound l a
+unfolding value_number value_bound
+value_number_below l a t h = subst (λ n. number l (value_keys a t) < (2 * (l * (l * l))) ^ n) (length-map (key_columns a) (λ c. at t.value c)) (number_below l (value_keys a t) h)
+
+pub value_number_rises : (l : ℕ) (a : ProgramValue) (t : Tableau) (s r : ℕ) → IsKept a t → entering t ≡ Some s → IsLeaving a t s r → AreBelow l (value_keys a t) → AreBelow l (value_keys a (pivot t r s)) → value_number l a t < value_number l a (pivot t r s)
 unfolding value_number
-value_number_rises l a t s r h e w within width small small' =
-    number_rises l (map (λ c. at t.value c) (key_columns a)) (map (λ c. at (pivot t r s).value c) (key_columns a))
+value_number_rises l a t s r h e w small small' =
+    number_rises l (value_keys a t) (value_keys a (pivot t r s))
     (length-map (key_columns a) (λ c. at t.value c) ∙ sym (length-map (key_columns a) (λ c. at (pivot t r s).value c)))
-    (keys_below l t.value (key_columns a) small (λ k m. omega (arith, within k m, h.value_width)))
-    (keys_below l (pivot t r s).value (key_columns a) small' (λ k m. omega (arith, within k m, width)))
+    small
+    small'
     (value_rises (row_count a) (key_columns a) (table t) (table (pivot t r s)) r s is_pivot h.positive below)
   where
     is_pivot : IsPivot (row_count a) (table t) (table (pivot t r s)) r s

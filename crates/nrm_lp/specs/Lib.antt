@@ -7,3 +7,4 @@ pub mod Laws
 pub mod Overflow
 pub mod Certified
 pub mod Limits
+pub mod Ends

@@ -1,6 +1,7 @@
 //! Laws over the definitions. Each is the contract of a function that does nothing.
 ghost use Rattle.nrm_lp.specs.Laws.{EndsOptimal, WeakDuality};
 ghost use Rattle.nrm_lp.specs.Facts.{PathHasFacts};
+ghost use Rattle.nrm_lp.specs.Ends.{EveryPathEnds, PathsEndOnce};
 ghost use Rattle.nrm_lp.specs.Certified.{ClosesCertify, ClosesMeet, EndsMeet};
 
 /// No allocation gains more than any prices cost.
@@ -34,4 +35,14 @@ pub fn closes_meet()
 /// allocation and its bid prices meet, and both are optimal.
 pub fn closes_certify()
     ensures { ClosesCertify }
+{}
+
+/// The path of every program ends: in a closing that isn't Large, or where a pivot or the closing is Large.
+pub fn every_path_ends()
+    ensures { EveryPathEnds }
+{}
+
+/// It ends after one number of pivots, in one way and with one closing or one number.
+pub fn paths_end_once()
+    ensures { PathsEndOnce }
 {}

@@ -8,5 +8,8 @@ mod laws;
 mod program;
 
 pub use certificate::{Certificate, Numbers};
-pub use laws::{closes_certify, closes_meet, ends_meet, ends_optimal, path_has_facts, weakly_dual};
+pub use laws::{
+    closes_certify, closes_meet, ends_meet, ends_optimal, every_path_ends, path_has_facts,
+    paths_end_once, weakly_dual,
+};
 pub use program::Program;
