@@ -1,6 +1,7 @@
 //! Texts: names, whole numbers and lines, as they are read and written. Nothing here takes memory.
 #![tactic(auto)]
 
+mod euclid;
 mod laws;
 mod line;
 mod name;

@@ -1,6 +1,8 @@
 //! Lines that are written: a text of at most 512 bytes in an array, so that writing one takes no memory.
-ghost use Rattle.std.specs.Prelude.{◌≡◌, ◌≤◌, ◌+◌, ◌++◌, [], length, take, decimal};
+ghost use Rattle.std.specs.Prelude.{◌≡◌, ◌≤◌, ◌<◌, ◌^◌, ◌+◌, ◌++◌, [], length, take, decimal, unsigned_abs};
+ghost use Rattle.nrm_text.specs.Fractions.{sign_of, fraction_text};
 
+use crate::euclid::gcd;
 use itoa::Buffer;
 use std::marker::Model;
 
@@ -71,6 +73,34 @@ impl Line {
         let mut digits = Buffer::new();
         self.push_bytes(digits.format(number).as_bytes());
     }
+
+    // Appends `-` before a negative number.
+    fn push_sign(&mut self, num: i128)
+        requires { length self.old + length (sign_of num) ≤ 512 }
+        ensures text { self.new ≡ self.old ++ sign_of num }
+        ensures length { length self.new ≡ length self.old + length (sign_of num) }
+    {
+        if num < 0 {
+            self.push_bytes(b"-");
+        }
+    }
+
+    /// Appends a fraction as `n/d` in lowest terms, with `-` before a negative one; zero is `0/1`.
+    pub fn push_fraction(&mut self, num: i128, den: u128)
+        requires den { 1 ≤ den }
+        requires num_size { unsigned_abs num < 2 ^ 126 }
+        requires den_size { den < 2 ^ 126 }
+        requires room { length self.old + length (fraction_text num den) ≤ 512 }
+        ensures text { self.new ≡ self.old ++ fraction_text num den }
+        ensures length { length self.new ≡ length self.old + length (fraction_text num den) }
+    {
+        let size = num.unsigned_abs();
+        let shared = gcd(size, den);
+        self.push_sign(num);
+        self.push_whole(size / shared);
+        self.push_bytes(b"/");
+        self.push_whole(den / shared);
+    }
 }
 
 #[cfg(test)]
@@ -85,5 +115,32 @@ mod tests {
         line.push_whole(1_000_000_000_000);
         line.push_bytes(b"\n");
         assert_eq!(rt; line.bytes(), b"ok 1000000000000\n".as_slice());
+    }
+
+    // Appends a fraction and a space.
+    #[tactic(auto, using(crate::proofs::Fractions::short_fraction))]
+    fn push_word(line: &mut Line, num: i128, den: u128)
+        requires den { 1 ≤ den }
+        requires num_size { unsigned_abs num < 2 ^ 126 }
+        requires den_size { den < 2 ^ 126 }
+        requires room { length line.old + 79 ≤ 512 }
+        ensures { length line.new ≤ length line.old + 79 }
+    {
+        line.push_fraction(num, den);
+        line.push_bytes(b" ");
+    }
+
+    #[test]
+    fn fractions_stand_in_lowest_terms(rt: HostRuntime) {
+        let mut line = Line::new();
+        push_word(&mut line, 6, 4);
+        push_word(&mut line, 0, 7);
+        push_word(&mut line, -180, 1);
+        push_word(&mut line, -6, 4);
+        let wide = 85_070_591_730_234_615_865_843_651_857_942_052_860;
+        push_word(&mut line, -wide - 2, wide as u128);
+        let text =
+            b"3/2 0/1 -180/1 -3/2 -42535295865117307932921825928971026431/42535295865117307932921825928971026430 ";
+        assert_eq!(rt; line.bytes(), text.as_slice());
     }
 }
