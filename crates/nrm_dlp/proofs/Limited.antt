@@ -1,0 +1,127 @@
+-- The program of a network is within the limits.
+use Rattle.std.proofs.Common.{ℕ, zero, suc, ◌≡◌, ◌≢◌, ◌∙◌, ◌+◌, ◌-◌, ◌*◌, ◌<◌, ◌≤◌, false, eqb, List, [], ◌∷◌, length, get_or, map, sum_by, All, AllPairs, refl, ap, sym, subst, arith}
+use Rattle.std.specs.List.{range_with_len}
+use Rattle.std.proofs.Math.Nat.{mul-le-mul_left}
+use Rattle.std.proofs.lemmas.Bool.{ne_eqb}
+use Rattle.std.proofs.lemmas.List.{get_or-map, length-map}
+use Rattle.std.proofs.lemmas.List.Elements.{All-head, All-tail}
+use Rattle.std.proofs.lemmas.List.FromFn.{get_or-map-range_with_len, length-map-range_with_len}
+use Rattle.std.proofs.lemmas.List.Sums.{sum_by-take-drop}
+use Rattle.nrm_model.specs.declared.product.Product.{Product}
+use Rattle.nrm_model.specs.Network.{NetworkValue, leg_of}
+use Rattle.nrm_model.specs.Demand.{demand_row, demand_to_come, total_to_come}
+use Rattle.nrm_model.specs.Limits.{IsNetwork, IsProduct}
+use Rattle.nrm_model.proofs.DemandLemmas.{sum-range-more}
+use Rattle.nrm_model.proofs.SeatLemmas.{seats-within}
+use Rattle.nrm_lp.specs.Program.{AreLegs, AreProducts, ProgramValue, names}
+use Rattle.nrm_lp.specs.Limits.{IsLimited}
+use Rattle.nrm_dlp.specs.Programs.{program_at}
+use Rattle.nrm_dlp.specs.Laws.{ProgramsAreLimited}
+
+-- a leg that differs from each of these is not among them
+unnamed : (i : ℕ) (ls : List ℕ) → All (λ l. i ≢ l) ls → names i ls ≡ false
+unnamed i [] others = refl
+unnamed i (l ∷ ls) others =
+    let here : eqb i l ≡ false = ne_eqb i l (All-head (λ l. i ≢ l) l ls others) in
+    rw here (unnamed i ls (All-tail (λ l. i ≢ l) l ls others))
+
+-- the first differs from those behind it, and those differ too
+first-differs : (l : ℕ) (ls : List ℕ) → AllPairs (λ a b. a ≢ b) (l ∷ ls) → All (λ m. l ≢ m) ls
+first-differs l ls apart = λ k d short. apart 0 (suc k) d (omega arith) (omega arith)
+
+rest-differ : (l : ℕ) (ls : List ℕ) → AllPairs (λ a b. a ≢ b) (l ∷ ls) → AllPairs (λ a b. a ≢ b) ls
+rest-differ l ls apart = λ i j d before short. apart (suc i) (suc j) d (omega arith) (omega arith)
+
+are-legs : (n : ℕ) (ls : List ℕ) → All (λ l. l < n) ls → AllPairs (λ a b. a ≢ b) ls → AreLegs n ls
+are-legs n [] each apart = tt
+are-legs n (l ∷ ls) each apart =
+    (All-head (λ l. l < n) l ls each, unnamed l ls (first-differs l ls apart), are-legs n ls (All-tail (λ l. l < n) l ls each) (rest-differ l ls apart))
+
+are-products : (n : ℕ) (bounds : List ℕ) (products : List Product) → length bounds ≡ length products → All (IsProduct n) products
+    → AreProducts n bounds (map (λ (product : Product). product.fare) products) (map (λ (product : Product). product.legs) products)
+are-products n [] [] many each = tt
+are-products n [] (p ∷ ps) many each = absurd (omega (arith, many))
+are-products n (b ∷ bs) [] many each = absurd (omega (arith, many))
+are-products n (b ∷ bs) (p ∷ ps) many each =
+    let first = All-head (IsProduct n) p ps each in
+    (are-legs n p.legs first.legs first.distinct, are-products n bs ps (omega (arith, many)) (All-tail (IsProduct n) p ps each))
+
+-- the demand to come in a few histories
+sum-within : (f : ℕ → ℕ) (most n : ℕ) → ((h : ℕ) → h < n → f h ≤ most) → sum_by f (range_with_len 0 n) ≤ most * n
+sum-within f most zero each = omega arith
+sum-within f most (suc n) each =
+    let before = sum-within f most n (λ h few. each h (omega arith)) in
+    let last = each n (omega arith) in
+    let next : n + 1 ≡ suc n = omega arith in
+    let more = subst (λ m. sum_by f (range_with_len 0 m) ≡ sum_by f (range_with_len 0 n) + f n) next (sum-range-more f n) in
+    omega (arith, before, last, more)
+
+pub total-within : (net : NetworkValue) → IsNetwork net → (j k : ℕ) → j < length net.products → total_to_come net j k ≤ 31968
+total-within net is j k few =
+    let one : (h : ℕ) → h < net.histories → demand_to_come net j h k ≤ 999 = λ h short.
+    omega (arith, sum_by-take-drop (λ x. x) (demand_row net j h) (k - 1), is.demand j h few short) in
+    let all = sum-within (λ h. demand_to_come net j h k) 999 net.histories one in
+    omega (arith, all, is.histories.1)
+
+-- part by part
+module _ (net : NetworkValue) (left : List ℕ) (k : ℕ) (is : IsNetwork net) where
+  cap-count : length left ≡ length net.legs → length (program_at net left k).caps ≡ length net.legs
+  cap-count many = length-map left (λ (seats : ℕ). net.histories * seats) ∙ many
+
+  bound-count : length (program_at net left k).bounds ≡ length net.products
+  bound-count = length-map-range_with_len (λ j. total_to_come net j k) 0 (length net.products)
+
+  cap-size : (i : ℕ) → i < length left → get_or left i 0 ≤ (leg_of net i).seats → get_or (program_at net left k).caps i 0 ≤ 31968
+  cap-size i short few =
+      let read = get_or-map (λ (seats : ℕ). net.histories * seats) left i 0 0 short in
+      let most = seats-within net is i in
+      let less : net.histories * get_or left i 0 ≤ net.histories * 999 = mul-le-mul_left net.histories (omega arith) in
+      omega (arith, read, less, is.histories.1)
+
+  bound-size : (j : ℕ) → j < length net.products → get_or (program_at net left k).bounds j 0 ≤ 31968
+  bound-size j few =
+      let read = get_or-map-range_with_len (λ j. total_to_come net j k) 0 (length net.products) j j 0 few (omega arith) in
+      let most = total-within net is j k few in
+      omega (arith, read, most)
+
+  fare-size : (j : ℕ) → j < length net.products → (1 ≤ get_or (program_at net left k).fares j 0) × (get_or (program_at net left k).fares j 0 ≤ 99999999)
+  fare-size j few =
+      let none : Product = record { name = []; fare = 0; legs = [] } in
+      let read = get_or-map (λ (product : Product). product.fare) net.products j none 0 few in
+      let fare = (is.products j none few).fare in
+      (omega (arith, read, fare.0), omega (arith, read, fare.1))
+
+  legs-count : (j : ℕ) → j < length net.products → (1 ≤ length (get_or (program_at net left k).legs j [])) × (length (get_or (program_at net left k).legs j []) ≤ 4)
+  legs-count j few =
+      let none : Product = record { name = []; fare = 0; legs = [] } in
+      let read = ap length (get_or-map (λ (product : Product). product.legs) net.products j none [] few) in
+      let count = (is.products j none few).leg_count in
+      (omega (arith, read, count.0), omega (arith, read, count.1))
+
+pub limited : ProgramsAreLimited
+limited net left k is many seats =
+    let caps = cap-count net left k is many in
+    let bounds = bound-count net left k is in
+    record {
+      some_caps = omega (arith, caps, is.leg_count.0);
+      cap_count = omega (arith, caps, is.leg_count.1);
+      some_bounds = omega (arith, bounds, is.product_count.0);
+      bound_count = omega (arith, bounds, is.product_count.1);
+      cap_size = λ i short. cap-size net left k is i (omega (arith, caps, many, short)) (seats i (omega (arith, caps, short)));
+      bound_size = λ j short. bound-size net left k is j (omega (arith, bounds, short));
+      some_fare = λ j short. (fare-size net left k is j (omega (arith, bounds, short))).0;
+      fare_size = λ j short. (fare-size net left k is j (omega (arith, bounds, short))).1;
+      some_leg = λ j short. (legs-count net left k is j (omega (arith, bounds, short))).0;
+      leg_count = λ j short. (legs-count net left k is j (omega (arith, bounds, short))).1;
+      products = rw caps (are-products (length net.legs) (program_at net left k).bounds net.products bounds is.products);
+    }
+
+-- and so are the parts that were made of it
+pub limited-parts : (net : NetworkValue) (left : List ℕ) (k : ℕ) (caps bounds fares : List ℕ) (legs : List (List ℕ)) → IsNetwork net → length left ≡ length net.legs
+    → ((i : ℕ) → i < length net.legs → get_or left i 0 ≤ (leg_of net i).seats)
+    → caps ≡ (program_at net left k).caps → bounds ≡ (program_at net left k).bounds → fares ≡ (program_at net left k).fares → legs ≡ (program_at net left k).legs
+    → IsLimited (record { caps = caps; bounds = bounds; fares = fares; legs = legs })
+limited-parts net left k caps bounds fares legs is many seats caps_are bounds_are fares_are legs_are =
+    let same : ◌≡◌ {A = ProgramValue} (program_at net left k) (record { caps = caps; bounds = bounds; fares = fares; legs = legs }) =
+    λ i. record { caps = sym caps_are i; bounds = sym bounds_are i; fares = sym fares_are i; legs = sym legs_are i } in
+    subst IsLimited same (limited net left k is many seats)

@@ -1,0 +1,95 @@
+//! The program of a network at some seats left and a period, part by part: caps leg by leg, and bounds, fares and legs
+//! product by product.
+ghost use Rattle.std.specs.Prelude.{ℕ, ◌≡◌, ◌<◌, ◌≤◌, ◌*◌, IfOk, get_or, length, map};
+ghost use Rattle.std.specs.Int.{IsInRange};
+ghost use Rattle.std.specs.List.{range_with_len};
+ghost use Rattle.nrm_model.specs.Network.{leg_of};
+ghost use Rattle.nrm_model.specs.Demand.{total_to_come};
+ghost use Rattle.nrm_model.specs.Inventory.{inventory_of};
+ghost use Rattle.nrm_dlp.specs.Programs.{program_at};
+
+use nrm_lp::Program;
+use nrm_model::Network;
+use std::alloc::{AllocError, Global};
+
+/// The seats of each leg, in file order: what is left before anything is sold.
+///
+/// # Errors
+/// Want of memory.
+pub fn full_seats(alloc: Global, net: &Network) -> Result<Vec<u16>, AllocError>
+    ensures { IfOk result (λ left. left.items ≡ (inventory_of net.now).seats) }
+{
+    let mut left = Vec::new(alloc);
+    for i in 0..net.leg_count() as u8 {
+        left.push(net.leg_at(i).seats)?;
+    }
+    Ok(left)
+}
+
+/// The deterministic linear program of a network at these seats left, from period `period` on (chapter 3 of Talluri
+/// and van Ryzin), summed over the demand histories so that all data are whole: a leg's cap is its seats left times
+/// the histories, and a product's bound is its demand to come in all of them. `left` has the seats left leg by leg,
+/// on each leg at most its seats; periods count from 1.
+///
+/// # Errors
+/// Want of memory.
+pub fn program_at(
+    alloc: Global,
+    net: &Network,
+    left: &[u16],
+    period: u8,
+) -> Result<Program, AllocError>
+    requires legs { length left.now ≡ length net.now.legs }
+    requires seats { (i : ℕ) → i < length net.now.legs → get_or left.now i 0 ≤ (leg_of net.now i).seats }
+    requires period { IsInRange 1 net.now.periods period }
+    ensures { IfOk result (λ program. program ≡ program_at net.now left.now period) }
+{
+    let caps = caps_of(alloc, net.n(), left)?;
+    let bounds = bounds_of(alloc, net, period)?;
+    let fares = fares_of(alloc, net)?;
+    let legs = legs_of(alloc, net)?;
+    Ok(Program::new(caps, bounds, fares, legs))
+}
+
+// The seats left on each leg, once for each history.
+fn caps_of(alloc: Global, histories: u8, left: &[u16]) -> Result<Vec<u32>, AllocError>
+    ensures { IfOk result (λ caps. caps.items ≡ map (λ seats. histories * seats) left.now) }
+{
+    left.iter()
+        .map(|seats| u32::from(histories) * u32::from(*seats))
+        .collect(alloc)
+}
+
+// The demand to come of each product.
+fn bounds_of(alloc: Global, net: &Network, period: u8) -> Result<Vec<u32>, AllocError>
+    requires { IsInRange 1 net.now.periods period }
+    ensures { IfOk result (λ bounds. bounds.items ≡ map (λ j. total_to_come net.now j period) (range_with_len 0 (length net.now.products))) }
+{
+    let mut bounds = Vec::new(alloc);
+    for j in 0..net.product_count() as u16 {
+        bounds.push(net.total(j, period))?;
+    }
+    Ok(bounds)
+}
+
+// The fare of each product.
+fn fares_of(alloc: Global, net: &Network) -> Result<Vec<u32>, AllocError>
+    ensures { IfOk result (λ fares. fares.items ≡ (inventory_of net.now).fares) }
+{
+    let mut fares = Vec::new(alloc);
+    for j in 0..net.product_count() as u16 {
+        fares.push(net.product_at(j).fare)?;
+    }
+    Ok(fares)
+}
+
+// The legs of each product.
+fn legs_of(alloc: Global, net: &Network) -> Result<Vec<Vec<u8>>, AllocError>
+    ensures { IfOk result (λ legs. map (λ v. v.items) legs.items ≡ (inventory_of net.now).legs) }
+{
+    let mut legs = Vec::new(alloc);
+    for j in 0..net.product_count() as u16 {
+        legs.push(Vec::from_slice(alloc, net.product_at(j).legs.as_slice())?)?;
+    }
+    Ok(legs)
+}
