@@ -1,0 +1,3 @@
+pub mod Terms
+pub mod Running
+pub mod Numerators
