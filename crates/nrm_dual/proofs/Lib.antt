@@ -1,0 +1,3 @@
+pub mod Failing
+pub mod Passing
+pub mod Examples

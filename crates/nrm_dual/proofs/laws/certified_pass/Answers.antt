@@ -1,0 +1,5 @@
+use Rattle.nrm_dual.proofs.Passing.{certified_passes}
+use Rattle.nrm_dual.proofs.laws.certified_pass.Goals as goal
+
+pub returns : goal.returns
+returns c = certified_passes

@@ -1,0 +1,77 @@
+-- The conditions on a certificate, in order, and the verdict that names the first that fails. They ask for no solution of the
+-- program: they read and compare.
+use Rattle.std.specs.Prelude.{ℕ, zero, suc, ◌*◌, ◌^◌, ℤ, pos, negsuc, nat_abs, Bool, true, false, cond, eqb, ltb, ◌&&◌, List, [], ◌∷◌, length, get_or, Option, Some, None}
+use Rattle.nrm_lp.specs.declared.certificate.Certificate.{Certificate}
+use Rattle.nrm_lp.specs.Program.{ProgramValue, load, price_sum, cost}
+use Rattle.nrm_lp.specs.Certified.{sizes}
+use Rattle.nrm_dual.specs.declared.verdict.Verdict.{Verdict}
+use Rattle.nrm_dual.specs.declared.verdict.Verdict.TheVariants as verdict
+
+-- a number isn't negative, and is below the limit
+abbrev pub is_small : ℕ → ℤ → Bool
+is_small limit (pos n) = ltb n limit
+is_small limit (negsuc n) = false
+
+abbrev pub are_small : ℕ → List ℤ → Bool
+are_small limit [] = true
+are_small limit (n ∷ ns) = is_small limit n && are_small limit ns
+
+-- the lists have the program's lengths, q and den are at least 1, and all numbers are small
+abbrev pub has_shape : ℕ → ProgramValue → Certificate → Bool
+has_shape limit a c =
+    eqb (length c.x) (length a.bounds) && (eqb (length c.p) (length a.caps)
+    && (ltb 0 (nat_abs c.q) && (ltb 0 (nat_abs c.den)
+    && (is_small limit c.q && (are_small limit c.x && (is_small limit c.den && (are_small limit c.p && is_small limit c.value)))))))
+
+-- the least of the n numbers from k on at which a test holds
+abbrev pub least : (ℕ → Bool) → ℕ → ℕ → Option ℕ
+least test k zero = None
+least test k (suc n) = cond (test k) (Some k) (least test (suc k) n)
+
+-- the product, or the leg, at which a condition fails, or what the later conditions say
+abbrev pub or_product : Option ℕ → Verdict → Verdict
+or_product (Some j) later = verdict.WrongProduct j
+or_product None later = later
+
+abbrev pub or_leg : Option ℕ → Verdict → Verdict
+or_leg (Some i) later = verdict.WrongLeg i
+or_leg None later = later
+
+-- ---- how a condition fails at product j or leg i
+-- more than the bound
+abbrev pub is_over_bound : ProgramValue → ℕ → List ℕ → ℕ → Bool
+is_over_bound a q x j = ltb (q * get_or a.bounds j 0) (get_or x j 0)
+
+-- more on the leg than its cap
+abbrev pub is_over_cap : ProgramValue → ℕ → List ℕ → ℕ → Bool
+is_over_cap a q x i = ltb (q * get_or a.caps i 0) (load i a.legs x)
+
+-- a price above 0 on a leg that isn't full
+abbrev pub is_priced_short : ProgramValue → ℕ → List ℕ → List ℕ → ℕ → Bool
+is_priced_short a q x p i = ltb 0 (get_or p i 0) && ltb (load i a.legs x) (q * get_or a.caps i 0)
+
+-- below the bound, and the fare exceeds the price sum
+abbrev pub is_unmet_dear : ProgramValue → ℕ → List ℕ → ℕ → List ℕ → ℕ → Bool
+is_unmet_dear a q x d p j = ltb (get_or x j 0) (q * get_or a.bounds j 0) && ltb (price_sum p (get_or a.legs j [])) (d * get_or a.fares j 0)
+
+-- sold, and the fare is below the price sum
+abbrev pub is_used_cheap : ProgramValue → List ℕ → ℕ → List ℕ → ℕ → Bool
+is_used_cheap a x d p j = ltb 0 (get_or x j 0) && ltb (d * get_or a.fares j 0) (price_sum p (get_or a.legs j []))
+
+-- the conditions after the shape, on whole numbers that aren't negative
+abbrev pub first_wrong : ProgramValue → ℕ → List ℕ → ℕ → List ℕ → ℕ → Verdict
+first_wrong a q x d p value =
+    or_product (least (is_over_bound a q x) 0 (length a.bounds))
+    (or_leg (least (is_over_cap a q x) 0 (length a.caps))
+    (or_leg (least (is_priced_short a q x p) 0 (length a.caps))
+    (or_product (least (is_unmet_dear a q x d p) 0 (length a.bounds))
+    (or_product (least (is_used_cheap a x d p) 0 (length a.bounds))
+    (cond (eqb value (cost a d p)) verdict.Optimal verdict.WrongValue)))))
+
+-- the first condition that fails, with numbers below this limit
+abbrev pub first_failing : ℕ → ProgramValue → Certificate → Verdict
+first_failing limit a c = cond (has_shape limit a c) (first_wrong a (nat_abs c.q) (sizes c.x) (nat_abs c.den) (sizes c.p) (nat_abs c.value)) verdict.WrongShape
+
+-- the same with the limit of the code's numbers
+abbrev pub verdict_on : ProgramValue → Certificate → Verdict
+verdict_on a c = first_failing (2 ^ 48) a c

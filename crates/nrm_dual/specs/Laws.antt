@@ -1,0 +1,22 @@
+-- The laws of the conditions: what passes them shows what it should, whoever made it, and what shows that passes.
+use Rattle.std.specs.Prelude.{ℕ, ◌≡◌, ◌^◌, ◌<◌}
+use Rattle.nrm_lp.specs.declared.certificate.Certificate.{Certificate}
+use Rattle.nrm_lp.specs.Program.{ProgramValue, IsProgram}
+use Rattle.nrm_lp.specs.Tableau.{Tableau}
+use Rattle.nrm_lp.specs.Closing.{certificate}
+use Rattle.nrm_lp.specs.Overflow.{Closes}
+use Rattle.nrm_lp.specs.Certified.{Certifies}
+use Rattle.nrm_dual.specs.Conditions.{first_failing, verdict_on}
+use Rattle.nrm_dual.specs.declared.verdict.Verdict.TheVariants.{Optimal}
+
+-- a certificate at which no condition fails is one of an optimal allocation and optimal bid prices, whoever made it
+abbrev pub PassesCertify : Type 0
+PassesCertify = (limit : ℕ) (a : ProgramValue) → IsProgram a → (c : Certificate) → first_failing limit a c ≡ Optimal → Certifies limit a c
+
+-- and where a certificate is one, no condition fails
+abbrev pub CertifiedPass : Type 0
+CertifiedPass = (limit : ℕ) (a : ProgramValue) (c : Certificate) → Certifies limit a c → first_failing limit a c ≡ Optimal
+
+-- so the certificate of a path that ends and isn't Large passes
+abbrev pub ClosingsPass : Type 0
+ClosingsPass = (a : ProgramValue) → IsProgram a → (n : ℕ) (t : Tableau) → Closes (2 ^ 48) a n t → verdict_on a (certificate a t) ≡ Optimal

