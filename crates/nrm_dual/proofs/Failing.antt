@@ -1,5 +1,5 @@
 -- What the conditions after the shape say where none fails, and that none fails where an allocation and bid prices meet.
-use Rattle.std.proofs.Common.{◌≡◌, ℕ, zero, suc, ◌+◌, ◌*◌, ◌<◌, ◌≤◌, ◌⊎◌, inl, inr, arith, refl, sym, ap, ◌∙◌, List, [], length, get_or, Bool, true, false, cond, ◌&&◌, eqb, ltb, Option, Some, None, le-ltb, lt-ltb, eq-eqb}
+use Rattle.std.proofs.Common.{◌≡◌, ℕ, zero, suc, ◌+◌, ◌*◌, ◌<◌, ◌≤◌, ◌⊎◌, inl, inr, arith, refl, sym, ap, ◌∙◌, List, [], length, get_or, Bool, true, false, cond, ◌&&◌, eqb, Option, Some, None, le-ltb, lt-ltb, eq-eqb}
 use Rattle.std.proofs.lemmas.Bool.{ltb-true, ltb-false, eqb-true}
 use Rattle.nrm_lp.specs.Program.{ProgramValue, load, price_sum, cost}
 use Rattle.nrm_lp.specs.Certified.{Meet}

@@ -1,5 +1,5 @@
 -- A certificate at which no condition fails shows what it should, and one that shows it fails none.
-use Rattle.std.proofs.Common.{◌≡◌, ℕ, ◌*◌, ◌<◌, ℤ, pos, negsuc, nat_abs, arith, refl, ap, ◌∙◌, List, [], ◌∷◌, length, All, Bool, true, false, cond, ◌&&◌, eqb, ltb, lt-ltb, eq-eqb}
+use Rattle.std.proofs.Common.{◌≡◌, ℕ, zero, suc, ◌*◌, ◌^◌, ◌<◌, ℤ, pos, negsuc, nat_abs, arith, lit<, refl, sym, ap, ◌∙◌, subst, List, [], ◌∷◌, length, get_or, All, Bool, true, false, cond, ◌&&◌, eqb, ltb, lt-ltb, eq-eqb}
 use Rattle.std.proofs.lemmas.Bool.{ltb-true, eqb-true}
 use Rattle.std.proofs.lemmas.List.{length-map}
 use Rattle.std.proofs.lemmas.List.Elements.{All-nil, All-cons, All-head, All-tail}
@@ -10,6 +10,7 @@ use Rattle.nrm_lp.proofs.Duality.{optimal_allocation, optimal_prices}
 use Rattle.nrm_lp.proofs.Slackness.{meets_if, product_tight, leg_tight}
 use Rattle.nrm_dual.specs.declared.verdict.Verdict.TheVariants.{Optimal, WrongShape}
 use Rattle.nrm_dual.specs.Conditions.{is_small, are_small, has_shape, first_wrong, first_failing}
+use Rattle.nrm_dual.specs.Shape.{IsShaped}
 use Rattle.nrm_dual.proofs.Failing.{Holds, conditions_hold, meet_passes, false_true, and_true, both_true}
 
 wrong_shape : WrongShape ≡ Optimal → ⊥
@@ -35,7 +36,7 @@ small_numbers limit (n ∷ ns) e =
     All-cons (IsNumber limit) n ns (small_number limit n both.0) (small_numbers limit ns both.1)
 
 -- what the shape says
-pub record IsShaped (limit : ℕ) (a : ProgramValue) (c : Certificate) : Type 0 where
+pub record HasShape (limit : ℕ) (a : ProgramValue) (c : Certificate) : Type 0 where
   pub products : length c.x ≡ length a.bounds
   pub prices : length c.p ≡ length a.caps
   pub some_q : 0 < nat_abs c.q
@@ -46,11 +47,19 @@ pub record IsShaped (limit : ℕ) (a : ProgramValue) (c : Certificate) : Type 0 
   pub p_sizes : All (IsNumber limit) c.p
   pub value_size : IsNumber limit c.value
 
+number_below : (limit : ℕ) (n : ℤ) → IsNumber limit n → nat_abs n < limit
+number_below limit n h = subst (λ z. nat_abs z < limit) (sym h.1) h.2
+
+sizes_below : (limit : ℕ) → 0 < limit → (ns : List ℤ) → All (IsNumber limit) ns → (k : ℕ) → get_or (sizes ns) k 0 < limit
+sizes_below limit room [] h k = room
+sizes_below limit room (n ∷ ns) h zero = number_below limit n (All-head (IsNumber limit) n ns h)
+sizes_below limit room (n ∷ ns) h (suc k) = sizes_below limit room ns (All-tail (IsNumber limit) n ns h) k
+
 module _ (limit : ℕ) (a : ProgramValue) (c : Certificate) where
   abbrev from_sizes : Bool
   from_sizes = is_small limit c.q && (are_small limit c.x && (is_small limit c.den && (are_small limit c.p && is_small limit c.value)))
 
-  pub shape_out : has_shape limit a c ≡ true → IsShaped limit a c
+  pub shape_out : has_shape limit a c ≡ true → HasShape limit a c
   shape_out e =
       let e1 : (eqb (length c.x) (length a.bounds) ≡ true) × ((eqb (length c.p) (length a.caps) && (ltb 0 (nat_abs c.q) && (ltb 0 (nat_abs c.den) && from_sizes))) ≡ true) = and_true _ _ e in
       let e2 : (eqb (length c.p) (length a.caps) ≡ true) × ((ltb 0 (nat_abs c.q) && (ltb 0 (nat_abs c.den) && from_sizes)) ≡ true) = and_true _ _ e1.1 in
@@ -72,7 +81,7 @@ module _ (limit : ℕ) (a : ProgramValue) (c : Certificate) where
         value_size = small_number limit c.value e8.1;
       }
 
-  pub shape_in : IsShaped limit a c → has_shape limit a c ≡ true
+  pub shape_in : HasShape limit a c → has_shape limit a c ≡ true
   shape_in s =
       both_true _ _ (eq-eqb _ _ s.products)
       (both_true _ _ (eq-eqb _ _ s.prices)
@@ -82,6 +91,19 @@ module _ (limit : ℕ) (a : ProgramValue) (c : Certificate) where
       (both_true _ _ (numbers_small limit c.x s.x_sizes)
       (both_true _ _ (number_small limit c.den s.den_size)
       (both_true _ _ (numbers_small limit c.p s.p_sizes) (number_small limit c.value s.value_size))))))))
+
+-- what the code's conditions ask of the shape
+pub shaped : (a : ProgramValue) (c : Certificate) → has_shape (2 ^ 48) a c ≡ true → IsShaped a c
+shaped a c e =
+    let s : HasShape (2 ^ 48) a c = shape_out (2 ^ 48) a c e in
+    record {
+      products = s.products;
+      prices = s.prices;
+      q_below = number_below (2 ^ 48) c.q s.q_size;
+      x_below = sizes_below (2 ^ 48) (lit< tt) c.x s.x_sizes;
+      den_below = number_below (2 ^ 48) c.den s.den_size;
+      p_below = sizes_below (2 ^ 48) (lit< tt) c.p s.p_sizes;
+    }
 
 module _ (a : ProgramValue) (ok : IsProgram a) (q : ℕ) (x : List ℕ) (d : ℕ) (p : List ℕ) (value : ℕ) (h : Holds a q x d p value) (some_q : 0 < q) (some_d : 0 < d) (products : length x ≡ length a.bounds) (legs : length p ≡ length a.caps) where
   pub allocation : IsAllocation a q x
@@ -113,7 +135,7 @@ passing_certifies limit a ok c e = go (has_shape limit a c) refl e
     go : (b : Bool) → has_shape limit a c ≡ b → cond b (first_wrong a (nat_abs c.q) (sizes c.x) (nat_abs c.den) (sizes c.p) (nat_abs c.value)) WrongShape ≡ Optimal → Certifies limit a c
     go false f e = absurd (wrong_shape e)
     go true f e =
-        let s : IsShaped limit a c = shape_out limit a c f in
+        let s : HasShape limit a c = shape_out limit a c f in
         let h : Holds a (nat_abs c.q) (sizes c.x) (nat_abs c.den) (sizes c.p) (nat_abs c.value) = conditions_hold a (nat_abs c.q) (sizes c.x) (nat_abs c.den) (sizes c.p) (nat_abs c.value) e in
         let m : Meet a (nat_abs c.q) (sizes c.x) (nat_abs c.den) (sizes c.p) (nat_abs c.value) = they_meet a ok _ _ _ _ _ h s.some_q s.some_den (length-map c.x (λ n. nat_abs n) ∙ s.products) (length-map c.p (λ n. nat_abs n) ∙ s.prices) in
         let tied : gain a (sizes c.x) * nat_abs c.den ≡ cost a (nat_abs c.den) (sizes c.p) * nat_abs c.q = meeting a ok _ _ _ _ _ h s.some_q s.some_den m.allocation.shape m.prices.shape in
@@ -133,7 +155,7 @@ certified_passes limit a c h =
     ap (λ b. cond b (first_wrong a (nat_abs c.q) (sizes c.x) (nat_abs c.den) (sizes c.p) (nat_abs c.value)) WrongShape) (shape_in limit a c shaped)
     ∙ meet_passes a (nat_abs c.q) (sizes c.x) (nat_abs c.den) (sizes c.p) (nat_abs c.value) h.meet
   where
-    shaped : IsShaped limit a c
+    shaped : HasShape limit a c
     shaped = record {
       products = omega (arith, length-map c.x (λ n. nat_abs n), h.meet.allocation.shape);
       prices = omega (arith, length-map c.p (λ n. nat_abs n), h.meet.prices.shape);

@@ -1,5 +1,5 @@
 -- The laws of the conditions: what passes them shows what it should, whoever made it, and what shows that passes.
-use Rattle.std.specs.Prelude.{ℕ, ◌≡◌, ◌^◌, ◌<◌}
+use Rattle.std.specs.Prelude.{ℕ, ◌≡◌, ◌^◌}
 use Rattle.nrm_lp.specs.declared.certificate.Certificate.{Certificate}
 use Rattle.nrm_lp.specs.Program.{ProgramValue, IsProgram}
 use Rattle.nrm_lp.specs.Tableau.{Tableau}

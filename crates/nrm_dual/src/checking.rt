@@ -1,9 +1,13 @@
 //! The checker: it reads and compares, and never solves.
-ghost use Rattle.std.specs.Prelude.{◌≡◌, ◌^◌};
-ghost use Rattle.nrm_lp.specs.Certified.{Certifies};
-ghost use Rattle.nrm_dual.specs.Conditions.{verdict_on};
+ghost use Rattle.std.specs.Prelude.{◌≡◌, ◌^◌, nat_abs};
+ghost use Rattle.nrm_lp.specs.Certified.{Certifies, sizes};
+ghost use Rattle.nrm_dual.specs.Conditions.{first_wrong, verdict_on};
 ghost use Rattle.nrm_dual.specs.declared.verdict.Verdict.TheVariants.{Optimal};
+ghost use Rattle.nrm_dual.specs.Shape.{IsShaped};
 
+use crate::conditions::{over_bound, over_cap, priced_short, unmet_dear, used_cheap};
+use crate::shape::has_shape;
+use crate::sums::cost;
 use crate::verdict::Verdict;
 use nrm_lp::{Certificate, Program};
 
@@ -24,5 +28,31 @@ pub fn check(program: &Program, certificate: &Certificate) -> Verdict
     ensures verdict { result ≡ verdict_on program.now certificate.now }
     ensures optimal { result ≡ Optimal → Certifies (2 ^ 48) program.now certificate.now }
 {
-    Verdict::WrongShape
+    if has_shape(program, certificate) {
+        first_wrong(program, certificate)
+    } else {
+        Verdict::WrongShape
+    }
+}
+
+// What the conditions after the shape say.
+fn first_wrong(program: &Program, certificate: &Certificate) -> Verdict
+    requires { IsShaped program.now certificate.now }
+    ensures { result ≡ first_wrong program.now (nat_abs certificate.now.q) (sizes certificate.now.x) (nat_abs certificate.now.den) (sizes certificate.now.p) (nat_abs certificate.now.value) }
+{
+    if let Some(product) = over_bound(program, certificate) {
+        Verdict::WrongProduct(product)
+    } else if let Some(leg) = over_cap(program, certificate) {
+        Verdict::WrongLeg(leg)
+    } else if let Some(leg) = priced_short(program, certificate) {
+        Verdict::WrongLeg(leg)
+    } else if let Some(product) = unmet_dear(program, certificate) {
+        Verdict::WrongProduct(product)
+    } else if let Some(product) = used_cheap(program, certificate) {
+        Verdict::WrongProduct(product)
+    } else if u128::from(certificate.value.unsigned_abs()) == cost(program, certificate) {
+        Verdict::Optimal
+    } else {
+        Verdict::WrongValue
+    }
 }

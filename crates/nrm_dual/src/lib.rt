@@ -2,8 +2,13 @@
 #![tactic(auto)]
 
 mod checking;
+mod conditions;
 mod laws;
+mod shape;
+mod sums;
 mod verdict;
+#[cfg(test)]
+mod tests;
 
 pub use checking::check;
 pub use laws::{certified_pass, closings_pass, passes_certify};

@@ -1,0 +1,18 @@
+-- Where no condition fails, the certificate shows what it should.
+use Rattle.std.proofs.Common.{◌≡◌, ◌^◌, ◌∙◌, sym, ap, true, cond, nat_abs}
+use Rattle.nrm_lp.specs.Certified.{sizes}
+use Rattle.nrm_dual.specs.declared.verdict.Verdict.TheVariants.{WrongShape}
+use Rattle.nrm_dual.specs.Conditions.{has_shape, first_wrong}
+use Rattle.nrm_dual.proofs.Passing.{passing_certifies, shaped}
+use Rattle.nrm_dual.proofs.checking.check.Goals as goal
+
+pub first_wrong-requires : goal.first_wrong-requires
+first_wrong-requires c = shaped c.args.program.now c.args.certificate.now (sym c.has_shape.ensures.shape ∙ c.if-has_shape.true)
+
+pub returns-then-has_shape-clause-optimal : goal.returns-then-has_shape-clause-optimal
+returns-then-has_shape-clause-optimal c =
+    let a = c.args.program.now in
+    let k = c.args.certificate.now in
+    let later = first_wrong a (nat_abs k.q) (sizes k.x) (nat_abs k.den) (sizes k.p) (nat_abs k.value) in
+    let shape : has_shape (2 ^ 48) a k ≡ true = sym c.has_shape.ensures.shape ∙ c.if-has_shape.true in
+    λ e. passing_certifies (2 ^ 48) a c.has_shape.ensures.limits.products k (ap (λ b. cond b later WrongShape) shape ∙ sym c.first_wrong.ensures ∙ e)

@@ -1,0 +1,58 @@
+//! The first condition: lengths, denominators and the sizes of the numbers. The others read sizes alone.
+ghost use Rattle.std.specs.Prelude.{◌≡◌, ◌&&◌, ◌<◌, ◌^◌, ltb, eqb, nat_abs, length};
+ghost use Rattle.nrm_lp.specs.Limits.{IsLimited};
+ghost use Rattle.nrm_dual.specs.Conditions.{are_small, has_shape, is_small};
+
+use nrm_lp::{Certificate, Program};
+
+const LIMIT: i64 = 1 << 48;
+
+/// Whether the lists have the program's lengths, both denominators are at least 1, and no number is negative or
+/// reaches the limit.
+pub fn has_shape(program: &Program, certificate: &Certificate) -> bool
+    ensures shape { result ≡ has_shape (2 ^ 48) program.now certificate.now }
+    ensures limits { IsLimited program.now }
+{
+    has_lengths(program, certificate) && has_denominators(certificate) && has_small(certificate)
+}
+
+fn has_lengths(program: &Program, certificate: &Certificate) -> bool
+    ensures lengths { result ≡ (eqb (length certificate.now.x) (length program.now.bounds) && eqb (length certificate.now.p) (length program.now.caps)) }
+    ensures limits { IsLimited program.now }
+{
+    certificate.x.as_slice().len() == program.bounds().len()
+        && certificate.p.as_slice().len() == program.caps().len()
+}
+
+fn has_denominators(certificate: &Certificate) -> bool
+    ensures { result ≡ (ltb 0 (nat_abs certificate.now.q) && ltb 0 (nat_abs certificate.now.den)) }
+{
+    certificate.q != 0 && certificate.den != 0
+}
+
+fn has_small(certificate: &Certificate) -> bool
+    ensures { result ≡ ((is_small (2 ^ 48) certificate.now.q && are_small (2 ^ 48) certificate.now.x) && (is_small (2 ^ 48) certificate.now.den && (are_small (2 ^ 48) certificate.now.p && is_small (2 ^ 48) certificate.now.value))) }
+{
+    is_small(certificate.q)
+        && are_small(certificate.x.as_slice())
+        && is_small(certificate.den)
+        && are_small(certificate.p.as_slice())
+        && is_small(certificate.value)
+}
+
+fn are_small(numbers: &[i64]) -> bool
+    ensures { result ≡ are_small (2 ^ 48) numbers.now }
+{
+    for number in numbers {
+        if !is_small(*number) {
+            return false;
+        }
+    }
+    true
+}
+
+fn is_small(number: i64) -> bool
+    ensures { result ≡ is_small (2 ^ 48) number }
+{
+    0 <= number && number < LIMIT
+}
