@@ -15,5 +15,6 @@ pub mod Meeting
 pub mod Small
 pub mod Certify
 pub mod Ends
+pub mod Fits
 pub mod Facts
 pub mod Positive
