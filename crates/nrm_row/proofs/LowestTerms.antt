@@ -1,10 +1,10 @@
 -- A row made of numbers over a denominator, in lowest terms: that it is a row, which fractions it stands for, and
 -- whether it is Large. Then what a row's parts are of its fractions.
-use Rattle.std.proofs.Common.{◌≡◌, ℕ, zero, suc, ◌/◌, ◌^◌, ◌<◌, ℤ, pos, negsuc, ◌<ℤ◌, nat_abs, arith, refl, sym, ap, ap₂, ◌∙◌, subst, List, [], ◌∷◌, length, get_or, leb, cond, Bool, true, false, Some, None, leb-false, All}
+use Rattle.std.proofs.Common.{◌≡◌, ℕ, zero, suc, ◌/◌, ◌^◌, ◌<◌, ℤ, pos, negsuc, ◌<ℤ◌, nat_abs, arith, refl, sym, ap, ap₂, ◌∙◌, subst, List, [], ◌∷◌, length, take, drop, get_or, leb, cond, Bool, true, false, Some, None, leb-false, All}
 use Rattle.std.specs.Int.{IsInRange}
 use Rattle.std.proofs.lemmas.Bool.Decides.{nat_tests}
 use Rattle.std.proofs.lemmas.Int.{ints}
-use Rattle.std.proofs.lemmas.List.{length-map}
+use Rattle.std.proofs.lemmas.List.{drop-map, length-map, take-map}
 use Rattle.std.proofs.lemmas.List.Elements.{All-map, All-weaker, All-head, All-tail, All-cons}
 use native.Mathlib.Nat.{div-mul_cancel, div-le_self}
 use Rattle.nrm_number.specs.Gcd.{shrink}
@@ -123,3 +123,7 @@ row_nums d ns row r e =
 
 pub row_length : (d : ℤ) (ns : List ℤ) (row : List Fraction) → fractions (nat_abs d) ns ≡ row → length row ≡ length ns
 row_length d ns row e = sym (ap length e) ∙ length-map ns (λ n. n over nat_abs d)
+
+-- some of a row's columns
+pub row_part : (d : ℕ) (ns : List ℤ) (row : List Fraction) (k n : ℕ) → fractions d ns ≡ row → fractions d (take n (drop k ns)) ≡ take n (drop k row)
+row_part d ns row k n e = sym (take-map (λ m. m over d) n (drop k ns)) ∙ ap (take n) (sym (drop-map (λ m. m over d) k ns)) ∙ ap (λ r. take n (drop k r)) e

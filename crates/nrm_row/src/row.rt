@@ -1,7 +1,7 @@
 //! A row of fractions: whole numbers over one denominator, in lowest terms.
 #![tactic(auto)]
 
-ghost use Rattle.std.specs.Prelude.{◌≡◌, ◌<◌, ◌^◌, ◌<ℤ◌, ◌*ℤ◌, pos, unsigned_abs, length, map, All, IfOk, MatchResult, None, List, get_or};
+ghost use Rattle.std.specs.Prelude.{◌≡◌, ◌+◌, ◌<◌, ◌≤◌, ◌^◌, ◌<ℤ◌, ◌*ℤ◌, pos, unsigned_abs, length, map, take, drop, All, IfOk, MatchResult, None, List, get_or};
 ghost use Rattle.std.specs.Int.{IsInRange};
 ghost use Rattle.std.specs.List.{range_with_len};
 ghost use Rattle.nrm_fraction.specs.Fraction.{Fraction, ◌<ᶠ◌, less, whole};
@@ -186,6 +186,17 @@ impl Row {
     {
         let pivot = self.num(col);
         lowest_row(alloc, pivot, &self.nums)
+    }
+
+    /// The columns from `from` on, so many of them, as a row over their own least common denominator. It is never Large.
+    pub fn part(&self, alloc: Global, from: u16, width: u16) -> Result<Row, AllocError>
+        requires width { 1 ≤ width }
+        requires within { from + width ≤ length self.now }
+        ensures { IfOk result (λ row. row ≡ take width (drop from self.now)) }
+    {
+        let start = usize::from(from);
+        let end = start + usize::from(width);
+        lowest_row(alloc, self.den, &self.nums[start..end])
     }
 
     /// Whether this row's list (the last column, then the columns from `from` to the one before it), divided by its

@@ -75,6 +75,28 @@ fn keeps_least_denominators(rt: HostRuntime) -> Result<(), Fail> {
 }
 
 #[test]
+#[tactic(auto, using(nrm_fraction::proofs::Tests::less_true))]
+fn takes_a_part_in_its_own_lowest_terms(rt: HostRuntime) -> Result<(), Fail> {
+    let row = four(rt.alloc(), 6, 1, 2, 3)?;
+    assert!(rt; row.is_positive(0));
+    let sixths = row.unit(rt.alloc(), 0)?;
+    assert_eq!(rt; sixths.den(), 6);
+    let inner = sixths.part(rt.alloc(), 1, 2)?;
+    assert_eq!(rt; inner.den(), 6);
+    assert_eq!(rt; numbers(rt.alloc(), &inner)?.as_slice(), [1, 2].as_slice());
+    let third = sixths.part(rt.alloc(), 2, 1)?;
+    assert_eq!(rt; third.den(), 3);
+    assert_eq!(rt; numbers(rt.alloc(), &third)?.as_slice(), [1].as_slice());
+    let all = sixths.part(rt.alloc(), 0, 4)?;
+    assert_eq!(rt; all.den(), 6);
+    assert_eq!(rt;
+        numbers(rt.alloc(), &all)?.as_slice(),
+        [6, 1, 2, 3].as_slice()
+    );
+    Ok(())
+}
+
+#[test]
 fn is_large_at_the_limit(rt: HostRuntime) -> Result<(), Fail> {
     let unit = two(rt.alloc(), 1, -1)?;
     let below = two(rt.alloc(), 1, 281_474_976_710_654)?;
