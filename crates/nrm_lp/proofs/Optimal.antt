@@ -134,7 +134,7 @@ module _ (a : ProgramValue) (ok : IsProgram a) (t : Tableau) (h : IsKept a t) (b
       go (inl q) = q
       go (inr d) = absurd (positive_not_nought (whole (pos 1)) one_positive (sym (h.facts.ones k lk) ∙ ap (at (row t k)) e ∙ h.facts.zeros k l lk ll d))
 
-  ends : (k : ℕ) → k < row_count a → IsNonNegative (at (row t k) (right_side a))
+  pub ends : (k : ℕ) → k < row_count a → IsNonNegative (at (row t k) (right_side a))
   ends k l = first_sign_of (at (row t k) (right_side a)) (map (λ c. at (row t k) c) (map (slack a) (range_with_len 0 (row_count a)))) (h.positive k l)
     where
       first_sign_of : (x : Fraction) (xs : List Fraction) → LexPositive (x ∷ xs) → IsNonNegative x

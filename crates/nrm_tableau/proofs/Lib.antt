@@ -3,3 +3,5 @@ pub mod FirstEntries
 pub mod Turns
 pub mod Faults
 pub mod Paths
+pub mod LastRows
+pub mod LastValue

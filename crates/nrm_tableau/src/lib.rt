@@ -3,11 +3,14 @@
 #![tactic(auto)]
 
 mod columns;
+mod ending;
 mod first;
 mod laws;
 mod leaving;
 mod pivot;
 mod tableau;
+#[cfg(test)]
+mod tests;
 
 pub use laws::on_path_has_facts;
 pub use tableau::Tableau;

@@ -1,19 +1,22 @@
 //! A tableau: its rows as exact fractions, and the basic column of each constraint row. It is kept on its program's path.
 #![tactic(auto)]
 
-ghost use Rattle.std.specs.Prelude.{◌≡◌, ◌<◌, ◌^◌, pos, true, IfOk, IfErr, IfSome, OnOk, OnErr, Some, None};
+ghost use Rattle.std.specs.Prelude.{◌≡◌, ◌<◌, ◌^◌, pos, true, IfOk, IfErr, IfSome, MatchResult, OnOk, OnErr, Some, None};
 ghost use Rattle.std.specs.Option.{option_map};
 ghost use Rattle.nrm_fraction.specs.Fraction.{less, whole};
 ghost use Rattle.nrm_fraction.specs.Rows.{at};
 ghost use Rattle.nrm_row.specs.Fault.{IsFault};
 ghost use Rattle.nrm_lp.specs.Tableau.{first_tableau, right_side, entering, leaving, pivot};
-ghost use Rattle.nrm_lp.specs.Overflow.{pivot_large};
+ghost use Rattle.nrm_lp.specs.Closing.{certificate};
+ghost use Rattle.nrm_lp.specs.Overflow.{closing_large, pivot_large};
 ghost use Rattle.nrm_tableau.specs.Value.{IsOnPath};
 
+use crate::columns::right_side;
+use crate::ending::{allotted, leg_prices, numbers, value_over};
 use crate::first::{first_basis, first_rows, first_value};
 use crate::leaving::{entering_column, leaving_row};
 use crate::pivot::changed_rows;
-use nrm_lp::Program;
+use nrm_lp::{Certificate, Numbers, Program};
 use nrm_row::{Row, RowFault};
 use std::alloc::{AllocError, Global};
 use std::marker::Model;
@@ -93,41 +96,32 @@ impl<'a> Tableau<'a> {
         self.basis[usize::from(row)] = col;
         Ok(())
     }
-}
 
-#[cfg(test)]
-mod tests {
-    use super::*;
-    use std::test::Fail;
-
-    // Two legs of 40 seats, and five products at 400, 150, 500, 80 and 229.
-    #[test]
-    fn takes_the_pivots_of_two_legs(rt: HostRuntime) -> Result<(), Fail> {
-        let alloc = rt.alloc();
-        let caps = vec![in alloc; 40, 40]?;
-        let bounds = vec![in alloc; 12, 28, 16, 32, 0]?;
-        let fares = vec![in alloc; 400, 150, 500, 80, 229]?;
-        let both = vec![in alloc; 0, 1]?;
-        let both_again = vec![in alloc; 0, 1]?;
-        let legs = vec![in alloc;
-            vec![in alloc; 0]?,
-            vec![in alloc; 0]?,
-            both,
-            vec![in alloc; 1]?,
-            both_again,
-        ]?;
-        let program = Program::new(caps, bounds, fares, legs);
-        let mut tableau = Tableau::first(alloc, &program)?;
-        for (col, row) in [(0, 2), (1, 3), (2, 0), (3, 5), (7, 1), (8, 1), (10, 4)] {
-            let Some(enters) = tableau.entering() else {
-                assert!(rt; false, "no column enters at {col}");
-                return Ok(());
-            };
-            let leaves = tableau.leaving(enters);
-            assert_eq!(rt; (enters, leaves), (col, row));
-            assert!(rt; tableau.pivot(alloc, leaves, enters).is_ok());
-        }
-        assert!(rt; tableau.entering().is_none());
-        Ok(())
+    /// The closing certificate of a tableau in which no column enters: what is allotted to each product, over the least
+    /// common denominator `q`; the bid price of each leg, over the prices' least common denominator `den`; and the value,
+    /// over `den` too.
+    ///
+    /// # Errors
+    /// `Large`, with the first number that reaches 2^48: the least common denominators of the first product's value, of
+    /// the first two and so on, then the numbers of the allotment. `NoMemory`.
+    pub fn closing(&self, alloc: Global) -> Result<Certificate, RowFault>
+        requires last { entering self.now.table ≡ None }
+        ensures { let found = closing_large (2 ^ 48) self.now.program self.now.table in
+            MatchResult result (λ made. (made ≡ certificate self.now.program self.now.table) × (found ≡ None)) (λ f. IsFault f found) }
+    {
+        let (q, x) = allotted(alloc, self.program, &self.rows, &self.basis)?;
+        let Ok(prices) = leg_prices(alloc, self.program, &self.value) else {
+            return Err(RowFault::NoMemory);
+        };
+        let Ok(p) = numbers(alloc, &prices) else {
+            return Err(RowFault::NoMemory);
+        };
+        Ok(Certificate {
+            q,
+            x: Numbers::new(x),
+            den: prices.den(),
+            p: Numbers::new(p),
+            value: value_over(&self.value, &prices, right_side(self.program)),
+        })
     }
 }
