@@ -93,8 +93,7 @@ fn is_priced_short(program: &Program, certificate: &Certificate, leg: u8) -> boo
     requires within { leg < length program.now.caps }
     ensures { result ≡ is_priced_short program.now (nat_abs certificate.now.q) (sizes certificate.now.x) (sizes certificate.now.p) leg }
 {
-    price(certificate, leg) > 0
-        && load(program, certificate, leg) < cap(program, certificate, leg)
+    price(certificate, leg) > 0 && load(program, certificate, leg) < cap(program, certificate, leg)
 }
 
 fn is_unmet_dear(program: &Program, certificate: &Certificate, product: u16) -> bool

@@ -6,9 +6,9 @@ mod conditions;
 mod laws;
 mod shape;
 mod sums;
-mod verdict;
 #[cfg(test)]
 mod tests;
+mod verdict;
 
 pub use checking::check;
 pub use laws::{certified_pass, closings_pass, passes_certify};

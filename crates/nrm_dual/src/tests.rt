@@ -1,12 +1,197 @@
-//! Certificates worked by hand, one change at a time.
-ghost use Rattle.std.specs.Prelude.{IfOk};
-
+//! A program of two legs and its certificate, worked by hand, then changed in one place at a time.
 use crate::{Verdict, check};
 use nrm_lp::{Certificate, Numbers, Program};
 use std::alloc::{AllocError, Global};
 use std::test::Fail;
 
+// Two legs of 40 seats, and five products at 400, 150, 500, 80 and 229.
+fn two_legs(alloc: Global) -> Result<Program, AllocError> {
+    let caps = vec![in alloc; 40, 40]?;
+    let bounds = vec![in alloc; 12, 28, 16, 32, 0]?;
+    let fares = vec![in alloc; 400, 150, 500, 80, 229]?;
+    let first = vec![in alloc; 0]?;
+    let first_again = vec![in alloc; 0]?;
+    let both = vec![in alloc; 0, 1]?;
+    let second = vec![in alloc; 1]?;
+    let both_again = vec![in alloc; 0, 1]?;
+    let legs = vec![in alloc; first, first_again, both, second, both_again]?;
+    Ok(Program::new(caps, bounds, fares, legs))
+}
+
+// One leg of no seats, and one product at 100.
+fn no_seats(alloc: Global) -> Result<Program, AllocError> {
+    let caps = vec![in alloc; 0]?;
+    let bounds = vec![in alloc; 5]?;
+    let fares = vec![in alloc; 100]?;
+    let leg = vec![in alloc; 0]?;
+    let legs = vec![in alloc; leg]?;
+    Ok(Program::new(caps, bounds, fares, legs))
+}
+
+fn certificate(
+    alloc: Global,
+    (q, x): (i64, &[i64]),
+    (den, p): (i64, &[i64]),
+    value: i64,
+) -> Result<Certificate, AllocError> {
+    let x = Numbers::new(x.to_vec(alloc)?);
+    let p = Numbers::new(p.to_vec(alloc)?);
+    Ok(Certificate {
+        q,
+        x,
+        den,
+        p,
+        value,
+    })
+}
+
 #[test]
-fn nothing_yet(rt: HostRuntime) -> Result<(), Fail> {
+fn passes_in_any_terms(rt: HostRuntime) -> Result<(), Fail> {
+    let program = two_legs(rt.alloc())?;
+    let own = certificate(
+        rt.alloc(),
+        (1, &[12, 12, 16, 24, 0]),
+        (1, &[150, 80]),
+        16_520,
+    )?;
+    assert_eq!(rt; check(&program, &own), Verdict::Optimal);
+    let halves = certificate(
+        rt.alloc(),
+        (2, &[24, 24, 32, 48, 0]),
+        (1, &[150, 80]),
+        16_520,
+    )?;
+    assert_eq!(rt; check(&program, &halves), Verdict::Optimal);
+    let thirds = certificate(
+        rt.alloc(),
+        (1, &[12, 12, 16, 24, 0]),
+        (3, &[450, 240]),
+        49_560,
+    )?;
+    assert_eq!(rt; check(&program, &thirds), Verdict::Optimal);
+    Ok(())
+}
+
+#[test]
+fn passes_at_either_price(rt: HostRuntime) -> Result<(), Fail> {
+    let program = no_seats(rt.alloc())?;
+    for price in [100, 150] {
+        let priced = certificate(rt.alloc(), (1, &[0]), (1, &[price]), 0)?;
+        assert_eq!(rt; check(&program, &priced), Verdict::Optimal, "at {price}");
+    }
+    let cheap = certificate(rt.alloc(), (1, &[0]), (1, &[99]), 5)?;
+    assert_eq!(rt; check(&program, &cheap), Verdict::WrongProduct(0));
+    Ok(())
+}
+
+#[test]
+fn single_numbers_are_checked(rt: HostRuntime) -> Result<(), Fail> {
+    let program = two_legs(rt.alloc())?;
+    for (q, den, value, verdict) in [
+        (0, 1, 16_520, Verdict::WrongShape),
+        (-1, 1, 16_520, Verdict::WrongShape),
+        (1 << 48, 1, 16_520, Verdict::WrongShape),
+        (1, 0, 16_520, Verdict::WrongShape),
+        (1, -1, 16_520, Verdict::WrongShape),
+        (1, 1 << 48, 16_520, Verdict::WrongShape),
+        (1, 1, -16_520, Verdict::WrongShape),
+        (1, 1, 1 << 48, Verdict::WrongShape),
+        (1, 1, (1 << 48) - 1, Verdict::WrongValue),
+        (1, 1, 16_519, Verdict::WrongValue),
+        (1, 1, 16_521, Verdict::WrongValue),
+        (1, 3, 16_520, Verdict::WrongProduct(1)),
+        (2, 1, 16_520, Verdict::WrongLeg(0)),
+    ] {
+        let changed = certificate(
+            rt.alloc(),
+            (q, &[12, 12, 16, 24, 0]),
+            (den, &[150, 80]),
+            value,
+        )?;
+        assert_eq!(rt;
+            check(&program, &changed),
+            verdict,
+            "at {q}, {den}, {value}"
+        );
+    }
+    Ok(())
+}
+
+#[test]
+fn lists_have_the_programs_lengths(rt: HostRuntime) -> Result<(), Fail> {
+    let program = two_legs(rt.alloc())?;
+    let short_x = certificate(rt.alloc(), (1, &[12, 12, 16, 24]), (1, &[150, 80]), 16_520)?;
+    assert_eq!(rt; check(&program, &short_x), Verdict::WrongShape);
+    let long_x = certificate(
+        rt.alloc(),
+        (1, &[12, 12, 16, 24, 0, 0]),
+        (1, &[150, 80]),
+        16_520,
+    )?;
+    assert_eq!(rt; check(&program, &long_x), Verdict::WrongShape);
+    let short_p = certificate(rt.alloc(), (1, &[12, 12, 16, 24, 0]), (1, &[150]), 16_520)?;
+    assert_eq!(rt; check(&program, &short_p), Verdict::WrongShape);
+    let long_p = certificate(
+        rt.alloc(),
+        (1, &[12, 12, 16, 24, 0]),
+        (1, &[150, 80, 0]),
+        16_520,
+    )?;
+    assert_eq!(rt; check(&program, &long_p), Verdict::WrongShape);
+    Ok(())
+}
+
+#[test]
+fn allotments_are_checked(rt: HostRuntime) -> Result<(), Fail> {
+    let program = two_legs(rt.alloc())?;
+    for (x, verdict) in [
+        ([-1, 12, 16, 24, 0].as_slice(), Verdict::WrongShape),
+        ([12, 12, 16, 24, -1].as_slice(), Verdict::WrongShape),
+        ([12, 12, 16, 24, 1 << 48].as_slice(), Verdict::WrongShape),
+        // above the bound
+        ([13, 11, 16, 24, 0].as_slice(), Verdict::WrongProduct(0)),
+        ([12, 12, 16, 24, 1].as_slice(), Verdict::WrongProduct(4)),
+        ([13, 12, 16, 24, 1].as_slice(), Verdict::WrongProduct(0)),
+        // above the cap
+        ([12, 13, 16, 24, 0].as_slice(), Verdict::WrongLeg(0)),
+        ([12, 12, 16, 25, 0].as_slice(), Verdict::WrongLeg(1)),
+        ([12, 13, 16, 25, 0].as_slice(), Verdict::WrongLeg(0)),
+        // priced and short, and one more with the other leg above the cap
+        ([12, 11, 16, 24, 0].as_slice(), Verdict::WrongLeg(0)),
+        ([12, 12, 16, 23, 0].as_slice(), Verdict::WrongLeg(1)),
+        ([12, 11, 16, 25, 0].as_slice(), Verdict::WrongLeg(1)),
+        // short of the bound and dear
+        ([11, 13, 16, 24, 0].as_slice(), Verdict::WrongProduct(0)),
+        ([12, 13, 15, 25, 0].as_slice(), Verdict::WrongProduct(2)),
+        ([11, 14, 15, 25, 0].as_slice(), Verdict::WrongProduct(0)),
+    ] {
+        let changed = certificate(rt.alloc(), (1, x), (1, &[150, 80]), 16_520)?;
+        assert_eq!(rt; check(&program, &changed), verdict, "at {x:?}");
+    }
+    Ok(())
+}
+
+#[test]
+fn prices_are_checked(rt: HostRuntime) -> Result<(), Fail> {
+    let program = two_legs(rt.alloc())?;
+    for (p, verdict) in [
+        ([-150, 80].as_slice(), Verdict::WrongShape),
+        ([150, -80].as_slice(), Verdict::WrongShape),
+        ([150, 1 << 48].as_slice(), Verdict::WrongShape),
+        // sold and cheap
+        ([151, 80].as_slice(), Verdict::WrongProduct(1)),
+        ([150, 81].as_slice(), Verdict::WrongProduct(3)),
+    ] {
+        let changed = certificate(rt.alloc(), (1, &[12, 12, 16, 24, 0]), (1, p), 16_520)?;
+        assert_eq!(rt; check(&program, &changed), verdict, "at {p:?}");
+    }
+    // product 1 is sold and cheap, product 2 is short and dear
+    let both = certificate(
+        rt.alloc(),
+        (1, &[12, 13, 15, 25, 0]),
+        (1, &[151, 80]),
+        16_520,
+    )?;
+    assert_eq!(rt; check(&program, &both), Verdict::WrongProduct(2));
     Ok(())
 }

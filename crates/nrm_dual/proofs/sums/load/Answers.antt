@@ -20,13 +20,13 @@ loop-product-preserved c =
     let held : j < length xs = omega (arith, c.requires.shaped.products, length-map c.args.certificate.now.x (λ n. nat_abs n)) in
     elim c.if-uses_leg.branch [
       | then-uses_leg w ↦
-        let added : sum + w.allotted-seats.result + load i (drop (j + 1) a.legs) (drop (j + 1) xs) ≡ load i a.legs xs =
-            subst (λ n. sum + n + load i (drop (j + 1) a.legs) (drop (j + 1) xs) ≡ load i a.legs xs) (sym w.allotted-seats.ensures)
-            (load_named i a.legs xs j sum _ listed held (sym c.uses_leg.ensures ∙ w.if-uses_leg.true) c.loop-product.invariant.counted) in
-        record { counted = omega (arith, added, w.seats-is); limit = omega (arith, w.seats-is, w.allotted-seats.ensures, c.requires.shaped.x_below j, c.loop-product.invariant.limit) }
+          let added : sum + w.allotted-seats.result + load i (drop (j + 1) a.legs) (drop (j + 1) xs) ≡ load i a.legs xs =
+          subst (λ n. sum + n + load i (drop (j + 1) a.legs) (drop (j + 1) xs) ≡ load i a.legs xs) (sym w.allotted-seats.ensures)
+          (load_named i a.legs xs j sum _ listed held (sym c.uses_leg.ensures ∙ w.if-uses_leg.true) c.loop-product.invariant.counted) in
+          record { counted = omega (arith, added, w.seats-is); limit = omega (arith, w.seats-is, w.allotted-seats.ensures, c.requires.shaped.x_below j, c.loop-product.invariant.limit) }
       | else-uses_leg w ↦
-        let added : sum + load i (drop (j + 1) a.legs) (drop (j + 1) xs) ≡ load i a.legs xs = load_unnamed i a.legs xs j sum _ listed held (sym c.uses_leg.ensures ∙ w.if-uses_leg.false) c.loop-product.invariant.counted in
-        record { counted = omega (arith, added, w.seats-is); limit = omega (arith, w.seats-is, c.loop-product.invariant.limit) }
+          let added : sum + load i (drop (j + 1) a.legs) (drop (j + 1) xs) ≡ load i a.legs xs = load_unnamed i a.legs xs j sum _ listed held (sym c.uses_leg.ensures ∙ w.if-uses_leg.false) c.loop-product.invariant.counted in
+          record { counted = omega (arith, added, w.seats-is); limit = omega (arith, w.seats-is, c.loop-product.invariant.limit) }
     ]
 
 pub returns : goal.returns
