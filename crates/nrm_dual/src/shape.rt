@@ -13,7 +13,9 @@ pub fn has_shape(program: &Program, certificate: &Certificate) -> bool
     ensures shape { result ≡ has_shape (2 ^ 48) program.now certificate.now }
     ensures limits { IsLimited program.now }
 {
-    has_lengths(program, certificate) && has_denominators(certificate) && has_small(certificate)
+    has_lengths(program, certificate)
+        && has_denominators(certificate)
+        && has_small_numbers(certificate)
 }
 
 fn has_lengths(program: &Program, certificate: &Certificate) -> bool
@@ -30,7 +32,7 @@ fn has_denominators(certificate: &Certificate) -> bool
     certificate.q != 0 && certificate.den != 0
 }
 
-fn has_small(certificate: &Certificate) -> bool
+fn has_small_numbers(certificate: &Certificate) -> bool
     ensures { result ≡ ((is_small (2 ^ 48) certificate.now.q && are_small (2 ^ 48) certificate.now.x) && (is_small (2 ^ 48) certificate.now.den && (are_small (2 ^ 48) certificate.now.p && is_small (2 ^ 48) certificate.now.value))) }
 {
     is_small(certificate.q)

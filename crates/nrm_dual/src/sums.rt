@@ -24,7 +24,7 @@ pub fn leg_count(program: &Program) -> u8
     program.caps().len() as u8
 }
 
-/// What a product is allotted.
+/// What a product is allotted, over `q`.
 pub fn allotted(certificate: &Certificate, product: u16) -> u64
     requires { product < length certificate.now.x }
     ensures { result ≡ get_or (sizes certificate.now.x) product 0 }
@@ -32,7 +32,7 @@ pub fn allotted(certificate: &Certificate, product: u16) -> u64
     certificate.x.as_slice()[usize::from(product)].unsigned_abs()
 }
 
-/// The bid price of a leg.
+/// The bid price of a leg, over `den`.
 pub fn price(certificate: &Certificate, leg: u8) -> u64
     requires { leg < length certificate.now.p }
     ensures { result ≡ get_or (sizes certificate.now.p) leg 0 }
@@ -40,7 +40,7 @@ pub fn price(certificate: &Certificate, leg: u8) -> u64
     certificate.p.as_slice()[usize::from(leg)].unsigned_abs()
 }
 
-/// The bound of a product, in the terms of its allotment.
+/// The bound of a product, over `q`.
 pub fn bound(program: &Program, certificate: &Certificate, product: u16) -> u64
     requires shaped { IsShaped program.now certificate.now }
     requires within { product < length program.now.bounds }
@@ -50,7 +50,7 @@ pub fn bound(program: &Program, certificate: &Certificate, product: u16) -> u64
     certificate.q.unsigned_abs() * u64::from(bound)
 }
 
-/// The cap of a leg, in the terms of its load.
+/// The cap of a leg, over `q`.
 pub fn cap(program: &Program, certificate: &Certificate, leg: u8) -> u64
     requires shaped { IsShaped program.now certificate.now }
     requires within { leg < length program.now.caps }
@@ -60,7 +60,7 @@ pub fn cap(program: &Program, certificate: &Certificate, leg: u8) -> u64
     certificate.q.unsigned_abs() * u64::from(cap)
 }
 
-/// The fare of a product, in the terms of the bid prices.
+/// The fare of a product, over `den`.
 pub fn fare(program: &Program, certificate: &Certificate, product: u16) -> u128
     requires shaped { IsShaped program.now certificate.now }
     requires within { product < length program.now.bounds }
@@ -71,7 +71,7 @@ pub fn fare(program: &Program, certificate: &Certificate, product: u16) -> u128
     u128::from(certificate.den.unsigned_abs()) * u128::from(fare)
 }
 
-/// The seats of a leg that the allocation takes.
+/// The seats of a leg that the allocation takes, over `q`.
 pub fn load(program: &Program, certificate: &Certificate, leg: u8) -> u64
     requires shaped { IsShaped program.now certificate.now }
     ensures { result ≡ load leg program.now.legs (sizes certificate.now.x) }
@@ -92,7 +92,7 @@ fn uses_leg(program: &Program, product: u16, leg: u8) -> bool
     program.legs_of(product).contains(&leg)
 }
 
-/// The sum of the bid prices of a product's legs.
+/// The sum of the bid prices of a product's legs, over `den`.
 pub fn price_sum(program: &Program, certificate: &Certificate, product: u16) -> u128
     requires shaped { IsShaped program.now certificate.now }
     requires within { product < length program.now.bounds }
@@ -106,7 +106,7 @@ pub fn price_sum(program: &Program, certificate: &Certificate, product: u16) -> 
     sum
 }
 
-/// The cost of the bid prices: the caps at their prices, and the bounds at what each fare exceeds them by.
+/// The cost of the bid prices, over `den`: the caps at their prices, and the bounds at what each fare exceeds them by.
 pub fn cost(program: &Program, certificate: &Certificate) -> u128
     requires shaped { IsShaped program.now certificate.now }
     ensures { result ≡ cost program.now (nat_abs certificate.now.den) (sizes certificate.now.p) }
