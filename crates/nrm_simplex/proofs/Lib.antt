@@ -1,0 +1,2 @@
+pub mod TestPrograms
+pub mod Walk

@@ -1,0 +1,42 @@
+//! Why a program has no certificate.
+use nrm_row::RowFault;
+use std::alloc::AllocError;
+use thiserror::Error;
+
+/// Why a program isn't solved.
+#[derive(Clone, Copy, Debug, PartialEq, Eq, Error)]
+pub enum SolveFault {
+    /// The program is Large: a number of the pivot after these finished ones, or of the closing after all of them,
+    /// reaches 2^48 in size. `number` is the first that does; `pivots` is 4,294,967,295 where there were more.
+    #[error("overflow after {pivots} pivots at {number}")]
+    Overflow { pivots: u32, number: i128 },
+    /// Want of memory.
+    #[error("out of memory")]
+    NoMemory,
+}
+
+impl SolveFault {
+    ghost use Rattle.std.specs.Prelude.{◌≡◌};
+    ghost use Rattle.nrm_simplex.specs.Faults.{fault_after};
+
+    /// The fault of a row that was to be made after so many finished pivots.
+    pub fn after(pivots: u32, fault: RowFault) -> SolveFault
+        ensures { result ≡ fault_after pivots fault }
+    {
+        match fault {
+            RowFault::Large { number } => SolveFault::Overflow { pivots, number },
+            RowFault::NoMemory => SolveFault::NoMemory,
+        }
+    }
+}
+
+impl From<AllocError> for SolveFault {
+    ghost use Rattle.std.specs.Prelude.{◌≡◌};
+    ghost use Rattle.nrm_simplex.specs.declared.fault.SolveFault.TheVariants.{NoMemory};
+
+    ghost from_gives = { λ _ e. e ≡ NoMemory };
+
+    fn from(_: AllocError) -> SolveFault {
+        SolveFault::NoMemory
+    }
+}

@@ -1,0 +1,10 @@
+//! The simplex method: a program's path to its end.
+#![tactic(auto)]
+
+mod fault;
+mod path;
+#[cfg(test)]
+mod tests;
+
+pub use fault::SolveFault;
+pub use path::solve;
