@@ -3,8 +3,8 @@
 
     bench/pivots.py [PROGRAM]
 
-The program of crates/nrm_pivots makes one large linear program and pivots to the end of its path. Of nine runs, the least
-and the middle time for one pivot.
+The program of crates/nrm_pivots makes one large linear program, pivots to the end of its path, and then solves the program,
+which takes the same pivots again. Of nine runs, the least and the middle time for one pivot.
 """
 import os
 import subprocess
@@ -22,7 +22,7 @@ def main():
         out = subprocess.run([program], capture_output=True, check=True).stdout.decode()
         times.append(time.perf_counter() - begun)
     print(out, end="")
-    count = int(out.split()[1])
+    count = 2 * int(out.split()[1])
     times.sort()
     print(f"a pivot: least {times[0] / count * 1e6:.0f} us, middle {times[4] / count * 1e6:.0f} us")
 

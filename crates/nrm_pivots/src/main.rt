@@ -6,8 +6,10 @@ ghost use Rattle.std.specs.Prelude.{◌≡◌, ◌<◌, All, IfOk, length, map};
 ghost use Rattle.nrm_pivots.specs.Parts.{AreFares, AreFourLegs};
 
 use nrm_lp::Program;
+use nrm_simplex::solve;
 use nrm_tableau::Tableau;
 use std::alloc::{AllocError, Global};
+use std::env;
 use std::io::{self, Write};
 use std::process::ExitCode;
 
@@ -74,17 +76,34 @@ fn pivots(alloc: Global, program: &Program) -> Result<(u32, bool), AllocError> {
     Ok((count, false))
 }
 
-fn counted(alloc: Global) -> Result<(u32, bool), AllocError> {
-    let program = program(alloc)?;
-    pivots(alloc, &program)
+// Walks the path, where that is asked for, and solves the program; writes what came of it.
+fn told(rt: &HostRuntime, walks: bool) -> Result<(), AllocError> {
+    let program = program(rt.alloc())?;
+    if walks {
+        let (count, ended) = pivots(rt.alloc(), &program)?;
+        let _ = writeln!(io::writer(rt), "pivots {count} ended {ended}");
+    }
+    match solve(rt.alloc(), &program) {
+        Ok(certificate) => {
+            let _ = writeln!(
+                io::writer(rt),
+                "value {} over {}",
+                certificate.value,
+                certificate.den
+            );
+        }
+        Err(fault) => {
+            let _ = writeln!(io::writer(rt), "{fault}");
+        }
+    }
+    Ok(())
 }
 
+// With a word on the command line the program is solved alone.
 fn main(rt: HostRuntime) -> ExitCode {
-    match counted(rt.alloc()) {
-        Ok((count, ended)) => {
-            let _ = writeln!(io::writer(&rt), "pivots {count} ended {ended}");
-            ExitCode::SUCCESS
-        }
+    let walks = env::args(&rt).map_or(true, |words| words.count() < 2);
+    match told(&rt, walks) {
+        Ok(()) => ExitCode::SUCCESS,
         Err(_) => ExitCode::FAILURE,
     }
 }
