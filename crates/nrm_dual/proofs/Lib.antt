@@ -3,3 +3,14 @@ pub mod Passing
 pub mod Adding
 pub mod Searches
 pub mod Examples
+pub mod ReadingExamples
+pub mod Words
+pub mod TooFine
+pub mod ReadShape
+pub mod ClosingLowest
+pub mod SheetBack
+pub mod WrittenFractions
+pub mod Filling
+pub mod WrittenLines
+pub mod WrittenRead
+pub mod ReadAnswers

@@ -1,3 +1,7 @@
 pub mod Conditions
 pub mod Laws
+pub mod ReadBack
+pub mod Reading
 pub mod Shape
+pub mod Texts
+pub mod Sheets

@@ -7,5 +7,6 @@ mod lines;
 mod parse;
 
 pub use command::Command;
+pub use cut::split_once;
 pub use lines::next_line;
-pub use parse::command_of;
+pub use parse::{command_of, without_carriage_return};

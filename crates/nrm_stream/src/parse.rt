@@ -22,8 +22,8 @@ fn is_word(word: &[u8], wanted: &[u8]) -> bool
     word == wanted
 }
 
-// The line without one carriage return at its end.
-fn without_carriage_return(line: &[u8]) -> &[u8]
+/// The line without one carriage return at its end.
+pub fn without_carriage_return(line: &[u8]) -> &[u8]
     ensures { result.now ≡ strip_carriage_return line.now }
 {
     match line {

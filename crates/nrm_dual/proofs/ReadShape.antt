@@ -1,0 +1,137 @@
+-- What is read has the network's shape: a sheet keeps its lengths, and numbers that aren't Large are below the limit.
+use Rattle.std.proofs.Common.{◌≡◌, ℕ, zero, suc, ◌*◌, ◌/◌, ◌<◌, ◌^◌, ℤ, pos, ◌*ℤ◌, nat_abs, refl, ap, ◌∙◌, subst, List, [], ◌∷◌, map, length, All, Bool, true, false, Option, Some, None, Ok, Err, nat_lt}
+use Rattle.std.specs.Prelude.{Result, if◌then◌else◌}
+use Rattle.std.proofs.lemmas.List.{length-map, length-set, length-replicate}
+use Rattle.std.proofs.lemmas.List.Elements.{All-nil, All-cons}
+use Rattle.nrm_number.specs.Gcd.{gcd}
+use Rattle.nrm_fraction.specs.Fraction.{Fraction, ◌over◌}
+use Rattle.nrm_fraction.specs.Large.{common, numerators, first_reaching, large_number}
+use Rattle.nrm_fraction.proofs.Lowest.{common_pos}
+use Rattle.nrm_model.specs.Network.{NetworkValue}
+use Rattle.nrm_stream.specs.Lines.{lines_of}
+use Rattle.nrm_lp.specs.declared.certificate.Certificate.{Certificate}
+use Rattle.nrm_lp.specs.Certified.{IsNumber}
+use Rattle.nrm_lp.proofs.Small.{reach_first}
+use Rattle.nrm_dual.specs.declared.fault.CertFault.{CertFault}
+use Rattle.nrm_dual.specs.declared.fault.CertFault.TheVariants as fault
+use Rattle.nrm_dual.specs.Reading.{Written, Place, the_value, of_product, of_leg, Entry, entry_of, Sheet, blank, given, with_given, is_over, after_entry, after_line, after_lines, or_fault, first_missing, times, certificate_over, certificate_or_fault, small_or_fault, whole_or_fault, certificate_on, certificate_of, allocation_in, value_in, prices_in}
+use Rattle.nrm_dual.specs.Texts.{IsShaped}
+
+fault_ok : {A : Type 0} (cause : CertFault) (x : A) → Err cause ≡ Ok x → ⊥
+fault_ok cause x e = cc
+
+same_ok : {A : Type 0} (x y : A) → ◌≡◌ {A = Result A CertFault} (Ok x) (Ok y) → x ≡ y
+same_ok x y e = cc
+
+-- a sheet with a place for each product and each leg
+record HasPlaces (net : NetworkValue) (sheet : Sheet) : Type 0 where
+  products : length sheet.products ≡ length net.products
+  legs : length sheet.legs ≡ length net.legs
+
+blank_places : (net : NetworkValue) → HasPlaces net (blank net)
+blank_places net = record { products = length-replicate (length net.products) None; legs = length-replicate (length net.legs) None }
+
+with_places : (net : NetworkValue) (sheet : Sheet) (place : Place) (fraction : Written) → HasPlaces net sheet → HasPlaces net (with_given sheet place fraction)
+with_places net sheet the_value fraction h = record { products = h.products; legs = h.legs }
+with_places net sheet (of_product j) fraction h = record { products = length-set sheet.products j (Some fraction) ∙ h.products; legs = h.legs }
+with_places net sheet (of_leg i) fraction h = record { products = h.products; legs = length-set sheet.legs i (Some fraction) ∙ h.legs }
+
+line_places : (net : NetworkValue) (sheet : Sheet) (number : ℕ) (entry : Option Entry) → HasPlaces net sheet → (next : Sheet) → after_line sheet number entry ≡ Ok next → HasPlaces net next
+line_places net sheet number None h next e = absurd (fault_ok (fault.Line number) next e)
+line_places net sheet number (Some entry) h next e = go (given sheet entry.place) e
+  where
+    by : (large : Bool) → (if large then Err (fault.Large number) else Ok (with_given sheet entry.place entry.fraction)) ≡ Ok next → HasPlaces net next
+    by true e = absurd (fault_ok (fault.Large number) next e)
+    by false e = subst (HasPlaces net) (same_ok (with_given sheet entry.place entry.fraction) next e) (with_places net sheet entry.place entry.fraction h)
+
+    go : (before : Option Written) → after_entry sheet number entry before ≡ Ok next → HasPlaces net next
+    go (Some before) e = absurd (fault_ok (fault.Line number) next e)
+    go None e = by (is_over entry.fraction) e
+
+lines_places : (net : NetworkValue) (sheet : Sheet) (number : ℕ) (lines : List (List ℕ)) → HasPlaces net sheet → (last : Sheet) → after_lines net sheet number lines ≡ Ok last → HasPlaces net last
+lines_places net sheet number [] h last e = subst (HasPlaces net) (same_ok sheet last e) h
+lines_places net sheet number (line ∷ more) h last e = go (after_line sheet number (entry_of net line)) refl (λ next places rest. lines_places net next (suc number) more places last rest) e
+  where
+    go : (r : Result Sheet CertFault) → after_line sheet number (entry_of net line) ≡ r → ((next : Sheet) → HasPlaces net next → after_lines net next (suc number) more ≡ Ok last → HasPlaces net last)
+        → or_fault r (λ next. after_lines net next (suc number) more) ≡ Ok last → HasPlaces net last
+    go (Ok next) s later e = later next (line_places net sheet number (entry_of net line) h next s) e
+    go (Err cause) s later e = absurd (fault_ok cause last e)
+
+-- ---- what was given isn't negative
+over_sign : (n d : ℕ) → (k : ℕ) × ((pos n over d).num ≡ pos k)
+unfolding ◌over◌
+over_sign n zero = (0, refl)
+over_sign n (suc d) = (n / gcd n (suc d), refl)
+
+times_sign : (n : ℕ) (fraction : Option Written) → (k : ℕ) × ((times n fraction).num ≡ pos k)
+times_sign n None = over_sign 0 1
+times_sign n (Some fraction) = over_sign (n * fraction.num) fraction.den
+
+numerator : (limit d : ℕ) (x : Fraction) → (k : ℕ) × (x.num ≡ pos k) → nat_abs (x.num *ℤ pos (d / x.den)) < limit → IsNumber limit (x.num *ℤ pos (d / x.den))
+numerator limit d x w l =
+    let same : x.num *ℤ pos (d / x.den) ≡ pos (w.0 * (d / x.den)) = ap (λ z. z *ℤ pos (d / x.den)) w.1 in
+    (w.0 * (d / x.den), same, subst (λ z. nat_abs z < limit) same l)
+
+numerators_small : (limit d n : ℕ) (given : List (Option Written)) → first_reaching limit (numerators d (map (times n) given)) ≡ None → All (IsNumber limit) (numerators d (map (times n) given))
+numerators_small limit d n [] e = All-nil (IsNumber limit)
+numerators_small limit d n (fraction ∷ more) e =
+    let w = reach_first limit ((times n fraction).num *ℤ pos (d / (times n fraction).den)) (numerators d (map (times n) more)) e in
+    All-cons (IsNumber limit) ((times n fraction).num *ℤ pos (d / (times n fraction).den)) (numerators d (map (times n) more))
+    (numerator limit d (times n fraction) (times_sign n fraction) w.0)
+    (numerators_small limit d n more w.1)
+
+length-numerators : (d n : ℕ) (given : List (Option Written)) → length (numerators d (map (times n) given)) ≡ length given
+length-numerators d n given = length-map (map (times n) given) (λ x. x.num *ℤ pos (d / x.den)) ∙ length-map given (times n)
+
+-- ---- the certificate of a sheet
+whole_out : (value : Option Written) (product leg : Option ℕ) (made : Result Certificate CertFault) (c : Certificate) → whole_or_fault value product leg made ≡ Ok c → made ≡ Ok c
+whole_out None product leg made c e = absurd (fault_ok fault.NoValue c e)
+whole_out (Some value) (Some j) leg made c e = absurd (fault_ok (fault.NoProduct j) c e)
+whole_out (Some value) None (Some i) made c e = absurd (fault_ok (fault.NoLeg i) c e)
+whole_out (Some value) None None made c e = e
+
+small_out : (shares prices : Option ℤ) (made c : Certificate) → small_or_fault shares prices made ≡ Ok c → (shares ≡ None) × (prices ≡ None) × (made ≡ c)
+small_out None None made c e = (refl, refl, same_ok made c e)
+small_out None (Some number) made c e = absurd (fault_ok fault.TooFine c e)
+small_out (Some number) found made c e = absurd (fault_ok fault.TooFine c e)
+
+module _ (net : NetworkValue) (sheet : Sheet) (h : HasPlaces net sheet) where
+  shaped_over : large_number (2 ^ 48) (allocation_in net sheet) ≡ None → large_number (2 ^ 48) (value_in net sheet ∷ prices_in sheet) ≡ None
+      → IsShaped net (certificate_over (allocation_in net sheet) (value_in net sheet) (prices_in sheet))
+  shaped_over few_shares few_prices =
+      let shares : List Fraction = allocation_in net sheet in
+      let value : Fraction = value_in net sheet in
+      let prices : List Fraction = prices_in sheet in
+      let q : ℕ = common shares in
+      let den : ℕ = common (value ∷ prices) in
+      let a = reach_first (2 ^ 48) (pos q) (numerators q shares) few_shares in
+      let b = reach_first (2 ^ 48) (pos den) (numerators den (value ∷ prices)) few_prices in
+      let v = reach_first (2 ^ 48) (value.num *ℤ pos (den / value.den)) (numerators den prices) b.1 in
+      record {
+        products = length-numerators q net.histories sheet.products ∙ h.products;
+        legs = length-numerators den 1 sheet.legs ∙ h.legs;
+        q_size = (q, refl, a.0);
+        x_sizes = numerators_small (2 ^ 48) q net.histories sheet.products a.1;
+        den_size = (den, refl, b.0);
+        p_sizes = numerators_small (2 ^ 48) den 1 sheet.legs v.1;
+        value_size = numerator (2 ^ 48) den value (times_sign net.histories sheet.value) v.0;
+        some_q = common_pos shares;
+        some_den = common_pos (value ∷ prices);
+      }
+
+  sheet_shaped : (c : Certificate) → certificate_on net sheet ≡ Ok c → IsShaped net c
+  sheet_shaped c e =
+      let made = whole_out sheet.value (first_missing 0 sheet.products) (first_missing 0 sheet.legs) (certificate_or_fault (allocation_in net sheet) (value_in net sheet) (prices_in sheet)) c e in
+      let w = small_out (large_number (2 ^ 48) (allocation_in net sheet)) (large_number (2 ^ 48) (value_in net sheet ∷ prices_in sheet)) (certificate_over (allocation_in net sheet) (value_in net sheet) (prices_in sheet)) c made in
+      subst (IsShaped net) w.2 (shaped_over w.0 w.1)
+
+pub read_shaped : (net : NetworkValue) (bytes : List ℕ) (c : Certificate) → certificate_of net bytes ≡ Ok c → IsShaped net c
+read_shaped net bytes c e = go (nat_lt 65536 (length bytes)) e
+  where
+    on : (r : Result Sheet CertFault) → after_lines net (blank net) 1 (lines_of bytes) ≡ r → or_fault r (certificate_on net) ≡ Ok c → IsShaped net c
+    on (Ok sheet) s e = sheet_shaped net sheet (lines_places net (blank net) 1 (lines_of bytes) (blank_places net) sheet s) c e
+    on (Err cause) s e = absurd (fault_ok cause c e)
+
+    go : (long : Bool) → (if long then Err fault.Long else or_fault (after_lines net (blank net) 1 (lines_of bytes)) (certificate_on net)) ≡ Ok c → IsShaped net c
+    go true e = absurd (fault_ok fault.Long c e)
+    go false e = on (after_lines net (blank net) 1 (lines_of bytes)) refl e

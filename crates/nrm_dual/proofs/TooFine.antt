@@ -1,0 +1,110 @@
+-- A number of the certificate is Large exactly where one is found on the way to it.
+use Rattle.std.proofs.Common.{◌≡◌, ℕ, ◌<◌, ◌^◌, ℤ, pos, arith, refl, sym, ap, ◌∙◌, subst, List, [], ◌∷◌, drop, get_or, Option, Some, None, Result, Ok, Err, to_z, of_z, w64}
+use Prim.Native.Nat.{◌∣◌}
+use Rattle.std.proofs.lemmas.Bool.{lt-leb}
+use Rattle.std.proofs.lemmas.Nat.Gcd.{dvd_trans, dvd_refl, le_of_dvd}
+use native.Mathlib.Nat.{one-dvd}
+use Rattle.nrm_number.specs.Gcd.{lcm}
+use Rattle.nrm_number.proofs.GcdLaws.{dvd-lcm_left, dvd-lcm_right, lcm-dvd, lcm_pos}
+use Rattle.nrm_fraction.specs.Fraction.{Fraction}
+use Rattle.nrm_fraction.specs.Large.{common, running, numerators, first_reaching, large_number}
+use Rattle.nrm_fraction.proofs.Values.{den_pos}
+use Rattle.nrm_fraction.proofs.Lowest.{common_pos}
+use Rattle.nrm_row.specs.Fault.{IsFault}
+use Rattle.nrm_row.specs.declared.fault.RowFault.{RowFault}
+use Rattle.nrm_row.specs.declared.fault.RowFault.TheVariants.{Large, NoMemory}
+use Rattle.nrm_row.proofs.LowestTerms.{reaching_no}
+use Rattle.nrm_row.proofs.Bits.{small_same}
+use Rattle.nrm_denominators.specs.Lists.{first_too_large}
+use Rattle.nrm_denominators.proofs.Numerators.{found_behind}
+use Rattle.nrm_lp.proofs.Small.{reach_first, reach_parts, common_below}
+use Rattle.nrm_lp.specs.declared.certificate.Certificate.{Certificate}
+use Rattle.nrm_dual.specs.Reading.{AnswersCertificate, certificate_or_fault, certificate_over, small_or_fault}
+use Rattle.nrm_dual.specs.Sheets.{cause_of}
+use Rattle.nrm_dual.specs.declared.fault.CertFault.{CertFault}
+use Rattle.nrm_dual.specs.declared.fault.CertFault.TheVariants as fault
+use Rattle.std.specs.Result.{IsErrAnd}
+
+none_some : (n : ℤ) → None ≡ Some n → ⊥
+none_some n e = cc
+
+-- each running denominator divides what all denominators divide
+running_small : (m d : ℕ) (xs : List Fraction) → 0 < m → m < 2 ^ 48 → 0 < d → d ∣ m → common xs ∣ m → first_reaching (2 ^ 48) (running d xs) ≡ None
+running_small m d [] some small h in_m all = refl
+running_small m d (x ∷ xs) some small h in_m all =
+    let here : x.den ∣ m = dvd_trans x.den (dvd-lcm_left x.den (common xs)) all in
+    let rest : common xs ∣ m = dvd_trans (common xs) (dvd-lcm_right x.den (common xs)) all in
+    let next : lcm x.den d ∣ m = lcm-dvd x.den d m h here in_m in
+    let below : lcm x.den d < 2 ^ 48 = omega (arith, le_of_dvd some next) in
+    reaching_no (pos (lcm x.den d)) (running (lcm x.den d) xs) (lt-leb (2 ^ 48) (lcm x.den d) below)
+    ∙ running_small m (lcm x.den d) xs some small (lcm_pos x.den d (den_pos x) h) next rest
+
+-- none is found on the way where none is Large, and the other way round
+none_on_the_way : (xs : List Fraction) → large_number (2 ^ 48) xs ≡ None → first_too_large (2 ^ 48) xs ≡ None
+none_on_the_way xs e =
+    let w : (common xs < 2 ^ 48) × (first_reaching (2 ^ 48) (numerators (common xs) xs) ≡ None) = reach_first (2 ^ 48) (pos (common xs)) (numerators (common xs) xs) e in
+    found_behind (running 1 xs) (numerators (common xs) xs) (running_small (common xs) 1 xs (common_pos xs) w.0 (omega arith) (one-dvd (common xs)) (dvd_refl (common xs))) ∙ w.1
+
+none_large : (xs : List Fraction) → first_too_large (2 ^ 48) xs ≡ None → large_number (2 ^ 48) xs ≡ None
+none_large xs e =
+    let w : (first_reaching (2 ^ 48) (running 1 xs) ≡ None) × (first_reaching (2 ^ 48) (numerators (common xs) xs) ≡ None) = reach_parts (2 ^ 48) (running 1 xs) (numerators (common xs) xs) e in
+    reaching_no (pos (common xs)) (numerators (common xs) xs) (lt-leb (2 ^ 48) (common xs) (common_below (2 ^ 48) xs (omega arith) w.0)) ∙ w.1
+
+found_large : (xs : List Fraction) (n : ℤ) → first_too_large (2 ^ 48) xs ≡ Some n → (m : ℤ) × (large_number (2 ^ 48) xs ≡ Some m)
+found_large xs n e = go (large_number (2 ^ 48) xs) refl
+  where
+    go : (o : Option ℤ) → large_number (2 ^ 48) xs ≡ o → (m : ℤ) × (large_number (2 ^ 48) xs ≡ Some m)
+    go (Some m) is = (m, is)
+    go None is = absurd (none_some n (sym (none_on_the_way xs is) ∙ e))
+
+-- a row's fault is answered as the file's
+pub err_answer : (result : Result Certificate CertFault) (f : RowFault) (file : Result Certificate CertFault) → IsErrAnd result (λ cause. cause ≡ cause_of f)
+    → AnswersCertificate (Err (cause_of f)) file → AnswersCertificate result file
+err_answer (Err cause) f file is h = subst (λ e. AnswersCertificate (Err e) file) (sym is) h
+err_answer (Ok certificate) f file is h = absurd is
+
+-- a least common denominator keeps its value in 64 bits
+short_same : (xs : List Fraction) (d : ℤ) → d ≡ pos (common xs) → first_too_large (2 ^ 48) xs ≡ None → to_z w64 (of_z w64 d) ≡ pos (common xs)
+short_same xs d is none =
+    let w : (first_reaching (2 ^ 48) (running 1 xs) ≡ None) × (first_reaching (2 ^ 48) (numerators (common xs) xs) ≡ None) = reach_parts (2 ^ 48) (running 1 xs) (numerators (common xs) xs) none in
+    ap (λ z. to_z w64 (of_z w64 z)) is ∙ small_same (pos (common xs)) (common_below (2 ^ 48) xs (omega arith) w.0)
+
+-- ---- what the two lists of fractions give
+module _ (shares : List Fraction) (value : Fraction) (prices : List Fraction) where
+  large_shares : (m : ℤ) → large_number (2 ^ 48) shares ≡ Some m → certificate_or_fault shares value prices ≡ Err fault.TooFine
+  large_shares m is = ap (λ o. small_or_fault o (large_number (2 ^ 48) (value ∷ prices)) (certificate_over shares value prices)) is
+
+  large_money : (m : ℤ) → large_number (2 ^ 48) shares ≡ None → large_number (2 ^ 48) (value ∷ prices) ≡ Some m → certificate_or_fault shares value prices ≡ Err fault.TooFine
+  large_money m none is =
+      ap (λ o. small_or_fault o (large_number (2 ^ 48) (value ∷ prices)) (certificate_over shares value prices)) none
+      ∙ ap (λ o. small_or_fault None o (certificate_over shares value prices)) is
+
+  pub fault_of_shares : (f : RowFault) → IsFault f (first_too_large (2 ^ 48) shares) → AnswersCertificate (Err (cause_of f)) (certificate_or_fault shares value prices)
+  fault_of_shares (Large n) e = let w = found_large shares n e in large_shares w.0 w.1
+  fault_of_shares NoMemory e = tt
+
+  pub fault_of_money : (f : RowFault) → first_too_large (2 ^ 48) shares ≡ None → IsFault f (first_too_large (2 ^ 48) (value ∷ prices)) → AnswersCertificate (Err (cause_of f)) (certificate_or_fault shares value prices)
+  fault_of_money (Large n) none e = let w = found_large (value ∷ prices) n e in large_money w.0 (none_large shares none) w.1
+  fault_of_money NoMemory none e = tt
+
+  pub made_of_both : first_too_large (2 ^ 48) shares ≡ None → first_too_large (2 ^ 48) (value ∷ prices) ≡ None → certificate_or_fault shares value prices ≡ Ok (certificate_over shares value prices)
+  made_of_both none none_of_money =
+      ap (λ o. small_or_fault o (large_number (2 ^ 48) (value ∷ prices)) (certificate_over shares value prices)) (none_large shares none)
+      ∙ ap (λ o. small_or_fault None o (certificate_over shares value prices)) (none_large (value ∷ prices) none_of_money)
+
+  -- the two numbers and the two lists that are made, as a certificate
+  pub made_whole : (q : ℤ) (x : List ℤ) (den : ℤ) (money : List ℤ) (certificate : Certificate)
+      → (q ≡ pos (common shares)) × (x ≡ numerators (common shares) shares) × (first_too_large (2 ^ 48) shares ≡ None)
+      → (den ≡ pos (common (value ∷ prices))) × (money ≡ numerators (common (value ∷ prices)) (value ∷ prices)) × (first_too_large (2 ^ 48) (value ∷ prices) ≡ None)
+      → certificate ≡ record { q = to_z w64 (of_z w64 q); x = x; den = to_z w64 (of_z w64 den); p = drop 1 money; value = get_or money 0 (pos 0) }
+      → certificate_or_fault shares value prices ≡ Ok certificate
+  made_whole q x den money certificate h k is = made_of_both h.2 k.2 ∙ ap Ok (sym (is ∙ same))
+    where
+      q_is : to_z w64 (of_z w64 q) ≡ pos (common shares)
+      q_is = short_same shares q h.0 h.2
+
+      den_is : to_z w64 (of_z w64 den) ≡ pos (common (value ∷ prices))
+      den_is = short_same (value ∷ prices) den k.0 k.2
+
+      same : record { q = to_z w64 (of_z w64 q); x = x; den = to_z w64 (of_z w64 den); p = drop 1 money; value = get_or money 0 (pos 0) } ≡ certificate_over shares value prices
+      same = λ i. record { q = q_is i; x = h.1 i; den = den_is i; p = drop 1 (k.1 i); value = get_or (k.1 i) 0 (pos 0) }

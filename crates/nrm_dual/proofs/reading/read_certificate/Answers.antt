@@ -1,0 +1,16 @@
+use Rattle.std.proofs.Common.{◌≡◌, Ok}
+use Rattle.nrm_stream.specs.Lines.{lines_of}
+use Rattle.nrm_dual.specs.Reading.{after_lines, blank}
+use Rattle.nrm_dual.proofs.ReadAnswers.{file_answer, answer_shaped}
+use Rattle.nrm_dual.proofs.reading.read_certificate.Goals as goal
+
+pub returns-clause-file : goal.returns-clause-file
+returns-clause-file c =
+    let lines : after_lines c.args.net.now (blank c.args.net.now) 1 (lines_of c.args.bytes.now) ≡ Ok c.read_lines.new.sheet = rw c.in_ok-sheet.ensures at c.in_ok-read_lines.ensures.lines in
+    file_answer c.args.net.now c.args.bytes.now c.read_lines.new.sheet c.n-histories.result c.certificate_on.result c.if-bytes-gt-MOST_BYTES.false c.n-histories.ensures.histories lines c.certificate_on.ensures
+
+pub returns-clause-shaped : goal.returns-clause-shaped
+returns-clause-shaped c =
+    let lines : after_lines c.args.net.now (blank c.args.net.now) 1 (lines_of c.args.bytes.now) ≡ Ok c.read_lines.new.sheet = rw c.in_ok-sheet.ensures at c.in_ok-read_lines.ensures.lines in
+    let file = file_answer c.args.net.now c.args.bytes.now c.read_lines.new.sheet c.n-histories.result c.certificate_on.result c.if-bytes-gt-MOST_BYTES.false c.n-histories.ensures.histories lines c.certificate_on.ensures in
+    answer_shaped c.args.net.now c.args.bytes.now c.certificate_on.result file

@@ -1,0 +1,46 @@
+-- The code's own terms for lines and sheets, in those of the reading.
+use Rattle.std.specs.Prelude.{ℕ, ◌≡◌, ◌<◌, length, map, ⊤, Option, Some, None, Result, Ok, Err, if◌then◌else◌}
+use Rattle.nrm_text.specs.declared.number.NumberFault.{NumberFault}
+use Rattle.nrm_text.specs.declared.number.NumberFault.TheVariants.{Off, Over}
+use Rattle.nrm_row.specs.declared.fault.RowFault.{RowFault}
+use Rattle.nrm_row.specs.declared.fault.RowFault.TheVariants as row
+use Rattle.nrm_lp.specs.declared.certificate.Certificate.{Certificate}
+use Rattle.nrm_model.specs.Network.{NetworkValue}
+use Rattle.nrm_dual.specs.declared.fault.CertFault.{CertFault}
+use Rattle.nrm_dual.specs.declared.fault.CertFault.TheVariants as fault
+use Rattle.nrm_dual.specs.Reading.{Place, the_value, of_product, of_leg, Sheet, Written, is_over, certificate_or_fault, first_missing, prices_in, times, whole_or_fault}
+use Rattle.nrm_dual.specs.declared.place.Place.{Place as Kept}
+use Rattle.nrm_dual.specs.declared.place.Place.TheVariants as kept
+
+-- the place that the code's stands for
+abbrev pub meant : Kept → Place
+meant kept.Value = the_value
+meant (kept.Product j) = of_product j
+meant (kept.Leg i) = of_leg i
+
+-- a place that a network has
+abbrev pub IsPlaceOf : NetworkValue → Kept → Type 0
+IsPlaceOf net kept.Value = ⊤
+IsPlaceOf net (kept.Product j) = j < length net.products
+IsPlaceOf net (kept.Leg i) = i < length net.legs
+
+-- a sheet with a row for each product and each leg
+pub record IsSheetOf (net : NetworkValue) (sheet : Sheet) : Type 0 where
+  pub products : length sheet.products ≡ length net.products
+  pub legs : length sheet.legs ≡ length net.legs
+
+-- a fraction that was written, unless there is none, or a number of it is over
+abbrev pub fitting : Option Written → Result Written NumberFault
+fitting None = Err Off
+fitting (Some fraction) = if is_over fraction then Err Over else Ok fraction
+
+-- the certificate of a sheet for so many histories, or what is missing on it
+abbrev pub certificate_in : ℕ → Sheet → Result Certificate CertFault
+certificate_in histories sheet =
+    whole_or_fault sheet.value (first_missing 0 sheet.products) (first_missing 0 sheet.legs)
+    (certificate_or_fault (map (times histories) sheet.products) (times histories sheet.value) (prices_in sheet))
+
+-- why a file gives no certificate, where its fractions aren't brought over one denominator
+abbrev pub cause_of : RowFault → CertFault
+cause_of (row.Large number) = fault.TooFine
+cause_of row.NoMemory = fault.NoMemory
