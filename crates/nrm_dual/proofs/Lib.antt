@@ -1,5 +1,6 @@
 pub mod Failing
 pub mod Passing
+pub mod Naming
 pub mod Adding
 pub mod Searches
 pub mod Examples

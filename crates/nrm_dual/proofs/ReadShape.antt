@@ -24,11 +24,11 @@ same_ok : {A : Type 0} (x y : A) → ◌≡◌ {A = Result A CertFault} (Ok x) (
 same_ok x y e = cc
 
 -- a sheet with a place for each product and each leg
-record HasPlaces (net : NetworkValue) (sheet : Sheet) : Type 0 where
-  products : length sheet.products ≡ length net.products
-  legs : length sheet.legs ≡ length net.legs
+pub record HasPlaces (net : NetworkValue) (sheet : Sheet) : Type 0 where
+  pub products : length sheet.products ≡ length net.products
+  pub legs : length sheet.legs ≡ length net.legs
 
-blank_places : (net : NetworkValue) → HasPlaces net (blank net)
+pub blank_places : (net : NetworkValue) → HasPlaces net (blank net)
 blank_places net = record { products = length-replicate (length net.products) None; legs = length-replicate (length net.legs) None }
 
 with_places : (net : NetworkValue) (sheet : Sheet) (place : Place) (fraction : Written) → HasPlaces net sheet → HasPlaces net (with_given sheet place fraction)
@@ -36,7 +36,7 @@ with_places net sheet the_value fraction h = record { products = h.products; leg
 with_places net sheet (of_product j) fraction h = record { products = length-set sheet.products j (Some fraction) ∙ h.products; legs = h.legs }
 with_places net sheet (of_leg i) fraction h = record { products = h.products; legs = length-set sheet.legs i (Some fraction) ∙ h.legs }
 
-line_places : (net : NetworkValue) (sheet : Sheet) (number : ℕ) (entry : Option Entry) → HasPlaces net sheet → (next : Sheet) → after_line sheet number entry ≡ Ok next → HasPlaces net next
+pub line_places : (net : NetworkValue) (sheet : Sheet) (number : ℕ) (entry : Option Entry) → HasPlaces net sheet → (next : Sheet) → after_line sheet number entry ≡ Ok next → HasPlaces net next
 line_places net sheet number None h next e = absurd (fault_ok (fault.Line number) next e)
 line_places net sheet number (Some entry) h next e = go (given sheet entry.place) e
   where

@@ -1,5 +1,6 @@
 pub mod Conditions
 pub mod Laws
+pub mod Named
 pub mod ReadBack
 pub mod Reading
 pub mod Shape

@@ -3,6 +3,7 @@ ghost use Rattle.std.specs.Prelude.{◌≡◌, ◌^◌, nat_abs};
 ghost use Rattle.nrm_lp.specs.Certified.{Certifies, sizes};
 ghost use Rattle.nrm_dual.specs.Conditions.{first_wrong, verdict_on};
 ghost use Rattle.nrm_dual.specs.declared.verdict.Verdict.TheVariants.{Optimal};
+ghost use Rattle.nrm_dual.specs.Named.{IsOfProgram};
 ghost use Rattle.nrm_dual.specs.Shape.{IsShaped};
 
 use crate::conditions::{over_bound, over_cap, priced_short, unmet_dear, used_cheap};
@@ -26,6 +27,7 @@ use nrm_lp::{Certificate, Program};
 /// chapter 3 of Talluri and van Ryzin). It takes no memory.
 pub fn check(program: &Program, certificate: &Certificate) -> Verdict
     ensures verdict { result ≡ verdict_on program.now certificate.now }
+    ensures named { IsOfProgram program.now result }
     ensures optimal { result ≡ Optimal → Certifies (2 ^ 48) program.now certificate.now }
 {
     if has_shape(program, certificate) {

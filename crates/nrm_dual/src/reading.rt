@@ -1,8 +1,9 @@
 //! Certificates as they are read from a file.
-ghost use Rattle.std.specs.Prelude.{◌≡◌, ◌≤◌, IfOk, MatchResult, Err, Ok, length};
+ghost use Rattle.std.specs.Prelude.{◌≡◌, ◌≤◌, IfErr, IfOk, MatchResult, Err, Ok, length};
 ghost use Rattle.nrm_stream.specs.Lines.{lines_of};
 ghost use Rattle.nrm_model.specs.Limits.{IsNetwork};
 ghost use Rattle.nrm_dual.specs.Reading.{AnswersCertificate, after_line, after_lines, certificate_of, entry_of};
+ghost use Rattle.nrm_dual.specs.Named.{IsOfNetwork};
 ghost use Rattle.nrm_dual.specs.Sheets.{IsSheetOf, certificate_in};
 ghost use Rattle.nrm_dual.specs.Texts.{IsShaped};
 
@@ -36,6 +37,7 @@ pub fn read_certificate(
 ) -> Result<Certificate, CertFault>
     ensures file { AnswersCertificate result (certificate_of net.now bytes.now) }
     ensures shaped { IfOk result (IsShaped net.now) }
+    ensures named { IfErr result (IsOfNetwork net.now) }
 {
     if bytes.len() > MOST_BYTES {
         return Err(CertFault::Long);

@@ -1,8 +1,10 @@
 -- Where no condition fails, the certificate shows what it should.
-use Rattle.std.proofs.Common.{◌≡◌, ◌^◌, ◌∙◌, sym, ap, true, cond, nat_abs}
+use Rattle.std.proofs.Common.{◌≡◌, ◌^◌, ◌∙◌, sym, subst, ap, true, cond, nat_abs}
 use Rattle.nrm_lp.specs.Certified.{sizes}
 use Rattle.nrm_dual.specs.declared.verdict.Verdict.TheVariants.{WrongShape}
 use Rattle.nrm_dual.specs.Conditions.{has_shape, first_wrong}
+use Rattle.nrm_dual.specs.Named.{IsOfProgram}
+use Rattle.nrm_dual.proofs.Naming.{first_named}
 use Rattle.nrm_dual.proofs.Passing.{passing_certifies, shaped}
 use Rattle.nrm_dual.proofs.checking.check.Goals as goal
 
@@ -16,3 +18,9 @@ returns-then-has_shape-clause-optimal c =
     let later = first_wrong a (nat_abs k.q) (sizes k.x) (nat_abs k.den) (sizes k.p) (nat_abs k.value) in
     let shape : has_shape (2 ^ 48) a k ≡ true = sym c.has_shape.ensures.shape ∙ c.if-has_shape.true in
     λ e. passing_certifies (2 ^ 48) a c.has_shape.ensures.limits.products k (ap (λ b. cond b later WrongShape) shape ∙ sym c.first_wrong.ensures ∙ e)
+
+pub returns-then-has_shape-clause-named : goal.returns-then-has_shape-clause-named
+returns-then-has_shape-clause-named c =
+    let a = c.args.program.now in
+    let k = c.args.certificate.now in
+    subst (IsOfProgram a) (sym c.first_wrong.ensures) (first_named a (nat_abs k.q) (sizes k.x) (nat_abs k.den) (sizes k.p) (nat_abs k.value))

@@ -1,6 +1,7 @@
-use Rattle.std.proofs.Common.{◌≡◌, Ok}
+use Rattle.std.proofs.Common.{◌≡◌, Ok, rules}
 use Rattle.nrm_stream.specs.Lines.{lines_of}
-use Rattle.nrm_dual.specs.Reading.{after_lines, blank}
+use Rattle.nrm_dual.specs.Reading.{AnswersCertificate, after_lines, blank, certificate_of}
+use Rattle.nrm_dual.proofs.Naming.{answer_named}
 use Rattle.nrm_dual.proofs.ReadAnswers.{file_answer, answer_shaped}
 use Rattle.nrm_dual.proofs.reading.read_certificate.Goals as goal
 
@@ -14,3 +15,14 @@ returns-clause-shaped c =
     let lines : after_lines c.args.net.now (blank c.args.net.now) 1 (lines_of c.args.bytes.now) ≡ Ok c.read_lines.new.sheet = rw c.in_ok-sheet.ensures at c.in_ok-read_lines.ensures.lines in
     let file = file_answer c.args.net.now c.args.bytes.now c.read_lines.new.sheet c.n-histories.result c.certificate_on.result c.if-bytes-gt-MOST_BYTES.false c.n-histories.ensures.histories lines c.certificate_on.ensures in
     answer_shaped c.args.net.now c.args.bytes.now c.certificate_on.result file
+
+pub returns-in_err-read_lines-clause-named : goal.returns-in_err-read_lines-clause-named
+returns-in_err-read_lines-clause-named c =
+    let file : AnswersCertificate c.from_residual-in_err-read_lines.result (certificate_of c.args.net.now c.args.bytes.now) = search rules in
+    answer_named c.args.net.now c.args.bytes.now c.from_residual-in_err-read_lines.result file
+
+pub returns-clause-named : goal.returns-clause-named
+returns-clause-named c =
+    let lines : after_lines c.args.net.now (blank c.args.net.now) 1 (lines_of c.args.bytes.now) ≡ Ok c.read_lines.new.sheet = rw c.in_ok-sheet.ensures at c.in_ok-read_lines.ensures.lines in
+    let file = file_answer c.args.net.now c.args.bytes.now c.read_lines.new.sheet c.n-histories.result c.certificate_on.result c.if-bytes-gt-MOST_BYTES.false c.n-histories.ensures.histories lines c.certificate_on.ensures in
+    answer_named c.args.net.now c.args.bytes.now c.certificate_on.result file
