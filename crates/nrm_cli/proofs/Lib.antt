@@ -3,3 +3,5 @@ pub mod Examples
 pub mod Fetched
 pub mod Replies
 pub mod Without
+pub mod Checking
+pub mod Places

@@ -1,22 +1,28 @@
 -- What the words of the command line ask for.
 use Rattle.std.specs.Prelude.{ℕ, ◌&&◌, List, [], ◌∷◌, bytes_eq, codes, Option, Some, None, if◌then◌else◌}
 
--- to run the controller on a network file, first come first served, and to print a network file
+-- to run the controller on a network file, first come first served, to check a certificate against a network file, and to print a
+-- network file
 pub data Job : Type 0 where
   run_first : List ℕ → Job
+  check_file : List ℕ → List ℕ → Job
   print_file : List ℕ → Job
 
 -- the network file of a job
 abbrev pub file_of_job : Job → List ℕ
 file_of_job (run_first file) = file
+file_of_job (check_file file certificate) = file
 file_of_job (print_file file) = file
 
--- `print FILE`, and `run first FILE`; all other words ask for nothing that is built
+-- `print FILE`, `run first FILE` and `check FILE CERT`; all other words ask for nothing that is built
 abbrev pub job_of : List (List ℕ) → Option Job
 job_of [] = None
 job_of (verb ∷ []) = None
 job_of (verb ∷ file ∷ []) = if bytes_eq verb (codes "print") then Some (print_file file) else None
-job_of (verb ∷ mode ∷ file ∷ []) = if bytes_eq verb (codes "run") && bytes_eq mode (codes "first") then Some (run_first file) else None
+job_of (verb ∷ second ∷ third ∷ []) =
+    if bytes_eq verb (codes "run") && bytes_eq second (codes "first") then Some (run_first third)
+    else if bytes_eq verb (codes "check") then Some (check_file second third)
+    else None
 job_of (verb ∷ second ∷ third ∷ fourth ∷ more) = None
 
 -- the line that says how to call the program

@@ -1,3 +1,4 @@
+pub mod Certificates
 pub mod Ends
 pub mod Jobs
 pub mod Numbers

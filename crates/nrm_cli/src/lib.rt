@@ -1,6 +1,8 @@
 //! The top call of the program: words, files, statuses, and what is written.
 #![tactic(auto)]
 
+mod certificate;
+mod checked;
 mod line;
 mod opening;
 mod status;

@@ -7,6 +7,7 @@ ghost use Rattle.nrm_cli.specs.Outside.{Goes};
 ghost use Rattle.nrm_cli.specs.Parts.{job_in, PutsLine, PutsReason};
 
 use crate::Status;
+use crate::checked::check_file;
 use crate::line::{USAGE, line_at_row};
 use crate::opening::{NoNetwork, open_network};
 use crate::stream::{StreamFault, read_stream};
@@ -21,8 +22,8 @@ use std::alloc::Global;
 // The most bytes of a stream.
 const STREAM_LIMIT: usize = 16_777_216;
 
-// Puts a line that goes with a status.
-fn put_line<K: Sink>(sink: &mut K, line: &[u8], told: Status) -> Status
+/// Puts a line that goes with a status.
+pub(crate) fn put_line<K: Sink>(sink: &mut K, line: &[u8], told: Status) -> Status
     ensures puts { PutsLine line.now told (K.held sink.old) (K.held sink.new) (K.faults sink.old) (K.faults sink.new) result }
     ensures later { K.faults sink.old ≤ K.faults sink.new }
 {
@@ -32,8 +33,8 @@ fn put_line<K: Sink>(sink: &mut K, line: &[u8], told: Status) -> Status
     }
 }
 
-// Puts the line that says why there is no network, if one goes with it.
-fn put_reason<K: Sink>(sink: &mut K, reason: NoNetwork) -> Status
+/// Puts the line that says why there is no network, if one goes with it.
+pub(crate) fn put_reason<K: Sink>(sink: &mut K, reason: NoNetwork) -> Status
     ensures puts { PutsReason reason (K.held sink.old) (K.held sink.new) (K.faults sink.old) (K.faults sink.new) result }
     ensures later { K.faults sink.old ≤ K.faults sink.new }
 {
@@ -121,17 +122,23 @@ fn run_asked<F: Files, S: Source, K: Sink>(
 {
     match asked {
         Some(Asked::RunFirst(name)) => run_first(alloc, name, files, source, sink),
+        Some(Asked::Check(name, certificate)) => {
+            check_file(alloc, name, certificate, files, sink)
+        }
         Some(Asked::Print(name)) => print_file(alloc, name, files, sink),
         None => put_line(sink, USAGE, Status::Usage),
     }
 }
 
 /// Does what the words (without the program's own name) ask for: `run first FILE` answers the lines of the stream on
-/// the network of the file, and `print FILE` writes its canonical form. All other words get the usage line.
+/// the network of the file, `check FILE CERT` checks a certificate against the program of period 1 with every seat left,
+/// and `print FILE` writes a network's canonical form. All other words get the usage line.
 ///
 /// What each status says of the words, the files, the stream and what was written is in the clause `ends`; that good
-/// words, a valid file and no fault give the whole output, or want of memory with nothing written, in `complete`. In no
-/// state of a session that it answers has a leg more seats sold than it has (`seats`), and network and commands determine
+/// words, valid files, no fault and, for a run, a stream of at most 16,777,216 bytes give the whole output, or want of
+/// memory with nothing written, in `complete`. A certificate is told to be optimal only where its allocation and its bid
+/// prices are, whoever made it, and a wrong one with the first condition that it fails (`ends`, `FoundOptimal` and
+/// `FoundWrong`). In no state of a session that it answers has a leg more seats sold than it has (`seats`), and network and commands determine
 /// the replies (`determined`).
 #[tactic(auto, using(crate::proofs::Complete::completes))]
 pub fn run<F: Files, S: Source, K: Sink>(

@@ -7,6 +7,7 @@ ghost use Rattle.nrm_cli.specs.Parts.{job_in};
 #[derive(Clone, Copy)]
 pub(crate) enum Asked<'a> {
     RunFirst(&'a str),
+    Check(&'a str, &'a str),
     Print(&'a str),
 }
 
@@ -25,6 +26,9 @@ pub(crate) fn asked_in(words: &[String]) -> Option<Asked<'_>>
         [verb, file] if is_word(verb, "print") => Some(Asked::Print(file.as_str())),
         [verb, mode, file] if is_word(verb, "run") && is_word(mode, "first") => {
             Some(Asked::RunFirst(file.as_str()))
+        }
+        [verb, file, certificate] if is_word(verb, "check") => {
+            Some(Asked::Check(file.as_str(), certificate.as_str()))
         }
         _ => None,
     }

@@ -6,6 +6,7 @@ ghost use Rattle.std.specs.List.{range_with_len};
 ghost use Rattle.nrm_model.specs.Network.{leg_of};
 ghost use Rattle.nrm_model.specs.Demand.{total_to_come};
 ghost use Rattle.nrm_model.specs.Inventory.{inventory_of};
+ghost use Rattle.nrm_model.specs.Limits.{IsNetwork};
 ghost use Rattle.nrm_dlp.specs.Programs.{program_at};
 
 use nrm_lp::Program;
@@ -17,7 +18,8 @@ use std::alloc::{AllocError, Global};
 /// # Errors
 /// Want of memory.
 pub fn full_seats(alloc: Global, net: &Network) -> Result<Vec<u16>, AllocError>
-    ensures { IfOk result (λ left. left.items ≡ (inventory_of net.now).seats) }
+    ensures seats { IfOk result (λ left. left.items ≡ (inventory_of net.now).seats) }
+    ensures limits { IsNetwork net.now }
 {
     let mut left = Vec::new(alloc);
     for i in 0..net.leg_count() as u8 {

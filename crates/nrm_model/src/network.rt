@@ -86,6 +86,7 @@ impl Network {
     pub fn leg_count(&self) -> usize
         ensures count { result ≡ length self.now.legs }
         ensures within { IsInRange 1 64 result }
+        ensures limits { IsNetwork self.now }
     {
         self.legs.len()
     }

@@ -1,5 +1,6 @@
 use Rattle.nrm_session.proofs.Determined.{determined}
 use Rattle.nrm_session.proofs.Seats.{kept}
+use Rattle.nrm_cli.proofs.Complete.{completes, same-job-ends}
 use Rattle.nrm_cli.proofs.top.run.Goals as goal
 
 pub returns-clause-seats : goal.returns-clause-seats
@@ -7,3 +8,9 @@ returns-clause-seats g c = kept
 
 pub returns-clause-determined : goal.returns-clause-determined
 returns-clause-determined g c = determined
+
+pub returns-clause-ends : goal.returns-clause-ends
+returns-clause-ends g c = same-job-ends _ _ _ _ c.run_asked.result c.asked_in.ensures c.run_asked.ensures.ends
+
+pub returns-clause-complete : goal.returns-clause-complete
+returns-clause-complete g c = completes _ _ _ c.run_asked.result (same-job-ends _ _ _ _ c.run_asked.result c.asked_in.ensures c.run_asked.ensures.ends)

@@ -16,3 +16,10 @@ returns-in-Some-Print-clause-ends g c =
     let is = rw c.in-Some-Print.is at c.in-Some-Print.field-0-is in
     of-words c.args.asked (Some printed) _ _ c.print_file.result c.in-Some-Print.is
     (of-words (Some printed) _ _ _ c.print_file.result (ap Some is) (c.print_file.ensures.ends (g.S.Source.coming c.args.source.now) (g.S.Source.faults c.args.source.now)))
+
+pub returns-in-Some-Check-clause-ends : goal.returns-in-Some-Check-clause-ends
+returns-in-Some-Check-clause-ends g c =
+    let checked = c.in-Some-Check.field-0 in
+    let is = rw c.in-Some-Check.is at c.in-Some-Check.field-0-is in
+    of-words c.args.asked (Some checked) _ _ c.check_file.result c.in-Some-Check.is
+    (of-words (Some checked) _ _ _ c.check_file.result (ap Some is) (c.check_file.ensures.ends (g.S.Source.coming c.args.source.now) (g.S.Source.faults c.args.source.now)))

@@ -1,0 +1,16 @@
+-- The program of a network has its products and its legs.
+use Rattle.std.proofs.Common.{◌≡◌, ℕ, ◌*◌, length, map, ◌∙◌, List}
+use Rattle.std.specs.List.{range_with_len}
+use Rattle.std.proofs.lemmas.List.{length-map}
+use Rattle.std.proofs.lemmas.List.FromFn.{length-map-range_with_len}
+use Rattle.nrm_model.specs.Demand.{total_to_come}
+use Rattle.nrm_model.specs.Inventory.{inventory_of}
+use Rattle.nrm_model.specs.Network.{NetworkValue}
+use Rattle.nrm_model.specs.declared.leg.Leg.{Leg}
+use Rattle.nrm_cli.specs.Certificates.{opening_program}
+
+pub products-of : (net : NetworkValue) → length (opening_program net).bounds ≡ length net.products
+products-of net = length-map-range_with_len (λ j. total_to_come net j 1) 0 (length net.products)
+
+pub legs-of : (net : NetworkValue) → length (opening_program net).caps ≡ length net.legs
+legs-of net = length-map (inventory_of net).seats (λ seats. net.histories * seats) ∙ length-map net.legs (λ (leg : Leg). leg.seats)
