@@ -1,17 +1,15 @@
 -- The numerators over a denominator, one after the other, up to the first that reaches the limit.
-use Rattle.std.proofs.Common.{◌≡◌, ℕ, suc, ◌+◌, ◌/◌, ◌<◌, ◌≤◌, ◌^◌, ◌*ℤ◌, pos, nat_abs, arith, refl, sym, ap, ap₂, ◌∙◌, subst, List, [], ◌∷◌, ◌++◌, take, drop, length, get_or, ℤ, cond, leb, Bool, true, false, Some, None, to_z, w64}
+use Rattle.std.proofs.Common.{◌≡◌, ℕ, ◌+◌, ◌/◌, ◌<◌, ◌≤◌, ◌^◌, ◌*ℤ◌, pos, nat_abs, arith, refl, sym, ap, ap₂, ◌∙◌, subst, List, [], ◌∷◌, ◌++◌, take, drop, length, get_or, ℤ, cond, leb, Bool, true, false, Some, None, to_z, w64}
 use mir.Syntax.{w128}
-use Rattle.std.proofs.Math.Seq.{drop-cons, take-suc}
 use Rattle.std.proofs.lemmas.Bool.{lt-leb, le-leb}
 use Rattle.std.proofs.lemmas.Int.{ints}
-use Rattle.std.proofs.lemmas.List.{map-append}
+use Rattle.std.proofs.lemmas.List.{drop_all, drop_more, map-append, take_all, take_more}
 use Rattle.nrm_fraction.specs.Fraction.{Fraction, whole}
 use Rattle.nrm_fraction.specs.Large.{numerators, first_reaching}
 use Rattle.nrm_row.specs.Fault.{IsFault}
 use Rattle.nrm_row.specs.declared.fault.RowFault.{RowFault}
 use Rattle.nrm_row.specs.declared.fault.RowFault.TheVariants.{Large, NoMemory}
 use Rattle.nrm_row.proofs.LowestTerms.{reaching_yes, reaching_no}
-use Rattle.nrm_denominators.proofs.Running.{one_more, dropped, taken}
 
 pub short_same : (n : ℕ) → n < 2 ^ 48 → to_z w64 n ≡ pos n
 short_same n h = omega (arith, ints)
@@ -25,27 +23,27 @@ pub record AreMade (den : ℕ) (xs : List Fraction) (k : ℕ) (made : List ℤ) 
   pub rest : first_reaching (2 ^ 48) (numerators den (drop k xs)) ≡ first_reaching (2 ^ 48) (numerators den xs)
 
 module _ (den : ℕ) (xs : List Fraction) (k : ℕ) (made : List ℤ) (x : Fraction) (n : ℕ) (before : AreMade den xs k made) (within : k < length xs) (is : get_or xs k (whole (pos 0)) ≡ x) (value : pos n ≡ x.num *ℤ pos (den / x.den)) where
-  split : numerators den (drop k xs) ≡ pos n ∷ numerators den (drop (suc k) xs)
-  split = ap (numerators den) (drop-cons xs k (whole (pos 0)) within ∙ ap (λ y. y ∷ drop (suc k) xs) is) ∙ ap (λ m. m ∷ numerators den (drop (suc k) xs)) (sym value)
+  split : numerators den (drop k xs) ≡ pos n ∷ numerators den (drop (k + 1) xs)
+  split = ap (numerators den) (drop_more xs k (whole (pos 0)) within ∙ ap (λ y. y ∷ drop (k + 1) xs) is) ∙ ap (λ m. m ∷ numerators den (drop (k + 1) xs)) (sym value)
 
   pub number_fault : 2 ^ 48 ≤ n → first_reaching (2 ^ 48) (numerators den xs) ≡ Some (pos n)
-  number_fault l = sym before.rest ∙ ap (first_reaching (2 ^ 48)) split ∙ reaching_yes (pos n) (numerators den (drop (suc k) xs)) (le-leb (2 ^ 48) n l)
+  number_fault l = sym before.rest ∙ ap (first_reaching (2 ^ 48)) split ∙ reaching_yes (pos n) (numerators den (drop (k + 1) xs)) (le-leb (2 ^ 48) n l)
 
   pub number_more : n < 2 ^ 48 → (after : List ℤ) → after ≡ made ++ pos n ∷ [] → AreMade den xs (k + 1) after
-  number_more l after put = subst (λ i. AreMade den xs i after) (one_more k) (record {
+  number_more l after put = record {
     numbers =
         put
         ∙ ap₂ (λ ms m. ms ++ m ∷ []) before.numbers value
         ∙ ap (λ y. numerators den (take k xs) ++ (y.num *ℤ pos (den / y.den)) ∷ []) (sym is)
         ∙ sym (map-append (λ y. y.num *ℤ pos (den / y.den)) (take k xs) (get_or xs k (whole (pos 0)) ∷ []))
-        ∙ ap (numerators den) (sym (take-suc xs k (whole (pos 0)) within));
-    rest = sym (ap (first_reaching (2 ^ 48)) split ∙ reaching_no (pos n) (numerators den (drop (suc k) xs)) (lt-leb (2 ^ 48) n l)) ∙ before.rest;
-  })
+        ∙ ap (numerators den) (sym (take_more xs k (whole (pos 0)) within));
+    rest = sym (ap (first_reaching (2 ^ 48)) split ∙ reaching_no (pos n) (numerators den (drop (k + 1) xs)) (lt-leb (2 ^ 48) n l)) ∙ before.rest;
+  }
 
 pub all_made : (den : ℕ) (xs : List Fraction) (k : ℕ) (made : List ℤ) → AreMade den xs k made → length xs ≤ k → (made ≡ numerators den xs) × (first_reaching (2 ^ 48) (numerators den xs) ≡ None)
 all_made den xs k made h l = (
-  h.numbers ∙ ap (numerators den) (taken xs k l),
-  sym h.rest ∙ ap (λ ys. first_reaching (2 ^ 48) (numerators den ys)) (dropped xs k l),
+  h.numbers ∙ ap (numerators den) (take_all k xs l),
+  sym h.rest ∙ ap (λ ys. first_reaching (2 ^ 48) (numerators den ys)) (drop_all k xs l),
 )
 
 -- ---- the numerators are tried behind the running denominators

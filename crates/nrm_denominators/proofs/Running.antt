@@ -1,6 +1,6 @@
 -- The running least common denominator ends at the least common denominator.
-use Rattle.std.proofs.Common.{◌≡◌, ℕ, suc, zero, ◌+◌, ◌/◌, ◌*◌, ◌<◌, ◌≤◌, ◌^◌, pos, arith, refl, sym, ap, ◌∙◌, subst, List, [], ◌∷◌, take, drop, length, get_or, Some, None}
-use Rattle.std.proofs.Math.Seq.{drop-cons}
+use Rattle.std.proofs.Common.{◌≡◌, ℕ, ◌+◌, ◌/◌, ◌*◌, ◌<◌, ◌≤◌, ◌^◌, pos, arith, refl, sym, ap, ◌∙◌, List, ◌∷◌, drop, length, get_or, Some, None}
+use Rattle.std.proofs.lemmas.List.{drop_all, drop_more}
 use Rattle.std.proofs.lemmas.Bool.{lt-leb, le-leb}
 use Rattle.std.proofs.lemmas.Nat.Gcd.{dvd_antisymm, dvd_trans, dvd_refl}
 use native.Mathlib.Nat.{one-dvd}
@@ -36,42 +36,27 @@ pub record IsRun (xs : List Fraction) (k d : ℕ) : Type 0 where
   pub shared : lcm d (common (drop k xs)) ≡ common xs
   pub rest : first_reaching (2 ^ 48) (running d (drop k xs)) ≡ first_reaching (2 ^ 48) (running 1 xs)
 
-pub one_more : (k : ℕ) → suc k ≡ k + 1
-one_more k = omega arith
-
 pub run_first : (xs : List Fraction) → IsRun xs 0 1
 run_first xs = record { some = omega arith; small = omega arith; shared = lcm_one_left (common xs) (common_pos xs); rest = refl }
 
 module _ (xs : List Fraction) (k d : ℕ) (x : Fraction) (run : IsRun xs k d) (within : k < length xs) (is : get_or xs k (whole (pos 0)) ≡ x) where
-  split : drop k xs ≡ x ∷ drop (suc k) xs
-  split = drop-cons xs k (whole (pos 0)) within ∙ ap (λ y. y ∷ drop (suc k) xs) is
+  split : drop k xs ≡ x ∷ drop (k + 1) xs
+  split = drop_more xs k (whole (pos 0)) within ∙ ap (λ y. y ∷ drop (k + 1) xs) is
 
   pub run_fault : 2 ^ 48 ≤ lcm x.den d → first_reaching (2 ^ 48) (running 1 xs) ≡ Some (pos (lcm x.den d))
-  run_fault l = sym run.rest ∙ ap (λ ys. first_reaching (2 ^ 48) (running d ys)) split ∙ reaching_yes (pos (lcm x.den d)) (running (lcm x.den d) (drop (suc k) xs)) (le-leb (2 ^ 48) (lcm x.den d) l)
+  run_fault l = sym run.rest ∙ ap (λ ys. first_reaching (2 ^ 48) (running d ys)) split ∙ reaching_yes (pos (lcm x.den d)) (running (lcm x.den d) (drop (k + 1) xs)) (le-leb (2 ^ 48) (lcm x.den d) l)
 
   pub run_more : lcm x.den d < 2 ^ 48 → IsRun xs (k + 1) (lcm x.den d)
-  run_more l = subst (λ i. IsRun xs i (lcm x.den d)) (one_more k) (record {
+  run_more l = record {
     some = lcm_pos x.den d (den_pos x) run.some;
     small = l;
-    shared = lcm_turned x.den d (common (drop (suc k) xs)) (den_pos x) run.some (common_pos (drop (suc k) xs)) ∙ ap (λ ys. lcm d (common ys)) (sym split) ∙ run.shared;
-    rest = sym (ap (λ ys. first_reaching (2 ^ 48) (running d ys)) split ∙ reaching_no (pos (lcm x.den d)) (running (lcm x.den d) (drop (suc k) xs)) (lt-leb (2 ^ 48) (lcm x.den d) l)) ∙ run.rest;
-  })
-
-pub dropped : (xs : List Fraction) (k : ℕ) → length xs ≤ k → drop k xs ≡ []
-dropped [] zero h = refl
-dropped [] (suc k) h = refl
-dropped (x ∷ xs) zero h = absurd (omega arith)
-dropped (x ∷ xs) (suc k) h = dropped xs k (omega arith)
+    shared = lcm_turned x.den d (common (drop (k + 1) xs)) (den_pos x) run.some (common_pos (drop (k + 1) xs)) ∙ ap (λ ys. lcm d (common ys)) (sym split) ∙ run.shared;
+    rest = sym (ap (λ ys. first_reaching (2 ^ 48) (running d ys)) split ∙ reaching_no (pos (lcm x.den d)) (running (lcm x.den d) (drop (k + 1) xs)) (lt-leb (2 ^ 48) (lcm x.den d) l)) ∙ run.rest;
+  }
 
 pub run_last : (xs : List Fraction) (k d : ℕ) → IsRun xs k d → length xs ≤ k → (d ≡ common xs) × (d < 2 ^ 48) × (first_reaching (2 ^ 48) (running 1 xs) ≡ None)
 run_last xs k d run h = (
-  sym (lcm_one_right d) ∙ ap (λ ys. lcm d (common ys)) (sym (dropped xs k h)) ∙ run.shared,
+  sym (lcm_one_right d) ∙ ap (λ ys. lcm d (common ys)) (sym (drop_all k xs h)) ∙ run.shared,
   run.small,
-  sym run.rest ∙ ap (λ ys. first_reaching (2 ^ 48) (running d ys)) (dropped xs k h),
+  sym run.rest ∙ ap (λ ys. first_reaching (2 ^ 48) (running d ys)) (drop_all k xs h),
 )
-
-pub taken : (xs : List Fraction) (k : ℕ) → length xs ≤ k → take k xs ≡ xs
-taken [] zero h = refl
-taken [] (suc k) h = refl
-taken (x ∷ xs) zero h = absurd (omega arith)
-taken (x ∷ xs) (suc k) h = ap (λ ys. x ∷ ys) (taken xs k (omega arith))
