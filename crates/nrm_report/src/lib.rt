@@ -1,8 +1,10 @@
-//! Texts about the state of the seats, put line by line. Nothing here takes memory.
+//! Texts about the state of the seats and about certificates, put line by line. Nothing here takes memory.
 #![tactic(auto)]
 
+mod certificate;
 mod leg;
 
+pub use certificate::certificate_text;
 pub use leg::leg_text;
 
 #[cfg(test)]
