@@ -1,5 +1,5 @@
 -- Lines that are put for one number after another.
-use Rattle.std.proofs.Common.{ℕ, zero, suc, ◌≡◌, ◌∙◌, ◌+◌, ◌-◌, ◌<◌, List, [], ◌∷◌, ◌++◌, Option, flat_map, refl, ap, sym, subst, arith, append-nil, zero-add}
+use Rattle.std.proofs.Common.{ℕ, zero, suc, ◌≡◌, ◌∙◌, ◌+◌, ◌-◌, ◌<◌, List, ◌∷◌, ◌++◌, Option, flat_map, refl, ap, sym, subst, arith, append-nil, zero-add}
 use Rattle.std.specs.List.{range_with_len}
 use Rattle.std.proofs.lemmas.Grind.{flat_map-append}
 use Rattle.std.proofs.KnownBytes.{Appends-trans}

@@ -1,5 +1,5 @@
 -- The lines of the products on a leg, product by product.
-use Rattle.std.proofs.Common.{ℕ, zero, suc, ◌≡◌, ◌∙◌, ◌+◌, ◌-◌, ◌<◌, true, false, List, [], ◌∷◌, ◌++◌, filter, flat_map, refl, ap, arith, append-nil, length, zero-add}
+use Rattle.std.proofs.Common.{ℕ, ◌≡◌, ◌∙◌, ◌+◌, ◌-◌, ◌<◌, true, false, List, [], ◌++◌, filter, flat_map, refl, ap, arith, append-nil, length, zero-add}
 use Rattle.std.specs.List.{range_with_len}
 use Rattle.std.proofs.lemmas.List.{length-map}
 use Rattle.std.proofs.lemmas.List.Elements.{filter-append}
@@ -9,17 +9,7 @@ use Rattle.nrm_model.specs.Inventory.{inventory_of, products_on, uses_leg}
 use Rattle.nrm_model.specs.Network.{NetworkValue}
 use Rattle.nrm_book.specs.declared.booking.Booking.{Booking}
 use Rattle.nrm_report.specs.Texts.{on_line}
-
--- numbers one after another are the first of them and then the others
-range-split : (a m n : ℕ) → range_with_len a (m + n) ≡ range_with_len a m ++ range_with_len (a + m) n
-range-split a zero n =
-    let count : zero + n ≡ n = omega arith in
-    let start : a + zero ≡ a = omega arith in
-    rw (count, start) refl
-range-split a (suc m) n =
-    let count : suc m + n ≡ suc (m + n) = omega arith in
-    let start : a + suc m ≡ (a + 1) + m = omega arith in
-    rw (count, start) (ap (λ (more : List ℕ). a ∷ more) (range-split (a + 1) m n))
+use Rattle.nrm_report.proofs.Numbered.{range-split}
 
 -- the lines of the first products
 abbrev pub lines_of : NetworkValue → List Booking → ℕ → ℕ → List ℕ

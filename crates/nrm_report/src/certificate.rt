@@ -16,46 +16,46 @@ use nrm_text::{Line, Name};
 
 // The line of a mean value.
 #[tactic(auto, using(nrm_text::proofs::Fractions::short_fraction))]
-fn line_of_value(num: i64, den: u128) -> Line
+fn line_of_value(value: i64, den: u128) -> Line
     requires some { 1 ≤ den }
     requires den_size { den < 2 ^ 126 }
-    ensures { result ≡ text_line (codes "value" ∷ fraction_text num den ∷ []) }
+    ensures { result ≡ text_line (codes "value" ∷ fraction_text value den ∷ []) }
 {
     let mut line = Line::new();
     line.push_bytes(b"value ");
-    line.push_fraction(i128::from(num), den);
+    line.push_fraction(i128::from(value), den);
     line.push_bytes(b"\n");
     line
 }
 
 // The line of a product that is allotted so much.
 #[tactic(auto, using(nrm_text::proofs::Fractions::short_fraction))]
-fn line_of_product(name: &Name, num: i64, den: u128) -> Line
+fn line_of_product(name: &Name, allotted: i64, den: u128) -> Line
     requires some { 1 ≤ den }
     requires den_size { den < 2 ^ 126 }
-    ensures { result ≡ text_line (codes "product" ∷ name.now ∷ fraction_text num den ∷ []) }
+    ensures { result ≡ text_line (codes "product" ∷ name.now ∷ fraction_text allotted den ∷ []) }
 {
     let mut line = Line::new();
     line.push_bytes(b"product ");
     line.push_bytes(name.bytes());
     line.push_bytes(b" ");
-    line.push_fraction(i128::from(num), den);
+    line.push_fraction(i128::from(allotted), den);
     line.push_bytes(b"\n");
     line
 }
 
 // The line of a leg at so much a seat.
 #[tactic(auto, using(nrm_text::proofs::Fractions::short_fraction))]
-fn line_of_leg(name: &Name, num: i64, den: u128) -> Line
+fn line_of_leg(name: &Name, price: i64, den: u128) -> Line
     requires some { 1 ≤ den }
     requires den_size { den < 2 ^ 126 }
-    ensures { result ≡ text_line (codes "leg" ∷ name.now ∷ fraction_text num den ∷ []) }
+    ensures { result ≡ text_line (codes "leg" ∷ name.now ∷ fraction_text price den ∷ []) }
 {
     let mut line = Line::new();
     line.push_bytes(b"leg ");
     line.push_bytes(name.bytes());
     line.push_bytes(b" ");
-    line.push_fraction(i128::from(num), den);
+    line.push_fraction(i128::from(price), den);
     line.push_bytes(b"\n");
     line
 }
@@ -107,7 +107,11 @@ fn line_for_leg(net: &Network, certificate: &Certificate, leg: u8) -> Line
 }
 
 // Puts the lines of the products, in file order.
-fn put_allotted<K: Sink>(net: &Network, certificate: &Certificate, sink: &mut K) -> Result<(), Failed>
+fn put_allotted<K: Sink>(
+    net: &Network,
+    certificate: &Certificate,
+    sink: &mut K,
+) -> Result<(), Failed>
     requires { IsShaped net.now certificate.now }
     ensures whole { OnOk result (Appends (K.held sink.old) (K.held sink.new) (flat_map (product_line net.now certificate.now) (range_with_len 0 (length net.now.products)))) }
     ensures cut { OnErr result (AppendsFront (K.held sink.old) (K.held sink.new) (flat_map (product_line net.now certificate.now) (range_with_len 0 (length net.now.products)))) }

@@ -1,10 +1,12 @@
-//! The text of a leg, AB with 4 seats, worked by hand.
+//! The texts of a leg, AB with 4 seats, and of a certificate, worked by hand.
 ghost use Rattle.std.specs.Prelude.{◌≡◌, [], ◌∷◌, codes, IfOk, length};
 ghost use Rattle.nrm_model.specs.Inventory.{inventory_of};
+ghost use Rattle.nrm_dual.specs.Texts.{IsShaped};
 
-use crate::leg_text;
+use crate::{certificate_text, leg_text};
 use nrm_book::Book;
 use nrm_edge::MemSink;
+use nrm_lp::{Certificate, Numbers};
 use nrm_model::{Leg, LegNumbers, Network, Product, Thresholds};
 use nrm_text::{Name, name_of};
 use std::alloc::{AllocError, Global};
@@ -55,14 +57,16 @@ fn two_products(alloc: Global, through: Name, local: Name) -> Result<Vec<Product
     Ok(products)
 }
 
+// A network of four histories in which nobody asked.
 fn small_network(alloc: Global, rt: &impl Abort) -> Result<Network, AllocError>
     ensures legs { IfOk result (λ net. length net.legs ≡ 2) }
+    ensures products { IfOk result (λ net. length net.products ≡ 2) }
     ensures inventory { IfOk result (λ net. inventory_of net ≡ record { seats = 4 ∷ 2 ∷ []; fares = 500 ∷ 200 ∷ []; legs = (0 ∷ 1 ∷ []) ∷ (0 ∷ []) ∷ [] }) }
 {
     let legs = two_legs(alloc, name(rt, b"AB"), name(rt, b"BC"))?;
     let products = two_products(alloc, name(rt, b"THRU"), name(rt, b"LOC"))?;
-    let demand = Vec::from_array(alloc, [0, 0])?;
-    Network::new(alloc, 1, 1, legs, products, demand)
+    let demand = Vec::from_array(alloc, [0, 0, 0, 0, 0, 0, 0, 0])?;
+    Network::new(alloc, 4, 1, legs, products, demand)
 }
 
 #[test]
@@ -76,6 +80,34 @@ fn tells_by_hand(rt: HostRuntime) -> Result<(), Fail> {
     assert_eq!(rt;
         sink.held(),
         b"leg AB seats 4 sold 3 left 1\non AB THRU 2\non AB LOC 1\n".as_slice()
+    );
+    Ok(())
+}
+
+// Over four histories, 12/2 and 20/2 seats at 3004/4, and bid prices of 0/4 and 6/4.
+fn hand_certificate(alloc: Global, net: &Network) -> Result<Certificate, AllocError>
+    requires legs { length net.now.legs ≡ 2 }
+    requires products { length net.now.products ≡ 2 }
+    ensures { IfOk result (λ certificate. IsShaped net.now certificate) }
+{
+    Ok(Certificate {
+        q: 2,
+        x: Numbers::new(Vec::from_array(alloc, [12, 20])?),
+        den: 4,
+        p: Numbers::new(Vec::from_array(alloc, [0, 6])?),
+        value: 3004,
+    })
+}
+
+#[test]
+fn writes_a_certificate_by_hand(rt: HostRuntime) -> Result<(), Fail> {
+    let net = small_network(rt.alloc(), &rt)?;
+    let certificate = hand_certificate(rt.alloc(), &net)?;
+    let mut sink = MemSink::new(rt.alloc(), 100, Vec::new(rt.alloc()), Vec::new(rt.alloc()))?;
+    assert!(rt; certificate_text(&net, &certificate, &mut sink).is_ok());
+    assert_eq!(rt;
+        sink.held(),
+        b"value 751/4\nproduct THRU 3/2\nproduct LOC 5/2\nleg AB 0/1\nleg BC 3/2\n".as_slice()
     );
     Ok(())
 }

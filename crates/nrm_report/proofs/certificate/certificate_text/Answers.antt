@@ -18,8 +18,8 @@ returns-in_err-put_all-clause-cut g c =
     let line = c.bytes.ensures ∙ c.line_for_value.ensures in
     OnErr-holds c.from_residual.result
     (AppendsFront-more (held c.args.sink.now) (held c.put_all.new.sink) (value_line net certificate ++ products) legs
-        (AppendsFront-more (held c.args.sink.now) (held c.put_all.new.sink) (value_line net certificate) products
-            (subst (AppendsFront (held c.args.sink.now) (held c.put_all.new.sink)) line c.in_err-put_all.ensures.cut)))
+    (AppendsFront-more (held c.args.sink.now) (held c.put_all.new.sink) (value_line net certificate) products
+    (subst (AppendsFront (held c.args.sink.now) (held c.put_all.new.sink)) line c.in_err-put_all.ensures.cut)))
 
 pub returns-in_err-put_allotted-clause-cut : goal.returns-in_err-put_allotted-clause-cut
 returns-in_err-put_allotted-clause-cut g c =
@@ -32,7 +32,7 @@ returns-in_err-put_allotted-clause-cut g c =
     let value = subst (Appends (held c.args.sink.now) (held c.put_all.new.sink)) line c.in_ok-put_all.ensures.whole in
     OnErr-holds c.from_residual-in_err-put_allotted.result
     (AppendsFront-more (held c.args.sink.now) (held c.put_allotted.new.sink) (value_line net certificate ++ products) legs
-        (AppendsFront-after (held c.args.sink.now) (held c.put_all.new.sink) (held c.put_allotted.new.sink) (value_line net certificate) products value c.in_err-put_allotted.ensures.cut))
+    (AppendsFront-after (held c.args.sink.now) (held c.put_all.new.sink) (held c.put_allotted.new.sink) (value_line net certificate) products value c.in_err-put_allotted.ensures.cut))
 
 pub returns-clause-cut : goal.returns-clause-cut
 returns-clause-cut g c =

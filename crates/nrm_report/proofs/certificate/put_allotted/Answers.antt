@@ -1,4 +1,4 @@
-use Rattle.std.proofs.Common.{◌+◌, ◌∙◌, length, subst, arith}
+use Rattle.std.proofs.Common.{◌∙◌, length, subst, arith}
 use Rattle.std.specs.Io.KnownBytes.{Appends}
 use Rattle.nrm_edge.specs.Pieces.{AppendsFront}
 use Rattle.nrm_edge.proofs.Sent.{OnErr-holds}
@@ -13,7 +13,7 @@ returns-in_err-put_all-clause-cut g c =
     let front = subst (AppendsFront (held c.loop-product.sink) (held c.put_all.new.sink)) (c.bytes.ensures ∙ c.line_for_product.ensures) c.in_err-put_all.ensures.cut in
     OnErr-holds c.from_residual.result
     (line-cut (held c.args.sink.now) (held c.loop-product.sink) (held c.put_all.new.sink) (product_line net c.args.certificate.now) c.loop-product.product (length net.products)
-        (omega (arith, c.loop-product-test.true, c.product_count-product-end.ensures.count)) c.loop-product.invariant.sent front)
+    (omega (arith, c.loop-product-test.true, c.product_count-product-end.ensures.count)) c.loop-product.invariant.sent front)
 
 pub loop-product-preserved : goal.loop-product-preserved
 loop-product-preserved g c =

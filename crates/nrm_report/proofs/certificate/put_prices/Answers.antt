@@ -1,4 +1,4 @@
-use Rattle.std.proofs.Common.{◌+◌, ◌∙◌, length, subst, arith}
+use Rattle.std.proofs.Common.{◌∙◌, length, subst, arith}
 use Rattle.std.specs.Io.KnownBytes.{Appends}
 use Rattle.nrm_edge.specs.Pieces.{AppendsFront}
 use Rattle.nrm_edge.proofs.Sent.{OnErr-holds}
@@ -13,7 +13,7 @@ returns-in_err-put_all-clause-cut g c =
     let front = subst (AppendsFront (held c.loop-leg.sink) (held c.put_all.new.sink)) (c.bytes.ensures ∙ c.line_for_leg.ensures) c.in_err-put_all.ensures.cut in
     OnErr-holds c.from_residual.result
     (line-cut (held c.args.sink.now) (held c.loop-leg.sink) (held c.put_all.new.sink) (leg_line net c.args.certificate.now) c.loop-leg.leg (length net.legs)
-        (omega (arith, c.loop-leg-test.true, c.leg_count-leg-end.ensures.count)) c.loop-leg.invariant.sent front)
+    (omega (arith, c.loop-leg-test.true, c.leg_count-leg-end.ensures.count)) c.loop-leg.invariant.sent front)
 
 pub loop-leg-preserved : goal.loop-leg-preserved
 loop-leg-preserved g c =
