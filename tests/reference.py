@@ -3,26 +3,57 @@
 
     tests/reference.py replies FILE           the replies to standard input, on the network of FILE, first come, first served
     tests/reference.py print FILE             the canonical form of FILE
+    tests/reference.py check FILE CERT        what the certificate CERT is for the network of FILE
+    tests/reference.py certificate FILE       an optimal certificate for the network of FILE, which must be small
     tests/reference.py stream FILE SEED N     a made stream of N mixed lines for the network of FILE; a seed gives one stream
 
 It was written from the rules alone and shares nothing with the program. It keeps no counters: seats are summed anew
-from the list of bookings at each line. A refused FILE gets its line and status 3. The cases named `session-mixed-...`
-have a stream of `stream` and the replies of `replies`.
+from the list of bookings at each line. A certificate is checked on exact fractions, which are brought to no common
+denominator; nothing is solved for it. `certificate` is Bland's simplex method on fractions.
+
+The status is that of the program: 3 where FILE or CERT is refused, 9 where it can't be read, 1 where a certificate is
+wrong, 5 where the text can't be written. So `tests/run` takes it as the program for the cases of `print FILE` and
+`check FILE CERT`. The cases named `session-mixed-...` have a stream of `stream` and the replies of `replies`.
 """
+import os
 import random
 import re
 import sys
+from fractions import Fraction
+from math import lcm
 
 LONGEST_FILE = 4_194_304
+LONGEST_CERTIFICATE = 65_536
 MOST_LEGS, MOST_PRODUCTS = 64, 256
 MOST_MONEY = 99_999_999
+GREATEST = 2**63 - 1  # of a number in a certificate
+LIMIT = 2**48  # no number of a certificate over its common denominators reaches it
 
 NAME = re.compile(rb"[A-Z0-9-]{1,12}")
 WHOLE = re.compile(rb"0|[1-9][0-9]*")
+FRACTION = re.compile(rb"(0|[1-9][0-9]*)/([1-9][0-9]*)")
 
 
 class Refused(Exception):
-    """The row that a file is refused at, and why."""
+    """The line for a file that is refused."""
+
+    status = 3
+
+
+class Fault(Exception):
+    """The line for a file that can't be read."""
+
+    status = 9
+
+
+def bytes_of(path, refusal):
+    try:
+        with open(path, "rb") as file:
+            return file.read()
+    except FileNotFoundError:
+        raise Refused(refusal)
+    except OSError:
+        raise Fault("file fault")
 
 
 # The network file
@@ -168,13 +199,142 @@ def canonical(network):
     return b"".join(b",".join(row) + b"\n" for row in written)
 
 
-# The session
+# The lines of a stream and of a certificate
 
 
 def lines_of(stream):
-    """The stream cut at each line feed; a last part that isn't empty counts."""
+    """The bytes cut at each line feed; a last part that isn't empty counts."""
     lines = stream.split(b"\n")
     return lines if lines[-1] else lines[:-1]
+
+
+def without_return(line):
+    return line[:-1] if line.endswith(b"\r") else line
+
+
+# The linear program of a network, from period 1 at full seats, and its certificate
+
+
+class Program:
+    """Over all histories together: the seats of each leg, and the fare, the legs and the demand of each product."""
+
+    def __init__(self, network):
+        self.legs = {leg: network.histories * seats for leg, (seats, _) in network.legs.items()}
+        self.fares = {product: fare for product, (fare, _) in network.products.items()}
+        self.uses = {product: legs for product, (_, legs) in network.products.items()}
+        self.demand = {product: sum(sum(network.demand.get((product, history + 1), []))
+                                    for history in range(network.histories)) for product in network.products}
+
+    def sold(self, x, leg):
+        return sum(x[product] for product in x if leg in self.uses[product])
+
+    def price(self, p, product):
+        return sum(p[leg] for leg in self.uses[product])
+
+    def cost(self, p):
+        return (sum(self.legs[leg] * p[leg] for leg in p)
+                + sum(self.demand[product] * max(0, self.fares[product] - self.price(p, product))
+                      for product in self.demand))
+
+
+class Certificate:
+    """The total allocation of each product, the price of each leg, and the total value."""
+
+    def __init__(self, network, given):
+        self.x = {product: network.histories * given[b"product", product] for product in network.products}
+        self.p = {leg: given[b"leg", leg] for leg in network.legs}
+        self.value = network.histories * given[b"value",]
+
+    def is_too_fine(self):
+        q = lcm(*[x.denominator for x in self.x.values()])
+        den = lcm(self.value.denominator, *[p.denominator for p in self.p.values()])
+        numbers = [q, den, self.value * den] + [x * q for x in self.x.values()] + [p * den for p in self.p.values()]
+        return max(numbers) >= LIMIT
+
+
+def is_large(digits):
+    return len(digits) > 19 or int(digits) > GREATEST
+
+
+def certificate_of(network, data):
+    """The certificate that is read from a file's bytes."""
+    if len(data) > LONGEST_CERTIFICATE:
+        raise Refused("refused certificate long")
+    wanted = [(b"value",)] + [(b"product", name) for name in network.products] + [(b"leg", name) for name in network.legs]
+    given = {}
+    for number, line in enumerate(lines_of(data), 1):
+        *words, last = without_return(line).split(b" ")
+        what, fraction = tuple(words), FRACTION.fullmatch(last)
+        if what not in wanted or what in given or not fraction:
+            raise Refused(f"refused certificate line {number}")
+        if any(is_large(digits) for digits in fraction.groups()):
+            raise Refused(f"refused certificate line {number} large")
+        given[what] = Fraction(*[int(digits) for digits in fraction.groups()])
+    for what in wanted:
+        if what not in given:
+            raise Refused(f"refused certificate no {b' '.join(what).decode()}")
+    certificate = Certificate(network, given)
+    if certificate.is_too_fine():
+        raise Refused("refused certificate too fine")
+    return certificate
+
+
+def verdict(program, certificate):
+    """The first condition that fails, with its first product or leg."""
+    x, p = certificate.x, certificate.p
+    sold = {leg: program.sold(x, leg) for leg in p}
+    price = {product: program.price(p, product) for product in x}
+    conditions = [
+        (b"product", lambda j: x[j] > program.demand[j]),
+        (b"leg", lambda i: sold[i] > program.legs[i]),
+        (b"leg", lambda i: p[i] > 0 and sold[i] < program.legs[i]),
+        (b"product", lambda j: x[j] < program.demand[j] and program.fares[j] > price[j]),
+        (b"product", lambda j: x[j] > 0 and program.fares[j] < price[j]),
+    ]
+    for kind, fails in conditions:
+        for name in x if kind == b"product" else p:
+            if fails(name):
+                return b"wrong %s %s\n" % (kind, name)
+    return b"optimal\n" if certificate.value == program.cost(p) else b"wrong value\n"
+
+
+def solved(program):
+    """An optimal allocation and optimal prices: the simplex method by the smallest subscript, on fractions."""
+    products, legs = list(program.fares), list(program.legs)
+    width = len(products) + len(legs) + len(products)  # the products, the seats left, the demand left
+    rows = []
+    for leg in legs:
+        rows.append([int(leg in program.uses[product]) for product in products] + [program.legs[leg]])
+    for product in products:
+        rows.append([int(product == other) for other in products] + [program.demand[product]])
+    table = [[Fraction(entry) for entry in row[:-1] + [int(at == k) for k in range(len(rows))] + row[-1:]]
+             for at, row in enumerate(rows)]
+    reduced = [Fraction(program.fares[product]) for product in products] + [Fraction(0)] * (len(rows) + 1)
+    basic = [len(products) + at for at in range(len(rows))]
+    while any(entry > 0 for entry in reduced[:width]):
+        enters = next(column for column in range(width) if reduced[column] > 0)
+        _, _, at = min((row[-1] / row[enters], basic[at], at) for at, row in enumerate(table) if row[enters] > 0)
+        table[at] = [entry / table[at][enters] for entry in table[at]]
+        for other in range(len(table)):
+            if other != at and table[other][enters] != 0:
+                table[other] = [a - table[other][enters] * b for a, b in zip(table[other], table[at])]
+        reduced = [a - reduced[enters] * b for a, b in zip(reduced, table[at])]
+        basic[at] = enters
+    values = {column: row[-1] for column, row in zip(basic, table)}
+    x = {product: values.get(at, Fraction(0)) for at, product in enumerate(products)}
+    return x, {leg: -reduced[len(products) + at] for at, leg in enumerate(legs)}
+
+
+def certificate_text(network):
+    program = Program(network)
+    x, p = solved(program)
+    written = [(b"value", program.cost(p) / network.histories)]
+    written += [(b"product " + product, x[product] / network.histories) for product in x]
+    written += [(b"leg " + leg, p[leg]) for leg in p]
+    return b"".join(b"%s %d/%d\n" % (what, number.numerator, number.denominator) for what, number in written)
+
+
+# The session
 
 
 class Session:
@@ -221,9 +381,7 @@ class Session:
 
     def reply(self, line):
         """The reply to a line that comes without its line feed."""
-        if line.endswith(b"\r"):
-            line = line[:-1]
-        words = line.split(b" ")
+        words = without_return(line).split(b" ")
         numbers = [int(word) if WHOLE.fullmatch(word) and len(word) <= 12 else -1 for word in words]
         if len(words) == 3 and words[0] == b"book" and NAME.fullmatch(words[1]) and 1 <= numbers[2] <= 999:
             return self.request(words[1], numbers[2])
@@ -282,24 +440,36 @@ def made_stream(network, seed, count):
     return b"\n".join(lines[:-1] + [b"book %s 1" % next(iter(network.products))])
 
 
-def main():
-    verb, path, *rest = sys.argv[1:] if len(sys.argv) > 2 else sys.exit(__doc__)
-    with open(path, "rb") as file:
-        data = file.read()
-    try:
-        network = network_of(data)
-    except Refused as refused:
-        print(refused)
-        sys.exit(3)
+def told(verb, path, rest):
+    """The text that is written, and the status."""
+    network = network_of(bytes_of(path, "refused no file"))
     if verb == "replies":
-        text = replies(network, sys.stdin.buffer.read())
-    elif verb == "print":
-        text = canonical(network)
-    elif verb == "stream":
-        text = made_stream(network, int(rest[0]), int(rest[1]))
-    else:
+        return replies(network, sys.stdin.buffer.read()), 0
+    if verb == "print":
+        return canonical(network), 0
+    if verb == "check":
+        certificate = certificate_of(network, bytes_of(rest[0], "refused certificate no file"))
+        text = verdict(Program(network), certificate)
+        return text, 0 if text == b"optimal\n" else 1
+    if verb == "certificate":
+        return certificate_text(network), 0
+    return made_stream(network, int(rest[0]), int(rest[1])), 0
+
+
+def main():
+    verb, *words = sys.argv[1:] or [""]
+    if {"replies": 1, "print": 1, "check": 2, "certificate": 1, "stream": 3}.get(verb) != len(words):
         sys.exit(__doc__)
-    sys.stdout.buffer.write(text)
+    try:
+        text, status = told(verb, words[0], words[1:])
+    except (Refused, Fault) as ended:
+        text, status = f"{ended}\n".encode(), ended.status
+    try:
+        while text:
+            text = text[os.write(1, text):]
+    except OSError:
+        status = 5
+    sys.exit(status)
 
 
 if __name__ == "__main__":
