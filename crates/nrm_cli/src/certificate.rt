@@ -106,7 +106,10 @@ pub(crate) fn line_of_fault(net: &Network, fault: CertFault) -> Line
         }
         CertFault::NoValue => line_of(b"refused certificate no value\n"),
         CertFault::NoProduct(product) => {
-            line_naming(b"refused certificate no product ", &net.product_at(product).name)
+            line_naming(
+                b"refused certificate no product ",
+                &net.product_at(product).name,
+            )
         }
         CertFault::NoLeg(leg) => line_naming(b"refused certificate no leg ", &net.leg_at(leg).name),
         CertFault::TooFine => line_of(b"refused certificate too fine\n"),

@@ -7,7 +7,9 @@ ghost use Rattle.nrm_cli.specs.Jobs.{check_file as check_job};
 ghost use Rattle.nrm_cli.specs.Parts.{ChecksFile, IsRefusedOf, PutsCertReason, PutsLine, PutsVerdict};
 
 use crate::Status;
-use crate::certificate::{NoCertificate, line_of_fault, line_of_verdict, open_certificate, program_of};
+use crate::certificate::{
+    NoCertificate, line_of_fault, line_of_verdict, open_certificate, program_of,
+};
 use crate::opening::open_network;
 use crate::top::{put_line, put_reason};
 use nrm_dual::{Verdict, check};
@@ -53,7 +55,11 @@ fn put_verdict<K: Sink>(sink: &mut K, net: &Network, verdict: Verdict) -> Status
     ensures puts { PutsLine (verdict_line net.now verdict) (status_of verdict) (K.held sink.old) (K.held sink.new) (K.faults sink.old) (K.faults sink.new) result }
     ensures later { K.faults sink.old ≤ K.faults sink.new }
 {
-    put_line(sink, line_of_verdict(net, verdict).bytes(), status_with(verdict))
+    put_line(
+        sink,
+        line_of_verdict(net, verdict).bytes(),
+        status_with(verdict),
+    )
 }
 
 // Checks a certificate and puts the verdict.

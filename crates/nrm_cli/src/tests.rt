@@ -7,11 +7,28 @@ use std::test::Fail;
 const NETWORK: &[u8] =
     b"periods,1,1\nleg,AB,3\nleg,BC,2\nproduct,THRU,500,AB,BC\nproduct,LOC,200,AB\n";
 
+// Four histories of one period.
+const DEMANDED: &[u8] =
+    b"periods,4,1\nleg,AB,10\nleg,BC,10\nproduct,ABH,400,AB\nproduct,ABL,150,AB\nproduct,ACH,500,AB,BC\nproduct,BCL,80,BC\nproduct,ACL,229,AB,BC\ndemand,ABH,1,2\ndemand,ABH,2,4\ndemand,ABH,3,3\ndemand,ABH,4,3\ndemand,ABL,1,6\ndemand,ABL,2,8\ndemand,ABL,3,5\ndemand,ABL,4,9\ndemand,ACH,1,4\ndemand,ACH,2,2\ndemand,ACH,3,6\ndemand,ACH,4,4\ndemand,BCL,1,7\ndemand,BCL,2,9\ndemand,BCL,3,8\ndemand,BCL,4,8\n";
+
+const OPTIMAL: &[u8] =
+    b"value 4130/1\nproduct ABH 3/1\nproduct ABL 3/1\nproduct ACH 4/1\nproduct BCL 6/1\nproduct ACL 0/1\nleg AB 150/1\nleg BC 80/1\n";
+
+// At these prices ABL is worth more than its leg, and not all its demand is met.
+const CHEAP: &[u8] =
+    b"value 4130/1\nproduct ABH 3/1\nproduct ABL 3/1\nproduct ACH 4/1\nproduct BCL 6/1\nproduct ACL 0/1\nleg AB 149/1\nleg BC 80/1\n";
+
+const REPEATED: &[u8] = b"value 4130/1\nproduct ABH 3/1\nproduct ABH 3/1\n";
+
 const STREAM: &[u8] = b"book THRU 2\nbook THRU 1\nbook LOC 1\nbook LOC 1\nbook X 1\n";
 
 fn files(alloc: Global) -> Result<MemFiles, AllocError> {
     let mut list = Vec::new(alloc);
     list.push((b"F".to_vec(alloc)?, NETWORK.to_vec(alloc)?))?;
+    list.push((b"DEMANDED".to_vec(alloc)?, DEMANDED.to_vec(alloc)?))?;
+    list.push((b"OPTIMAL".to_vec(alloc)?, OPTIMAL.to_vec(alloc)?))?;
+    list.push((b"CHEAP".to_vec(alloc)?, CHEAP.to_vec(alloc)?))?;
+    list.push((b"REPEATED".to_vec(alloc)?, REPEATED.to_vec(alloc)?))?;
     Ok(MemFiles::new(list, Vec::new(alloc)))
 }
 
@@ -53,6 +70,34 @@ fn a_network_is_printed(rt: HostRuntime) -> Result<(), Fail> {
     let (status, sink) = outcome(rt.alloc(), &["print", "F"])?;
     assert_eq!(rt; status, Status::Done);
     assert_eq!(rt; sink.held(), NETWORK);
+    Ok(())
+}
+
+#[test]
+fn a_certificate_is_checked(rt: HostRuntime) -> Result<(), Fail> {
+    let (status, sink) = outcome(rt.alloc(), &["check", "DEMANDED", "OPTIMAL"])?;
+    assert_eq!(rt; status, Status::Done);
+    assert_eq!(rt; sink.held(), b"optimal\n".as_slice());
+
+    let (status, sink) = outcome(rt.alloc(), &["check", "DEMANDED", "CHEAP"])?;
+    assert_eq!(rt; status, Status::Wrong);
+    assert_eq!(rt; sink.held(), b"wrong product ABL\n".as_slice());
+    Ok(())
+}
+
+#[test]
+fn a_certificate_is_refused(rt: HostRuntime) -> Result<(), Fail> {
+    let (status, sink) = outcome(rt.alloc(), &["check", "DEMANDED", "REPEATED"])?;
+    assert_eq!(rt; status, Status::Refused);
+    assert_eq!(rt; sink.held(), b"refused certificate line 3\n".as_slice());
+
+    let (status, sink) = outcome(rt.alloc(), &["check", "DEMANDED", "NONE"])?;
+    assert_eq!(rt; status, Status::Refused);
+    assert_eq!(rt; sink.held(), b"refused certificate no file\n".as_slice());
+
+    let (status, sink) = outcome(rt.alloc(), &["check", "OPTIMAL", "OPTIMAL"])?;
+    assert_eq!(rt; status, Status::Refused);
+    assert_eq!(rt; sink.held(), b"refused row 1 why 1 kind\n".as_slice());
     Ok(())
 }
 
