@@ -3,14 +3,14 @@ use Rattle.std.proofs.Common.{◌≡◌, ℕ, zero, suc, ◌*◌, ◌/◌, ◌<�
 use Prim.Native.Nat.{◌∣◌}
 use Rattle.std.proofs.lemmas.Nat.Gcd.{dvd_refl, dvd_trans, le_of_dvd}
 use Rattle.std.proofs.lemmas.Int.{unsigned_abs-mul}
+use Rattle.std.proofs.lemmas.Bool.{ltb-true}
+use Rattle.std.proofs.lemmas.List.{length-map}
 use native.Mathlib.Nat.{one-dvd, div-mul_cancel, mul-div_cancel', mul-dvd-mul_left, dvd_of_mul-dvd-mul_right, pos_of_dvd_of_pos}
 use Rattle.nrm_number.proofs.GcdLaws.{gcd-dvd_left, gcd-dvd_right, divides_other, dvd-lcm_left, dvd-lcm_right, lcm-dvd, lowest_out}
 use Rattle.nrm_fraction.specs.Fraction.{Fraction}
 use Rattle.nrm_fraction.specs.Large.{common, numerators, over_common, gcd_all}
 use Rattle.nrm_fraction.proofs.Lowest.{common_pos}
 use Rattle.nrm_row.proofs.Divisors.{gcd_all-dvd}
-use Rattle.std.proofs.lemmas.Bool.{ltb-true}
-use Rattle.std.proofs.lemmas.List.{length-map}
 use Rattle.nrm_model.specs.Network.{NetworkValue}
 use Rattle.nrm_lp.specs.Program.{ProgramValue}
 use Rattle.nrm_lp.specs.Tableau.{Tableau}

@@ -61,7 +61,7 @@ none_missing w k [] = refl
 none_missing w k (j ∷ js) = none_missing w (suc k) js
 
 -- numbers below the limit don't reach it
-below_limit : (n : ℤ) → IsNumber (2 ^ 48) n → nat_abs n < 2 ^ 48
+pub below_limit : (n : ℤ) → IsNumber (2 ^ 48) n → nat_abs n < 2 ^ 48
 below_limit n h = subst (λ z. nat_abs z < 2 ^ 48) (sym h.1) h.2
 
 one_below : (n : ℤ) (ns : List ℤ) → nat_abs n < 2 ^ 48 → first_reaching (2 ^ 48) ns ≡ None → first_reaching (2 ^ 48) (n ∷ ns) ≡ None

@@ -1,5 +1,5 @@
 -- A line of a certificate that is written gives the fraction that it was written for.
-use Rattle.std.proofs.Common.{◌≡◌, ◌≢◌, ℕ, ◌-◌, ◌<◌, ◌≤◌, ◌^◌, ℤ, pos, nat_abs, arith, refl, sym, ap, ap₂, ◌∙◌, subst, List, [], ◌∷◌, ◌++◌, length, get_or, take, codes, All, true, false, cond, ◌==◌, nat_le, nat_lt, Some}
+use Rattle.std.proofs.Common.{◌≡◌, ◌≢◌, ℕ, ◌-◌, ◌<◌, ◌≤◌, ◌^◌, ℤ, pos, nat_abs, arith, refl, ap, ap₂, ◌∙◌, List, [], ◌∷◌, ◌++◌, length, get_or, take, codes, All, true, false, cond, ◌==◌, nat_le, nat_lt, Some}
 use Rattle.std.specs.Prelude.{decimal}
 use Rattle.std.specs.List.{slice_split, join_with_byte}
 use Rattle.std.specs.Option.{option_map}
@@ -13,7 +13,7 @@ use Rattle.nrm_text.proofs.ReadBack as back
 use Rattle.nrm_lp.specs.Certified.{IsNumber}
 use Rattle.nrm_model.specs.Network.{NetworkValue, leg_named, product_named}
 use Rattle.nrm_dual.specs.Reading.{Written, written_by, written_in, the_value, of_product, of_leg, entry_at, entry_of_words, entry_of, is_over}
-use Rattle.nrm_dual.proofs.SheetBack.{IsWritten}
+use Rattle.nrm_dual.proofs.SheetBack.{IsWritten, below_limit}
 
 -- ---- the text of a fraction
 abbrev pub as_written : ℕ → ℕ → Written
@@ -41,7 +41,7 @@ no_sign n k e = ap sign_of e
 
 pub fraction_back : (n : ℤ) (d : ℕ) → IsNumber (2 ^ 48) n → 0 < d → d < 2 ^ 63 → (w : Written) × GivesBack n d w
 fraction_back n d number some few =
-    let size : nat_abs n < 2 ^ 48 = subst (λ z. nat_abs z < 2 ^ 48) (sym number.1) number.2 in
+    let size : nat_abs n < 2 ^ 48 = below_limit n number in
     let parts = back.fractions n d (omega arith) some (omega arith) in
     let p : ℕ = parts.0 in
     let q : ℕ = parts.1 in

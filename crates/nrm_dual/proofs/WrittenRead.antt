@@ -22,7 +22,7 @@ use Rattle.nrm_dual.specs.declared.fault.CertFault.TheVariants as fault
 use Rattle.nrm_dual.specs.Reading.{Written, blank, after_lines, or_fault, certificate_on, certificate_of}
 use Rattle.nrm_dual.specs.Texts.{IsShaped, value_line, product_line, leg_line, certificate_text}
 use Rattle.nrm_dual.specs.ReadBack.{IsLowest, WrittenIsRead}
-use Rattle.nrm_dual.proofs.SheetBack.{IsWritten, full_sheet, sheet_back}
+use Rattle.nrm_dual.proofs.SheetBack.{IsWritten, below_limit, full_sheet, sheet_back}
 use Rattle.nrm_dual.proofs.WrittenFractions.{GivesBack, fraction_back, joined_none, line_back, value_entry, product_entry, leg_entry}
 use Rattle.nrm_dual.proofs.Filling.{sheet_filled}
 use Rattle.nrm_dual.proofs.WrittenLines.{text_cut, text_short, length-two_words, length-three_words, name_short, word_value, word_product, word_leg, found_by_name}
@@ -43,20 +43,17 @@ over_histories d h some few least most =
     let up : d * h ≤ d * 32 = mul-le-mul_left d most in
     record { some = mul-pos some (omega arith); small = omega (arith, up) }
 
-size_of : (n : ℤ) → IsNumber (2 ^ 48) n → nat_abs n < 2 ^ 48
-size_of n h = subst (λ z. nat_abs z < 2 ^ 48) (sym h.1) h.2
-
 -- ---- the text of a number over a denominator
 module _ (n : ℤ) (d : ℕ) (number : IsNumber (2 ^ 48) n) (den : IsDenominator d) where
   text_word : IsOneWord (fraction_text n d)
   text_word =
-      let size : nat_abs n < 2 ^ 48 = size_of n number in
+      let size : nat_abs n < 2 ^ 48 = below_limit n number in
       let small : d < 2 ^ 63 = den.small in
       texts-words.2 n d (omega arith) den.some (omega arith)
 
   text_length : length (fraction_text n d) ≤ 78
   text_length =
-      let size : nat_abs n < 2 ^ 48 = size_of n number in
+      let size : nat_abs n < 2 ^ 48 = below_limit n number in
       let small : d < 2 ^ 63 = den.small in
       short_fraction n d (omega arith) (omega arith)
 
@@ -106,14 +103,14 @@ module _ (net : NetworkValue) (is : IsNetwork net) where
 
 module _ (net : NetworkValue) (is : IsNetwork net) (c : Certificate) (shaped : IsShaped net c) where
   value_den : IsDenominator (nat_abs c.den * net.histories)
-  value_den = over_histories (nat_abs c.den) net.histories shaped.some_den (size_of c.den shaped.den_size) is.histories.0 is.histories.1
+  value_den = over_histories (nat_abs c.den) net.histories shaped.some_den (below_limit c.den shaped.den_size) is.histories.0 is.histories.1
 
   share_den : IsDenominator (nat_abs c.q * net.histories)
-  share_den = over_histories (nat_abs c.q) net.histories shaped.some_q (size_of c.q shaped.q_size) is.histories.0 is.histories.1
+  share_den = over_histories (nat_abs c.q) net.histories shaped.some_q (below_limit c.q shaped.q_size) is.histories.0 is.histories.1
 
   price_den : IsDenominator (nat_abs c.den)
   price_den =
-      let few : nat_abs c.den < 2 ^ 48 = size_of c.den shaped.den_size in
+      let few : nat_abs c.den < 2 ^ 48 = below_limit c.den shaped.den_size in
       record { some = shaped.some_den; small = omega (arith, few) }
 
   abbrev value_text : List ℕ

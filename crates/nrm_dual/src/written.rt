@@ -19,7 +19,7 @@ pub(crate) struct Written {
 }
 
 impl Model for Written {
-    ghost use Rattle.std.specs.Prelude.{◌<◌, ◌≤◌, ◌^◌, refl};
+    ghost use Rattle.std.specs.Prelude.{◌<◌, ◌≤◌, ◌^◌};
     ghost use Rattle.nrm_dual.specs.Reading.{Written as Exact};
 
     ghost Value = { Exact };
