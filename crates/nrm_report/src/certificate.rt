@@ -1,12 +1,12 @@
-//! The certificate text: the mean value over the histories, the mean allocation of each product, the bid price of each leg.
-ghost use Rattle.std.specs.Prelude.{◌≡◌, ◌<◌, ◌≤◌, ◌*◌, ◌^◌, ◌∷◌, [], All, codes, flat_map, get_or, length, nat_abs, OnErr, OnOk, pos, unsigned_abs};
+//! The certificate text: a line with the mean value of a history, one for each product with what it is allotted in a
+//! history on the mean, and one for each leg with its bid price.
+ghost use Rattle.std.specs.Prelude.{◌≡◌, ◌<◌, ◌≤◌, ◌*◌, ◌^◌, ◌∷◌, [], codes, flat_map, length, nat_abs, OnErr, OnOk};
 ghost use Rattle.std.specs.Io.KnownBytes.{Appends};
 ghost use Rattle.std.specs.List.{range_with_len};
 ghost use Rattle.nrm_edge.specs.Causes.{HasCause};
 ghost use Rattle.nrm_edge.specs.Pieces.{AppendsFront};
 ghost use Rattle.nrm_text.specs.Fractions.{fraction_text};
 ghost use Rattle.nrm_text.specs.Words.{text_line};
-ghost use Rattle.nrm_lp.specs.Certified.{IsNumber};
 ghost use Rattle.nrm_dual.specs.Texts.{certificate_text, IsShaped, leg_line, product_line, value_line};
 
 use nrm_edge::{Failed, Sink, put_all};
