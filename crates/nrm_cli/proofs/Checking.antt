@@ -1,5 +1,5 @@
 -- How a check ends, out of what its parts say.
-use Rattle.std.proofs.Common.{◌≡◌, ◌≢◌, ◌≤◌, ℕ, ◌+◌, ◌-◌, ◌^◌, min, arith, Some, None, Ok, Err, inl, inr, refl, sym, ◌∙◌, ap, subst, List, Option, Result, true, nat_lt, length, ◌<◌, Vec, Global}
+use Rattle.std.proofs.Common.{◌≡◌, ◌≤◌, ℕ, ◌^◌, arith, Some, None, Ok, Err, inl, inr, refl, sym, ap, subst, List, Option, Result, true, nat_lt, length, ◌<◌, Vec, Global}
 use Rattle.nrm_edge.specs.Causes.{Rose}
 use Rattle.nrm_edge.specs.Fetch.{Folder, AnswersFetch}
 use Rattle.nrm_edge.specs.declared.files.Fetched.TheVariants.{Whole, Longer, Absent}
@@ -15,9 +15,7 @@ use Rattle.nrm_cli.specs.Certificates.{CertRefusal, cert_refusal_line, certifica
 use Rattle.nrm_cli.specs.Ends.{Checks, Ends, Opens, RefusesCertificate, status_of}
 use Rattle.nrm_cli.specs.Jobs.{check_file}
 use Rattle.nrm_cli.specs.Outside.{LeftStream, OnFile, Outside, Wrote}
-use Rattle.nrm_cli.specs.Parts.{ChecksFile, OpensCertificate, PutsCertReason, PutsFound, PutsLine, PutsVerdict}
-use Rattle.nrm_cli.specs.Refusals.{file_fault_line}
-use Rattle.nrm_cli.specs.declared.certificate.NoCertificate.{NoCertificate}
+use Rattle.nrm_cli.specs.Parts.{ChecksFile, PutsLine}
 use Rattle.nrm_cli.specs.declared.certificate.NoCertificate.TheVariants as lacking
 use Rattle.nrm_cli.specs.declared.status.Status.{Status}
 use Rattle.nrm_cli.specs.declared.status.Status.TheVariants as status

@@ -5,3 +5,4 @@ pub mod Replies
 pub mod Without
 pub mod Checking
 pub mod Places
+pub mod OwnPasses

@@ -1,6 +1,5 @@
 -- The program of a network has its products and its legs.
-use Rattle.std.proofs.Common.{◌≡◌, ℕ, ◌*◌, length, map, ◌∙◌, List}
-use Rattle.std.specs.List.{range_with_len}
+use Rattle.std.proofs.Common.{◌≡◌, ◌*◌, length, ◌∙◌}
 use Rattle.std.proofs.lemmas.List.{length-map}
 use Rattle.std.proofs.lemmas.List.FromFn.{length-map-range_with_len}
 use Rattle.nrm_model.specs.Demand.{total_to_come}

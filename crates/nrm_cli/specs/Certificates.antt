@@ -1,5 +1,5 @@
 -- What a certificate file is refused for, and what is written of a certificate.
-use Rattle.std.specs.Prelude.{ℕ, ◌≡◌, List, [], ◌∷◌, ◌++◌, decimal, codes, Option, Some, None, Result, Ok, Err}
+use Rattle.std.specs.Prelude.{ℕ, List, [], ◌∷◌, decimal, codes, Option, Some, None, Result, Ok, Err}
 use Rattle.nrm_text.specs.Words.{text_line}
 use Rattle.nrm_model.specs.Inventory.{inventory_of}
 use Rattle.nrm_model.specs.Network.{NetworkValue, leg_of, product_of}

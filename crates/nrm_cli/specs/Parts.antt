@@ -12,7 +12,7 @@ use Rattle.nrm_dual.specs.Conditions.{verdict_on}
 use Rattle.nrm_dual.specs.Named.{IsOfNetwork}
 use Rattle.nrm_dual.specs.declared.verdict.Verdict.{Verdict}
 use Rattle.nrm_dual.specs.declared.verdict.Verdict.TheVariants as verdict
-use Rattle.nrm_cli.specs.Certificates.{CertRefusal, cert_refusal_line, certificate_under, for_fault, no_certificate, opening_program, verdict_line}
+use Rattle.nrm_cli.specs.Certificates.{cert_refusal_line, certificate_under, for_fault, no_certificate, opening_program, verdict_line}
 use Rattle.nrm_cli.specs.Ends.{status_of}
 use Rattle.nrm_cli.specs.Jobs.{Job, run_first, check_file, print_file}
 use Rattle.nrm_cli.specs.Refusals.{no_file, at_row, network_under, refusal_line, file_fault_line}

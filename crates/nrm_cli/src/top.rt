@@ -4,6 +4,7 @@ ghost use Rattle.nrm_session.specs.Laws.{RepliesAreDetermined, SeatsAreKept};
 ghost use Rattle.nrm_cli.specs.Ends.{Completes, Ends};
 ghost use Rattle.nrm_cli.specs.Jobs.{job_of, print_file as print_job, run_first as run_job};
 ghost use Rattle.nrm_cli.specs.Outside.{Goes};
+ghost use Rattle.nrm_cli.specs.Own.{OwnCertificatesPass};
 ghost use Rattle.nrm_cli.specs.Parts.{job_in, PutsLine, PutsReason};
 
 use crate::Status;
@@ -139,7 +140,7 @@ fn run_asked<F: Files, S: Source, K: Sink>(
 /// memory with nothing written, in `complete`. A certificate is told to be optimal only where its allocation and its bid
 /// prices are, whoever made it, and a wrong one with the first condition that it fails (`ends`, `FoundOptimal` and
 /// `FoundWrong`). In no state of a session that it answers has a leg more seats sold than it has (`seats`), and network and commands determine
-/// the replies (`determined`).
+/// the replies (`determined`). The text of the certificate that the solver finds for a network passes the check (`own`).
 #[tactic(auto, using(crate::proofs::Complete::completes))]
 pub fn run<F: Files, S: Source, K: Sink>(
     alloc: Global,
@@ -161,6 +162,7 @@ pub fn run<F: Files, S: Source, K: Sink>(
         result }
     ensures seats { SeatsAreKept }
     ensures determined { RepliesAreDetermined }
+    ensures own { OwnCertificatesPass }
 {
     run_asked(alloc, asked_in(words), files, source, sink)
 }
