@@ -1,3 +1,9 @@
-//! The whole numbers: their greatest common divisor and least common multiple, sums, and equations in a ring.
-//! Definitions and lemmas alone.
+//! Whole numbers: their greatest common divisor, which is computed, and the definitions and lemmas that the crates
+//! above share: the least common multiple, lowest terms, sums, and equations in a ring.
 #![tactic(auto)]
+
+mod euclid;
+#[cfg(test)]
+mod tests;
+
+pub use euclid::{gcd, short_gcd};
