@@ -1,7 +1,7 @@
 -- Lines, and what they ask for.
-use Rattle.std.specs.Prelude.{◌≡◌, [], ◌∷◌, codes, refl, replicate}
+use Rattle.std.proofs.Common.{◌≡◌, [], ◌∷◌, codes, refl, replicate, arith}
 use Rattle.nrm_stream.specs.Lines.{lines_of, whole_lines}
-use Rattle.nrm_stream.specs.Commands.{command_of, commands_of}
+use Rattle.nrm_stream.specs.Commands.{command_of, commands_of, IsCommand}
 use Rattle.nrm_stream.specs.declared.command.Command.TheVariants as command
 
 longest_name : command_of (codes "book ABCDEFGHIJKL 999") ≡ command.Book (codes "ABCDEFGHIJKL") 999
@@ -37,6 +37,12 @@ first_period = refl
 no_period : command_of (codes "reoptimise 0") ≡ command.Bad
 no_period = refl
 
+last_period : command_of (codes "reoptimise 99") ≡ command.Reoptimise 99
+last_period = refl
+
+past_the_last_period : command_of (codes "reoptimise 100") ≡ command.Bad
+past_the_last_period = refl
+
 a_leg : command_of (codes "leg AB") ≡ command.Leg (codes "AB")
 a_leg = refl
 
@@ -57,6 +63,19 @@ upper_case = refl
 
 nothing : command_of [] ≡ command.Bad
 nothing = refl
+
+-- what a command promises of its numbers, at both ends
+within : IsCommand (command.Cancel 999999999999) × IsCommand (command.Reoptimise 1) × IsCommand (command.Reoptimise 99)
+within = (omega arith, omega arith, omega arith)
+
+above_the_numbers : IsCommand (command.Cancel 1000000000000) → ⊥
+above_the_numbers h = absurd (omega arith)
+
+below_the_periods : IsCommand (command.Reoptimise 0) → ⊥
+below_the_periods h = absurd (omega arith)
+
+above_the_periods : IsCommand (command.Reoptimise 100) → ⊥
+above_the_periods h = absurd (omega arith)
 
 three_lines : lines_of (codes "plan\n\nleg AB") ≡ codes "plan" ∷ [] ∷ codes "leg AB" ∷ []
 three_lines = refl

@@ -1,5 +1,5 @@
 -- The command of a line.
-use Rattle.std.specs.Prelude.{ℕ, ◌==◌, List, [], ◌∷◌, map, codes, bytes_eq, Option, Some, None, ⊤, if◌then◌else◌}
+use Rattle.std.specs.Prelude.{ℕ, ◌≤◌, ◌==◌, List, [], ◌∷◌, map, codes, bytes_eq, Option, Some, None, ⊤, if◌then◌else◌}
 use Rattle.std.specs.Int.{IsInRange}
 use Rattle.std.specs.Option.{option_map_or}
 use Rattle.std.specs.List.{slice_split}
@@ -46,11 +46,11 @@ command_of_words (word ∷ name ∷ party ∷ further ∷ more) = command.Bad
 abbrev pub command_of : List ℕ → Command
 command_of line = command_of_words (slice_split (λ c. c == 32) (strip_carriage_return line))
 
--- a request is for a party of 1 to 999
+-- a request is for a party of 1 to 999, a cancellation names a number of at most twelve digits, and a plan begins at a period of 1 to 99
 abbrev pub IsCommand : Command → Type 0
 IsCommand (command.Book product party) = IsInRange 1 999 party
-IsCommand (command.Cancel number) = ⊤
-IsCommand (command.Reoptimise period) = ⊤
+IsCommand (command.Cancel number) = number ≤ 999999999999
+IsCommand (command.Reoptimise period) = IsInRange 1 99 period
 IsCommand (command.Leg name) = ⊤
 IsCommand command.Hindsight = ⊤
 IsCommand command.Plan = ⊤
