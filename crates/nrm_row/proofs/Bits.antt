@@ -1,11 +1,14 @@
 -- What the code's numbers are at 64 and at 128 bits.
-use Rattle.std.proofs.Common.{sym, to_z-of_z, ◌≡◌, ℕ, zero, suc, ◌^◌, ◌<◌, ℤ, pos, negsuc, ◌-ℤ◌, ◌*ℤ◌, subst, ◌<ℤ◌, nat_abs, arith, ap, ◌∙◌, List, length, get_or, leb, false, leb-false, All}
+use Rattle.std.proofs.Common.{refl, sym, to_z-of_z, ◌≡◌, ℕ, zero, suc, ◌^◌, ◌<◌, ℤ, pos, negsuc, ◌-ℤ◌, ◌*ℤ◌, subst, ◌<ℤ◌, nat_abs, arith, ap, ◌∙◌, List, [], ◌∷◌, length, get_or, leb, false, leb-false, All}
 use Rattle.std.proofs.lemmas.List.{get_or_default}
 use Rattle.std.proofs.lemmas.Int.{ints, to_z_pos, unsigned_abs-mul}
 use Rattle.std.proofs.lemmas.Nat.{mul-lt}
 use mir.Syntax.{w64, w128}
 use mir.Val.{to_z, of_z, SFits}
-use Rattle.nrm_row.specs.Numbers.{IsSmall}
+use Rattle.nrm_number.proofs.Integers.{ring_ℤ}
+use Rattle.nrm_number.proofs.Ring.{solve, v0, v1}
+use Rattle.nrm_number.proofs.Ring.Expr.{◌⊗◌}
+use Rattle.nrm_row.specs.Numbers.{IsSmall, IsShort}
 
 -- a number below the limit is the same at 64 bits
 pub small_fits : (n : ℤ) → leb (2 ^ 48) (nat_abs n) ≡ false → to_z w64 (of_z w64 n) ≡ n
@@ -63,3 +66,26 @@ zero_from_bits n f e = sym (to_z-of_z f) ∙ ap (to_z w64) e
 
 pub wide_zero_from_bits : (n : ℤ) → SFits w128 n → of_z w128 n ≡ 0 → n ≡ pos 0
 wide_zero_from_bits n f e = sym (to_z-of_z f) ∙ ap (to_z w128) e
+
+-- ---- at 64 bits, where one factor is short
+short_same : (p : ℤ) → nat_abs p < 2 ^ 62 → to_z w64 (of_z w64 p) ≡ p
+short_same p h = omega (arith, ints)
+
+short_product_bound : (x y : ℤ) → IsSmall x → IsShort y → nat_abs (x *ℤ y) < 2 ^ 62
+short_product_bound x y h k = subst (λ t. t < 2 ^ 62) (sym (unsigned_abs-mul x y)) (mul-lt (nat_abs x) (nat_abs y) (2 ^ 48) (2 ^ 14) h k)
+
+pub short_product_is : (x y : ℤ) → IsSmall x → IsShort y → to_z w64 (of_z w64 (to_z w64 (of_z w64 x) *ℤ to_z w64 (of_z w64 y))) ≡ x *ℤ y
+short_product_is x y h k =
+    (λ i. to_z w64 (of_z w64 (small_same x h i *ℤ short_same y (omega arith) i))) ∙ short_same (x *ℤ y) (short_product_bound x y h k)
+
+pub short_product_small : (x y : ℤ) → IsSmall x → IsShort y → nat_abs (to_z w64 (of_z w64 (to_z w64 (of_z w64 x) *ℤ to_z w64 (of_z w64 y)))) < 2 ^ 62
+short_product_small x y h k = subst (λ z. nat_abs z < 2 ^ 62) (sym (short_product_is x y h k)) (short_product_bound x y h k)
+
+pub short_difference_is : (p q : ℤ) → nat_abs p < 2 ^ 62 → nat_abs q < 2 ^ 62 → to_z w64 (of_z w64 (to_z w64 (of_z w64 p) -ℤ to_z w64 (of_z w64 q))) ≡ p -ℤ q
+short_difference_is p q h k = omega (arith, ints)
+
+pub short_difference_bound : (p q : ℤ) → nat_abs p < 2 ^ 62 → nat_abs q < 2 ^ 62 → nat_abs (p -ℤ q) < 2 ^ 63
+short_difference_bound p q h k = omega (arith, ints)
+
+pub turned : (a u : ℤ) → u *ℤ a ≡ a *ℤ u
+turned a u = solve ring_ℤ (a ∷ u ∷ []) (v1 ⊗ v0) (v0 ⊗ v1) refl

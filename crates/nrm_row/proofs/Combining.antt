@@ -1,6 +1,7 @@
 -- A row minus a multiple of the unit row, by the numbers x e - a u over one denominator.
 use Rattle.std.proofs.Common.{◌≡◌, ℕ, zero, suc, ◌+◌, ◌*◌, ◌^◌, ◌<◌, ◌≤◌, ◌-◌, inr, ℤ, pos, negsuc, ◌-ℤ◌, ◌*ℤ◌, ◌<ℤ◌, nat_abs, arith, refl, sym, ap, ap₂, ◌∙◌, List, [], ◌∷◌, ◌++◌, length, take, drop, get_or, set, leb, true, false, Some, None, append_assoc, append-nil, to_z-of_z}
 use Rattle.std.proofs.lemmas.List.{drop_more, drop_all, take_more, take_all, get_or-map, length-map, set_at, get_or_at, length-take-le}
+use Rattle.std.proofs.lemmas.Bool.Decides.{nat_tests}
 use Rattle.std.proofs.lemmas.Int.{ints}
 use Rattle.std.proofs.lemmas.Nat.Gcd.{le_of_dvd}
 use mir.Syntax.{w64, w128}
@@ -10,13 +11,13 @@ use Rattle.nrm_number.specs.Gcd.{gcd, shrink}
 use Rattle.nrm_number.proofs.GcdLaws.{gcd-dvd_left, gcd-dvd_right, gcd_pos, reduced_pos}
 use Rattle.nrm_number.proofs.Integers.{ring_ℤ}
 use Rattle.nrm_number.proofs.Ring.{solve, ◌⊖◌, v0, v1, v2, v3, v4, v5}
-use Rattle.nrm_number.proofs.Ring.Expr.{◌⊕◌, ◌⊗◌, minus, e0}
+use Rattle.nrm_number.proofs.Ring.Expr.{◌⊕◌, ◌⊗◌, minus, e0, e1}
 use Rattle.nrm_fraction.specs.Fraction.{◌over◌, ◌*ᶠ◌, ◌-ᶠ◌, negative, whole}
 use Rattle.nrm_fraction.specs.Large.{fractions, gcd_all, first_reaching}
 use Rattle.nrm_fraction.specs.Rows.{minus_times, combine}
 use Rattle.nrm_fraction.proofs.Values.{IsValue_over, IsValue_sum, IsValue_product, IsValue_negative, same_value}
 use Rattle.nrm_row.specs.Numbers.{crossed, shrunk}
-use Rattle.nrm_row.proofs.Divisors.{gcd_all-dvd, divisor_done, shrink_back}
+use Rattle.nrm_row.proofs.Divisors.{gcd_all-dvd, divisor_done, shrink_back, shrink_one}
 use Rattle.nrm_row.proofs.LowestTerms.{reaching_yes, reaching_no, positive_abs}
 
 -- a common factor h of the entry a h over d and the denominator e h goes out
@@ -147,6 +148,17 @@ put_more made old xs i n l h e small p = record {
   reaching = p.reaching ∙ ap (first_reaching (2 ^ 48)) (drop_more made i (pos 0) (omega arith) ∙ ap (λ t. t ∷ drop (i + 1) made) (sym e)) ∙ reaching_no n (drop (i + 1) made) small;
 }
 
+-- a number that stays
+pub put_same : (made old xs : List ℤ) (i : ℕ) (n : ℤ) → length made ≡ length old → i < length old → n ≡ get_or made i (pos 0) → n ≡ get_or old i (pos 0) → leb (2 ^ 48) (nat_abs n) ≡ false → IsPutTo made old xs i → IsPutTo made old xs (i + 1)
+put_same made old xs i n l h e k small p = record {
+  put =
+      p.put ∙ ap (λ t. take i made ++ t) (drop_more old i (pos 0) h)
+      ∙ ap (λ z. take i made ++ z ∷ drop (i + 1) old) (sym k ∙ e)
+      ∙ sym (append_assoc (take i made) (get_or made i (pos 0) ∷ []) (drop (i + 1) old))
+      ∙ ap (λ t. t ++ drop (i + 1) old) (sym (take_more made i (pos 0) (omega arith)));
+  reaching = p.reaching ∙ ap (first_reaching (2 ^ 48)) (drop_more made i (pos 0) (omega arith) ∙ ap (λ t. t ∷ drop (i + 1) made) (sym e)) ∙ reaching_no n (drop (i + 1) made) small;
+}
+
 pub put_all : (made old xs : List ℤ) (i : ℕ) → length made ≡ length old → length old ≤ i → IsPutTo made old xs i → (None ≡ first_reaching (2 ^ 48) made) × (xs ≡ made)
 put_all made old xs i l h p = (
   sym (p.reaching ∙ ap (first_reaching (2 ^ 48)) (drop_all i made (omega arith))),
@@ -180,6 +192,12 @@ number_at_place G A E t n us old xs i l h p fx fu ft r s =
     number_is G A E (to_z w64 (of_z w64 (get_or xs i (pos 0)))) (to_z w64 (of_z w64 (get_or us i (pos 0)))) n t us old i l (omega arith)
     (to_z-of_z fx ∙ put_old (shrunk G (crossed A E us old)) old xs i (length-made G A E us old l) (omega arith) p) (to_z-of_z fu) r (s ∙ ap (λ z. shrink z G) (to_z-of_z ft))
 
+-- the same at 64 bits
+pub short_number_at_place : (G : ℕ) (A E t n : ℤ) (us old xs : List ℤ) (i : ℕ) → length us ≡ length old → i < length us → IsPutTo (shrunk G (crossed A E us old)) old xs i → SFits w64 (get_or xs i (pos 0)) → SFits w64 (get_or us i (pos 0)) → SFits w64 t → t ≡ to_z w64 (of_z w64 (get_or xs i (pos 0))) *ℤ E -ℤ A *ℤ to_z w64 (of_z w64 (get_or us i (pos 0))) → n ≡ shrink (to_z w64 (of_z w64 t)) G → n ≡ get_or (shrunk G (crossed A E us old)) i (pos 0)
+short_number_at_place G A E t n us old xs i l h p fx fu ft r s =
+    number_is G A E (to_z w64 (of_z w64 (get_or xs i (pos 0)))) (to_z w64 (of_z w64 (get_or us i (pos 0)))) n t us old i l (omega arith)
+    (to_z-of_z fx ∙ put_old (shrunk G (crossed A E us old)) old xs i (length-made G A E us old l) (omega arith) p) (to_z-of_z fu) r (s ∙ ap (λ z. shrink z G) (to_z-of_z ft))
+
 pub common_read : (d e a g : ℤ) (us xs : List ℤ) → SFits w64 d → SFits w64 e → SFits w64 a → SFits w128 g → g ≡ pos (gcd_all (nat_abs (to_z w64 (of_z w64 d) *ℤ to_z w64 (of_z w64 e))) (crossed (to_z w64 (of_z w64 a)) (to_z w64 (of_z w64 e)) us xs)) → to_z w128 (of_z w128 g) ≡ pos (gcd_all (nat_abs (d *ℤ e)) (crossed a e us xs))
 common_read d e a g us xs fd fe fa fg r =
     to_z-of_z fg ∙ r ∙ (λ i. pos (gcd_all (nat_abs (to_z-of_z fd i *ℤ to_z-of_z fe i)) (crossed (to_z-of_z fa i) (to_z-of_z fe i) us xs)))
@@ -196,3 +214,10 @@ shared_positive n ue h = omega (arith, ints, gcd_pos (nat_abs n) (nat_abs ue) (p
 
 pub quotient_read : (n s q : ℤ) (g : ℕ) → SFits w64 n → SFits w64 q → to_z w64 (of_z w64 s) ≡ pos g → q ≡ shrink (to_z w64 (of_z w64 n)) (nat_abs (to_z w64 (of_z w64 s))) → to_z w64 (of_z w64 q) ≡ shrink n g
 quotient_read n s q g fn fq c r = to_z-of_z fq ∙ r ∙ ap₂ (λ x z. shrink x (nat_abs z)) (to_z-of_z fn) c
+
+-- a number from which nothing is taken
+pub nought_taken : (x a u : ℤ) → u ≡ pos 0 → shrink (x *ℤ pos 1 -ℤ a *ℤ u) 1 ≡ x
+nought_taken x a u z = shrink_one (x *ℤ pos 1 -ℤ a *ℤ u) ∙ ap (λ w. x *ℤ pos 1 -ℤ a *ℤ w) z ∙ solve ring_ℤ (x ∷ a ∷ []) (v0 ⊗ e1 ⊖ v1 ⊗ e0) v0 refl
+
+pub not_large : (m : ℕ) → m < 2 ^ 48 → leb (2 ^ 48) m ≡ false
+not_large m l = grind (arith, nat_tests)

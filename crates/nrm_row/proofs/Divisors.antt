@@ -71,7 +71,7 @@ quotient_is (pos t) (pos g) h = refl
 quotient_is (negsuc t) (pos g) h = refl
 quotient_is t (negsuc g) h = absurd (omega (arith, ints))
 
-shrink_one : (n : ℤ) → shrink n 1 ≡ n
+pub shrink_one : (n : ℤ) → shrink n 1 ≡ n
 shrink_one (pos n) = ap pos (div-one n)
 shrink_one (negsuc n) = ap (λ t. neg_ℤ (pos t)) (div-one (suc n))
 

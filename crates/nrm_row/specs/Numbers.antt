@@ -26,6 +26,10 @@ crossed_below p q xs ys (c ∷ cs) =
 abbrev pub IsSmall : ℤ → Type 0
 IsSmall n = unsigned_abs n < 2 ^ 48
 
+-- below 2^14 in size: a product with a small number fits 64 bits
+abbrev pub IsShort : ℤ → Type 0
+IsShort n = unsigned_abs n < 2 ^ 14
+
 -- columns that rise, each below the width, with numbers below the limit
 pub record AreEntries (width : ℕ) (entries : List (ℕ × ℤ)) : Type 0 where
   pub rising : AllPairs (λ (a b : ℕ × ℤ). a.0 < b.0) entries

@@ -2,13 +2,17 @@
 //! divided again.
 #![tactic(auto)]
 
-ghost use Rattle.std.specs.Prelude.{◌≡◌, ◌<◌, ◌^◌, pos, ◌-ℤ◌, ◌*ℤ◌, ◌<ℤ◌, unsigned_abs, leb};
+ghost use Rattle.std.specs.Prelude.{◌≡◌, ◌<◌, ◌^◌, pos, ◌-ℤ◌, ◌*ℤ◌, ◌<ℤ◌, unsigned_abs, leb, nat_lt};
 ghost use Rattle.nrm_number.specs.Gcd.{gcd as gcd_of, shrink};
-ghost use Rattle.nrm_row.specs.Numbers.{IsSmall};
+ghost use Rattle.nrm_row.specs.Numbers.{IsSmall, IsShort};
 
 use crate::euclid::short_gcd;
 
 const LIMIT: i128 = 1 << 48;
+
+const SHORT_LIMIT: i64 = LIMIT as i64;
+
+const SHORT_FACTOR: u64 = 1 << 14;
 
 pub fn product(x: i64, y: i64) -> i128
     requires x_small { IsSmall x }
@@ -33,6 +37,43 @@ pub fn cross(x: i64, e: i64, a: i64, u: i64) -> i128
     left - right
 }
 
+// Whether a factor is below 2^14 in size, so that its product with a number of a row stays below 2^62.
+pub fn is_short(n: i64) -> bool
+    ensures { result ≡ nat_lt (unsigned_abs n) (2 ^ 14) }
+{
+    n.unsigned_abs() < SHORT_FACTOR
+}
+
+fn short_product(x: i64, y: i64) -> i64
+    requires x_small { IsSmall x }
+    requires y_short { IsShort y }
+    ensures value { result ≡ x *ℤ y }
+    ensures bound { unsigned_abs result < 2 ^ 62 }
+{
+    x * y
+}
+
+// x e - a u, at 64 bits.
+pub fn short_cross(x: i64, e: i64, a: i64, u: i64) -> i64
+    requires x_small { IsSmall x }
+    requires e_short { IsShort e }
+    requires a_short { IsShort a }
+    requires u_small { IsSmall u }
+    ensures value { result ≡ x *ℤ e -ℤ a *ℤ u }
+    ensures bound { unsigned_abs result < 2 ^ 63 }
+{
+    let left = short_product(x, e);
+    let right = short_product(u, a);
+    left - right
+}
+
+// Whether a number at 64 bits reaches the limit in size.
+pub fn is_short_large(n: i64) -> bool
+    ensures { result ≡ leb (2 ^ 48) (unsigned_abs n) }
+{
+    n >= SHORT_LIMIT || n <= -SHORT_LIMIT
+}
+
 // Whether a number reaches the limit in size.
 pub fn is_large(n: i128) -> bool
     ensures { result ≡ leb (2 ^ 48) (unsigned_abs n) }
@@ -49,12 +90,28 @@ pub fn shared_divisor(n: i64, den: i64) -> i64
     short_gcd(n.unsigned_abs(), den.unsigned_abs()) as i64
 }
 
-// n divided by g, which is meant to divide it.
+// n divided by g, which is meant to divide it. Unsigned sizes are divided, which takes far less time, and 0 is not.
 pub fn quotient(n: i64, g: i64) -> i64
     requires { pos 0 <ℤ g }
     ensures { result ≡ shrink n (unsigned_abs g) }
 {
-    n / g
+    if n == i64::MIN {
+        n / g
+    } else if n < 0 {
+        -((n.unsigned_abs() / g.unsigned_abs()) as i64)
+    } else if n > 0 {
+        (n.unsigned_abs() / g.unsigned_abs()) as i64
+    } else {
+        0
+    }
+}
+
+// The same, with no division by 1.
+pub fn short_quotient(n: i64, g: i64) -> i64
+    requires { pos 0 <ℤ g }
+    ensures { result ≡ shrink n (unsigned_abs g) }
+{
+    if g != 1 { quotient(n, g) } else { n }
 }
 
 // The same of a wide number, at 64 bits where both fit.

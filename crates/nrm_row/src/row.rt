@@ -1,7 +1,7 @@
 //! A row of fractions: whole numbers over one denominator, in lowest terms.
 #![tactic(auto)]
 
-ghost use Rattle.std.specs.Prelude.{◌≡◌, ◌+◌, ◌<◌, ◌≤◌, ◌^◌, ◌<ℤ◌, ◌*ℤ◌, pos, unsigned_abs, length, map, take, drop, All, IfOk, MatchResult, None, List, get_or};
+ghost use Rattle.std.specs.Prelude.{◌≡◌, ◌+◌, ◌<◌, ◌≤◌, ◌^◌, ◌<ℤ◌, ◌*ℤ◌, pos, unsigned_abs, length, map, take, drop, All, IfOk, MatchResult, None, List, get_or, unwrap_or};
 ghost use Rattle.std.specs.Int.{IsInRange};
 ghost use Rattle.std.specs.List.{range_with_len};
 ghost use Rattle.nrm_fraction.specs.Fraction.{Fraction, ◌<ᶠ◌, less, whole};
@@ -221,5 +221,23 @@ impl Row {
     {
         let col = usize::from(col);
         combined_row(alloc, self.den, &self.nums, unit.den, &unit.nums, col)
+    }
+
+    /// The same, or `None` where this row's entry at `col` is 0: the row is then as it was.
+    pub fn changed(&self, alloc: Global, unit: &Row, col: u16) -> Result<Option<Row>, RowFault>
+        requires widths { length unit.now ≡ length self.now }
+        requires within { col < length self.now }
+        ensures { let exact = combined col unit.now self.now in
+            MatchResult result (λ r. (unwrap_or r self.now ≡ exact) × (large_number (2 ^ 48) exact ≡ None)) (λ f. IsFault f (large_number (2 ^ 48) exact)) }
+    {
+        // For the type's invariant alone.
+        let _ = &unit.den;
+        if self.nums[usize::from(col)] == 0 {
+            return Ok(None);
+        }
+        match self.combine(alloc, unit, col) {
+            Ok(row) => Ok(Some(row)),
+            Err(fault) => Err(fault),
+        }
     }
 }

@@ -5,3 +5,4 @@ pub mod Faults
 pub mod Paths
 pub mod LastRows
 pub mod LastValue
+pub mod Changing

@@ -15,7 +15,7 @@ use crate::columns::right_side;
 use crate::ending::{allotted, leg_prices, numbers, value_over};
 use crate::first::{first_basis, first_rows, first_value};
 use crate::leaving::{entering_column, leaving_row};
-use crate::pivot::changed_rows;
+use crate::pivot::{other_rows, pivot_row, replace_rows};
 use nrm_lp::{Certificate, Numbers, Program};
 use nrm_row::{Row, RowFault};
 use std::alloc::{AllocError, Global};
@@ -89,11 +89,14 @@ impl<'a> Tableau<'a> {
         ensures fault { IfErr result (λ f. IsFault f (pivot_large (2 ^ 48) self.old.program self.old.table)) }
         ensures kept { OnErr result (self.new ≡ self.old) }
     {
-        let rows = changed_rows(alloc, &self.rows, row, col)?;
-        let value = self.value.combine(alloc, &rows[usize::from(row)], col)?;
-        self.rows = rows;
+        let place = usize::from(row);
+        let unit = pivot_row(alloc, &self.rows, row, col)?;
+        let made = other_rows(alloc, &self.rows, row, &unit, col)?;
+        let value = self.value.combine(alloc, &unit, col)?;
+        replace_rows(&mut self.rows, made);
+        self.rows[place] = unit;
         self.value = value;
-        self.basis[usize::from(row)] = col;
+        self.basis[place] = col;
         Ok(())
     }
 

@@ -5,7 +5,7 @@ use Rattle.nrm_fraction.specs.Large.{first_reaching}
 use Rattle.nrm_row.specs.Numbers.{crossed, shrunk}
 use Rattle.nrm_row.proofs.Bits.{small_fits}
 use Rattle.nrm_row.proofs.Combining.{IsPutTo, number_at_place, length-made, put_large, put_more, put_all}
-use Rattle.nrm_row.proofs.crossed.cross_in_place.Goals as goal
+use Rattle.nrm_row.proofs.crossed.wide_cross_in_place.Goals as goal
 
 pub returns-then-is_large-clause-large : goal.returns-then-is_large-clause-large
 returns-then-is_large-clause-large c =
