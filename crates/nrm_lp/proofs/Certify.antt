@@ -171,11 +171,17 @@ module _ (limit : ℕ) (room : 1 < limit) (a : ProgramValue) (ok : IsProgram a) 
   certifies =
       let best : IsOptimalAllocation a q x × IsOptimalPrices a d p = path_ends_optimal a ok t last in
       record {
-        q_size = (q, refl, q_small);
-        x_sizes = each_small limit x x_small;
-        den_size = (d, refl, d_small);
-        p_sizes = each_small limit p (λ i l. price_small i (omega (arith, meet.prices.shape)));
-        value_size = (value_over a t d, refl, value_small);
+        shape = record {
+          allocation = length-map x (λ n. pos n) ∙ meet.allocation.shape;
+          prices = length-map p (λ n. pos n) ∙ meet.prices.shape;
+          q_size = (q, refl, q_small);
+          x_sizes = each_small limit x x_small;
+          den_size = (d, refl, d_small);
+          p_sizes = each_small limit p (λ i l. price_small i (omega (arith, meet.prices.shape)));
+          value_size = (value_over a t d, refl, value_small);
+          some_q = meet.allocation.whole;
+          some_den = meet.prices.whole;
+        };
         meet = subst (λ ps. Meet a q (sizes (map (λ n. pos n) x)) d ps (value_over a t d)) (sym (sizes_back p)) (subst (λ xs. Meet a q xs d p (value_over a t d)) (sym (sizes_back x)) meet);
         best_allocation = subst (IsOptimalAllocation a q) (sym (sizes_back x)) best.0;
         best_prices = subst (IsOptimalPrices a d) (sym (sizes_back p)) best.1;

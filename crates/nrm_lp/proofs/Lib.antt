@@ -16,5 +16,7 @@ pub mod Small
 pub mod Certify
 pub mod Ends
 pub mod Fits
+pub mod Named
+pub mod Certificates
 pub mod Facts
 pub mod Positive

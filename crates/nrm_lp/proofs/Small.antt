@@ -11,7 +11,7 @@ use Rattle.nrm_number.proofs.Ring.{solve, ◌⊖◌, v0, v1, v2}
 use Rattle.nrm_number.proofs.Ring.Expr.{◌⊕◌, ◌⊗◌, e0, minus}
 use Rattle.nrm_fraction.specs.Fraction.{Fraction, ◌*ᶠ◌, ◌-ᶠ◌, negative}
 use Rattle.nrm_fraction.specs.Large.{common, running, first_reaching, first_of_two, first_large, large_number}
-use Rattle.nrm_lp.specs.Certified.{IsNumber}
+use Rattle.nrm_lp.specs.Shape.{IsNumber}
 use Rattle.nrm_fraction.specs.Rows.{at}
 use Rattle.nrm_fraction.proofs.Values.{den_pos}
 use Rattle.nrm_fraction.proofs.Field.{ring_F, IsPositive, IsNonNegative, sign_of, non_negative_product, positive_product_F, not_both_positive}

@@ -1,12 +1,13 @@
 -- Complementary slackness: an allocation and bid prices that meet, what a certificate of them says, and that the closing of a
 -- path is one.
-use Rattle.std.specs.Prelude.{ℕ, ◌≡◌, ◌<◌, ◌≤◌, ◌*◌, ℤ, pos, nat_abs, List, [], length, map, get_or, All}
+use Rattle.std.specs.Prelude.{ℕ, ◌≡◌, ◌<◌, ◌≤◌, ◌*◌, ℤ, nat_abs, List, [], length, map, get_or}
 use Rattle.nrm_lp.specs.declared.certificate.Certificate.{Certificate}
 use Rattle.nrm_lp.specs.Program.{ProgramValue, IsProgram, IsAllocation, IsPrices, IsOptimalAllocation, IsOptimalPrices, load, price_sum, gain, cost}
 use Rattle.nrm_lp.specs.Tableau.{Tableau}
 use Rattle.nrm_lp.specs.Path.{IsLast}
 use Rattle.nrm_lp.specs.Closing.{closing, value_over, certificate}
 use Rattle.nrm_lp.specs.Overflow.{Closes}
+use Rattle.nrm_lp.specs.Shape.{HasShape}
 
 -- an allocation and bid prices that meet: a leg with a price above 0 is full, a product short of its bound isn't worth more than
 -- the bid prices of its legs, and one that is sold isn't worth less; the value is the cost of the prices, and the revenue
@@ -19,22 +20,14 @@ pub record Meet (a : ProgramValue) (q : ℕ) (x : List ℕ) (d : ℕ) (p : List 
   pub value_is : value ≡ cost a d p
   pub worth : value * q ≡ gain a x * d
 
--- a number that isn't negative, and is below the limit
-abbrev pub IsNumber : ℕ → ℤ → Type 0
-IsNumber limit n = (k : ℕ) × (n ≡ pos k) × (k < limit)
-
 -- whole numbers without their signs
 abbrev pub sizes : List ℤ → List ℕ
 sizes ns = map (λ n. nat_abs n) ns
 
--- a certificate shows what it should: its numbers are none of them negative and all below the limit, its allocation and its bid
--- prices meet, and both are optimal
+-- a certificate shows what it should: it has the shape of the program's, its allocation and its bid prices meet, and both are
+-- optimal
 pub record Certifies (limit : ℕ) (a : ProgramValue) (c : Certificate) : Type 0 where
-  pub q_size : IsNumber limit c.q
-  pub x_sizes : All (IsNumber limit) c.x
-  pub den_size : IsNumber limit c.den
-  pub p_sizes : All (IsNumber limit) c.p
-  pub value_size : IsNumber limit c.value
+  pub shape : HasShape limit (length a.bounds) (length a.caps) c
   pub meet : Meet a (nat_abs c.q) (sizes c.x) (nat_abs c.den) (sizes c.p) (nat_abs c.value)
   pub best_allocation : IsOptimalAllocation a (nat_abs c.q) (sizes c.x)
   pub best_prices : IsOptimalPrices a (nat_abs c.den) (sizes c.p)

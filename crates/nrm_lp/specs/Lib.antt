@@ -5,6 +5,8 @@ pub mod Path
 pub mod Facts
 pub mod Laws
 pub mod Overflow
+pub mod Shape
+pub mod Means
 pub mod Certified
 pub mod Limits
 pub mod Ends

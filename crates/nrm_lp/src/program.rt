@@ -1,6 +1,6 @@
 //! The deterministic linear program: a cap for each leg, and for each product a bound, a fare and its legs, as plain
 //! lists within the limits.
-ghost use Rattle.std.specs.Prelude.{◌≡◌, ◌<◌, length, map, slice_get, Some};
+ghost use Rattle.std.specs.Prelude.{◌≡◌, ◌<◌, [], get_or, length, map, slice_get, Some};
 
 use std::marker::Model;
 
@@ -28,6 +28,7 @@ impl Model for Program {
 
 impl Program {
     ghost use Rattle.nrm_lp.specs.Limits.{IsLimited};
+    ghost use Rattle.nrm_lp.specs.Program.{names};
 
     /// The program of these parts. It takes no memory.
     pub fn new(caps: Vec<u32>, bounds: Vec<u32>, fares: Vec<u32>, legs: Vec<Vec<u8>>) -> Program
@@ -66,6 +67,22 @@ impl Program {
         self.fares.as_slice()
     }
 
+    /// How many legs there are: 1 to 64.
+    pub fn leg_count(&self) -> u8
+        ensures count { result ≡ length self.now.caps }
+        ensures limits { IsLimited self.now }
+    {
+        self.caps.len() as u8
+    }
+
+    /// How many products there are: 1 to 256.
+    pub fn product_count(&self) -> u16
+        ensures count { result ≡ length self.now.bounds }
+        ensures limits { IsLimited self.now }
+    {
+        self.bounds.len() as u16
+    }
+
     /// The numbers of a product's legs, in its own order.
     pub fn legs_of(&self, j: u16) -> &[u8]
         requires { j < length self.now.bounds }
@@ -73,6 +90,15 @@ impl Program {
         ensures limits { IsLimited self.now }
     {
         self.legs[j as usize].as_slice()
+    }
+
+    /// Whether a product uses a leg.
+    pub fn uses_leg(&self, product: u16, leg: u8) -> bool
+        requires { product < length self.now.bounds }
+        ensures uses { result ≡ names leg (get_or self.now.legs product []) }
+        ensures limits { IsLimited self.now }
+    {
+        self.legs_of(product).contains(&leg)
     }
 }
 
@@ -97,6 +123,8 @@ mod tests {
         assert_eq!(rt; program.fares(), [400, 150, 500].as_slice());
         assert_eq!(rt; program.legs_of(0), [1].as_slice());
         assert_eq!(rt; program.legs_of(2), [1, 0].as_slice());
+        assert_eq!(rt; (program.leg_count(), program.product_count()), (2, 3));
+        assert!(rt; program.uses_leg(2, 0) && !program.uses_leg(0, 0));
         Ok(())
     }
 }
