@@ -1,7 +1,6 @@
 //! Texts: names, whole numbers and lines, as they are read and written. Nothing here takes memory.
 #![tactic(auto)]
 
-mod euclid;
 mod laws;
 mod line;
 mod name;

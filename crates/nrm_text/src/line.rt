@@ -1,9 +1,10 @@
 //! Lines that are written: a text of at most 512 bytes in an array, so that writing one takes no memory.
-ghost use Rattle.std.specs.Prelude.{◌≡◌, ◌≤◌, ◌<◌, ◌^◌, ◌+◌, ◌++◌, [], length, take, decimal, unsigned_abs};
+ghost use Rattle.std.specs.Prelude.{◌≡◌, ◌≤◌, ◌<◌, ◌^◌, ◌+◌, ◌++◌, [], ◌∷◌, length, take, decimal, unsigned_abs};
+ghost use Rattle.nrm_fraction.specs.Fraction.{◌over◌};
 ghost use Rattle.nrm_text.specs.Fractions.{sign_of, fraction_text};
 
-use crate::euclid::gcd;
 use itoa::Buffer;
+use nrm_number::gcd;
 use std::marker::Model;
 
 /// The most bytes that a line holds.
@@ -85,21 +86,29 @@ impl Line {
         }
     }
 
+    // Appends the sign of the first number, then the second, `/` and the third.
+    fn push_parts(&mut self, num: i128, top: u128, bottom: u128)
+        requires { length self.old + (length (sign_of num) + length (decimal top) + 1 + length (decimal bottom)) ≤ 512 }
+        ensures { self.new ≡ self.old ++ (sign_of num ++ decimal top ++ 47 ∷ [] ++ decimal bottom) }
+    {
+        self.push_sign(num);
+        self.push_whole(top);
+        self.push_bytes(b"/");
+        self.push_whole(bottom);
+    }
+
     /// Appends a fraction as `n/d` in lowest terms, with `-` before a negative one; zero is `0/1`.
     pub fn push_fraction(&mut self, num: i128, den: u128)
         requires den { 1 ≤ den }
         requires num_size { unsigned_abs num < 2 ^ 126 }
         requires den_size { den < 2 ^ 126 }
-        requires room { length self.old + length (fraction_text num den) ≤ 512 }
-        ensures text { self.new ≡ self.old ++ fraction_text num den }
-        ensures length { length self.new ≡ length self.old + length (fraction_text num den) }
+        requires room { length self.old + length (fraction_text (num over den)) ≤ 512 }
+        ensures text { self.new ≡ self.old ++ fraction_text (num over den) }
+        ensures length { length self.new ≡ length self.old + length (fraction_text (num over den)) }
     {
         let size = num.unsigned_abs();
         let shared = gcd(size, den);
-        self.push_sign(num);
-        self.push_whole(size / shared);
-        self.push_bytes(b"/");
-        self.push_whole(den / shared);
+        self.push_parts(num, size / shared, den / shared);
     }
 }
 

@@ -1,5 +1,5 @@
 //! Names of legs and products.
-ghost use Rattle.std.specs.Prelude.{◌≡◌, ◌≤◌, ◌-◌, ◌++◌, length, replicate};
+ghost use Rattle.std.specs.Prelude.{◌≡◌, ◌≤◌, ◌-◌, ◌++◌, length, replicate, IsTrue};
 ghost use Rattle.std.specs.Int.{IsInRange};
 ghost use Rattle.nrm_text.specs.Names.{is_name, is_name_byte, name_in};
 ghost use Rattle.std.specs.List.{list_all};
@@ -35,6 +35,7 @@ impl Name {
     /// The bytes of the name: 1 to 12 of them.
     pub fn bytes(&self) -> &[u8]
         ensures bytes { result.now ≡ self.now }
+        ensures name { IsTrue (is_name self.now) }
         ensures length { IsInRange 1 12 (length self.now) }
     {
         let len = self.len as usize;

@@ -1,22 +1,28 @@
-use Rattle.std.proofs.Common.{◌+◌, ◌∙◌, ap, to_z-of_z}
-use Rattle.std.specs.Prelude.{length, unsigned_abs}
-use Rattle.nrm_text.specs.Fractions.{sign_of}
-use Rattle.nrm_text.proofs.Gcd.{positive_divisor}
-use Rattle.nrm_text.proofs.Fractions.{lengths}
+use Rattle.std.proofs.Common.{◌≡◌, ◌<◌, ◌++◌, ◌∙◌, length, length-append, arith, sym, ap, subst, to_z-of_z}
+use Rattle.nrm_number.proofs.GcdLaws.{gcd_pos}
+use Rattle.nrm_fraction.specs.Fraction.{◌over◌}
+use Rattle.nrm_text.specs.Fractions.{fraction_text}
+use Rattle.nrm_text.proofs.Fractions.{over_pieces, over_length}
 use Rattle.nrm_text.proofs.line.Line.push_fraction.Goals as goal
 
 pub nonzero_div-size : goal.nonzero_div-size
-nonzero_div-size c = positive_divisor c.unsigned_abs-size.result c.args.den c.gcd-shared.result c.gcd-shared.ensures c.requires.den
+nonzero_div-size c = subst (λ g. 0 < g) (sym c.gcd-shared.ensures.value) (gcd_pos c.unsigned_abs-size.result c.args.den c.requires.den)
 
 pub nonzero_div-den : goal.nonzero_div-den
-nonzero_div-den c = positive_divisor c.unsigned_abs-size.result c.args.den c.gcd-shared.result c.gcd-shared.ensures c.requires.den
+nonzero_div-den c = subst (λ g. 0 < g) (sym c.gcd-shared.ensures.value) (gcd_pos c.unsigned_abs-size.result c.args.den c.requires.den)
+
+pub push_parts-requires : goal.push_parts-requires
+push_parts-requires c =
+    let whole = over_length c.args.num _ c.args.den c.unsigned_abs-size.result c.gcd-shared.result (to_z-of_z c.ranges.num) c.requires.den c.unsigned_abs-size.ensures.value c.gcd-shared.ensures.value in
+    omega (arith, whole, c.requires.room)
+
+text : (c : goal.After-push_parts) → c.push_parts.new.self ≡ c.args.self.now ++ fraction_text (c.args.num over c.args.den)
+text c =
+    let whole = over_pieces c.args.num _ c.args.den c.unsigned_abs-size.result c.gcd-shared.result (to_z-of_z c.ranges.num) c.requires.den c.unsigned_abs-size.ensures.value c.gcd-shared.ensures.value in
+    c.push_parts.ensures ∙ ap (λ t. c.args.self.now ++ t) (sym whole)
+
+pub returns-clause-text : goal.returns-clause-text
+returns-clause-text c = text c
 
 pub returns-clause-length : goal.returns-clause-length
-returns-clause-length c =
-    lengths c.args.num c.args.den c.unsigned_abs-size.result c.gcd-shared.result (length c.args.self.now) (length c.push_sign.new.self) (length c.push_whole.new.self) (length c.push_bytes.new.self) (length c.push_whole-2.new.self)
-    (c.unsigned_abs-size.ensures.value ∙ ap unsigned_abs (to_z-of_z c.ranges.num))
-    c.gcd-shared.ensures
-    (c.push_sign.ensures.length ∙ ap (λ num. length c.args.self.now + length (sign_of num)) (to_z-of_z c.ranges.num))
-    c.push_whole.ensures.length
-    c.push_bytes.ensures.length
-    c.push_whole-2.ensures.length
+returns-clause-length c = ap length (text c) ∙ length-append c.args.self.now (fraction_text (c.args.num over c.args.den))
