@@ -1,5 +1,5 @@
 -- When a call may answer that the outside failed.
-use Rattle.std.specs.Prelude.{ℕ, Bool, ◌+◌, ◌-◌, ◌^◌, ◌≤◌, min, Result, OnErr, if◌then◌else◌}
+use Rattle.std.specs.Prelude.{ℕ, Bool, ◌+◌, ◌-◌, ◌^◌, ◌≤◌, ◌≡◌, min, Result, OnOk, OnErr, if◌then◌else◌}
 
 -- one more, but no more than the last value of u64
 abbrev pub one_more : ℕ → ℕ
@@ -9,9 +9,10 @@ one_more count = min (count + 1) (2 ^ 64 - 1)
 abbrev pub Rose : ℕ → ℕ → Type 0
 Rose before now = one_more before ≤ now
 
--- the count of faults never falls, and the call failed only where it rose
+-- a call leaves the count of faults as it was where it is done, and it failed only where the count rose; the count never falls
 pub record HasCause {T E : Type 0} (before now : ℕ) (result : Result T E) : Type 0 where
   pub later : before ≤ now
+  pub done : OnOk result (now ≡ before)
   pub failed : OnErr result (Rose before now)
 
 -- the count after a call that failed, or did not

@@ -21,5 +21,5 @@ loop-product-preserved g c =
     let next = subst (Appends (held c.loop-product.sink) (held c.put_all.new.sink)) (c.bytes.ensures ∙ c.line_for_product.ensures) c.in_ok-put_all.ensures.whole in
     record {
       sent = line-sent (held c.args.sink.now) (held c.loop-product.sink) (held c.put_all.new.sink) (product_line c.args.net.now c.args.certificate.now) c.loop-product.product c.loop-product.invariant.sent next;
-      later = omega (arith, c.loop-product.invariant.later, c.in_ok-put_all.ensures.cause.later);
+      count = omega (arith, c.loop-product.invariant.count, c.in_ok-put_all.ensures.cause.done);
     }

@@ -1,12 +1,12 @@
-use Rattle.std.proofs.Common.{◌≤◌, flat_map}
+use Rattle.std.proofs.Common.{◌≡◌, flat_map}
 use Rattle.std.specs.Io.KnownBytes.{Appends}
 use Rattle.std.specs.List.{range_with_len}
 use Rattle.nrm_dual.specs.Texts.{product_line}
 use Rattle.nrm_report.proofs.certificate.put_allotted.Given as goal
 
--- the lines of the products so far went out, and the count has not fallen
+-- the lines of the products so far went out, and the count stands as it did
 abbrev pub invariant-loop-product : goal.invariant-loop-product
 invariant-loop-product g l = record {
   sent : Appends (g.K.Sink.held l.initial.sink) (g.K.Sink.held l.sink) (flat_map (product_line l.net l.certificate) (range_with_len 0 l.product));
-  later : g.K.Sink.faults l.initial.sink ≤ g.K.Sink.faults l.sink;
+  count : g.K.Sink.faults l.sink ≡ g.K.Sink.faults l.initial.sink;
 }

@@ -21,5 +21,5 @@ loop-leg-preserved g c =
     let next = subst (Appends (held c.loop-leg.sink) (held c.put_all.new.sink)) (c.bytes.ensures ∙ c.line_for_leg.ensures) c.in_ok-put_all.ensures.whole in
     record {
       sent = line-sent (held c.args.sink.now) (held c.loop-leg.sink) (held c.put_all.new.sink) (leg_line c.args.net.now c.args.certificate.now) c.loop-leg.leg c.loop-leg.invariant.sent next;
-      later = omega (arith, c.loop-leg.invariant.later, c.in_ok-put_all.ensures.cause.later);
+      count = omega (arith, c.loop-leg.invariant.count, c.in_ok-put_all.ensures.cause.done);
     }

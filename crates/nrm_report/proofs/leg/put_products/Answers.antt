@@ -29,7 +29,7 @@ loop-product-preserved g c =
     elim c.if-uses.branch [
       | then-uses+in_ok-put_product w ↦
           let whole = Appends-trans (held c.args.sink.now) (held c.loop-product.sink) (held w.put_product.new.sink) (lines_of net bookings i j) (on_line net bookings i j) c.loop-product.invariant.sent w.in_ok-put_product.ensures.whole in
-          rw w.sink-is (record { sent = rw (lines-used net bookings i j (sym c.uses.ensures ∙ w.if-uses.true)) whole; later = omega (arith, c.loop-product.invariant.later, w.in_ok-put_product.ensures.cause.later) })
+          rw w.sink-is (record { sent = rw (lines-used net bookings i j (sym c.uses.ensures ∙ w.if-uses.true)) whole; count = omega (arith, c.loop-product.invariant.count, w.in_ok-put_product.ensures.cause.done) })
       | else-uses w ↦
-          rw w.sink-is (record { sent = rw (lines-unused net bookings i j (sym c.uses.ensures ∙ w.if-uses.false)) c.loop-product.invariant.sent; later = omega (arith, c.loop-product.invariant.later) })
+          rw w.sink-is (record { sent = rw (lines-unused net bookings i j (sym c.uses.ensures ∙ w.if-uses.false)) c.loop-product.invariant.sent; count = omega (arith, c.loop-product.invariant.count) })
     ]
