@@ -14,6 +14,7 @@ pub mod Overflows
 pub mod Meeting
 pub mod Small
 pub mod Certify
+pub mod Audited
 pub mod Ends
 pub mod Fits
 pub mod Named

@@ -1,5 +1,5 @@
 -- Where a path ends, its closing is an allocation and prices that meet, with both kinds of slackness.
-use Rattle.std.proofs.Common.{◌≡◌, ℕ, ◌*◌, nat_abs, arith, sym, ap, ◌∙◌}
+use Rattle.std.proofs.Common.{◌≡◌, ℕ, ◌*◌, nat_abs, arith, refl, sym, ap, ◌∙◌, subst, List}
 use Rattle.nrm_lp.specs.Program.{ProgramValue, IsProgram, IsAllocation, IsPrices, gain, cost}
 use Rattle.nrm_fraction.specs.Large.{common, over_common}
 use Rattle.nrm_lp.specs.Tableau.{Tableau}
@@ -11,6 +11,18 @@ use Rattle.nrm_lp.proofs.Rule.{IsKept}
 use Rattle.nrm_lp.proofs.Optimal.{is_allocation, are_prices, meets, cost_value}
 use Rattle.nrm_lp.proofs.Path.{path_kept, last_signs}
 use Rattle.nrm_lp.proofs.Slackness.{priced_legs_full, unmet_not_dear, used_not_cheap}
+
+-- where gain and cost meet, an allocation and prices do
+pub meet_of : (a : ProgramValue) → IsProgram a → (q d : ℕ) (x p : List ℕ) → IsAllocation a q x → IsPrices a d p → gain a x * d ≡ cost a d p * q → Meet a q x d p (cost a d p)
+meet_of a ok q d x p allocation prices meets = record {
+  allocation = allocation;
+  prices = prices;
+  full = λ i l h. priced_legs_full a q d x p ok allocation prices meets i l h;
+  unmet = λ j l h. unmet_not_dear a q d x p ok allocation prices meets j (omega (arith, l, allocation.shape)) h;
+  used = λ j l h. used_not_cheap a q d x p ok allocation prices meets j (omega (arith, l, allocation.shape)) h;
+  value_is = refl;
+  worth = sym meets;
+}
 
 module _ (a : ProgramValue) (ok : IsProgram a) (t : Tableau) (last : IsLast a t) where
   kept : IsKept a t
@@ -35,12 +47,4 @@ module _ (a : ProgramValue) (ok : IsProgram a) (t : Tableau) (last : IsLast a t)
   value_cost = ap (λ x. nat_abs x.num) (sym (cost_value a ok t kept kept.basis_below (last_signs a t kept last.2))) ∙ W-num (cost a d (over_common (leg_prices a t)))
 
   pub ends_meet : Meet a (common (product_values a t)) (over_common (product_values a t)) (common (leg_prices a t)) (over_common (leg_prices a t)) (value_over a t (common (leg_prices a t)))
-  ends_meet = record {
-    allocation = allocation;
-    prices = prices;
-    full = λ i l h. priced_legs_full a q d (over_common (product_values a t)) (over_common (leg_prices a t)) ok allocation prices both i l h;
-    unmet = λ j l h. unmet_not_dear a q d (over_common (product_values a t)) (over_common (leg_prices a t)) ok allocation prices both j (omega (arith, allocation.shape)) h;
-    used = λ j l h. used_not_cheap a q d (over_common (product_values a t)) (over_common (leg_prices a t)) ok allocation prices both j (omega (arith, allocation.shape)) h;
-    value_is = value_cost;
-    worth = ap (λ v. v * q) value_cost ∙ sym both;
-  }
+  ends_meet = subst (Meet a q (over_common (product_values a t)) d (over_common (leg_prices a t))) (sym value_cost) (meet_of a ok q d (over_common (product_values a t)) (over_common (leg_prices a t)) allocation prices both)

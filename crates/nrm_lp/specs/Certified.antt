@@ -45,3 +45,16 @@ ClosesMeet = (limit : ℕ) (a : ProgramValue) → IsProgram a → (n : ℕ) (t :
 -- the certificate of such a closing shows what it should
 abbrev pub ClosesCertify : Type 0
 ClosesCertify = (limit : ℕ) → 1 < limit → (a : ProgramValue) → IsProgram a → (n : ℕ) (t : Tableau) → Closes limit a n t → Certifies limit a (certificate a t)
+
+-- where some allocation and bid prices meet, all that are optimal do, whichever path or hand they come from
+abbrev pub OptimalMeet : Type 0
+OptimalMeet = (a : ProgramValue) → IsProgram a → (q d value : ℕ) (x p : List ℕ) → Meet a q x d p value
+    → (q' d' : ℕ) (x' p' : List ℕ) → IsOptimalAllocation a q' x' → IsOptimalPrices a d' p' → Meet a q' x' d' p' (cost a d' p')
+
+-- and where a path closes, each certificate of the shape whose allocation and bid prices are optimal, and whose value is the cost
+-- of its prices, shows what it should: not only the certificate of the closing
+abbrev pub OptimalCertify : Type 0
+OptimalCertify = (limit : ℕ) (a : ProgramValue) → IsProgram a → (n : ℕ) (t : Tableau) → Closes limit a n t
+    → (c : Certificate) → HasShape limit (length a.bounds) (length a.caps) c
+    → IsOptimalAllocation a (nat_abs c.q) (sizes c.x) → IsOptimalPrices a (nat_abs c.den) (sizes c.p)
+    → nat_abs c.value ≡ cost a (nat_abs c.den) (sizes c.p) → Certifies limit a c

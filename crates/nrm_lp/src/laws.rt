@@ -2,7 +2,7 @@
 ghost use Rattle.nrm_lp.specs.Laws.{EndsOptimal, WeakDuality};
 ghost use Rattle.nrm_lp.specs.Facts.{PathHasFacts};
 ghost use Rattle.nrm_lp.specs.Ends.{EveryPathEnds, PathsEndOnce};
-ghost use Rattle.nrm_lp.specs.Certified.{ClosesCertify, ClosesMeet, EndsMeet};
+ghost use Rattle.nrm_lp.specs.Certified.{ClosesCertify, ClosesMeet, EndsMeet, OptimalCertify, OptimalMeet};
 
 /// No allocation gains more than any prices cost.
 pub fn weakly_dual()
@@ -35,6 +35,17 @@ pub fn closes_meet()
 /// allocation and its bid prices meet, and both are optimal.
 pub fn closes_certify()
     ensures { ClosesCertify }
+{}
+
+/// Where some allocation and bid prices meet, each optimal allocation and each optimal bid prices do.
+pub fn optimal_meet()
+    ensures { OptimalMeet }
+{}
+
+/// Where the path of a program closes, every certificate of the shape whose allocation and bid prices are optimal, and
+/// whose value is the cost of its prices, shows what it should.
+pub fn optimal_certify()
+    ensures { OptimalCertify }
 {}
 
 /// The path of every program ends: in a closing that isn't Large, or where a pivot or the closing is Large.
