@@ -1,12 +1,14 @@
 -- Where a path ends, its closing is an allocation and prices that meet, with both kinds of slackness.
 use Rattle.std.proofs.Common.{◌≡◌, ℕ, ◌*◌, nat_abs, arith, refl, sym, ap, ◌∙◌, subst, List}
 use Rattle.nrm_lp.specs.Program.{ProgramValue, IsProgram, IsAllocation, IsPrices, gain, cost}
+use Rattle.nrm_fraction.specs.Fraction.{◌*ᶠ◌}
 use Rattle.nrm_fraction.specs.Large.{common, over_common}
-use Rattle.nrm_lp.specs.Tableau.{Tableau}
+use Rattle.nrm_fraction.specs.Rows.{at}
+use Rattle.nrm_lp.specs.Tableau.{Tableau, right_side}
 use Rattle.nrm_lp.specs.Closing.{product_values, leg_prices, value_over}
 use Rattle.nrm_lp.specs.Path.{IsLast}
 use Rattle.nrm_lp.specs.Certified.{Meet}
-use Rattle.nrm_fraction.proofs.Embed.{W-num}
+use Rattle.nrm_fraction.proofs.Embed.{W, W-num}
 use Rattle.nrm_lp.proofs.Rule.{IsKept}
 use Rattle.nrm_lp.proofs.Optimal.{is_allocation, are_prices, meets, cost_value}
 use Rattle.nrm_lp.proofs.Path.{path_kept, last_signs}
@@ -48,3 +50,7 @@ module _ (a : ProgramValue) (ok : IsProgram a) (t : Tableau) (last : IsLast a t)
 
   pub ends_meet : Meet a (common (product_values a t)) (over_common (product_values a t)) (common (leg_prices a t)) (over_common (leg_prices a t)) (value_over a t (common (leg_prices a t)))
   ends_meet = subst (Meet a q (over_common (product_values a t)) d (over_common (leg_prices a t))) (sym value_cost) (meet_of a ok q d (over_common (product_values a t)) (over_common (leg_prices a t)) allocation prices both)
+
+  -- the value row's right side times the denominator of the prices is the cost, which is whole
+  pub value_is_whole : at t.value (right_side a) *ᶠ W (common (leg_prices a t)) ≡ W (value_over a t (common (leg_prices a t)))
+  value_is_whole = sym (cost_value a ok t kept kept.basis_below (last_signs a t kept last.2)) ∙ ap W (sym value_cost)

@@ -2,6 +2,7 @@
 ghost use Rattle.nrm_lp.specs.Laws.{EndsOptimal, WeakDuality};
 ghost use Rattle.nrm_lp.specs.Facts.{PathHasFacts};
 ghost use Rattle.nrm_lp.specs.Ends.{EveryPathEnds, PathsEndOnce};
+ghost use Rattle.nrm_lp.specs.Closing.{ValueIsWhole};
 ghost use Rattle.nrm_lp.specs.Certified.{ClosesCertify, ClosesMeet, EndsMeet, OptimalCertify, OptimalMeet};
 
 /// No allocation gains more than any prices cost.
@@ -26,7 +27,13 @@ pub fn ends_meet()
     ensures { EndsMeet }
 {}
 
-/// The same of a path that ends without a Large pivot and with a closing that isn't Large.
+/// Where the path ends, the value row's right side times the denominator of the bid prices is a whole number that isn't
+/// negative: the value of the closing.
+pub fn value_is_whole()
+    ensures { ValueIsWhole }
+{}
+
+/// The closing of a path that ends without a Large pivot, and with a closing that isn't Large, meets in the same way.
 pub fn closes_meet()
     ensures { ClosesMeet }
 {}
