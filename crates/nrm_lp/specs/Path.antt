@@ -4,8 +4,9 @@ use Rattle.nrm_fraction.specs.Fraction.{Fraction}
 use Rattle.nrm_lp.specs.Program.{ProgramValue}
 use Rattle.nrm_lp.specs.Tableau.{Tableau, first_tableau, entering, leaving, pivot}
 
--- the row that the leaving rule found. A program has one at each column that enters, since each product has the row of its bound.
--- The 0 stands for no row: it is met only by records that are no program, of which nothing is said
+-- the row that the leaving rule found. On a path there is one whichever column enters, a product's or a slack's (law
+-- `path_has_facts`): each column has a 1 in some first row, its bound's or its own, and no first row has an entry below 0 before
+-- the right side. That holds of every record, also of one that is no program, so the 0 for no row is never met
 abbrev pub row_number : Option (ℕ × List Fraction) → ℕ
 row_number None = 0
 row_number (Some found) = found.0
