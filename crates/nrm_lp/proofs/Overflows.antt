@@ -5,10 +5,9 @@ use Rattle.nrm_fraction.specs.Fraction.{◌over◌, ◌+ᶠ◌, ◌*ᶠ◌, inve
 use Rattle.nrm_lp.specs.Program.{ProgramValue}
 use Rattle.nrm_lp.specs.Tableau.{Tableau, first_tableau, entering}
 use Rattle.nrm_lp.specs.Closing.{closing, value_over}
-use Rattle.nrm_fraction.specs.Large.{running, first_reaching, first_large}
 use Rattle.nrm_lp.specs.Path.{after, next}
 use Rattle.nrm_lp.proofs.Runs.{network_a}
-use Rattle.nrm_lp.specs.Overflow.{Overflows, Closes, pivot_large, closing_large, rows_but}
+use Rattle.nrm_lp.specs.Overflow.{Overflows, Closes, pivot_large, closing_large}
 
 -- three legs, and a product on each two of them: each is sold by halves
 abbrev pub triangle : ProgramValue
@@ -58,10 +57,21 @@ triangle_is_small : closing_large 4 triangle (reached_by triangle 4) ≡ None
 unfolding ◌over◌ ◌+ᶠ◌ ◌*ᶠ◌ negative inverse less whole gcd lcm in_lowest_terms
 triangle_is_small = refl
 
--- its own row first: row 1 of three, then rows 0 and 2, and the value row is last
-row_order : first_large 5 ((pos 7 over 1 ∷ []) ∷ rows_but 1 ((pos 6 over 1 ∷ []) ∷ (pos 7 over 1 ∷ []) ∷ (pos 8 over 1 ∷ []) ∷ [])) ≡ Some (pos 7)
-unfolding ◌over◌ gcd lcm in_lowest_terms
-row_order = refl
+-- ---- the order of a pivot: the first one of two legs and five products stands in row 2, the bound of 12 of product 0
+-- at 12 its own row is told, which holds 12
+a_at_twelve : pivot_large 12 network_a (first_tableau network_a) ≡ Some (pos 12)
+unfolding ◌over◌ ◌+ᶠ◌ ◌*ᶠ◌ negative inverse less whole gcd lcm in_lowest_terms
+a_at_twelve = refl
+
+-- at 13 row 0, with the 28 seats that are left on its leg: before the 40 and the 32 of rows 1 and 5, and before the value row's fares
+a_at_thirteen : pivot_large 13 network_a (first_tableau network_a) ≡ Some (pos 28)
+unfolding ◌over◌ ◌+ᶠ◌ ◌*ᶠ◌ negative inverse less whole gcd lcm in_lowest_terms
+a_at_thirteen = refl
+
+-- at 41 no constraint row, and the first fare that is left in the value row
+a_at_forty_one : pivot_large 41 network_a (first_tableau network_a) ≡ Some (negsuc 149)
+unfolding ◌over◌ ◌+ᶠ◌ ◌*ᶠ◌ negative inverse less whole gcd lcm in_lowest_terms
+a_at_forty_one = refl
 
 -- ---- a closing that is Large where no pivot is
 -- three legs sold by halves and four sold by thirds: over the common 6 the seats of product 5 are 15
@@ -82,10 +92,14 @@ closing_at_twelve : story 12 halves_and_thirds 7 (first_tableau halves_and_third
 unfolding ◌over◌ ◌+ᶠ◌ ◌*ᶠ◌ negative inverse less whole gcd lcm in_lowest_terms
 closing_at_twelve = refl
 
--- of its closing, the running denominators 2, 6, 6 .. are asked first, and with a limit above them the numbers
-closing_order : first_reaching 6 (running 1 (pos 1 over 2 ∷ pos 1 over 3 ∷ pos 5 over 2 ∷ [])) ≡ Some (pos 6)
-unfolding ◌over◌ gcd lcm in_lowest_terms
-closing_order = refl
+-- of its closing the running denominators 2, 6, 6 .. are asked first, from the first one on, and behind them the numbers
+closing_at_two : closing_large 2 halves_and_thirds (reached_by halves_and_thirds 7) ≡ Some (pos 2)
+unfolding ◌over◌ ◌+ᶠ◌ ◌*ᶠ◌ negative inverse less whole gcd lcm in_lowest_terms
+closing_at_two = refl
+
+closing_at_four : closing_large 4 halves_and_thirds (reached_by halves_and_thirds 7) ≡ Some (pos 6)
+unfolding ◌over◌ ◌+ᶠ◌ ◌*ᶠ◌ negative inverse less whole gcd lcm in_lowest_terms
+closing_at_four = refl
 
 -- ---- the seven pivots of two legs and five products and their closing stay below the limit of the code
 a_is_small : story (2 ^ 48) network_a 7 (first_tableau network_a) ≡ None ∷ None ∷ None ∷ None ∷ None ∷ None ∷ None ∷ None ∷ []
