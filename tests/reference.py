@@ -12,8 +12,8 @@ from the list of bookings at each line. A certificate is checked on exact fracti
 denominator; nothing is solved for it. `certificate` is Bland's simplex method on fractions.
 
 The status is that of the program: 3 where FILE or CERT is refused, 9 where it can't be read, 1 where a certificate is
-wrong, 5 where the text can't be written. So `tests/run` takes it as the program for the cases of `check FILE CERT`. The
-cases named `session-mixed-...` have a stream of `stream` and the replies of `replies`.
+wrong, 5 where the text can't be written. So `tests/run check --program tests/reference.py` takes it as the program for the
+cases of `check FILE CERT`. The case `session-mixed-lines` has a stream of `stream` and the replies of `replies`.
 """
 import os
 import random
