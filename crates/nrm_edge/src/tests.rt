@@ -1,11 +1,81 @@
-//! What no clause tells: that the calls which take memory succeed, and what the real adapters do.
+//! What no clause tells: that the calls which take memory succeed, and what the real adapters do. And what each adapter
+//! tells through its trait alone: a sink that tells no bytes, or a count that stands, is refused here.
+ghost use Rattle.std.specs.Prelude.{◌≡◌, ◌<◌, ◌≤◌, ◌++◌, ◌^◌, ℕ, [], length, take, IfOk, OnOk, OnErr, Ok, Err};
+ghost use Rattle.std.specs.Io.KnownBytes.{Appends, ReadConsumes};
+ghost use Rattle.nrm_edge.specs.Causes.{HasCause, one_more};
+ghost use Rattle.nrm_edge.specs.Fetch.{AnswersFetch, HasFileCause, IsFetched};
+ghost use Rattle.nrm_edge.specs.Memory.{stored_under};
+ghost use Rattle.nrm_edge.specs.declared.files.FileFault.TheVariants as fault;
+
 use crate::{
-    DirFiles, Fetched, FileFault, Files, MemFiles, MemSink, MemSource, Sink, Source, StdSink,
-    StdSource, put_all,
+    DirFiles, Failed, Fetched, FileFault, Files, MemFiles, MemSink, MemSource, Sink, Source,
+    StdSink, StdSource, put_all,
 };
 use std::alloc::{AllocError, Global};
 use std::test::Fail;
 use std::{env, fs};
+
+// Puts a whole piece into a sink in memory.
+fn put_in_memory(sink: &mut MemSink, piece: &[u8]) -> Result<(), Failed>
+    ensures whole { OnOk result (sink.new.held ≡ sink.old.held ++ piece.now) }
+    ensures cut { OnErr result ((count : ℕ) × (count ≤ length piece.now) × (sink.new.held ≡ sink.old.held ++ take count piece.now)) }
+    ensures done { OnOk result (sink.new.faults ≡ sink.old.faults) }
+    ensures rose { OnErr result (one_more sink.old.faults ≤ sink.new.faults) }
+{
+    put_all(sink, piece)
+}
+
+// Takes from any source.
+fn take_from<S: Source>(source: &mut S, into: &mut [u8]) -> Result<usize, Failed>
+    requires { 0 < length into.old }
+    ensures bytes { ReadConsumes (S.coming source.old) (S.coming source.new) result into.new }
+    ensures cause { HasCause (S.faults source.old) (S.faults source.new) result }
+{
+    source.take(into)
+}
+
+// Takes from a source in memory.
+fn take_from_memory(source: &mut MemSource, into: &mut [u8]) -> Result<usize, Failed>
+    requires { 0 < length into.old }
+    ensures taken { IfOk result (λ count. source.old.coming ≡ take count into.new ++ source.new.coming) }
+    ensures end { IfOk result (λ count. count ≡ 0 → source.new.coming ≡ []) }
+    ensures stays { OnErr result (source.new.coming ≡ source.old.coming) }
+    ensures done { OnOk result (source.new.faults ≡ source.old.faults) }
+    ensures rose { OnErr result (one_more source.old.faults ≤ source.new.faults) }
+{
+    take_from(source, into)
+}
+
+// Fetches from any files.
+fn fetch_from<F: Files>(
+    files: &mut F,
+    alloc: Global,
+    name: &str,
+    room: usize,
+) -> Result<Fetched, FileFault>
+    requires { room < 2 ^ 32 }
+    ensures answer { AnswersFetch (F.contents files.old) name.now room result }
+    ensures stays { F.contents files.new ≡ F.contents files.old }
+    ensures cause { HasFileCause (F.faults files.old) (F.faults files.new) result }
+{
+    files.fetch(alloc, name, room)
+}
+
+// Fetches from files in memory.
+fn fetch_from_memory(
+    files: &mut MemFiles,
+    alloc: Global,
+    name: &str,
+    room: usize,
+) -> Result<Fetched, FileFault>
+    requires { room < 2 ^ 32 }
+    ensures answer { IfOk result (IsFetched (stored_under files.old.files name.now) room) }
+    ensures stays { stored_under files.new.files name.now ≡ stored_under files.old.files name.now }
+    ensures done { OnOk result (files.new.faults ≡ files.old.faults) }
+    ensures rose { result ≡ Err fault.Failed → one_more files.old.faults ≤ files.new.faults }
+{
+    fetch_from(files, alloc, name, room)
+}
 
 #[test]
 fn a_sink_in_memory_takes_pieces(rt: HostRuntime) -> Result<(), Fail> {
@@ -15,8 +85,8 @@ fn a_sink_in_memory_takes_pieces(rt: HostRuntime) -> Result<(), Fail> {
     assert_eq!(rt; sink.put(b"abc").ok(), Some(2));
     assert_eq!(rt; sink.put(b"cde").ok(), Some(1));
     assert!(rt; sink.put(b"de").is_err(), "the third put fails");
-    assert!(rt; put_all(&mut sink, b"defgh").is_ok());
-    assert!(rt; put_all(&mut sink, b"i").is_err(), "no room is left");
+    assert!(rt; put_in_memory(&mut sink, b"defgh").is_ok());
+    assert!(rt; put_in_memory(&mut sink, b"i").is_err(), "no room is left");
     assert_eq!(rt; sink.held(), b"abcdefgh".as_slice());
     Ok(())
 }
@@ -28,7 +98,7 @@ fn a_source_in_memory_gives_pieces(rt: HostRuntime) -> Result<(), Fail> {
     let failing = Vec::from_array(rt.alloc(), [2])?;
     let mut source = MemSource::new(bytes, cuts, failing);
     let mut into = [0; 4];
-    assert_eq!(rt; source.take(&mut into).ok(), Some(2));
+    assert_eq!(rt; take_from_memory(&mut source, &mut into).ok(), Some(2));
     assert!(rt; source.take(&mut into).is_err(), "the second take fails");
     assert_eq!(rt;
         source.take(&mut into).ok(),
@@ -50,7 +120,7 @@ fn two_files(alloc: Global) -> Result<MemFiles, AllocError> {
 #[test]
 fn files_in_memory_are_fetched(rt: HostRuntime) -> Result<(), Fail> {
     let mut files = two_files(rt.alloc())?;
-    match files.fetch(rt.alloc(), "A", 3) {
+    match fetch_from_memory(&mut files, rt.alloc(), "A", 3) {
         Ok(Fetched::Whole(bytes)) => assert_eq!(rt; bytes.as_slice(), b"abc".as_slice()),
         _ => return Err(Fail::from("not whole")),
     }
