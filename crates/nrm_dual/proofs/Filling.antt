@@ -6,8 +6,8 @@ use Rattle.std.proofs.Math.Seq.{get_or-append_seam, set-append_seam}
 use Rattle.std.proofs.lemmas.List.{append-nil}
 use Rattle.std.proofs.lemmas.List.FromFn.{length-map-range_with_len, map-range_with_len_more}
 use Rattle.nrm_model.specs.Network.{NetworkValue}
-use Rattle.nrm_dual.specs.declared.fault.CertFault.TheVariants as fault
-use Rattle.nrm_dual.specs.Reading.{Written, Place, the_value, of_product, of_leg, Entry, entry_of, Sheet, blank, given, with_given, is_over, after_entry, after_line, after_lines, or_fault}
+use Rattle.nrm_dual.specs.Refusals.{large_line}
+use Rattle.nrm_dual.specs.Reading.{Written, Place, the_value, of_product, of_leg, Entry, entry_of, Sheet, blank, given, with_given, is_over, after_entry, after_line, after_lines, or_refusal}
 use Rattle.nrm_dual.proofs.SheetBack.{full_sheet}
 
 abbrev pub entry_for : Place → Written → Entry
@@ -17,9 +17,9 @@ entry_for place w = record { place = place; fraction = w }
 line_given : (net : NetworkValue) (sheet : Sheet) (number : ℕ) (line : List ℕ) (more : List (List ℕ)) (place : Place) (w : Written) → entry_of net line ≡ Some (entry_for place w) → given sheet place ≡ None → is_over w ≡ false
     → after_lines net sheet number (line ∷ more) ≡ after_lines net (with_given sheet place w) (suc number) more
 line_given net sheet number line more place w entry none fits =
-    ap (λ e. or_fault (after_line sheet number e) (λ next. after_lines net next (suc number) more)) entry
-    ∙ ap (λ before. or_fault (after_entry sheet number (entry_for place w) before) (λ next. after_lines net next (suc number) more)) none
-    ∙ ap (λ large. or_fault (if large then Err (fault.Large number) else Ok (with_given sheet place w)) (λ next. after_lines net next (suc number) more)) fits
+    ap (λ e. or_refusal (after_line sheet number e) (λ next. after_lines net next (suc number) more)) entry
+    ∙ ap (λ before. or_refusal (after_entry sheet number (entry_for place w) before) (λ next. after_lines net next (suc number) more)) none
+    ∙ ap (λ large. or_refusal (if large then Err (large_line number) else Ok (with_given sheet place w)) (λ next. after_lines net next (suc number) more)) fits
 
 -- the first of these are given, and then so many aren't
 abbrev partly : (ℕ → Written) → ℕ → ℕ → List (Option Written)

@@ -12,15 +12,14 @@ use Rattle.nrm_stream.specs.Lines.{lines_of}
 use Rattle.nrm_lp.specs.declared.certificate.Certificate.{Certificate}
 use Rattle.nrm_lp.specs.Certified.{IsNumber}
 use Rattle.nrm_lp.proofs.Small.{reach_first}
-use Rattle.nrm_dual.specs.declared.fault.CertFault.{CertFault}
-use Rattle.nrm_dual.specs.declared.fault.CertFault.TheVariants as fault
-use Rattle.nrm_dual.specs.Reading.{Written, Place, the_value, of_product, of_leg, Entry, entry_of, Sheet, blank, given, with_given, is_over, after_entry, after_line, after_lines, or_fault, first_missing, times, certificate_over, certificate_or_fault, small_or_fault, whole_or_fault, certificate_on, certificate_of, allocation_in, value_in, prices_in}
+use Rattle.nrm_dual.specs.Refusals.{CertRefusal, too_long, bad_line, large_line, no_value, no_product, no_leg, too_fine}
+use Rattle.nrm_dual.specs.Reading.{Written, Place, the_value, of_product, of_leg, Entry, entry_of, Sheet, blank, given, with_given, is_over, after_entry, after_line, after_lines, or_refusal, first_missing, times, certificate_over, certificate_or_refusal, small_or_refusal, whole_or_refusal, certificate_on, certificate_of, allocation_in, value_in, prices_in}
 use Rattle.nrm_dual.specs.Texts.{IsShaped}
 
-fault_ok : {A : Type 0} (cause : CertFault) (x : A) → Err cause ≡ Ok x → ⊥
+fault_ok : {A : Type 0} (cause : CertRefusal) (x : A) → Err cause ≡ Ok x → ⊥
 fault_ok cause x e = cc
 
-same_ok : {A : Type 0} (x y : A) → ◌≡◌ {A = Result A CertFault} (Ok x) (Ok y) → x ≡ y
+same_ok : {A : Type 0} (x y : A) → ◌≡◌ {A = Result A CertRefusal} (Ok x) (Ok y) → x ≡ y
 same_ok x y e = cc
 
 -- a sheet with a place for each product and each leg
@@ -37,23 +36,23 @@ with_places net sheet (of_product j) fraction h = record { products = length-set
 with_places net sheet (of_leg i) fraction h = record { products = h.products; legs = length-set sheet.legs i (Some fraction) ∙ h.legs }
 
 pub line_places : (net : NetworkValue) (sheet : Sheet) (number : ℕ) (entry : Option Entry) → HasPlaces net sheet → (next : Sheet) → after_line sheet number entry ≡ Ok next → HasPlaces net next
-line_places net sheet number None h next e = absurd (fault_ok (fault.Line number) next e)
+line_places net sheet number None h next e = absurd (fault_ok (bad_line number) next e)
 line_places net sheet number (Some entry) h next e = go (given sheet entry.place) e
   where
-    by : (large : Bool) → (if large then Err (fault.Large number) else Ok (with_given sheet entry.place entry.fraction)) ≡ Ok next → HasPlaces net next
-    by true e = absurd (fault_ok (fault.Large number) next e)
+    by : (large : Bool) → (if large then Err (large_line number) else Ok (with_given sheet entry.place entry.fraction)) ≡ Ok next → HasPlaces net next
+    by true e = absurd (fault_ok (large_line number) next e)
     by false e = subst (HasPlaces net) (same_ok (with_given sheet entry.place entry.fraction) next e) (with_places net sheet entry.place entry.fraction h)
 
     go : (before : Option Written) → after_entry sheet number entry before ≡ Ok next → HasPlaces net next
-    go (Some before) e = absurd (fault_ok (fault.Line number) next e)
+    go (Some before) e = absurd (fault_ok (bad_line number) next e)
     go None e = by (is_over entry.fraction) e
 
 lines_places : (net : NetworkValue) (sheet : Sheet) (number : ℕ) (lines : List (List ℕ)) → HasPlaces net sheet → (last : Sheet) → after_lines net sheet number lines ≡ Ok last → HasPlaces net last
 lines_places net sheet number [] h last e = subst (HasPlaces net) (same_ok sheet last e) h
 lines_places net sheet number (line ∷ more) h last e = go (after_line sheet number (entry_of net line)) refl (λ next places rest. lines_places net next (suc number) more places last rest) e
   where
-    go : (r : Result Sheet CertFault) → after_line sheet number (entry_of net line) ≡ r → ((next : Sheet) → HasPlaces net next → after_lines net next (suc number) more ≡ Ok last → HasPlaces net last)
-        → or_fault r (λ next. after_lines net next (suc number) more) ≡ Ok last → HasPlaces net last
+    go : (r : Result Sheet CertRefusal) → after_line sheet number (entry_of net line) ≡ r → ((next : Sheet) → HasPlaces net next → after_lines net next (suc number) more ≡ Ok last → HasPlaces net last)
+        → or_refusal r (λ next. after_lines net next (suc number) more) ≡ Ok last → HasPlaces net last
     go (Ok next) s later e = later next (line_places net sheet number (entry_of net line) h next s) e
     go (Err cause) s later e = absurd (fault_ok cause last e)
 
@@ -84,16 +83,16 @@ length-numerators : (d n : ℕ) (given : List (Option Written)) → length (nume
 length-numerators d n given = length-map (map (times n) given) (λ x. x.num *ℤ pos (d / x.den)) ∙ length-map given (times n)
 
 -- ---- the certificate of a sheet
-whole_out : (value : Option Written) (product leg : Option ℕ) (made : Result Certificate CertFault) (c : Certificate) → whole_or_fault value product leg made ≡ Ok c → made ≡ Ok c
-whole_out None product leg made c e = absurd (fault_ok fault.NoValue c e)
-whole_out (Some value) (Some j) leg made c e = absurd (fault_ok (fault.NoProduct j) c e)
-whole_out (Some value) None (Some i) made c e = absurd (fault_ok (fault.NoLeg i) c e)
+whole_out : (value : Option Written) (product leg : Option ℕ) (made : Result Certificate CertRefusal) (c : Certificate) → whole_or_refusal value product leg made ≡ Ok c → made ≡ Ok c
+whole_out None product leg made c e = absurd (fault_ok no_value c e)
+whole_out (Some value) (Some j) leg made c e = absurd (fault_ok (no_product j) c e)
+whole_out (Some value) None (Some i) made c e = absurd (fault_ok (no_leg i) c e)
 whole_out (Some value) None None made c e = e
 
-small_out : (shares prices : Option ℤ) (made c : Certificate) → small_or_fault shares prices made ≡ Ok c → (shares ≡ None) × (prices ≡ None) × (made ≡ c)
+small_out : (shares prices : Option ℤ) (made c : Certificate) → small_or_refusal shares prices made ≡ Ok c → (shares ≡ None) × (prices ≡ None) × (made ≡ c)
 small_out None None made c e = (refl, refl, same_ok made c e)
-small_out None (Some number) made c e = absurd (fault_ok fault.TooFine c e)
-small_out (Some number) found made c e = absurd (fault_ok fault.TooFine c e)
+small_out None (Some number) made c e = absurd (fault_ok too_fine c e)
+small_out (Some number) found made c e = absurd (fault_ok too_fine c e)
 
 module _ (net : NetworkValue) (sheet : Sheet) (h : HasPlaces net sheet) where
   shaped_over : large_number (2 ^ 48) (allocation_in net sheet) ≡ None → large_number (2 ^ 48) (value_in net sheet ∷ prices_in sheet) ≡ None
@@ -121,17 +120,17 @@ module _ (net : NetworkValue) (sheet : Sheet) (h : HasPlaces net sheet) where
 
   sheet_shaped : (c : Certificate) → certificate_on net sheet ≡ Ok c → IsShaped net c
   sheet_shaped c e =
-      let made = whole_out sheet.value (first_missing 0 sheet.products) (first_missing 0 sheet.legs) (certificate_or_fault (allocation_in net sheet) (value_in net sheet) (prices_in sheet)) c e in
+      let made = whole_out sheet.value (first_missing 0 sheet.products) (first_missing 0 sheet.legs) (certificate_or_refusal (allocation_in net sheet) (value_in net sheet) (prices_in sheet)) c e in
       let w = small_out (large_number (2 ^ 48) (allocation_in net sheet)) (large_number (2 ^ 48) (value_in net sheet ∷ prices_in sheet)) (certificate_over (allocation_in net sheet) (value_in net sheet) (prices_in sheet)) c made in
       subst (IsShaped net) w.2 (shaped_over w.0 w.1)
 
 pub read_shaped : (net : NetworkValue) (bytes : List ℕ) (c : Certificate) → certificate_of net bytes ≡ Ok c → IsShaped net c
 read_shaped net bytes c e = go (nat_lt 65536 (length bytes)) e
   where
-    on : (r : Result Sheet CertFault) → after_lines net (blank net) 1 (lines_of bytes) ≡ r → or_fault r (certificate_on net) ≡ Ok c → IsShaped net c
+    on : (r : Result Sheet CertRefusal) → after_lines net (blank net) 1 (lines_of bytes) ≡ r → or_refusal r (certificate_on net) ≡ Ok c → IsShaped net c
     on (Ok sheet) s e = sheet_shaped net sheet (lines_places net (blank net) 1 (lines_of bytes) (blank_places net) sheet s) c e
     on (Err cause) s e = absurd (fault_ok cause c e)
 
-    go : (long : Bool) → (if long then Err fault.Long else or_fault (after_lines net (blank net) 1 (lines_of bytes)) (certificate_on net)) ≡ Ok c → IsShaped net c
-    go true e = absurd (fault_ok fault.Long c e)
+    go : (long : Bool) → (if long then Err too_long else or_refusal (after_lines net (blank net) 1 (lines_of bytes)) (certificate_on net)) ≡ Ok c → IsShaped net c
+    go true e = absurd (fault_ok too_long c e)
     go false e = on (after_lines net (blank net) 1 (lines_of bytes)) refl e

@@ -8,7 +8,7 @@ use Rattle.nrm_model.proofs.Examples.{two_legs_five_products}
 use Rattle.nrm_lp.specs.declared.certificate.Certificate.{Certificate}
 use Rattle.nrm_dual.specs.Reading.{certificate_of}
 use Rattle.nrm_dual.specs.Texts.{certificate_text}
-use Rattle.nrm_dual.specs.declared.fault.CertFault.TheVariants as fault
+use Rattle.nrm_dual.specs.Refusals as refusal
 
 -- the closing certificate of its program over four histories
 abbrev pub closing_of_two_legs : Certificate
@@ -38,50 +38,50 @@ unfolding ◌over◌ gcd lcm in_lowest_terms
 halves = refl
 
 -- what is refused
-no_fraction : certificate_of two_legs_five_products (codes "value 4130\nproduct ABH 3/1\nproduct ABL 3/1\nproduct ACH 4/1\nproduct BCL 6/1\nproduct ACL 0/1\nleg AB 150/1\nleg BC 80/1\n") ≡ Err (fault.Line 1)
+no_fraction : certificate_of two_legs_five_products (codes "value 4130\nproduct ABH 3/1\nproduct ABL 3/1\nproduct ACH 4/1\nproduct BCL 6/1\nproduct ACL 0/1\nleg AB 150/1\nleg BC 80/1\n") ≡ Err (refusal.bad_line 1)
 unfolding ◌over◌ gcd lcm in_lowest_terms
 no_fraction = refl
 
-ninth_line : certificate_of two_legs_five_products (codes "value 4130/1\nproduct ABH 3/1\nproduct ABL 3/1\nproduct ACH 4/1\nproduct BCL 6/1\nproduct ACL 0/1\nleg AB 150/1\nleg BC 80/1\nleg AB 150/1\n") ≡ Err (fault.Line 9)
+ninth_line : certificate_of two_legs_five_products (codes "value 4130/1\nproduct ABH 3/1\nproduct ABL 3/1\nproduct ACH 4/1\nproduct BCL 6/1\nproduct ACL 0/1\nleg AB 150/1\nleg BC 80/1\nleg AB 150/1\n") ≡ Err (refusal.bad_line 9)
 unfolding ◌over◌ gcd lcm in_lowest_terms
 ninth_line = refl
 
-unknown_name : certificate_of two_legs_five_products (codes "value 4130/1\nproduct ABH 3/1\nproduct ABL 3/1\nproduct XX 1/1\nproduct ACH 4/1\nproduct BCL 6/1\nproduct ACL 0/1\nleg AB 150/1\nleg BC 80/1\n") ≡ Err (fault.Line 4)
+unknown_name : certificate_of two_legs_five_products (codes "value 4130/1\nproduct ABH 3/1\nproduct ABL 3/1\nproduct XX 1/1\nproduct ACH 4/1\nproduct BCL 6/1\nproduct ACL 0/1\nleg AB 150/1\nleg BC 80/1\n") ≡ Err (refusal.bad_line 4)
 unfolding ◌over◌ gcd lcm in_lowest_terms
 unknown_name = refl
 
-denominator_nought : certificate_of two_legs_five_products (codes "value 9223372036854775808/0\nproduct ABH 3/1\nproduct ABL 3/1\nproduct ACH 4/1\nproduct BCL 6/1\nproduct ACL 0/1\nleg AB 150/1\nleg BC 80/1\n") ≡ Err (fault.Line 1)
+denominator_nought : certificate_of two_legs_five_products (codes "value 9223372036854775808/0\nproduct ABH 3/1\nproduct ABL 3/1\nproduct ACH 4/1\nproduct BCL 6/1\nproduct ACL 0/1\nleg AB 150/1\nleg BC 80/1\n") ≡ Err (refusal.bad_line 1)
 unfolding ◌over◌ gcd lcm in_lowest_terms
 denominator_nought = refl
 
-negative : certificate_of two_legs_five_products (codes "value 4130/1\nproduct ABH 3/1\nproduct ABL 3/1\nproduct ACH 4/1\nproduct BCL 6/1\nproduct ACL 0/1\nleg AB -150/1\nleg BC 80/1\n") ≡ Err (fault.Line 7)
+negative : certificate_of two_legs_five_products (codes "value 4130/1\nproduct ABH 3/1\nproduct ABL 3/1\nproduct ACH 4/1\nproduct BCL 6/1\nproduct ACL 0/1\nleg AB -150/1\nleg BC 80/1\n") ≡ Err (refusal.bad_line 7)
 unfolding ◌over◌ gcd lcm in_lowest_terms
 negative = refl
 
-large_number : certificate_of two_legs_five_products (codes "value 9223372036854775808/1\nproduct ABH 3/1\nproduct ABL 3/1\nproduct ACH 4/1\nproduct BCL 6/1\nproduct ACL 0/1\nleg AB 150/1\nleg BC 80/1\n") ≡ Err (fault.Large 1)
+large_number : certificate_of two_legs_five_products (codes "value 9223372036854775808/1\nproduct ABH 3/1\nproduct ABL 3/1\nproduct ACH 4/1\nproduct BCL 6/1\nproduct ACL 0/1\nleg AB 150/1\nleg BC 80/1\n") ≡ Err (refusal.large_line 1)
 unfolding ◌over◌ gcd lcm in_lowest_terms
 large_number = refl
 
-earlier_line_first : certificate_of two_legs_five_products (codes "value 1/9223372036854775808\nleg XX 1/1\n") ≡ Err (fault.Large 1)
+earlier_line_first : certificate_of two_legs_five_products (codes "value 1/9223372036854775808\nleg XX 1/1\n") ≡ Err (refusal.large_line 1)
 unfolding ◌over◌ gcd lcm in_lowest_terms
 earlier_line_first = refl
 
-no_value : certificate_of two_legs_five_products (codes "product ABH 3/1\nproduct ABL 3/1\nproduct ACH 4/1\nproduct BCL 6/1\nproduct ACL 0/1\nleg AB 150/1\nleg BC 80/1\n") ≡ Err fault.NoValue
+no_value : certificate_of two_legs_five_products (codes "product ABH 3/1\nproduct ABL 3/1\nproduct ACH 4/1\nproduct BCL 6/1\nproduct ACL 0/1\nleg AB 150/1\nleg BC 80/1\n") ≡ Err refusal.no_value
 unfolding ◌over◌ gcd lcm in_lowest_terms
 no_value = refl
 
-no_product : certificate_of two_legs_five_products (codes "value 4130/1\nproduct ABH 3/1\nproduct ABL 3/1\nproduct ACH 4/1\nproduct BCL 6/1\nleg AB 150/1\nleg BC 80/1\n") ≡ Err (fault.NoProduct 4)
+no_product : certificate_of two_legs_five_products (codes "value 4130/1\nproduct ABH 3/1\nproduct ABL 3/1\nproduct ACH 4/1\nproduct BCL 6/1\nleg AB 150/1\nleg BC 80/1\n") ≡ Err (refusal.no_product 4)
 unfolding ◌over◌ gcd lcm in_lowest_terms
 no_product = refl
 
-no_leg : certificate_of two_legs_five_products (codes "value 4130/1\nproduct ABH 3/1\nproduct ABL 3/1\nproduct ACH 4/1\nproduct BCL 6/1\nproduct ACL 0/1\nleg AB 150/1\n") ≡ Err (fault.NoLeg 1)
+no_leg : certificate_of two_legs_five_products (codes "value 4130/1\nproduct ABH 3/1\nproduct ABL 3/1\nproduct ACH 4/1\nproduct BCL 6/1\nproduct ACL 0/1\nleg AB 150/1\n") ≡ Err (refusal.no_leg 1)
 unfolding ◌over◌ gcd lcm in_lowest_terms
 no_leg = refl
 
-too_fine : certificate_of two_legs_five_products (codes "value 4130/1\nproduct ABH 3/1\nproduct ABL 3/1\nproduct ACH 4/1\nproduct BCL 6/1\nproduct ACL 0/1\nleg AB 150/1\nleg BC 1/281474976710656\n") ≡ Err fault.TooFine
+too_fine : certificate_of two_legs_five_products (codes "value 4130/1\nproduct ABH 3/1\nproduct ABL 3/1\nproduct ACH 4/1\nproduct BCL 6/1\nproduct ACL 0/1\nleg AB 150/1\nleg BC 1/281474976710656\n") ≡ Err refusal.too_fine
 unfolding ◌over◌ gcd lcm in_lowest_terms
 too_fine = refl
 
-empty_line : certificate_of two_legs_five_products (codes "value 4130/1\nproduct ABH 3/1\nproduct ABL 3/1\nproduct ACH 4/1\nproduct BCL 6/1\nproduct ACL 0/1\nleg AB 150/1\nleg BC 80/1\n\n") ≡ Err (fault.Line 9)
+empty_line : certificate_of two_legs_five_products (codes "value 4130/1\nproduct ABH 3/1\nproduct ABL 3/1\nproduct ACH 4/1\nproduct BCL 6/1\nproduct ACL 0/1\nleg AB 150/1\nleg BC 80/1\n\n") ≡ Err (refusal.bad_line 9)
 unfolding ◌over◌ gcd lcm in_lowest_terms
 empty_line = refl

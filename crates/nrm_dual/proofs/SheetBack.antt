@@ -16,7 +16,7 @@ use Rattle.nrm_fraction.proofs.Lowest.{common_is, numerators_are}
 use Rattle.nrm_model.specs.Network.{NetworkValue}
 use Rattle.nrm_lp.specs.declared.certificate.Certificate.{Certificate}
 use Rattle.nrm_lp.specs.Certified.{IsNumber}
-use Rattle.nrm_dual.specs.Reading.{Written, Sheet, first_missing, times, certificate_over, certificate_or_fault, small_or_fault, whole_or_fault, certificate_on, allocation_in, value_in, prices_in}
+use Rattle.nrm_dual.specs.Reading.{Written, Sheet, first_missing, times, certificate_over, certificate_or_refusal, small_or_refusal, whole_or_refusal, certificate_on, allocation_in, value_in, prices_in}
 use Rattle.nrm_dual.specs.Texts.{IsShaped}
 use Rattle.nrm_dual.specs.ReadBack.{IsLowest}
 
@@ -104,9 +104,9 @@ module _ (net : NetworkValue) (c : Certificate) (shaped : IsShaped net c) (lowes
     value = ap (λ ns. get_or ns 0 (pos 0)) (row_back (nat_abs c.den) (c.value ∷ c.p) shaped.some_den both_lowest) i;
   }
 
-  fractions_back : certificate_or_fault (fractions (nat_abs c.q) c.x) (c.value over nat_abs c.den) (fractions (nat_abs c.den) c.p) ≡ Ok c
+  fractions_back : certificate_or_refusal (fractions (nat_abs c.q) c.x) (c.value over nat_abs c.den) (fractions (nat_abs c.den) c.p) ≡ Ok c
   fractions_back =
-      ap₂ (λ a b. small_or_fault a b (certificate_over (fractions (nat_abs c.q) c.x) (c.value over nat_abs c.den) (fractions (nat_abs c.den) c.p)))
+      ap₂ (λ a b. small_or_refusal a b (certificate_over (fractions (nat_abs c.q) c.x) (c.value over nat_abs c.den) (fractions (nat_abs c.den) c.p)))
       (row_small (nat_abs c.q) c.x shaped.some_q (below_limit c.q shaped.q_size) lowest.allocation shaped.x_sizes)
       (row_small (nat_abs c.den) (c.value ∷ c.p) shaped.some_den (below_limit c.den shaped.den_size) both_lowest (All-cons (IsNumber (2 ^ 48)) c.value c.p shaped.value_size shaped.p_sizes))
       ∙ ap Ok over_back
@@ -117,10 +117,10 @@ module _ (net : NetworkValue) (c : Certificate) (shaped : IsShaped net c) (lowes
       (for_prices : (i : ℕ) → IsWritten (get_or c.p i (pos 0)) (nat_abs c.den * 1) (prices i)) where
     pub sheet_back : certificate_on net (full_sheet net value shares prices) ≡ Ok c
     sheet_back =
-        ap₂ (λ a b. whole_or_fault (Some value) a b (certificate_or_fault (allocation_in net sheet) (value_in net sheet) (prices_in sheet)))
+        ap₂ (λ a b. whole_or_refusal (Some value) a b (certificate_or_refusal (allocation_in net sheet) (value_in net sheet) (prices_in sheet)))
         (none_missing shares 0 (range_with_len 0 (length net.products)))
         (none_missing prices 0 (range_with_len 0 (length net.legs)))
-        ∙ (λ i. certificate_or_fault (allocation i) (worth i) (bid_prices i))
+        ∙ (λ i. certificate_or_refusal (allocation i) (worth i) (bid_prices i))
         ∙ fractions_back
       where
         sheet : Sheet

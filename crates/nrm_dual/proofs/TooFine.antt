@@ -19,10 +19,10 @@ use Rattle.nrm_denominators.specs.Lists.{first_too_large}
 use Rattle.nrm_denominators.proofs.Numerators.{found_behind}
 use Rattle.nrm_lp.proofs.Small.{reach_first, reach_parts, common_below}
 use Rattle.nrm_lp.specs.declared.certificate.Certificate.{Certificate}
-use Rattle.nrm_dual.specs.Reading.{AnswersCertificate, certificate_or_fault, certificate_over, small_or_fault}
+use Rattle.nrm_dual.specs.Reading.{certificate_or_refusal, certificate_over, small_or_refusal}
 use Rattle.nrm_dual.specs.Sheets.{cause_of}
 use Rattle.nrm_dual.specs.declared.fault.CertFault.{CertFault}
-use Rattle.nrm_dual.specs.declared.fault.CertFault.TheVariants as fault
+use Rattle.nrm_dual.specs.Refusals.{AnswersCertificate, CertRefusal, too_fine}
 use Rattle.std.specs.Result.{IsErrAnd}
 
 none_some : (n : ℤ) → None ≡ Some n → ⊥
@@ -57,11 +57,11 @@ found_large xs n e = go (large_number (2 ^ 48) xs) refl
     go (Some m) is = (m, is)
     go None is = absurd (none_some n (sym (none_on_the_way xs is) ∙ e))
 
--- a row's fault is answered as the file's
-pub err_answer : (result : Result Certificate CertFault) (f : RowFault) (file : Result Certificate CertFault) → IsErrAnd result (λ cause. cause ≡ cause_of f)
-    → AnswersCertificate (Err (cause_of f)) file → AnswersCertificate result file
-err_answer (Err cause) f file is h = subst (λ e. AnswersCertificate (Err e) file) (sym is) h
-err_answer (Ok certificate) f file is h = absurd is
+-- an answer that fails by this fault answers as it does
+pub err_answer : (result : Result Certificate CertFault) (cause : CertFault) (file : Result Certificate CertRefusal) → IsErrAnd result (λ e. e ≡ cause)
+    → AnswersCertificate (Err cause) file → AnswersCertificate result file
+err_answer (Err e) cause file is h = subst (λ e. AnswersCertificate (Err e) file) (sym is) h
+err_answer (Ok certificate) cause file is h = absurd is
 
 -- a least common denominator keeps its value in 64 bits
 short_same : (xs : List Fraction) (d : ℤ) → d ≡ pos (common xs) → first_too_large (2 ^ 48) xs ≡ None → to_z w64 (of_z w64 d) ≡ pos (common xs)
@@ -71,33 +71,33 @@ short_same xs d is none =
 
 -- ---- what the two lists of fractions give
 module _ (shares : List Fraction) (value : Fraction) (prices : List Fraction) where
-  large_shares : (m : ℤ) → large_number (2 ^ 48) shares ≡ Some m → certificate_or_fault shares value prices ≡ Err fault.TooFine
-  large_shares m is = ap (λ o. small_or_fault o (large_number (2 ^ 48) (value ∷ prices)) (certificate_over shares value prices)) is
+  large_shares : (m : ℤ) → large_number (2 ^ 48) shares ≡ Some m → certificate_or_refusal shares value prices ≡ Err too_fine
+  large_shares m is = ap (λ o. small_or_refusal o (large_number (2 ^ 48) (value ∷ prices)) (certificate_over shares value prices)) is
 
-  large_money : (m : ℤ) → large_number (2 ^ 48) shares ≡ None → large_number (2 ^ 48) (value ∷ prices) ≡ Some m → certificate_or_fault shares value prices ≡ Err fault.TooFine
+  large_money : (m : ℤ) → large_number (2 ^ 48) shares ≡ None → large_number (2 ^ 48) (value ∷ prices) ≡ Some m → certificate_or_refusal shares value prices ≡ Err too_fine
   large_money m none is =
-      ap (λ o. small_or_fault o (large_number (2 ^ 48) (value ∷ prices)) (certificate_over shares value prices)) none
-      ∙ ap (λ o. small_or_fault None o (certificate_over shares value prices)) is
+      ap (λ o. small_or_refusal o (large_number (2 ^ 48) (value ∷ prices)) (certificate_over shares value prices)) none
+      ∙ ap (λ o. small_or_refusal None o (certificate_over shares value prices)) is
 
-  pub fault_of_shares : (f : RowFault) → IsFault f (first_too_large (2 ^ 48) shares) → AnswersCertificate (Err (cause_of f)) (certificate_or_fault shares value prices)
+  pub fault_of_shares : (f : RowFault) → IsFault f (first_too_large (2 ^ 48) shares) → AnswersCertificate (Err (cause_of f)) (certificate_or_refusal shares value prices)
   fault_of_shares (Large n) e = let w = found_large shares n e in large_shares w.0 w.1
   fault_of_shares NoMemory e = tt
 
-  pub fault_of_money : (f : RowFault) → first_too_large (2 ^ 48) shares ≡ None → IsFault f (first_too_large (2 ^ 48) (value ∷ prices)) → AnswersCertificate (Err (cause_of f)) (certificate_or_fault shares value prices)
+  pub fault_of_money : (f : RowFault) → first_too_large (2 ^ 48) shares ≡ None → IsFault f (first_too_large (2 ^ 48) (value ∷ prices)) → AnswersCertificate (Err (cause_of f)) (certificate_or_refusal shares value prices)
   fault_of_money (Large n) none e = let w = found_large (value ∷ prices) n e in large_money w.0 (none_large shares none) w.1
   fault_of_money NoMemory none e = tt
 
-  pub made_of_both : first_too_large (2 ^ 48) shares ≡ None → first_too_large (2 ^ 48) (value ∷ prices) ≡ None → certificate_or_fault shares value prices ≡ Ok (certificate_over shares value prices)
+  pub made_of_both : first_too_large (2 ^ 48) shares ≡ None → first_too_large (2 ^ 48) (value ∷ prices) ≡ None → certificate_or_refusal shares value prices ≡ Ok (certificate_over shares value prices)
   made_of_both none none_of_money =
-      ap (λ o. small_or_fault o (large_number (2 ^ 48) (value ∷ prices)) (certificate_over shares value prices)) (none_large shares none)
-      ∙ ap (λ o. small_or_fault None o (certificate_over shares value prices)) (none_large (value ∷ prices) none_of_money)
+      ap (λ o. small_or_refusal o (large_number (2 ^ 48) (value ∷ prices)) (certificate_over shares value prices)) (none_large shares none)
+      ∙ ap (λ o. small_or_refusal None o (certificate_over shares value prices)) (none_large (value ∷ prices) none_of_money)
 
   -- the two numbers and the two lists that are made, as a certificate
   pub made_whole : (q : ℤ) (x : List ℤ) (den : ℤ) (money : List ℤ) (certificate : Certificate)
       → (q ≡ pos (common shares)) × (x ≡ numerators (common shares) shares) × (first_too_large (2 ^ 48) shares ≡ None)
       → (den ≡ pos (common (value ∷ prices))) × (money ≡ numerators (common (value ∷ prices)) (value ∷ prices)) × (first_too_large (2 ^ 48) (value ∷ prices) ≡ None)
       → certificate ≡ record { q = to_z w64 (of_z w64 q); x = x; den = to_z w64 (of_z w64 den); p = drop 1 money; value = get_or money 0 (pos 0) }
-      → certificate_or_fault shares value prices ≡ Ok certificate
+      → certificate_or_refusal shares value prices ≡ Ok certificate
   made_whole q x den money certificate h k is = made_of_both h.2 k.2 ∙ ap Ok (sym (is ∙ same))
     where
       q_is : to_z w64 (of_z w64 q) ≡ pos (common shares)

@@ -18,8 +18,8 @@ use Rattle.nrm_model.specs.Limits.{IsNetwork}
 use Rattle.nrm_stream.specs.Lines.{lines_of}
 use Rattle.nrm_lp.specs.declared.certificate.Certificate.{Certificate}
 use Rattle.nrm_lp.specs.Certified.{IsNumber}
-use Rattle.nrm_dual.specs.declared.fault.CertFault.TheVariants as fault
-use Rattle.nrm_dual.specs.Reading.{Written, blank, after_lines, or_fault, certificate_on, certificate_of}
+use Rattle.nrm_dual.specs.Refusals.{too_long}
+use Rattle.nrm_dual.specs.Reading.{Written, blank, after_lines, or_refusal, certificate_on, certificate_of}
 use Rattle.nrm_dual.specs.Texts.{IsShaped, value_line, product_line, leg_line, certificate_text}
 use Rattle.nrm_dual.specs.ReadBack.{IsLowest, WrittenIsRead}
 use Rattle.nrm_dual.proofs.SheetBack.{IsWritten, below_limit, full_sheet, sheet_back}
@@ -196,8 +196,8 @@ module _ (net : NetworkValue) (is : IsNetwork net) (c : Certificate) (shaped : I
 
   read_again : IsLowest c → certificate_of net (certificate_text net c) ≡ Ok c
   read_again lowest =
-      ap (λ long. if long then Err fault.Long else or_fault (after_lines net (blank net) 1 (lines_of (certificate_text net c))) (certificate_on net)) (le-ltb 65536 (length (certificate_text net c)) is_short)
-      ∙ ap (λ r. or_fault r (certificate_on net)) filled
+      ap (λ long. if long then Err too_long else or_refusal (after_lines net (blank net) 1 (lines_of (certificate_text net c))) (certificate_on net)) (le-ltb 65536 (length (certificate_text net c)) is_short)
+      ∙ ap (λ r. or_refusal r (certificate_on net)) filled
       ∙ sheet_back net c shaped lowest value_back.0 (λ j. (share_back j).0) (λ i. (price_back i).0) value_back.1.is (λ j. (share_back j).1.is)
       (λ i. subst (λ d. IsWritten (get_or c.p i (pos 0)) d (price_back i).0) (sym (mul-one (nat_abs c.den))) (price_back i).1.is)
 

@@ -3,6 +3,7 @@ pub mod Laws
 pub mod Named
 pub mod ReadBack
 pub mod Reading
+pub mod Refusals
 pub mod Shape
 pub mod Texts
 pub mod Sheets

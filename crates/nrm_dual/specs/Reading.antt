@@ -1,6 +1,6 @@
 -- How a certificate is read: the lines of a file, in any order, give the value, an allocation for each product and a bid price for
 -- each leg, each of them once.
-use Rattle.std.specs.Prelude.{ℕ, suc, ◌≡◌, ◌*◌, ◌-◌, ◌^◌, ℤ, pos, Bool, ◌&&◌, ◌||◌, ◌==◌, List, [], ◌∷◌, length, map, set, get_or, replicate, codes, bytes_eq, nat_lt, nat_le, Option, Some, None, Result, Ok, Err, ⊤, if◌then◌else◌}
+use Rattle.std.specs.Prelude.{ℕ, suc, ◌*◌, ◌-◌, ◌^◌, ℤ, pos, Bool, ◌&&◌, ◌||◌, ◌==◌, List, [], ◌∷◌, length, map, set, get_or, replicate, codes, bytes_eq, nat_lt, nat_le, Option, Some, None, Result, Ok, Err, if◌then◌else◌}
 use Rattle.std.specs.Option.{option_map}
 use Rattle.std.specs.List.{slice_split}
 use Rattle.std.specs.Str.Lines.{strip_carriage_return}
@@ -10,8 +10,7 @@ use Rattle.nrm_text.specs.Numbers.{is_whole, value_of}
 use Rattle.nrm_model.specs.Network.{NetworkValue, leg_named, product_named}
 use Rattle.nrm_stream.specs.Lines.{lines_of}
 use Rattle.nrm_lp.specs.declared.certificate.Certificate.{Certificate}
-use Rattle.nrm_dual.specs.declared.fault.CertFault.{CertFault}
-use Rattle.nrm_dual.specs.declared.fault.CertFault.TheVariants as fault
+use Rattle.nrm_dual.specs.Refusals.{CertRefusal, too_long, bad_line, large_line, no_value, no_product, no_leg, too_fine}
 
 -- a fraction as it is written: two whole numbers of any size
 pub record Written : Type 0 where
@@ -88,23 +87,23 @@ abbrev pub is_over : Written → Bool
 is_over fraction = nat_lt (2 ^ 63 - 1) fraction.num || nat_lt (2 ^ 63 - 1) fraction.den
 
 -- the sheet after a line of this number: the line is of one of the forms, what it gives is new, and its numbers aren't too large
-abbrev pub after_entry : Sheet → ℕ → Entry → Option Written → Result Sheet CertFault
-after_entry sheet number entry (Some before) = Err (fault.Line number)
-after_entry sheet number entry None = if is_over entry.fraction then Err (fault.Large number) else Ok (with_given sheet entry.place entry.fraction)
+abbrev pub after_entry : Sheet → ℕ → Entry → Option Written → Result Sheet CertRefusal
+after_entry sheet number entry (Some before) = Err (bad_line number)
+after_entry sheet number entry None = if is_over entry.fraction then Err (large_line number) else Ok (with_given sheet entry.place entry.fraction)
 
-abbrev pub after_line : Sheet → ℕ → Option Entry → Result Sheet CertFault
-after_line sheet number None = Err (fault.Line number)
+abbrev pub after_line : Sheet → ℕ → Option Entry → Result Sheet CertRefusal
+after_line sheet number None = Err (bad_line number)
 after_line sheet number (Some entry) = after_entry sheet number entry (given sheet entry.place)
 
--- what follows a sheet, unless there is a fault
-abbrev pub or_fault : {A : Type 0} → Result Sheet CertFault → (Sheet → Result A CertFault) → Result A CertFault
-or_fault (Ok sheet) next = next sheet
-or_fault (Err cause) next = Err cause
+-- what follows a sheet, unless there is a refusal
+abbrev pub or_refusal : {A : Type 0} → Result Sheet CertRefusal → (Sheet → Result A CertRefusal) → Result A CertRefusal
+or_refusal (Ok sheet) next = next sheet
+or_refusal (Err cause) next = Err cause
 
--- the sheet after these lines, of which the first has this number, or the fault of the first that fails
-abbrev pub after_lines : NetworkValue → Sheet → ℕ → List (List ℕ) → Result Sheet CertFault
+-- the sheet after these lines, of which the first has this number, or the refusal at the first that fails
+abbrev pub after_lines : NetworkValue → Sheet → ℕ → List (List ℕ) → Result Sheet CertRefusal
 after_lines net sheet number [] = Ok sheet
-after_lines net sheet number (line ∷ more) = or_fault (after_line sheet number (entry_of net line)) (λ next. after_lines net next (suc number) more)
+after_lines net sheet number (line ∷ more) = or_refusal (after_line sheet number (entry_of net line)) (λ next. after_lines net next (suc number) more)
 
 -- the first of these that wasn't given, counted from k on
 abbrev pub first_missing : ℕ → List (Option Written) → Option ℕ
@@ -138,41 +137,29 @@ certificate_over shares value prices = record {
 }
 
 -- the certificate, unless a number of it reaches the limit: with no Large number in the allocation, nor in value and prices
-abbrev pub small_or_fault : Option ℤ → Option ℤ → Certificate → Result Certificate CertFault
-small_or_fault None None certificate = Ok certificate
-small_or_fault None (Some number) certificate = Err fault.TooFine
-small_or_fault (Some number) found certificate = Err fault.TooFine
+abbrev pub small_or_refusal : Option ℤ → Option ℤ → Certificate → Result Certificate CertRefusal
+small_or_refusal None None certificate = Ok certificate
+small_or_refusal None (Some number) certificate = Err too_fine
+small_or_refusal (Some number) found certificate = Err too_fine
 
-abbrev pub certificate_or_fault : List Fraction → Fraction → List Fraction → Result Certificate CertFault
-certificate_or_fault shares value prices =
-    small_or_fault (large_number (2 ^ 48) shares) (large_number (2 ^ 48) (value ∷ prices)) (certificate_over shares value prices)
+abbrev pub certificate_or_refusal : List Fraction → Fraction → List Fraction → Result Certificate CertRefusal
+certificate_or_refusal shares value prices =
+    small_or_refusal (large_number (2 ^ 48) shares) (large_number (2 ^ 48) (value ∷ prices)) (certificate_over shares value prices)
 
 -- the certificate of a sheet, or what is missing on it: the value, the first product, the first leg
-abbrev pub whole_or_fault : Option Written → Option ℕ → Option ℕ → Result Certificate CertFault → Result Certificate CertFault
-whole_or_fault None product leg certificate = Err fault.NoValue
-whole_or_fault (Some value) (Some j) leg certificate = Err (fault.NoProduct j)
-whole_or_fault (Some value) None (Some i) certificate = Err (fault.NoLeg i)
-whole_or_fault (Some value) None None certificate = certificate
+abbrev pub whole_or_refusal : Option Written → Option ℕ → Option ℕ → Result Certificate CertRefusal → Result Certificate CertRefusal
+whole_or_refusal None product leg certificate = Err no_value
+whole_or_refusal (Some value) (Some j) leg certificate = Err (no_product j)
+whole_or_refusal (Some value) None (Some i) certificate = Err (no_leg i)
+whole_or_refusal (Some value) None None certificate = certificate
 
-abbrev pub certificate_on : NetworkValue → Sheet → Result Certificate CertFault
+abbrev pub certificate_on : NetworkValue → Sheet → Result Certificate CertRefusal
 certificate_on net sheet =
-    whole_or_fault sheet.value (first_missing 0 sheet.products) (first_missing 0 sheet.legs)
-    (certificate_or_fault (allocation_in net sheet) (value_in net sheet) (prices_in sheet))
+    whole_or_refusal sheet.value (first_missing 0 sheet.products) (first_missing 0 sheet.legs)
+    (certificate_or_refusal (allocation_in net sheet) (value_in net sheet) (prices_in sheet))
 
 -- the certificate that the bytes of a file give, or why they give none
-abbrev pub certificate_of : NetworkValue → List ℕ → Result Certificate CertFault
+abbrev pub certificate_of : NetworkValue → List ℕ → Result Certificate CertRefusal
 certificate_of net bytes =
-    if nat_lt 65536 (length bytes) then Err fault.Long
-    else or_fault (after_lines net (blank net) 1 (lines_of bytes)) (certificate_on net)
-
--- the answer of a call is what the file gives; want of memory is free
-abbrev pub AnswersCertificate : Result Certificate CertFault → Result Certificate CertFault → Type 0
-AnswersCertificate (Err fault.NoMemory) file = ⊤
-AnswersCertificate (Err fault.Long) file = file ≡ Err fault.Long
-AnswersCertificate (Err (fault.Line number)) file = file ≡ Err (fault.Line number)
-AnswersCertificate (Err (fault.Large number)) file = file ≡ Err (fault.Large number)
-AnswersCertificate (Err fault.NoValue) file = file ≡ Err fault.NoValue
-AnswersCertificate (Err (fault.NoProduct j)) file = file ≡ Err (fault.NoProduct j)
-AnswersCertificate (Err (fault.NoLeg i)) file = file ≡ Err (fault.NoLeg i)
-AnswersCertificate (Err fault.TooFine) file = file ≡ Err fault.TooFine
-AnswersCertificate (Ok certificate) file = file ≡ Ok certificate
+    if nat_lt 65536 (length bytes) then Err too_long
+    else or_refusal (after_lines net (blank net) 1 (lines_of bytes)) (certificate_on net)

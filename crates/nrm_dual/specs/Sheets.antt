@@ -1,5 +1,6 @@
 -- The code's own terms for lines and sheets, in those of the reading.
 use Rattle.std.specs.Prelude.{ℕ, ◌≡◌, ◌<◌, length, map, ⊤, Option, Some, None, Result, Ok, Err, if◌then◌else◌}
+use Rattle.std.specs.Option.{option_map}
 use Rattle.nrm_text.specs.declared.number.NumberFault.{NumberFault}
 use Rattle.nrm_text.specs.declared.number.NumberFault.TheVariants.{Off, Over}
 use Rattle.nrm_row.specs.declared.fault.RowFault.{RowFault}
@@ -8,7 +9,8 @@ use Rattle.nrm_lp.specs.declared.certificate.Certificate.{Certificate}
 use Rattle.nrm_model.specs.Network.{NetworkValue}
 use Rattle.nrm_dual.specs.declared.fault.CertFault.{CertFault}
 use Rattle.nrm_dual.specs.declared.fault.CertFault.TheVariants as fault
-use Rattle.nrm_dual.specs.Reading.{Place, the_value, of_product, of_leg, Sheet, Written, is_over, certificate_or_fault, first_missing, prices_in, times, whole_or_fault}
+use Rattle.nrm_dual.specs.Refusals.{CertRefusal, refusal_of}
+use Rattle.nrm_dual.specs.Reading.{Place, the_value, of_product, of_leg, Sheet, Written, is_over, certificate_or_refusal, first_missing, prices_in, times, whole_or_refusal}
 use Rattle.nrm_dual.specs.declared.place.Place.{Place as Kept}
 use Rattle.nrm_dual.specs.declared.place.Place.TheVariants as kept
 
@@ -35,12 +37,16 @@ fitting None = Err Off
 fitting (Some fraction) = if is_over fraction then Err Over else Ok fraction
 
 -- the certificate of a sheet for so many histories, or what is missing on it
-abbrev pub certificate_in : ℕ → Sheet → Result Certificate CertFault
+abbrev pub certificate_in : ℕ → Sheet → Result Certificate CertRefusal
 certificate_in histories sheet =
-    whole_or_fault sheet.value (first_missing 0 sheet.products) (first_missing 0 sheet.legs)
-    (certificate_or_fault (map (times histories) sheet.products) (times histories sheet.value) (prices_in sheet))
+    whole_or_refusal sheet.value (first_missing 0 sheet.products) (first_missing 0 sheet.legs)
+    (certificate_or_refusal (map (times histories) sheet.products) (times histories sheet.value) (prices_in sheet))
 
 -- why a file gives no certificate, where its fractions aren't brought over one denominator
 abbrev pub cause_of : RowFault → CertFault
 cause_of (row.Large number) = fault.TooFine
 cause_of row.NoMemory = fault.NoMemory
+
+-- what lines are refused for is what a call's fault tells; such a call wants no memory
+abbrev pub Refuses : {A : Type 0} → CertFault → Result A CertRefusal → Type 0
+Refuses cause read = Some read ≡ option_map Err (refusal_of cause)

@@ -1,6 +1,7 @@
 //! The numbers of a certificate out of the fractions of a file: those of all histories together, over two denominators.
 ghost use Rattle.std.specs.Prelude.{◌≡◌, ◌<◌, ◌≤◌, ◌++◌, ◌∷◌, IfOk, drop, get_or, length, map, None, pos};
-ghost use Rattle.nrm_dual.specs.Reading.{AnswersCertificate, certificate_or_fault, prices_in, times};
+ghost use Rattle.nrm_dual.specs.Refusals.{AnswersCertificate};
+ghost use Rattle.nrm_dual.specs.Reading.{certificate_or_refusal, prices_in, times};
 
 use crate::fault::CertFault;
 use crate::sheet::Sheet;
@@ -82,7 +83,7 @@ pub(crate) fn certificate_over(
     sheet: &Sheet,
 ) -> Result<Certificate, CertFault>
     requires { histories ≤ 32 }
-    ensures { AnswersCertificate result (certificate_or_fault (map (times histories) sheet.now.products) (times histories sheet.now.value) (prices_in sheet.now)) }
+    ensures { AnswersCertificate result (certificate_or_refusal (map (times histories) sheet.now.products) (times histories sheet.now.value) (prices_in sheet.now)) }
 {
     let (q, x) = over_common(alloc, &shares(alloc, histories, sheet)?)?;
     let (den, money) = over_common(alloc, &value_and_prices(alloc, histories, sheet)?)?;

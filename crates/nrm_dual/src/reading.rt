@@ -3,9 +3,10 @@
 ghost use Rattle.std.specs.Prelude.{◌≡◌, ◌≤◌, IfErr, IfOk, MatchResult, Err, Ok, length};
 ghost use Rattle.nrm_stream.specs.Lines.{lines_of};
 ghost use Rattle.nrm_model.specs.Limits.{IsNetwork};
-ghost use Rattle.nrm_dual.specs.Reading.{AnswersCertificate, after_line, after_lines, certificate_of, entry_of};
+ghost use Rattle.nrm_dual.specs.Reading.{after_line, after_lines, certificate_of, entry_of};
+ghost use Rattle.nrm_dual.specs.Refusals.{AnswersCertificate};
 ghost use Rattle.nrm_dual.specs.Named.{IsOfNetwork};
-ghost use Rattle.nrm_dual.specs.Sheets.{IsSheetOf, certificate_in};
+ghost use Rattle.nrm_dual.specs.Sheets.{IsSheetOf, Refuses, certificate_in};
 ghost use Rattle.nrm_dual.specs.Texts.{IsShaped};
 
 use crate::amounts::certificate_over;
@@ -54,7 +55,7 @@ fn read_lines(sheet: &mut Sheet, net: &Network, bytes: &[u8]) -> Result<(), Cert
     requires limits { IsNetwork net.now }
     requires sheet { IsSheetOf net.now sheet.old }
     requires size { length bytes.now ≤ 65536 }
-    ensures lines { MatchResult result (λ _. after_lines net.now sheet.old 1 (lines_of bytes.now) ≡ Ok sheet.new) (λ fault. after_lines net.now sheet.old 1 (lines_of bytes.now) ≡ Err fault) }
+    ensures lines { MatchResult result (λ _. after_lines net.now sheet.old 1 (lines_of bytes.now) ≡ Ok sheet.new) (λ fault. Refuses fault (after_lines net.now sheet.old 1 (lines_of bytes.now))) }
     ensures sheet { IfOk result (λ _. IsSheetOf net.now sheet.new) }
 {
     let mut rest = bytes;
@@ -71,7 +72,7 @@ fn read_lines(sheet: &mut Sheet, net: &Network, bytes: &[u8]) -> Result<(), Cert
 fn read_line(sheet: &mut Sheet, net: &Network, line: &[u8], number: u32) -> Result<(), CertFault>
     requires limits { IsNetwork net.now }
     requires sheet { IsSheetOf net.now sheet.old }
-    ensures line { MatchResult result (λ _. after_line sheet.old number (entry_of net.now line.now) ≡ Ok sheet.new) (λ fault. after_line sheet.old number (entry_of net.now line.now) ≡ Err fault) }
+    ensures line { MatchResult result (λ _. after_line sheet.old number (entry_of net.now line.now) ≡ Ok sheet.new) (λ fault. Refuses fault (after_line sheet.old number (entry_of net.now line.now))) }
     ensures sheet { IfOk result (λ _. IsSheetOf net.now sheet.new) }
 {
     let Some((place, word)) = place_in(net, line) else {

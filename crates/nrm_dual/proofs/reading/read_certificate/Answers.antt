@@ -1,8 +1,11 @@
-use Rattle.std.proofs.Common.{◌≡◌, Ok, rules}
+use Rattle.std.proofs.Common.{◌≡◌, Ok}
 use Rattle.nrm_stream.specs.Lines.{lines_of}
-use Rattle.nrm_dual.specs.Reading.{AnswersCertificate, after_lines, blank, certificate_of}
+use Rattle.nrm_dual.specs.Refusals.{AnswersCertificate}
+use Rattle.nrm_dual.specs.Reading.{after_lines, blank, certificate_of}
 use Rattle.nrm_dual.proofs.Naming.{answer_named}
-use Rattle.nrm_dual.proofs.ReadAnswers.{file_answer, answer_shaped}
+use Rattle.nrm_dual.proofs.ReadAnswers.{file_answer, answer_shaped, lines_refuse}
+use Rattle.nrm_dual.proofs.TooFine.{err_answer}
+use Rattle.nrm_dual.specs.Sheets.{Refuses}
 use Rattle.nrm_dual.proofs.reading.read_certificate.Goals as goal
 
 pub returns-clause-file : goal.returns-clause-file
@@ -16,10 +19,18 @@ returns-clause-shaped c =
     let file = file_answer c.args.net.now c.args.bytes.now c.read_lines.new.sheet c.n-histories.result c.certificate_on.result c.if-bytes-gt-MOST_BYTES.false c.n-histories.ensures.histories lines c.certificate_on.ensures in
     answer_shaped c.args.net.now c.args.bytes.now c.certificate_on.result file
 
+-- the lines refuse the file
+refused : (c : goal.After-drop-sheet-inside-in_err-read_lines) → AnswersCertificate c.from_residual-in_err-read_lines.result (certificate_of c.args.net.now c.args.bytes.now)
+refused c =
+    let lines : Refuses c.in_err-read_lines.field-0.0 (after_lines c.args.net.now (blank c.args.net.now) 1 (lines_of c.args.bytes.now)) = rw c.in_ok-sheet.ensures at c.in_err-read_lines.ensures.lines in
+    err_answer c.from_residual-in_err-read_lines.result c.in_err-read_lines.field-0.0 (certificate_of c.args.net.now c.args.bytes.now) c.from_residual-in_err-read_lines.ensures.1
+    (lines_refuse c.args.net.now c.args.bytes.now c.in_err-read_lines.field-0.0 c.if-bytes-gt-MOST_BYTES.false lines)
+
+pub returns-in_err-read_lines-clause-file : goal.returns-in_err-read_lines-clause-file
+returns-in_err-read_lines-clause-file c = refused c
+
 pub returns-in_err-read_lines-clause-named : goal.returns-in_err-read_lines-clause-named
-returns-in_err-read_lines-clause-named c =
-    let file : AnswersCertificate c.from_residual-in_err-read_lines.result (certificate_of c.args.net.now c.args.bytes.now) = search rules in
-    answer_named c.args.net.now c.args.bytes.now c.from_residual-in_err-read_lines.result file
+returns-in_err-read_lines-clause-named c = answer_named c.args.net.now c.args.bytes.now c.from_residual-in_err-read_lines.result (refused c)
 
 pub returns-clause-named : goal.returns-clause-named
 returns-clause-named c =

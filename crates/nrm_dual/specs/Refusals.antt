@@ -1,0 +1,36 @@
+-- Why a file gives no certificate, and what a call's answer says of the file.
+use Rattle.std.specs.Prelude.{ℕ, ◌≡◌, ⊤, Option, Some, None, Result, Ok, Err}
+use Rattle.nrm_lp.specs.declared.certificate.Certificate.{Certificate}
+use Rattle.nrm_dual.specs.declared.fault.CertFault.{CertFault}
+use Rattle.nrm_dual.specs.declared.fault.CertFault.TheVariants as fault
+
+-- why a file gives no certificate
+pub data CertRefusal : Type 0 where
+  too_long : CertRefusal
+  bad_line : ℕ → CertRefusal
+  large_line : ℕ → CertRefusal
+  no_value : CertRefusal
+  no_product : ℕ → CertRefusal
+  no_leg : ℕ → CertRefusal
+  too_fine : CertRefusal
+
+-- the refusal that a call's fault tells; want of memory tells none
+abbrev pub refusal_of : CertFault → Option CertRefusal
+refusal_of fault.Long = Some too_long
+refusal_of (fault.Line number) = Some (bad_line number)
+refusal_of (fault.Large number) = Some (large_line number)
+refusal_of fault.NoValue = Some no_value
+refusal_of (fault.NoProduct j) = Some (no_product j)
+refusal_of (fault.NoLeg i) = Some (no_leg i)
+refusal_of fault.TooFine = Some too_fine
+refusal_of fault.NoMemory = None
+
+-- the file is refused for this; where nothing was told it may be what it will
+abbrev pub IsRefusedFor : {A : Type 0} → Option CertRefusal → Result A CertRefusal → Type 0
+IsRefusedFor (Some refusal) file = file ≡ Err refusal
+IsRefusedFor None file = ⊤
+
+-- the answer of a call is what the file gives; want of memory is free
+abbrev pub AnswersCertificate : Result Certificate CertFault → Result Certificate CertRefusal → Type 0
+AnswersCertificate (Ok certificate) file = file ≡ Ok certificate
+AnswersCertificate (Err cause) file = IsRefusedFor (refusal_of cause) file
