@@ -35,10 +35,13 @@ impl Thresholds {
     }
 }
 
-/// A flight leg: its name, its seats (0 to 999) and its thresholds (at most 9).
+/// A flight leg.
 #[derive(Drop)]
 pub struct Leg {
+    /// Its name.
     pub name: Name,
+    /// Its seats: 0 to 999.
     pub seats: u16,
+    /// The thresholds of the leg, at most 9.
     pub cuts: Thresholds,
 }

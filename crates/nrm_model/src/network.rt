@@ -37,6 +37,7 @@ impl Network {
     ghost use Rattle.std.specs.List.{position_from};
     ghost use Rattle.nrm_model.specs.Limits.{IsLeg, IsNetwork, IsProduct};
     ghost use Rattle.nrm_model.specs.Network.{leg_named, least_seats_of, product_named};
+    ghost use Rattle.nrm_model.specs.Inventory.{inventory_of, uses_leg};
     ghost use Rattle.nrm_model.specs.Demand.{demand_in, demand_row, demand_to_come, total_to_come};
 
     /// The network of these parts. `demand` is in seats, product by product, history by history, period by period.
@@ -67,7 +68,7 @@ impl Network {
         })
     }
 
-    /// How many histories there are: 1 to 32.
+    /// How many demand histories there are, N in the formulas: 1 to 32.
     pub fn n(&self) -> u8
         ensures histories { result ≡ self.now.histories }
         ensures limits { IsNetwork self.now }
@@ -75,7 +76,7 @@ impl Network {
         self.histories
     }
 
-    /// How many periods each history has: 1 to 16.
+    /// How many booking periods each history has, T in the formulas: 1 to 16.
     pub fn t(&self) -> u8
         ensures { result ≡ self.now.periods }
     {
@@ -100,21 +101,29 @@ impl Network {
     }
 
     /// A leg by its number.
-    pub fn leg_at(&self, i: u8) -> &Leg
-        requires { i < length self.now.legs }
-        ensures leg { Some result.now ≡ slice_get self.now.legs i }
+    pub fn leg_at(&self, leg: u8) -> &Leg
+        requires { leg < length self.now.legs }
+        ensures leg { Some result.now ≡ slice_get self.now.legs leg }
         ensures limits { IsLeg result.now }
     {
-        &self.legs[i as usize]
+        &self.legs[leg as usize]
     }
 
     /// A product by its number.
-    pub fn product_at(&self, j: u16) -> &Product
-        requires { j < length self.now.products }
-        ensures product { Some result.now ≡ slice_get self.now.products j }
+    pub fn product_at(&self, product: u16) -> &Product
+        requires { product < length self.now.products }
+        ensures product { Some result.now ≡ slice_get self.now.products product }
         ensures limits { IsProduct (length self.now.legs) result.now }
     {
-        &self.products[j as usize]
+        &self.products[product as usize]
+    }
+
+    /// Whether a product uses a leg.
+    pub fn uses_leg(&self, product: u16, leg: u8) -> bool
+        requires { product < length self.now.products }
+        ensures { result ≡ uses_leg (inventory_of self.now) leg product }
+    {
+        self.product_at(product).legs.as_slice().contains(&leg)
     }
 
     /// The number of the product of this name. `None` exactly where no product has it.
@@ -140,62 +149,63 @@ impl Network {
     }
 
     /// The seats requested of a product in a history (counted from 0) and a period (counted from 1).
-    pub fn demand(&self, j: u16, h: u8, t: u8) -> u16
-        requires product { j < length self.now.products }
-        requires history { h < self.now.histories }
-        requires period { IsInRange 1 self.now.periods t }
-        ensures { result ≡ demand_in self.now j h t }
+    pub fn demand(&self, product: u16, history: u8, period: u8) -> u16
+        requires product { product < length self.now.products }
+        requires history { history < self.now.histories }
+        requires period { IsInRange 1 self.now.periods period }
+        ensures { result ≡ demand_in self.now product history period }
     {
-        self.row(j, h)[t as usize - 1]
+        self.row(product, history)[period as usize - 1]
     }
 
-    /// The demand to come of a product in a history (counted from 0): the seats requested from period `k` on.
-    pub fn to_come(&self, j: u16, h: u8, k: u8) -> u32
-        requires product { j < length self.now.products }
-        requires history { h < self.now.histories }
-        requires period { IsInRange 1 self.now.periods k }
-        ensures seats { result ≡ demand_to_come self.now j h k }
+    /// The demand to come of a product in a history (counted from 0): the seats requested from this period on.
+    pub fn to_come(&self, product: u16, history: u8, period: u8) -> u32
+        requires product { product < length self.now.products }
+        requires history { history < self.now.histories }
+        requires period { IsInRange 1 self.now.periods period }
+        ensures seats { result ≡ demand_to_come self.now product history period }
         ensures within { result ≤ 999 }
     {
-        sum_of(&self.row(j, h)[k as usize - 1..])
+        sum_of(&self.row(product, history)[period as usize - 1..])
     }
 
     /// The demand to come of a product over all histories.
-    pub fn total(&self, j: u16, k: u8) -> u32
-        requires product { j < length self.now.products }
-        requires period { IsInRange 1 self.now.periods k }
-        ensures seats { result ≡ total_to_come self.now j k }
+    pub fn total(&self, product: u16, period: u8) -> u32
+        requires product { product < length self.now.products }
+        requires period { IsInRange 1 self.now.periods period }
+        ensures seats { result ≡ total_to_come self.now product period }
         ensures within { result ≤ 31968 }
     {
         let mut total = 0;
-        for h in 0..self.histories {
-            total += self.to_come(j, h, k);
+        for history in 0..self.histories {
+            total += self.to_come(product, history, period);
         }
         total
     }
 
     /// The least seats among a product's legs.
-    pub fn least_seats(&self, j: u16) -> u16
-        requires { j < length self.now.products }
-        ensures seats { result ≡ least_seats_of self.now j }
+    pub fn least_seats(&self, product: u16) -> u16
+        requires { product < length self.now.products }
+        ensures seats { result ≡ least_seats_of self.now product }
         ensures within { result ≤ 999 }
     {
         let mut least = u16::MAX;
-        for i in self.products[j as usize].legs.as_slice() {
-            least = least.min(self.legs[*i as usize].seats);
+        for leg in self.products[product as usize].legs.as_slice() {
+            least = least.min(self.legs[*leg as usize].seats);
         }
         least
     }
 
     // The demand of a product in a history, period by period.
-    fn row(&self, j: u16, h: u8) -> &[u16]
-        requires product { j < length self.now.products }
-        requires history { h < self.now.histories }
-        ensures row { result.now ≡ demand_row self.now j h }
+    fn row(&self, product: u16, history: u8) -> &[u16]
+        requires product { product < length self.now.products }
+        requires history { history < self.now.histories }
+        ensures row { result.now ≡ demand_row self.now product history }
         ensures periods { length result.now ≡ self.now.periods }
         ensures within { sum result.now ≤ 999 }
     {
-        let from = (j as usize * self.histories as usize + h as usize) * self.periods as usize;
+        let before = product as usize * self.histories as usize + history as usize;
+        let from = before * self.periods as usize;
         &self.demand[from..from + self.periods as usize]
     }
 }

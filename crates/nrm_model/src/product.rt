@@ -34,10 +34,13 @@ impl LegNumbers {
     }
 }
 
-/// What is sold: its name, its fare (1 to 99,999,999 whole currency units) and its legs (1 to 4).
+/// What is sold.
 #[derive(Drop)]
 pub struct Product {
+    /// Its name.
     pub name: Name,
+    /// Its fare: 1 to 99,999,999 whole currency units.
     pub fare: u32,
+    /// The legs that it takes a seat on: 1 to 4.
     pub legs: LegNumbers,
 }

@@ -3,8 +3,8 @@ use Rattle.std.specs.List.{range_with_len}
 use Rattle.nrm_model.specs.Demand.{demand_to_come}
 use Rattle.nrm_model.proofs.network.Network.total.Given as goal
 
-abbrev pub invariant-loop-h : goal.invariant-loop-h
-invariant-loop-h l = record {
-  seats : l.total ≡ sum_by (λ h. demand_to_come l.self l.j h l.k) (range_with_len 0 l.h);
-  within : l.total ≤ 999 * l.h;
+abbrev pub invariant-loop-history : goal.invariant-loop-history
+invariant-loop-history l = record {
+  seats : l.total ≡ sum_by (λ h. demand_to_come l.self l.product h l.period) (range_with_len 0 l.history);
+  within : l.total ≤ 999 * l.history;
 }
