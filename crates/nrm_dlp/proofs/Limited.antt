@@ -1,5 +1,6 @@
 -- The program of a network is within the limits.
-use Rattle.std.proofs.Common.{ℕ, zero, suc, ◌≡◌, ◌≢◌, ◌∙◌, ◌+◌, ◌-◌, ◌*◌, ◌<◌, ◌≤◌, false, eqb, List, [], ◌∷◌, length, get_or, map, sum_by, All, AllPairs, refl, ap, sym, subst, arith}
+use Rattle.std.proofs.Common.{ℕ, zero, suc, ◌≡◌, ◌≢◌, ◌∙◌, ◌+◌, ◌-◌, ◌*◌, ◌<◌, ◌≤◌, false, eqb, List, [], ◌∷◌, length, get_or, map, sum_by, All, AllPairs, refl, ap, subst, arith}
+use Rattle.std.specs.Int.{IsInRange}
 use Rattle.std.specs.List.{range_with_len}
 use Rattle.std.proofs.Math.Nat.{mul-le-mul_left}
 use Rattle.std.proofs.lemmas.Bool.{ne_eqb}
@@ -10,13 +11,14 @@ use Rattle.std.proofs.lemmas.List.Sums.{sum_by-take-drop}
 use Rattle.nrm_model.specs.declared.product.Product.{Product}
 use Rattle.nrm_model.specs.Network.{NetworkValue, leg_of}
 use Rattle.nrm_model.specs.Demand.{demand_row, demand_to_come, total_to_come}
+use Rattle.nrm_model.specs.Inventory.{inventory_of}
 use Rattle.nrm_model.specs.Limits.{IsNetwork, IsProduct}
 use Rattle.nrm_model.proofs.DemandLemmas.{sum-range-more}
 use Rattle.nrm_model.proofs.SeatLemmas.{seats-within}
-use Rattle.nrm_lp.specs.Program.{AreLegs, AreProducts, ProgramValue, names}
+use Rattle.nrm_lp.specs.Program.{AreLegs, AreProducts, names}
 use Rattle.nrm_lp.specs.Limits.{IsLimited}
-use Rattle.nrm_dlp.specs.Programs.{program_at}
-use Rattle.nrm_dlp.specs.Laws.{ProgramsAreLimited}
+use Rattle.nrm_dlp.specs.Laws.{OpeningsAreLimited, ProgramsAreLimited, SeatsLeftAreLimited}
+use Rattle.nrm_dlp.proofs.Copied.{full-count, full-within}
 
 -- a leg that differs from each of these is not among them
 unnamed : (i : ℕ) (ls : List ℕ) → All (λ l. i ≢ l) ls → names i ls ≡ false
@@ -64,64 +66,61 @@ total-within net is j k few =
     omega (arith, all, is.histories.1)
 
 -- part by part
-module _ (net : NetworkValue) (left : List ℕ) (k : ℕ) (is : IsNetwork net) where
-  cap-count : length left ≡ length net.legs → length (program_at net left k).caps ≡ length net.legs
-  cap-count many = length-map left (λ (seats : ℕ). net.histories * seats) ∙ many
-
-  bound-count : length (program_at net left k).bounds ≡ length net.products
-  bound-count = length-map-range_with_len (λ j. total_to_come net j k) 0 (length net.products)
-
-  cap-size : (i : ℕ) → i < length left → get_or left i 0 ≤ (leg_of net i).seats → get_or (program_at net left k).caps i 0 ≤ 31968
-  cap-size i short few =
-      let read = get_or-map (λ (seats : ℕ). net.histories * seats) left i 0 0 short in
-      let most = seats-within net is i in
-      let less : net.histories * get_or left i 0 ≤ net.histories * 999 = mul-le-mul_left net.histories (omega arith) in
-      omega (arith, read, less, is.histories.1)
-
-  bound-size : (j : ℕ) → j < length net.products → get_or (program_at net left k).bounds j 0 ≤ 31968
-  bound-size j few =
-      let read = get_or-map-range_with_len (λ j. total_to_come net j k) 0 (length net.products) j j 0 few (omega arith) in
-      let most = total-within net is j k few in
-      omega (arith, read, most)
-
-  fare-size : (j : ℕ) → j < length net.products → (1 ≤ get_or (program_at net left k).fares j 0) × (get_or (program_at net left k).fares j 0 ≤ 99999999)
+module _ (net : NetworkValue) (is : IsNetwork net) where
+  fare-size : (j : ℕ) → j < length net.products → IsInRange 1 99999999 (get_or (inventory_of net).fares j 0)
   fare-size j few =
       let none : Product = record { name = []; fare = 0; legs = [] } in
       let read = get_or-map (λ (product : Product). product.fare) net.products j none 0 few in
-      let fare = (is.products j none few).fare in
-      (omega (arith, read, fare.0), omega (arith, read, fare.1))
+      rw read ((is.products j none few).fare)
 
-  legs-count : (j : ℕ) → j < length net.products → (1 ≤ length (get_or (program_at net left k).legs j [])) × (length (get_or (program_at net left k).legs j []) ≤ 4)
+  legs-count : (j : ℕ) → j < length net.products → IsInRange 1 4 (length (get_or (inventory_of net).legs j []))
   legs-count j few =
       let none : Product = record { name = []; fare = 0; legs = [] } in
       let read = ap length (get_or-map (λ (product : Product). product.legs) net.products j none [] few) in
-      let count = (is.products j none few).leg_count in
-      (omega (arith, read, count.0), omega (arith, read, count.1))
+      rw read ((is.products j none few).leg_count)
 
-pub limited : ProgramsAreLimited
+  pub caps-within : (left : List ℕ) → length left ≡ length net.legs → ((i : ℕ) → i < length net.legs → get_or left i 0 ≤ (leg_of net i).seats) → All (λ cap. cap ≤ 31968) (map (λ seats. net.histories * seats) left)
+  caps-within left many seats = λ i none l.
+      let short : i < length left = omega (arith, l, length-map left (λ (seats : ℕ). net.histories * seats)) in
+      let read = get_or-map (λ (seats : ℕ). net.histories * seats) left i 0 none short in
+      let most : get_or left i 0 ≤ 999 = omega (arith, seats i (omega (arith, short, many)), seats-within net is i) in
+      let less : net.histories * get_or left i 0 ≤ net.histories * 999 = mul-le-mul_left net.histories most in
+      omega (arith, read, less, is.histories.1)
+
+  pub bounds-within : (k : ℕ) → All (λ bound. bound ≤ 31968) (map (λ j. total_to_come net j k) (range_with_len 0 (length net.products)))
+  bounds-within k = λ j none l.
+      let few : j < length net.products = omega (arith, l, length-map-range_with_len (λ j. total_to_come net j k) 0 (length net.products)) in
+      let read = get_or-map-range_with_len (λ j. total_to_come net j k) 0 (length net.products) j j none few (omega arith) in
+      omega (arith, read, total-within net is j k few)
+
+pub made-limited : ProgramsAreLimited
+made-limited net caps bounds is cap_count caps_within bound_count bounds_within = record {
+  some_caps = omega (arith, cap_count, is.leg_count.0);
+  cap_count = omega (arith, cap_count, is.leg_count.1);
+  some_bounds = omega (arith, bound_count, is.product_count.0);
+  bound_count = omega (arith, bound_count, is.product_count.1);
+  cap_size = λ i short. caps_within i 0 short;
+  bound_size = λ j short. bounds_within j 0 short;
+  some_fare = λ j short. (fare-size net is j (omega (arith, bound_count, short))).0;
+  fare_size = λ j short. (fare-size net is j (omega (arith, bound_count, short))).1;
+  some_leg = λ j short. (legs-count net is j (omega (arith, bound_count, short))).0;
+  leg_count = λ j short. (legs-count net is j (omega (arith, bound_count, short))).1;
+  products = rw cap_count (are-products (length net.legs) bounds net.products bound_count is.products);
+}
+
+pub limited : SeatsLeftAreLimited
 limited net left k is many seats =
-    let caps = cap-count net left k is many in
-    let bounds = bound-count net left k is in
-    record {
-      some_caps = omega (arith, caps, is.leg_count.0);
-      cap_count = omega (arith, caps, is.leg_count.1);
-      some_bounds = omega (arith, bounds, is.product_count.0);
-      bound_count = omega (arith, bounds, is.product_count.1);
-      cap_size = λ i short. cap-size net left k is i (omega (arith, caps, many, short)) (seats i (omega (arith, caps, short)));
-      bound_size = λ j short. bound-size net left k is j (omega (arith, bounds, short));
-      some_fare = λ j short. (fare-size net left k is j (omega (arith, bounds, short))).0;
-      fare_size = λ j short. (fare-size net left k is j (omega (arith, bounds, short))).1;
-      some_leg = λ j short. (legs-count net left k is j (omega (arith, bounds, short))).0;
-      leg_count = λ j short. (legs-count net left k is j (omega (arith, bounds, short))).1;
-      products = rw caps (are-products (length net.legs) (program_at net left k).bounds net.products bounds is.products);
-    }
+    made-limited net (map (λ seats. net.histories * seats) left) (map (λ j. total_to_come net j k) (range_with_len 0 (length net.products))) is
+    (length-map left (λ (seats : ℕ). net.histories * seats) ∙ many) (caps-within net is left many seats)
+    (length-map-range_with_len (λ j. total_to_come net j k) 0 (length net.products)) (bounds-within net is k)
 
--- and so are the parts that were made of it
-pub limited-parts : (net : NetworkValue) (left : List ℕ) (k : ℕ) (caps bounds fares : List ℕ) (legs : List (List ℕ)) → IsNetwork net → length left ≡ length net.legs
-    → ((i : ℕ) → i < length net.legs → get_or left i 0 ≤ (leg_of net i).seats)
-    → caps ≡ (program_at net left k).caps → bounds ≡ (program_at net left k).bounds → fares ≡ (program_at net left k).fares → legs ≡ (program_at net left k).legs
+pub opening-limited : OpeningsAreLimited
+opening-limited net is = limited net (inventory_of net).seats 1 is (full-count net) (full-within net)
+
+-- and so is what was made of its parts
+pub limited-parts : (net : NetworkValue) (caps bounds fares : List ℕ) (legs : List (List ℕ)) → IsNetwork net
+    → length caps ≡ length net.legs → All (λ cap. cap ≤ 31968) caps → length bounds ≡ length net.products → All (λ bound. bound ≤ 31968) bounds
+    → fares ≡ (inventory_of net).fares → legs ≡ (inventory_of net).legs
     → IsLimited (record { caps = caps; bounds = bounds; fares = fares; legs = legs })
-limited-parts net left k caps bounds fares legs is many seats caps_are bounds_are fares_are legs_are =
-    let same : ◌≡◌ {A = ProgramValue} (program_at net left k) (record { caps = caps; bounds = bounds; fares = fares; legs = legs }) =
-    λ i. record { caps = sym caps_are i; bounds = sym bounds_are i; fares = sym fares_are i; legs = sym legs_are i } in
-    subst IsLimited same (limited net left k is many seats)
+limited-parts net caps bounds fares legs is cap_count caps_within bound_count bounds_within fares_are legs_are =
+    rw (fares_are, legs_are) (made-limited net caps bounds is cap_count caps_within bound_count bounds_within)

@@ -1,31 +1,37 @@
-//! The program of a network at some seats left and a period, part by part: caps leg by leg, and bounds, fares and legs
-//! product by product.
-ghost use Rattle.std.specs.Prelude.{ℕ, ◌≡◌, ◌<◌, ◌≤◌, ◌*◌, IfOk, get_or, length, map};
+//! Programs of a network, part by part: caps leg by leg, and bounds, fares and legs product by product. The fares and
+//! legs are the network's; what differs from program to program is the caps and the bounds.
+ghost use Rattle.std.specs.Prelude.{ℕ, ◌≡◌, ◌<◌, ◌≤◌, ◌*◌, All, IfOk, get_or, length, map};
 ghost use Rattle.std.specs.Int.{IsInRange};
 ghost use Rattle.std.specs.List.{range_with_len};
 ghost use Rattle.nrm_model.specs.Network.{leg_of};
 ghost use Rattle.nrm_model.specs.Demand.{total_to_come};
 ghost use Rattle.nrm_model.specs.Inventory.{inventory_of};
 ghost use Rattle.nrm_model.specs.Limits.{IsNetwork};
-ghost use Rattle.nrm_dlp.specs.Programs.{program_at};
+ghost use Rattle.nrm_dlp.specs.Programs.{opening_program, program_at, program_of};
 
 use nrm_lp::Program;
 use nrm_model::Network;
 use std::alloc::{AllocError, Global};
 
-/// The seats of each leg, in file order: what is left before anything is sold.
+/// The program of a network with these caps, leg by leg, and bounds, product by product.
 ///
 /// # Errors
 /// Want of memory.
-pub fn full_seats(alloc: Global, net: &Network) -> Result<Vec<u16>, AllocError>
-    ensures seats { IfOk result (λ left. left.items ≡ (inventory_of net.now).seats) }
-    ensures limits { IsNetwork net.now }
+pub fn program_of(
+    alloc: Global,
+    net: &Network,
+    caps: Vec<u32>,
+    bounds: Vec<u32>,
+) -> Result<Program, AllocError>
+    requires legs { length caps.items ≡ length net.now.legs }
+    requires caps { All (λ cap. cap ≤ 31968) caps.items }
+    requires products { length bounds.items ≡ length net.now.products }
+    requires bounds { All (λ bound. bound ≤ 31968) bounds.items }
+    ensures { IfOk result (λ program. program ≡ program_of net.now caps.items bounds.items) }
 {
-    let mut left = Vec::new(alloc);
-    for i in 0..net.leg_count() as u8 {
-        left.push(net.leg_at(i).seats)?;
-    }
-    Ok(left)
+    let fares = fares_of(alloc, net)?;
+    let legs = legs_of(alloc, net)?;
+    Ok(Program::new(caps, bounds, fares, legs))
 }
 
 /// The deterministic linear program of a network at these seats left, from period `period` on (chapter 3 of Talluri
@@ -48,9 +54,33 @@ pub fn program_at(
 {
     let caps = caps_of(alloc, net.n(), left)?;
     let bounds = bounds_of(alloc, net, period)?;
-    let fares = fares_of(alloc, net)?;
-    let legs = legs_of(alloc, net)?;
-    Ok(Program::new(caps, bounds, fares, legs))
+    program_of(alloc, net, caps, bounds)
+}
+
+/// The program before anything is sold: that of period 1 with every seat left.
+///
+/// # Errors
+/// Want of memory.
+pub fn opening_program(alloc: Global, net: &Network) -> Result<Program, AllocError>
+    ensures { IfOk result (λ program. program ≡ opening_program net.now) }
+{
+    let left = full_seats(alloc, net)?;
+    program_at(alloc, net, &left, 1)
+}
+
+/// The seats of each leg, in file order: what is left before anything is sold.
+///
+/// # Errors
+/// Want of memory.
+pub fn full_seats(alloc: Global, net: &Network) -> Result<Vec<u16>, AllocError>
+    ensures seats { IfOk result (λ left. left.items ≡ (inventory_of net.now).seats) }
+    ensures limits { IsNetwork net.now }
+{
+    let mut left = Vec::new(alloc);
+    for i in 0..net.leg_count() as u8 {
+        left.push(net.leg_at(i).seats)?;
+    }
+    Ok(left)
 }
 
 // The seats left on each leg, once for each history.
@@ -76,7 +106,8 @@ fn bounds_of(alloc: Global, net: &Network, period: u8) -> Result<Vec<u32>, Alloc
 
 // The fare of each product.
 fn fares_of(alloc: Global, net: &Network) -> Result<Vec<u32>, AllocError>
-    ensures { IfOk result (λ fares. fares.items ≡ (inventory_of net.now).fares) }
+    ensures fares { IfOk result (λ fares. fares.items ≡ (inventory_of net.now).fares) }
+    ensures limits { IsNetwork net.now }
 {
     let mut fares = Vec::new(alloc);
     for j in 0..net.product_count() as u16 {

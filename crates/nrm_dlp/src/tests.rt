@@ -3,7 +3,7 @@
 ghost use Rattle.std.specs.Prelude.{ℕ, ◌≡◌, ◌<◌, ◌≤◌, [], ◌∷◌, codes, IfOk, get_or, length};
 ghost use Rattle.nrm_model.specs.Network.{leg_of};
 
-use crate::{full_seats, program_at};
+use crate::{opening_program, program_at, program_of};
 use nrm_model::{Leg, LegNumbers, Network, Product, Thresholds};
 use nrm_text::{Name, name_of};
 use std::alloc::{AllocError, Global};
@@ -68,9 +68,7 @@ fn small_network(alloc: Global, rt: &impl Abort) -> Result<Network, AllocError>
 #[test]
 fn at_opening(rt: HostRuntime) -> Result<(), Fail> {
     let net = small_network(rt.alloc(), &rt)?;
-    let left = full_seats(rt.alloc(), &net)?;
-    assert_eq!(rt; left.as_slice(), [3, 2].as_slice());
-    let program = program_at(rt.alloc(), &net, &left, 1)?;
+    let program = opening_program(rt.alloc(), &net)?;
     assert_eq!(rt; program.caps(), [6, 4].as_slice());
     assert_eq!(rt; program.bounds(), [6, 10].as_slice());
     assert_eq!(rt; program.fares(), [500, 200].as_slice());
@@ -90,5 +88,19 @@ fn in_the_second_period(rt: HostRuntime) -> Result<(), Fail> {
     assert_eq!(rt; program.fares(), [500, 200].as_slice());
     assert_eq!(rt; program.legs_of(0), [1, 0].as_slice());
     assert_eq!(rt; program.legs_of(1), [0].as_slice());
+    Ok(())
+}
+
+// The program of one history alone, the second one.
+#[test]
+fn with_caps_and_bounds(rt: HostRuntime) -> Result<(), Fail> {
+    let net = small_network(rt.alloc(), &rt)?;
+    let caps = Vec::from_array(rt.alloc(), [3, 2])?;
+    let bounds = Vec::from_array(rt.alloc(), [3, 6])?;
+    let program = program_of(rt.alloc(), &net, caps, bounds)?;
+    assert_eq!(rt; program.caps(), [3, 2].as_slice());
+    assert_eq!(rt; program.bounds(), [3, 6].as_slice());
+    assert_eq!(rt; program.fares(), [500, 200].as_slice());
+    assert_eq!(rt; program.legs_of(0), [1, 0].as_slice());
     Ok(())
 }

@@ -96,6 +96,7 @@ impl Network {
     pub fn product_count(&self) -> usize
         ensures count { result ≡ length self.now.products }
         ensures within { IsInRange 1 256 result }
+        ensures limits { IsNetwork self.now }
     {
         self.products.len()
     }
