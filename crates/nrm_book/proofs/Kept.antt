@@ -100,7 +100,7 @@ removed-is bookings k number rise at =
     let (short, has, before) = position-Some (λ (booking : Booking). booking.number == number) bookings k no_booking at in
     removed-at bookings k number rise short (eqb-true _ number has)
 
-none-past : (test : Bool) (place : ℕ) → cond test (Some place) None ≡ None → test ≡ false
+pub none-past : (test : Bool) (place : ℕ) → cond test (Some place) None ≡ None → test ≡ false
 none-past true place none = absurd (none-some place (sym none))
 none-past false place none = refl
 

@@ -3,3 +3,4 @@ pub mod Sold
 pub mod Kept
 pub mod Copied
 pub mod Totals
+pub mod Searched

@@ -101,10 +101,8 @@ impl Book {
     pub fn find(&self, number: u64) -> Option<Booking>
         ensures { result ≡ booking_numbered self.now.bookings number }
     {
-        self.bookings
-            .iter()
-            .find(|booking| booking.number == number)
-            .copied()
+        let place = self.place_of(number)?;
+        Some(self.bookings[place])
     }
 
     /// What the bookings are worth: party times fare, in whole currency units.
@@ -166,13 +164,13 @@ impl Book {
         self.legs[product as usize].contains(&leg)
     }
 
-    // The place of a number in the list.
+    // The place of a number in the list, found by halves: the numbers rise.
     fn place_of(&self, number: u64) -> Option<usize>
         ensures { result ≡ position (λ booking. booking.number == number) self.now.bookings }
     {
         self.bookings
-            .iter()
-            .position(|booking| booking.number == number)
+            .binary_search_by_key(&number, |booking| booking.number)
+            .ok()
     }
 }
 
