@@ -10,7 +10,6 @@ use Rattle.nrm_number.proofs.GcdLaws.{gcd-dvd_left, gcd-dvd_right, divides_other
 use Rattle.nrm_fraction.specs.Fraction.{Fraction}
 use Rattle.nrm_fraction.specs.Large.{common, numerators, over_common, gcd_all}
 use Rattle.nrm_fraction.proofs.Lowest.{common_pos}
-use Rattle.nrm_row.proofs.Divisors.{gcd_all-dvd}
 use Rattle.nrm_model.specs.Network.{NetworkValue}
 use Rattle.nrm_lp.specs.Program.{ProgramValue}
 use Rattle.nrm_lp.specs.Tableau.{Tableau}
@@ -19,6 +18,7 @@ use Rattle.nrm_lp.specs.Certified.{Certifies}
 use Rattle.nrm_lp.proofs.Certify.{certifies}
 use Rattle.nrm_dual.specs.Texts.{IsShaped}
 use Rattle.nrm_dual.specs.ReadBack.{IsLowest, WrittenIsRead, ClosingsAreRead}
+use Rattle.nrm_fraction.proofs.CommonDivisors.{gcd_all-dvd}
 
 -- what divides m and the numerator of x over m leaves, of m, a multiple of the denominator
 den-dvd-rest : (x : Fraction) (g r : ℕ) → 0 < g → x.den ∣ r * g → g ∣ nat_abs (x.num *ℤ pos (r * g / x.den)) → x.den ∣ r

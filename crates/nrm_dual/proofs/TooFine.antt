@@ -7,16 +7,13 @@ use native.Mathlib.Nat.{one-dvd}
 use Rattle.nrm_number.specs.Gcd.{lcm}
 use Rattle.nrm_number.proofs.GcdLaws.{dvd-lcm_left, dvd-lcm_right, lcm-dvd, lcm_pos}
 use Rattle.nrm_fraction.specs.Fraction.{Fraction}
-use Rattle.nrm_fraction.specs.Large.{common, running, numerators, first_reaching, large_number}
+use Rattle.nrm_fraction.specs.Large.{common, running, numerators, first_reaching, large_number, first_too_large}
 use Rattle.nrm_fraction.proofs.Values.{den_pos}
 use Rattle.nrm_fraction.proofs.Lowest.{common_pos}
-use Rattle.nrm_row.specs.Fault.{IsFault}
-use Rattle.nrm_row.specs.declared.fault.RowFault.{RowFault}
-use Rattle.nrm_row.specs.declared.fault.RowFault.TheVariants.{Large, NoMemory}
-use Rattle.nrm_row.proofs.LowestTerms.{reaching_no}
-use Rattle.nrm_row.proofs.Bits.{small_same}
-use Rattle.nrm_denominators.specs.Lists.{first_too_large}
-use Rattle.nrm_denominators.proofs.Numerators.{found_behind}
+use Rattle.nrm_fraction.specs.Fault.{IsFault}
+use Rattle.nrm_fraction.specs.declared.fault.RowFault.{RowFault}
+use Rattle.nrm_fraction.specs.declared.fault.RowFault.TheVariants.{Large, NoMemory}
+use Rattle.nrm_fraction.proofs.Numerators.{found_behind}
 use Rattle.nrm_lp.proofs.Small.{reach_first, reach_parts, common_below}
 use Rattle.nrm_lp.specs.declared.certificate.Certificate.{Certificate}
 use Rattle.nrm_dual.specs.Reading.{certificate_or_refusal, certificate_over, small_or_refusal}
@@ -24,6 +21,8 @@ use Rattle.nrm_dual.specs.Sheets.{cause_of}
 use Rattle.nrm_dual.specs.declared.fault.CertFault.{CertFault}
 use Rattle.nrm_dual.specs.Refusals.{AnswersCertificate, CertRefusal, too_fine}
 use Rattle.std.specs.Result.{IsErrAnd}
+use Rattle.nrm_fraction.proofs.Reaching.{reaching_no}
+use Rattle.nrm_fraction.proofs.Sizes.{small_same}
 
 none_some : (n : ℤ) → None ≡ Some n → ⊥
 none_some n e = cc

@@ -3,8 +3,8 @@ use Rattle.std.specs.Prelude.{ℕ, ◌≡◌, ◌<◌, length, map, ⊤, Option,
 use Rattle.std.specs.Option.{option_map}
 use Rattle.nrm_text.specs.declared.number.NumberFault.{NumberFault}
 use Rattle.nrm_text.specs.declared.number.NumberFault.TheVariants.{Off, Over}
-use Rattle.nrm_row.specs.declared.fault.RowFault.{RowFault}
-use Rattle.nrm_row.specs.declared.fault.RowFault.TheVariants as row
+use Rattle.nrm_fraction.specs.declared.fault.RowFault.{RowFault}
+use Rattle.nrm_fraction.specs.declared.fault.RowFault.TheVariants as row
 use Rattle.nrm_lp.specs.declared.certificate.Certificate.{Certificate}
 use Rattle.nrm_model.specs.Network.{NetworkValue}
 use Rattle.nrm_dual.specs.declared.fault.CertFault.{CertFault}

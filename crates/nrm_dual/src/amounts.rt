@@ -6,7 +6,7 @@ ghost use Rattle.nrm_dual.specs.Reading.{certificate_or_refusal, prices_in, time
 use crate::fault::CertFault;
 use crate::sheet::Sheet;
 use crate::written::Written;
-use nrm_denominators::{Fraction, over_common};
+use nrm_fraction::{Fraction, over_common};
 use nrm_lp::{Certificate, Numbers};
 use std::alloc::{AllocError, Global};
 

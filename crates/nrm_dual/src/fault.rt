@@ -3,7 +3,7 @@ ghost use Rattle.std.specs.Prelude.{◌≡◌};
 ghost use Rattle.nrm_dual.specs.Sheets.{cause_of};
 ghost use Rattle.nrm_dual.specs.declared.fault.CertFault.TheVariants.{NoMemory};
 
-use nrm_row::RowFault;
+use nrm_fraction::RowFault;
 use std::alloc::AllocError;
 use thiserror::Error;
 

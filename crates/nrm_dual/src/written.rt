@@ -4,7 +4,7 @@ ghost use Rattle.nrm_fraction.specs.Fraction.{◌over◌};
 ghost use Rattle.nrm_dual.specs.Reading.{times, written_by, written_in};
 ghost use Rattle.nrm_dual.specs.Sheets.{fitting};
 
-use nrm_denominators::Fraction;
+use nrm_fraction::Fraction;
 use nrm_stream::split_once;
 use nrm_text::{NumberFault, read_whole};
 use std::marker::Model;

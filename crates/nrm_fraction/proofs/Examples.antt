@@ -2,7 +2,7 @@
 use Rattle.std.proofs.Common.{◌≡◌, ◌^◌, pos, negsuc, refl, true, [], ◌∷◌, Some, None}
 use Rattle.nrm_number.specs.Gcd.{gcd, lcm, in_lowest_terms}
 use Rattle.nrm_fraction.specs.Fraction.{◌over◌, ◌+ᶠ◌, ◌*ᶠ◌, ◌-ᶠ◌, ◌/ᶠ◌, inverse, negative, less, whole}
-use Rattle.nrm_fraction.specs.Large.{common, numerators, large_number}
+use Rattle.nrm_fraction.specs.Large.{common, numerators, large_number, size_limit}
 use Rattle.nrm_fraction.specs.Lex.{lex_below}
 use Rattle.nrm_fraction.specs.Rows.{row_of, unit_row, combine, ratio_columns, ratios}
 
@@ -31,15 +31,15 @@ over_twelve : numerators (common (pos 5 over 6 ∷ negsuc 0 over 4 ∷ pos 2 ove
 unfolding ◌over◌ gcd lcm in_lowest_terms
 over_twelve = refl
 
-large_numerator : large_number (2 ^ 48) (pos 1 over 2 ∷ negsuc 281474976710655 over 3 ∷ []) ≡ Some (negsuc 562949953421311)
+large_numerator : large_number size_limit (pos 1 over 2 ∷ negsuc 281474976710655 over 3 ∷ []) ≡ Some (negsuc 562949953421311)
 unfolding ◌over◌ gcd lcm in_lowest_terms
 large_numerator = refl
 
-large_denominator : large_number (2 ^ 48) (pos 281474976710657 over 1 ∷ pos 1 over 281474976710656 ∷ []) ≡ Some (pos 281474976710656)
+large_denominator : large_number size_limit (pos 281474976710657 over 1 ∷ pos 1 over 281474976710656 ∷ []) ≡ Some (pos 281474976710656)
 unfolding ◌over◌ gcd lcm in_lowest_terms
 large_denominator = refl
 
-not_large : large_number (2 ^ 48) (pos 281474976710655 over 1 ∷ negsuc 281474976710654 over 1 ∷ []) ≡ None
+not_large : large_number size_limit (pos 281474976710655 over 1 ∷ negsuc 281474976710654 over 1 ∷ []) ≡ None
 unfolding ◌over◌ gcd lcm in_lowest_terms
 not_large = refl
 

@@ -1,7 +1,15 @@
 -- A list of fractions over its least common denominator, and when it is too large for the code.
-use Rattle.std.specs.Prelude.{ℕ, ◌/◌, ℤ, pos, ◌*ℤ◌, nat_abs, cond, leb, List, [], ◌∷◌, map, Option, Some, None}
+use Rattle.std.specs.Prelude.{ℕ, ◌/◌, ◌^◌, ◌<◌, ℤ, pos, ◌*ℤ◌, nat_abs, unsigned_abs, cond, leb, List, [], ◌∷◌, ◌++◌, map, Option, Some, None}
 use Rattle.nrm_number.specs.Gcd.{gcd, lcm}
 use Rattle.nrm_fraction.specs.Fraction.{Fraction, ◌over◌}
+
+-- what a number of a row or of a certificate, and a denominator, stays below in size
+abbrev pub size_limit : ℕ
+size_limit = 2 ^ 48
+
+-- below the limit in size
+abbrev pub IsSmall : ℤ → Type 0
+IsSmall n = unsigned_abs n < size_limit
 
 -- the least common denominator
 abbrev pub common : List Fraction → ℕ
@@ -25,6 +33,11 @@ over_common xs = map (λ x. nat_abs x) (numerators (common xs) xs)
 abbrev pub first_reaching : ℕ → List ℤ → Option ℤ
 first_reaching limit [] = None
 first_reaching limit (n ∷ ns) = cond (leb limit (nat_abs n)) (Some n) (first_reaching limit ns)
+
+-- the first number that reaches the limit in size: among the running least common denominators of the list, then among the
+-- numerators over the last of them
+abbrev pub first_too_large : ℕ → List Fraction → Option ℤ
+first_too_large limit xs = first_reaching limit (running 1 xs ++ numerators (common xs) xs)
 
 -- the number of a Large list: the denominator first, then the numerators in order; None where it isn't Large
 abbrev pub large_number : ℕ → List Fraction → Option ℤ

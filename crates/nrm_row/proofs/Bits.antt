@@ -8,14 +8,9 @@ use mir.Val.{to_z, of_z, SFits}
 use Rattle.nrm_number.proofs.Integers.{ring_ℤ}
 use Rattle.nrm_number.proofs.Ring.{solve, v0, v1}
 use Rattle.nrm_number.proofs.Ring.Expr.{◌⊗◌}
-use Rattle.nrm_row.specs.Numbers.{IsSmall, IsShort}
-
--- a number below the limit is the same at 64 bits
-pub small_fits : (n : ℤ) → leb (2 ^ 48) (nat_abs n) ≡ false → to_z w64 (of_z w64 n) ≡ n
-small_fits n h = let l : nat_abs n < 2 ^ 48 = omega (arith, leb-false (2 ^ 48) (nat_abs n) h) in omega (arith, ints)
-
-pub small_same : (n : ℤ) → IsSmall n → to_z w64 (of_z w64 n) ≡ n
-small_same n h = omega (arith, ints)
+use Rattle.nrm_row.specs.Numbers.{IsShort}
+use Rattle.nrm_fraction.specs.Large.{size_limit, IsSmall}
+use Rattle.nrm_fraction.proofs.Sizes.{small_same}
 
 -- a number read at a column, as the code has it
 pub read_at : (ns : List ℤ) (i col : ℕ) (n : ℤ) → All IsSmall ns → col < length ns → i ≡ col → n ≡ get_or ns i n → to_z w64 (of_z w64 n) ≡ get_or ns col (pos 0)
@@ -40,7 +35,7 @@ wide_same : (p : ℤ) → nat_abs p < 2 ^ 96 → to_z w128 (of_z w128 p) ≡ p
 wide_same p h = omega (arith, ints)
 
 product_bound : (x y : ℤ) → IsSmall x → IsSmall y → nat_abs (x *ℤ y) < 2 ^ 96
-product_bound x y h k = subst (λ t. t < 2 ^ 96) (sym (unsigned_abs-mul x y)) (mul-lt (nat_abs x) (nat_abs y) (2 ^ 48) (2 ^ 48) h k)
+product_bound x y h k = subst (λ t. t < 2 ^ 96) (sym (unsigned_abs-mul x y)) (mul-lt (nat_abs x) (nat_abs y) size_limit size_limit h k)
 
 pub product_small : (x y : ℤ) → IsSmall x → IsSmall y → nat_abs (to_z w128 (of_z w128 (to_z w128 (of_z w128 (to_z w64 (of_z w64 x))) *ℤ to_z w128 (of_z w128 (to_z w64 (of_z w64 y)))))) < 2 ^ 96
 product_small x y h k =
@@ -72,7 +67,7 @@ short_same : (p : ℤ) → nat_abs p < 2 ^ 62 → to_z w64 (of_z w64 p) ≡ p
 short_same p h = omega (arith, ints)
 
 short_product_bound : (x y : ℤ) → IsSmall x → IsShort y → nat_abs (x *ℤ y) < 2 ^ 62
-short_product_bound x y h k = subst (λ t. t < 2 ^ 62) (sym (unsigned_abs-mul x y)) (mul-lt (nat_abs x) (nat_abs y) (2 ^ 48) (2 ^ 14) h k)
+short_product_bound x y h k = subst (λ t. t < 2 ^ 62) (sym (unsigned_abs-mul x y)) (mul-lt (nat_abs x) (nat_abs y) size_limit (2 ^ 14) h k)
 
 pub short_product_is : (x y : ℤ) → IsSmall x → IsShort y → to_z w64 (of_z w64 (to_z w64 (of_z w64 x) *ℤ to_z w64 (of_z w64 y))) ≡ x *ℤ y
 short_product_is x y h k =

@@ -13,12 +13,14 @@ use Rattle.nrm_number.proofs.Integers.{ring_ℤ}
 use Rattle.nrm_number.proofs.Ring.{solve, ◌⊖◌, v0, v1, v2, v3, v4, v5}
 use Rattle.nrm_number.proofs.Ring.Expr.{◌⊕◌, ◌⊗◌, minus, e0, e1}
 use Rattle.nrm_fraction.specs.Fraction.{◌over◌, ◌*ᶠ◌, ◌-ᶠ◌, negative, whole}
-use Rattle.nrm_fraction.specs.Large.{fractions, gcd_all, first_reaching}
+use Rattle.nrm_fraction.specs.Large.{fractions, gcd_all, first_reaching, size_limit}
 use Rattle.nrm_fraction.specs.Rows.{minus_times, combine}
 use Rattle.nrm_fraction.proofs.Values.{IsValue_over, IsValue_sum, IsValue_product, IsValue_negative, same_value}
 use Rattle.nrm_row.specs.Numbers.{crossed, shrunk}
-use Rattle.nrm_row.proofs.Divisors.{gcd_all-dvd, divisor_done, shrink_back, shrink_one}
-use Rattle.nrm_row.proofs.LowestTerms.{reaching_yes, reaching_no, positive_abs}
+use Rattle.nrm_row.proofs.Divisors.{divisor_done, shrink_back, shrink_one}
+use Rattle.nrm_fraction.proofs.CommonDivisors.{gcd_all-dvd}
+use Rattle.nrm_fraction.proofs.Reaching.{reaching_yes, reaching_no}
+use Rattle.nrm_fraction.proofs.Sizes.{positive_abs}
 
 -- a common factor h of the entry a h over d and the denominator e h goes out
 one_entry : (x a u : ℤ) (d e h : ℕ) → 0 < d → 0 < e → 0 < h → (x *ℤ pos e -ℤ a *ℤ u) over (d * e) ≡ x over d -ᶠ (a *ℤ pos h) over d *ᶠ u over (e * h)
@@ -127,41 +129,41 @@ length-made g a e us xs l = length-map (crossed a e us xs) (λ n. shrink n g) �
 -- so far the list has the new numbers, and then the old ones
 pub record IsPutTo (made old xs : List ℤ) (i : ℕ) : Type 0 where
   pub put : xs ≡ take i made ++ drop i old
-  pub reaching : first_reaching (2 ^ 48) made ≡ first_reaching (2 ^ 48) (drop i made)
+  pub reaching : first_reaching size_limit made ≡ first_reaching size_limit (drop i made)
 
 pub put_old : (made old xs : List ℤ) (i : ℕ) → length made ≡ length old → i < length old → IsPutTo made old xs i → get_or xs i (pos 0) ≡ get_or old i (pos 0)
 put_old made old xs i l h p =
     ap (λ t. get_or t i (pos 0)) (p.put ∙ ap (λ t. take i made ++ t) (drop_more old i (pos 0) h))
     ∙ get_or_at (take i made) (get_or old i (pos 0)) (drop (i + 1) old) (pos 0) i (length-take-le i made (omega arith))
 
-pub put_large : (made old xs : List ℤ) (i : ℕ) (n : ℤ) → length made ≡ length old → i < length old → n ≡ get_or made i (pos 0) → leb (2 ^ 48) (nat_abs n) ≡ true → IsPutTo made old xs i → Some n ≡ first_reaching (2 ^ 48) made
+pub put_large : (made old xs : List ℤ) (i : ℕ) (n : ℤ) → length made ≡ length old → i < length old → n ≡ get_or made i (pos 0) → leb size_limit (nat_abs n) ≡ true → IsPutTo made old xs i → Some n ≡ first_reaching size_limit made
 put_large made old xs i n l h e large p =
-    sym (p.reaching ∙ ap (first_reaching (2 ^ 48)) (drop_more made i (pos 0) (omega arith) ∙ ap (λ t. t ∷ drop (i + 1) made) (sym e)) ∙ reaching_yes n (drop (i + 1) made) large)
+    sym (p.reaching ∙ ap (first_reaching size_limit) (drop_more made i (pos 0) (omega arith) ∙ ap (λ t. t ∷ drop (i + 1) made) (sym e)) ∙ reaching_yes n (drop (i + 1) made) large)
 
-pub put_more : (made old xs : List ℤ) (i : ℕ) (n : ℤ) → length made ≡ length old → i < length old → n ≡ get_or made i (pos 0) → leb (2 ^ 48) (nat_abs n) ≡ false → IsPutTo made old xs i → IsPutTo made old (set xs i n) (i + 1)
+pub put_more : (made old xs : List ℤ) (i : ℕ) (n : ℤ) → length made ≡ length old → i < length old → n ≡ get_or made i (pos 0) → leb size_limit (nat_abs n) ≡ false → IsPutTo made old xs i → IsPutTo made old (set xs i n) (i + 1)
 put_more made old xs i n l h e small p = record {
   put =
       ap (λ t. set t i n) (p.put ∙ ap (λ t. take i made ++ t) (drop_more old i (pos 0) h))
       ∙ set_at (take i made) (get_or old i (pos 0)) (drop (i + 1) old) n i (length-take-le i made (omega arith))
       ∙ sym (append_assoc (take i made) (n ∷ []) (drop (i + 1) old))
       ∙ ap (λ t. t ++ drop (i + 1) old) (ap (λ t. take i made ++ t ∷ []) e ∙ sym (take_more made i (pos 0) (omega arith)));
-  reaching = p.reaching ∙ ap (first_reaching (2 ^ 48)) (drop_more made i (pos 0) (omega arith) ∙ ap (λ t. t ∷ drop (i + 1) made) (sym e)) ∙ reaching_no n (drop (i + 1) made) small;
+  reaching = p.reaching ∙ ap (first_reaching size_limit) (drop_more made i (pos 0) (omega arith) ∙ ap (λ t. t ∷ drop (i + 1) made) (sym e)) ∙ reaching_no n (drop (i + 1) made) small;
 }
 
 -- a number that stays
-pub put_same : (made old xs : List ℤ) (i : ℕ) (n : ℤ) → length made ≡ length old → i < length old → n ≡ get_or made i (pos 0) → n ≡ get_or old i (pos 0) → leb (2 ^ 48) (nat_abs n) ≡ false → IsPutTo made old xs i → IsPutTo made old xs (i + 1)
+pub put_same : (made old xs : List ℤ) (i : ℕ) (n : ℤ) → length made ≡ length old → i < length old → n ≡ get_or made i (pos 0) → n ≡ get_or old i (pos 0) → leb size_limit (nat_abs n) ≡ false → IsPutTo made old xs i → IsPutTo made old xs (i + 1)
 put_same made old xs i n l h e k small p = record {
   put =
       p.put ∙ ap (λ t. take i made ++ t) (drop_more old i (pos 0) h)
       ∙ ap (λ z. take i made ++ z ∷ drop (i + 1) old) (sym k ∙ e)
       ∙ sym (append_assoc (take i made) (get_or made i (pos 0) ∷ []) (drop (i + 1) old))
       ∙ ap (λ t. t ++ drop (i + 1) old) (sym (take_more made i (pos 0) (omega arith)));
-  reaching = p.reaching ∙ ap (first_reaching (2 ^ 48)) (drop_more made i (pos 0) (omega arith) ∙ ap (λ t. t ∷ drop (i + 1) made) (sym e)) ∙ reaching_no n (drop (i + 1) made) small;
+  reaching = p.reaching ∙ ap (first_reaching size_limit) (drop_more made i (pos 0) (omega arith) ∙ ap (λ t. t ∷ drop (i + 1) made) (sym e)) ∙ reaching_no n (drop (i + 1) made) small;
 }
 
-pub put_all : (made old xs : List ℤ) (i : ℕ) → length made ≡ length old → length old ≤ i → IsPutTo made old xs i → (None ≡ first_reaching (2 ^ 48) made) × (xs ≡ made)
+pub put_all : (made old xs : List ℤ) (i : ℕ) → length made ≡ length old → length old ≤ i → IsPutTo made old xs i → (None ≡ first_reaching size_limit made) × (xs ≡ made)
 put_all made old xs i l h p = (
-  sym (p.reaching ∙ ap (first_reaching (2 ^ 48)) (drop_all i made (omega arith))),
+  sym (p.reaching ∙ ap (first_reaching size_limit) (drop_all i made (omega arith))),
   p.put ∙ ap₂ (λ s t. s ++ t) (take_all i made (omega arith)) (drop_all i old h) ∙ append-nil made,
 )
 
@@ -219,5 +221,5 @@ quotient_read n s q g fn fq c r = to_z-of_z fq ∙ r ∙ ap₂ (λ x z. shrink x
 pub nought_taken : (x a u : ℤ) → u ≡ pos 0 → shrink (x *ℤ pos 1 -ℤ a *ℤ u) 1 ≡ x
 nought_taken x a u z = shrink_one (x *ℤ pos 1 -ℤ a *ℤ u) ∙ ap (λ w. x *ℤ pos 1 -ℤ a *ℤ w) z ∙ solve ring_ℤ (x ∷ a ∷ []) (v0 ⊗ e1 ⊖ v1 ⊗ e0) v0 refl
 
-pub not_large : (m : ℕ) → m < 2 ^ 48 → leb (2 ^ 48) m ≡ false
+pub not_large : (m : ℕ) → m < size_limit → leb size_limit m ≡ false
 not_large m l = grind (arith, nat_tests)

@@ -7,7 +7,7 @@ use Rattle.nrm_number.proofs.Integers.{ring_ℤ}
 use Rattle.nrm_number.proofs.Ring.{solve, v0, v1, v2}
 use Rattle.nrm_number.proofs.Ring.Expr.{◌⊗◌, e0, e1}
 use Rattle.nrm_fraction.specs.Fraction.{Fraction, ◌over◌, ◌<ᶠ◌, less, whole}
-use Rattle.nrm_fraction.specs.Large.{fractions, common, numerators, gcd_all, large_number}
+use Rattle.nrm_fraction.specs.Large.{fractions, common, numerators, gcd_all, large_number, size_limit}
 use Rattle.nrm_fraction.specs.Lex.{lex_below}
 use Rattle.nrm_fraction.specs.Rows.{at, unit_row, ratio_columns, ratios}
 use Rattle.nrm_fraction.proofs.Values.{IsValue, IsValue_over}
@@ -17,7 +17,8 @@ use native.Mathlib.Nat.{div-mul_cancel}
 use Rattle.nrm_fraction.proofs.Field.{IsValue_whole, below_to}
 use Rattle.nrm_row.specs.Numbers.{IsRow, shrunk, crossed_below}
 use Rattle.nrm_row.proofs.RatioLaws.{less_values, unit_is, crossed_below_is, ratio_columns_within}
-use Rattle.nrm_row.proofs.LowestTerms.{positive_abs, row_length, lowest_same, small_is_row, row_not_large}
+use Rattle.nrm_row.proofs.LowestTerms.{row_length, lowest_same, small_is_row, row_not_large}
+use Rattle.nrm_fraction.proofs.Sizes.{positive_abs}
 
 pub entry_is : (D : ℕ) (ns : List ℤ) (col : ℕ) → col < length ns → at (fractions D ns) col ≡ get_or ns col (pos 0) over D
 entry_is D ns col h = get_or-map (λ n. n over D) ns col (pos 0) (whole (pos 0)) h
@@ -60,9 +61,9 @@ pub unit_row_is : (d : ℤ) (ns : List ℤ) (row : List Fraction) (col : ℕ) (p
 unit_row_is d ns row col p h e w r k =
     sym (unit_is (nat_abs d) ns col (nat_abs p) (positive_abs d h).1 (positive_abs p k).1 (sym r ∙ (positive_abs p k).0) w) ∙ ap (unit_row col) e
 
-pub unit_small : (d : ℤ) (ns : List ℤ) (row : List Fraction) (col : ℕ) → IsRow d ns → fractions (nat_abs d) ns ≡ row → col < length ns → pos 0 <ℤ get_or ns col (pos 0) → large_number (2 ^ 48) (unit_row col row) ≡ None
+pub unit_small : (d : ℤ) (ns : List ℤ) (row : List Fraction) (col : ℕ) → IsRow d ns → fractions (nat_abs d) ns ≡ row → col < length ns → pos 0 <ℤ get_or ns col (pos 0) → large_number size_limit (unit_row col row) ≡ None
 unit_small d ns row col r e w k =
-    ap (large_number (2 ^ 48)) (sym (lowest_same (get_or ns col (pos 0)) ns k ∙ unit_row_is d ns row col (get_or ns col (pos 0)) r.positive e w refl k))
+    ap (large_number size_limit) (sym (lowest_same (get_or ns col (pos 0)) ns k ∙ unit_row_is d ns row col (get_or ns col (pos 0)) r.positive e w refl k))
     ∙ row_not_large (shrink (get_or ns col (pos 0)) (gcd_all (nat_abs (get_or ns col (pos 0))) ns)) (shrunk (gcd_all (nat_abs (get_or ns col (pos 0))) ns) ns)
     (small_is_row (get_or ns col (pos 0)) ns k (r.smalls col (pos 0) w) r.smalls r.width)
 

@@ -6,11 +6,11 @@ use Rattle.std.proofs.lemmas.Int.{ints}
 use Rattle.std.specs.Int.{IsInRange}
 use Rattle.std.specs.List.{range_with_len}
 use Rattle.nrm_fraction.specs.Fraction.{◌over◌, whole}
-use Rattle.nrm_fraction.specs.Large.{fractions, gcd_all}
+use Rattle.nrm_fraction.specs.Large.{fractions, gcd_all, IsSmall}
 use Rattle.nrm_fraction.specs.Rows.{number_at, row_of}
-use Rattle.nrm_row.specs.Numbers.{AreEntries, IsSmall, IsRow}
-use Rattle.nrm_row.proofs.Bits.{small_same}
-use Rattle.nrm_row.proofs.Divisors.{gcd_all_le, gcd_all_pos}
+use Rattle.nrm_row.specs.Numbers.{AreEntries, IsRow}
+use Rattle.nrm_fraction.proofs.Sizes.{small_same}
+use Rattle.nrm_fraction.proofs.CommonDivisors.{gcd_all_le, gcd_all_pos}
 
 -- the last of the entries, at its column and at others
 at_last : (es : List (ℕ × ℤ)) (col c : ℕ) (n : ℤ) → c ≡ col → ((k : ℕ) → k < length es → ¬ ((get_or es k (0, pos 0)).0 ≡ c)) → number_at (es ++ (col, n) ∷ []) c ≡ n

@@ -10,42 +10,34 @@ use native.Mathlib.Nat.{div-mul_cancel, div-le_self}
 use Rattle.nrm_number.specs.Gcd.{shrink}
 use Rattle.nrm_number.proofs.GcdLaws.{nat_abs-shrink}
 use Rattle.nrm_fraction.specs.Fraction.{Fraction, ◌over◌}
-use Rattle.nrm_fraction.specs.Large.{fractions, gcd_all, first_reaching, common, numerators, large_number}
+use Rattle.nrm_fraction.specs.Large.{fractions, gcd_all, first_reaching, common, numerators, large_number, size_limit, IsSmall}
 use Rattle.nrm_fraction.proofs.Lowest.{common_is, numerators_are}
-use Rattle.nrm_row.specs.Numbers.{shrunk, IsSmall, IsRow}
-use Rattle.nrm_row.proofs.Divisors.{gcd_all_pos, gcd_all-dvd, gcd_all-divides, shrunk_same, shrunk_lowest, reduced_below}
-
-pub reaching_yes : (n : ℤ) (ns : List ℤ) → leb (2 ^ 48) (nat_abs n) ≡ true → first_reaching (2 ^ 48) (n ∷ ns) ≡ Some n
-reaching_yes n ns h = ap (λ b. cond b (Some n) (first_reaching (2 ^ 48) ns)) h
-
-pub reaching_no : (n : ℤ) (ns : List ℤ) → leb (2 ^ 48) (nat_abs n) ≡ false → first_reaching (2 ^ 48) (n ∷ ns) ≡ first_reaching (2 ^ 48) ns
-reaching_no n ns h = ap (λ b. cond b (Some n) (first_reaching (2 ^ 48) ns)) h
+use Rattle.nrm_row.specs.Numbers.{shrunk, IsRow}
+use Rattle.nrm_row.proofs.Divisors.{shrunk_same, shrunk_lowest, reduced_below}
+use Rattle.nrm_fraction.proofs.CommonDivisors.{gcd_all_pos, gcd_all-dvd, gcd_all-divides}
+use Rattle.nrm_fraction.proofs.Reaching.{reaching_no}
+use Rattle.nrm_fraction.proofs.Sizes.{positive_abs}
 
 some_not_none : (n : ℤ) → Some n ≡ None → ⊥
 some_not_none n e = cc
 
 -- where none reaches the limit, all are small
-pub small_from_none : (ns : List ℤ) → first_reaching (2 ^ 48) ns ≡ None → All IsSmall ns
+pub small_from_none : (ns : List ℤ) → first_reaching size_limit ns ≡ None → All IsSmall ns
 small_from_none [] h k d l = absurd (omega arith)
-small_from_none (n ∷ ns) h k d l = go (leb (2 ^ 48) (nat_abs n)) refl (small_from_none ns) h k l
+small_from_none (n ∷ ns) h k d l = go (leb size_limit (nat_abs n)) refl (small_from_none ns) h k l
   where
-    go : (b : Bool) → leb (2 ^ 48) (nat_abs n) ≡ b → (first_reaching (2 ^ 48) ns ≡ None → All IsSmall ns) → cond b (Some n) (first_reaching (2 ^ 48) ns) ≡ None → (k : ℕ) → k < suc (length ns) → IsSmall (get_or (n ∷ ns) k d)
+    go : (b : Bool) → leb size_limit (nat_abs n) ≡ b → (first_reaching size_limit ns ≡ None → All IsSmall ns) → cond b (Some n) (first_reaching size_limit ns) ≡ None → (k : ℕ) → k < suc (length ns) → IsSmall (get_or (n ∷ ns) k d)
     go true e rest h k l = absurd (some_not_none n h)
-    go false e rest h zero l = leb-false (2 ^ 48) (nat_abs n) e
+    go false e rest h zero l = leb-false size_limit (nat_abs n) e
     go false e rest h (suc k) l = rest h k d (omega arith)
 
 -- and the other way round
-none_reaches : (ns : List ℤ) → All IsSmall ns → first_reaching (2 ^ 48) ns ≡ None
+none_reaches : (ns : List ℤ) → All IsSmall ns → first_reaching size_limit ns ≡ None
 none_reaches [] h = refl
 none_reaches (n ∷ ns) h = reaching_no n ns (not_reached (nat_abs n) (All-head IsSmall n ns h)) ∙ none_reaches ns (All-tail IsSmall n ns h)
   where
-    not_reached : (m : ℕ) → m < 2 ^ 48 → leb (2 ^ 48) m ≡ false
+    not_reached : (m : ℕ) → m < size_limit → leb size_limit m ≡ false
     not_reached m l = grind (arith, nat_tests)
-
-pub positive_abs : (d : ℤ) → pos 0 <ℤ d → (d ≡ pos (nat_abs d)) × (0 < nat_abs d)
-positive_abs (pos zero) h = absurd (omega (arith, ints))
-positive_abs (pos (suc n)) h = (refl, omega arith)
-positive_abs (negsuc n) h = absurd (omega (arith, ints))
 
 -- ---- lowest terms
 lowest_parts : (d : ℤ) (ns : List ℤ) → pos 0 <ℤ d → (shrink d (gcd_all (nat_abs d) ns) ≡ pos (nat_abs d / gcd_all (nat_abs d) ns)) × (0 < nat_abs d / gcd_all (nat_abs d) ns)
@@ -82,8 +74,8 @@ lowest_same d ns h =
     ∙ shrunk_same (nat_abs d) (gcd_all (nat_abs d) ns) ns (positive_abs d h).1 (lowest_parts d ns h).1 (div-mul_cancel (gcd_all (nat_abs d) ns) (gcd_all-dvd (nat_abs d) ns)) (gcd_all_pos (nat_abs d) ns (positive_abs d h).1) (gcd_all-divides (nat_abs d) ns)
 
 -- a row, by the tests of its numbers
-pub made_is_row : (d : ℤ) (ns : List ℤ) → pos 0 <ℤ d → leb (2 ^ 48) (nat_abs (shrink d (gcd_all (nat_abs d) ns))) ≡ false → first_reaching (2 ^ 48) (shrunk (gcd_all (nat_abs d) ns) ns) ≡ None → IsInRange 1 577 (length ns) → IsRow (shrink d (gcd_all (nat_abs d) ns)) (shrunk (gcd_all (nat_abs d) ns) ns)
-made_is_row d ns h small none w = lowest_is_row d ns h (leb-false (2 ^ 48) (nat_abs (shrink d (gcd_all (nat_abs d) ns))) small) (small_from_none (shrunk (gcd_all (nat_abs d) ns) ns) none) w
+pub made_is_row : (d : ℤ) (ns : List ℤ) → pos 0 <ℤ d → leb size_limit (nat_abs (shrink d (gcd_all (nat_abs d) ns))) ≡ false → first_reaching size_limit (shrunk (gcd_all (nat_abs d) ns) ns) ≡ None → IsInRange 1 577 (length ns) → IsRow (shrink d (gcd_all (nat_abs d) ns)) (shrunk (gcd_all (nat_abs d) ns) ns)
+made_is_row d ns h small none w = lowest_is_row d ns h (leb-false size_limit (nat_abs (shrink d (gcd_all (nat_abs d) ns))) small) (small_from_none (shrunk (gcd_all (nat_abs d) ns) ns) none) w
 
 -- the first number of the exact row that reaches a limit
 pub large_is : (limit : ℕ) (d : ℤ) (ns : List ℤ) → pos 0 <ℤ d → large_number limit (fractions (nat_abs d) ns) ≡ first_reaching limit (shrink d (gcd_all (nat_abs d) ns) ∷ shrunk (gcd_all (nat_abs d) ns) ns)
@@ -102,9 +94,9 @@ large_is limit d ns h =
     common_here = common_is M N (lowest_parts d ns h).1 (shrunk_lowest (nat_abs d) ns (positive_abs d h).1)
 
 -- a row isn't Large
-pub row_not_large : (d : ℤ) (ns : List ℤ) → IsRow d ns → large_number (2 ^ 48) (fractions (nat_abs d) ns) ≡ None
+pub row_not_large : (d : ℤ) (ns : List ℤ) → IsRow d ns → large_number size_limit (fractions (nat_abs d) ns) ≡ None
 row_not_large d ns r =
-    ap₂ (λ m ms. first_reaching (2 ^ 48) (pos m ∷ ms)) common_here (ap (λ m. numerators m (fractions (nat_abs d) ns)) common_here ∙ numerators_are (nat_abs d) ns (positive_abs d r.positive).1)
+    ap₂ (λ m ms. first_reaching size_limit (pos m ∷ ms)) common_here (ap (λ m. numerators m (fractions (nat_abs d) ns)) common_here ∙ numerators_are (nat_abs d) ns (positive_abs d r.positive).1)
     ∙ none_reaches (pos (nat_abs d) ∷ ns) (All-cons IsSmall (pos (nat_abs d)) ns r.small r.smalls)
   where
     common_here : common (fractions (nat_abs d) ns) ≡ nat_abs d

@@ -2,7 +2,7 @@
 use Rattle.std.specs.Prelude.{ℕ, ◌≡◌, ◌<◌, ◌^◌, ℤ, pos, ◌-ℤ◌, ◌*ℤ◌, ◌<ℤ◌, unsigned_abs, int_lt, Bool, true, false, cond, get_or, List, [], ◌∷◌, map, length, All, AllPairs}
 use Rattle.std.specs.Int.{IsInRange}
 use Rattle.nrm_number.specs.Gcd.{shrink}
-use Rattle.nrm_fraction.specs.Large.{gcd_all}
+use Rattle.nrm_fraction.specs.Large.{gcd_all, IsSmall}
 
 -- the numbers x e - a u, of a row's numbers x and another's numbers u
 abbrev pub crossed : ℤ → ℤ → List ℤ → List ℤ → List ℤ
@@ -21,10 +21,6 @@ crossed_below p q xs ys (c ∷ cs) =
     let x = get_or xs c (pos 0) *ℤ q in
     let y = get_or ys c (pos 0) *ℤ p in
     cond (int_lt x y) true (cond (int_lt y x) false (crossed_below p q xs ys cs))
-
--- below the limit in size
-abbrev pub IsSmall : ℤ → Type 0
-IsSmall n = unsigned_abs n < 2 ^ 48
 
 -- below 2^14 in size: a product with a small number fits 64 bits
 abbrev pub IsShort : ℤ → Type 0

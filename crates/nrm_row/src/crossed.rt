@@ -4,15 +4,15 @@
 #![tactic(auto)]
 
 ghost use Rattle.std.specs.Prelude.{◌≡◌, ◌^◌, pos, ◌*ℤ◌, ◌<ℤ◌, unsigned_abs, length, All, IfNone, MatchResult, None};
-ghost use Rattle.nrm_fraction.specs.Large.{gcd_all, first_reaching};
-ghost use Rattle.nrm_row.specs.Numbers.{IsSmall, IsShort, crossed, shrunk};
-ghost use Rattle.nrm_row.specs.Fault.{IsFault};
+ghost use Rattle.nrm_fraction.specs.Large.{gcd_all, first_reaching, size_limit, IsSmall};
+ghost use Rattle.nrm_row.specs.Numbers.{IsShort, crossed, shrunk};
+ghost use Rattle.nrm_fraction.specs.Fault.{IsFault};
 
-use crate::euclid::{gcd, short_gcd};
-use crate::fault::RowFault;
 use crate::numbers::{
     cross, is_large, is_short, is_short_large, product, short_cross, short_quotient, wide_quotient,
 };
+use nrm_fraction::RowFault;
+use nrm_number::{gcd, short_gcd};
 use std::alloc::Global;
 
 // The greatest common divisor of d and all the numbers x e - a u, at 64 bits.
@@ -98,7 +98,7 @@ fn short_cross_in_place(xs: &mut [i64], us: &[i64], a: i64, e: i64, g: i64) -> O
     requires xs_small { All IsSmall xs.old }
     requires e_short { IsShort e }
     requires a_short { IsShort a }
-    ensures large { result ≡ first_reaching (2 ^ 48) (shrunk (unsigned_abs g) (crossed a e us.now xs.old)) }
+    ensures large { result ≡ first_reaching size_limit (shrunk (unsigned_abs g) (crossed a e us.now xs.old)) }
     ensures numbers { IfNone result (xs.new ≡ shrunk (unsigned_abs g) (crossed a e us.now xs.old)) }
 {
     for i in 0..us.len() {
@@ -117,7 +117,7 @@ fn subtract_in_place(xs: &mut [i64], us: &[i64], a: i64) -> Option<i128>
     requires us_small { All IsSmall us.now }
     requires xs_small { All IsSmall xs.old }
     requires a_short { IsShort a }
-    ensures large { result ≡ first_reaching (2 ^ 48) (shrunk 1 (crossed a (pos 1) us.now xs.old)) }
+    ensures large { result ≡ first_reaching size_limit (shrunk 1 (crossed a (pos 1) us.now xs.old)) }
     ensures numbers { IfNone result (xs.new ≡ shrunk 1 (crossed a (pos 1) us.now xs.old)) }
 {
     for i in 0..us.len() {
@@ -141,7 +141,7 @@ fn wide_cross_in_place(xs: &mut [i64], us: &[i64], a: i64, e: i64, g: i128) -> O
     requires xs_small { All IsSmall xs.old }
     requires e_small { IsSmall e }
     requires a_small { IsSmall a }
-    ensures large { result ≡ first_reaching (2 ^ 48) (shrunk (unsigned_abs g) (crossed a e us.now xs.old)) }
+    ensures large { result ≡ first_reaching size_limit (shrunk (unsigned_abs g) (crossed a e us.now xs.old)) }
     ensures numbers { IfNone result (xs.new ≡ shrunk (unsigned_abs g) (crossed a e us.now xs.old)) }
 {
     for i in 0..us.len() {
@@ -162,7 +162,7 @@ fn cross_in_place(xs: &mut [i64], us: &[i64], a: i64, e: i64, g: i128) -> Option
     requires xs_small { All IsSmall xs.old }
     requires e_small { IsSmall e }
     requires a_small { IsSmall a }
-    ensures large { result ≡ first_reaching (2 ^ 48) (shrunk (unsigned_abs g) (crossed a e us.now xs.old)) }
+    ensures large { result ≡ first_reaching size_limit (shrunk (unsigned_abs g) (crossed a e us.now xs.old)) }
     ensures numbers { IfNone result (xs.new ≡ shrunk (unsigned_abs g) (crossed a e us.now xs.old)) }
 {
     match i64::try_from(g) {
@@ -193,11 +193,9 @@ pub fn crossed_numbers(
     requires e_small { IsSmall e }
     requires a_small { IsSmall a }
     ensures { let numbers = shrunk (unsigned_abs g) (crossed a e us.now xs.now) in
-        MatchResult result (λ made. (made.items ≡ numbers) × (first_reaching (2 ^ 48) numbers ≡ None)) (λ f. IsFault f (first_reaching (2 ^ 48) numbers)) }
+        MatchResult result (λ made. (made.items ≡ numbers) × (first_reaching size_limit numbers ≡ None)) (λ f. IsFault f (first_reaching size_limit numbers)) }
 {
-    let Ok(mut made) = Vec::from_slice(alloc, xs) else {
-        return Err(RowFault::NoMemory);
-    };
+    let mut made = Vec::from_slice(alloc, xs)?;
     match cross_in_place(&mut made, us, a, e, g) {
         Some(number) => Err(RowFault::Large { number }),
         None => Ok(made),

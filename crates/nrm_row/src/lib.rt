@@ -2,8 +2,6 @@
 #![tactic(auto)]
 
 mod crossed;
-mod euclid;
-mod fault;
 mod lowest;
 mod numbers;
 mod ratios;
@@ -11,6 +9,5 @@ mod row;
 #[cfg(test)]
 mod tests;
 
-pub use euclid::gcd;
-pub use fault::RowFault;
+pub use nrm_fraction::RowFault;
 pub use row::Row;

@@ -2,11 +2,11 @@
 #![tactic(auto)]
 
 ghost use Rattle.std.specs.Prelude.{◌≡◌, pos, ◌<ℤ◌, unsigned_abs, IfOk};
-ghost use Rattle.nrm_fraction.specs.Large.{gcd_all};
-ghost use Rattle.nrm_row.specs.Numbers.{IsSmall, shrunk};
+ghost use Rattle.nrm_fraction.specs.Large.{gcd_all, IsSmall};
+ghost use Rattle.nrm_row.specs.Numbers.{shrunk};
 
-use crate::euclid::short_gcd;
 use crate::numbers::quotient;
+use nrm_number::short_gcd;
 use std::alloc::{AllocError, Global};
 
 // The greatest common divisor of a denominator and all the numbers.

@@ -1,16 +1,14 @@
-//! The arithmetic of single numbers: those of rows are below 2^48 in size, and products are wide until they are
+//! The arithmetic of single numbers: those of rows are below the limit in size, and products are wide until they are
 //! divided again.
 #![tactic(auto)]
 
 ghost use Rattle.std.specs.Prelude.{◌≡◌, ◌<◌, ◌^◌, pos, ◌-ℤ◌, ◌*ℤ◌, ◌<ℤ◌, unsigned_abs, leb, nat_lt};
 ghost use Rattle.nrm_number.specs.Gcd.{gcd as gcd_of, shrink};
-ghost use Rattle.nrm_row.specs.Numbers.{IsSmall, IsShort};
+ghost use Rattle.nrm_row.specs.Numbers.{IsShort};
+ghost use Rattle.nrm_fraction.specs.Large.{size_limit, IsSmall};
 
-use crate::euclid::short_gcd;
-
-const LIMIT: i128 = 1 << 48;
-
-const SHORT_LIMIT: i64 = LIMIT as i64;
+use nrm_fraction::SIZE_LIMIT;
+use nrm_number::short_gcd;
 
 const SHORT_FACTOR: u64 = 1 << 14;
 
@@ -69,16 +67,16 @@ pub fn short_cross(x: i64, e: i64, a: i64, u: i64) -> i64
 
 // Whether a number at 64 bits reaches the limit in size.
 pub fn is_short_large(n: i64) -> bool
-    ensures { result ≡ leb (2 ^ 48) (unsigned_abs n) }
+    ensures { result ≡ leb size_limit (unsigned_abs n) }
 {
-    n >= SHORT_LIMIT || n <= -SHORT_LIMIT
+    n.unsigned_abs() >= SIZE_LIMIT
 }
 
 // Whether a number reaches the limit in size.
 pub fn is_large(n: i128) -> bool
-    ensures { result ≡ leb (2 ^ 48) (unsigned_abs n) }
+    ensures { result ≡ leb size_limit (unsigned_abs n) }
 {
-    n >= LIMIT || n <= -LIMIT
+    n.unsigned_abs() >= SIZE_LIMIT as u128
 }
 
 // What a number and a denominator have in common.

@@ -5,17 +5,17 @@ ghost use Rattle.std.specs.Prelude.{◌≡◌, ◌+◌, ◌<◌, ◌≤◌, ◌^
 ghost use Rattle.std.specs.Int.{IsInRange};
 ghost use Rattle.std.specs.List.{range_with_len};
 ghost use Rattle.nrm_fraction.specs.Fraction.{Fraction, ◌<ᶠ◌, less, whole};
-ghost use Rattle.nrm_fraction.specs.Large.{fractions, common, numerators, large_number};
+ghost use Rattle.nrm_fraction.specs.Large.{fractions, common, numerators, large_number, size_limit, IsSmall};
 ghost use Rattle.nrm_fraction.specs.Lex.{lex_below};
 ghost use Rattle.nrm_fraction.specs.Rows.{at, number_at, row_of, unit_row, combine as combined, ratio_columns, ratios};
-ghost use Rattle.nrm_row.specs.Numbers.{AreEntries, IsSmall, IsRow, crossed};
-ghost use Rattle.nrm_row.specs.Fault.{IsFault};
+ghost use Rattle.nrm_row.specs.Numbers.{AreEntries, IsRow, crossed};
+ghost use Rattle.nrm_fraction.specs.Fault.{IsFault};
 
 use crate::crossed::{crossed_divisor, crossed_numbers};
-use crate::fault::RowFault;
 use crate::lowest::{divided, divisor};
 use crate::numbers::{is_large, product, quotient, shared_divisor, wide_quotient};
 use crate::ratios::ratios_below;
+use nrm_fraction::RowFault;
 use std::alloc::{AllocError, Global};
 use std::marker::Model;
 
@@ -62,20 +62,18 @@ fn crossed_row(
     requires us_small { All IsSmall us.now }
     requires lengths { length us.now ≡ length xs.now }
     ensures { let exact = fractions (unsigned_abs (den *ℤ e)) (crossed a e us.now xs.now) in
-        MatchResult result (λ r. (r ≡ exact) × (large_number (2 ^ 48) exact ≡ None)) (λ f. IsFault f (large_number (2 ^ 48) exact)) }
+        MatchResult result (λ r. (r ≡ exact) × (large_number size_limit exact ≡ None)) (λ f. IsFault f (large_number size_limit exact)) }
 {
     let common = crossed_divisor(den, a, e, us, xs);
     let wide = wide_quotient(product(den, e), common);
     if is_large(wide) {
         return Err(RowFault::Large { number: wide });
     }
-    match crossed_numbers(alloc, xs, us, a, e, common) {
-        Ok(nums) => Ok(Row {
-            den: wide as i64,
-            nums,
-        }),
-        Err(fault) => Err(fault),
-    }
+    let nums = crossed_numbers(alloc, xs, us, a, e, common)?;
+    Ok(Row {
+        den: wide as i64,
+        nums,
+    })
 }
 
 // The combined row, over the parts of two rows. An entry of 0 takes nothing away; else what the entry and the unit
@@ -93,14 +91,12 @@ fn combined_row(
     requires widths { length unit_nums.now ≡ length nums.now }
     requires within { col < length nums.now }
     ensures { let exact = combined col (fractions (unsigned_abs unit_den) unit_nums.now) (fractions (unsigned_abs den) nums.now) in
-        MatchResult result (λ r. (r ≡ exact) × (large_number (2 ^ 48) exact ≡ None)) (λ f. IsFault f (large_number (2 ^ 48) exact)) }
+        MatchResult result (λ r. (r ≡ exact) × (large_number size_limit exact ≡ None)) (λ f. IsFault f (large_number size_limit exact)) }
 {
     let entry = nums[col];
     if entry == 0 {
-        return match Vec::from_slice(alloc, nums) {
-            Ok(nums) => Ok(Row { den, nums }),
-            Err(_) => Err(RowFault::NoMemory),
-        };
+        let nums = Vec::from_slice(alloc, nums)?;
+        return Ok(Row { den, nums });
     }
     let shared = shared_divisor(entry, unit_den);
     let a = quotient(entry, shared);
@@ -182,7 +178,7 @@ impl Row {
         requires within { col < length self.now }
         requires positive { whole (pos 0) <ᶠ at self.now col }
         ensures row { IfOk result (λ row. row ≡ unit_row col self.now) }
-        ensures small { large_number (2 ^ 48) (unit_row col self.now) ≡ None }
+        ensures small { large_number size_limit (unit_row col self.now) ≡ None }
     {
         let pivot = self.num(col);
         lowest_row(alloc, pivot, &self.nums)
@@ -217,7 +213,7 @@ impl Row {
         requires widths { length unit.now ≡ length self.now }
         requires within { col < length self.now }
         ensures { let exact = combined col unit.now self.now in
-            MatchResult result (λ r. (r ≡ exact) × (large_number (2 ^ 48) exact ≡ None)) (λ f. IsFault f (large_number (2 ^ 48) exact)) }
+            MatchResult result (λ r. (r ≡ exact) × (large_number size_limit exact ≡ None)) (λ f. IsFault f (large_number size_limit exact)) }
     {
         let col = usize::from(col);
         combined_row(alloc, self.den, &self.nums, unit.den, &unit.nums, col)
@@ -228,16 +224,14 @@ impl Row {
         requires widths { length unit.now ≡ length self.now }
         requires within { col < length self.now }
         ensures { let exact = combined col unit.now self.now in
-            MatchResult result (λ r. (unwrap_or r self.now ≡ exact) × (large_number (2 ^ 48) exact ≡ None)) (λ f. IsFault f (large_number (2 ^ 48) exact)) }
+            MatchResult result (λ r. (unwrap_or r self.now ≡ exact) × (large_number size_limit exact ≡ None)) (λ f. IsFault f (large_number size_limit exact)) }
     {
         // For the type's invariant alone.
         let _ = &unit.den;
         if self.nums[usize::from(col)] == 0 {
             return Ok(None);
         }
-        match self.combine(alloc, unit, col) {
-            Ok(row) => Ok(Some(row)),
-            Err(fault) => Err(fault),
-        }
+        let row = self.combine(alloc, unit, col)?;
+        Ok(Some(row))
     }
 }

@@ -1,8 +1,8 @@
 //! Rows small enough to work by hand, and rows at the limit.
 ghost use Rattle.std.specs.Prelude.{◌≡◌, IfOk, length};
-ghost use Rattle.nrm_row.specs.Numbers.{IsSmall};
+ghost use Rattle.nrm_fraction.specs.Large.{IsSmall};
 
-use crate::{Row, RowFault, gcd};
+use crate::{Row, RowFault};
 use std::alloc::{AllocError, Global};
 use std::test::Fail;
 
@@ -123,17 +123,4 @@ fn ratios_tie_first(rt: HostRuntime) -> Result<(), Fail> {
     assert!(rt; other.less_ratio(&row, 0, 1));
     assert!(rt; !row.less_ratio(&other, 0, 1));
     Ok(())
-}
-
-#[test]
-fn gives_greatest_common_divisors(rt: HostRuntime) {
-    for (a, b, divisor) in [
-        (0, 0, 0),
-        (12, 18, 6),
-        (0, 7, 7),
-        (7, 0, 7),
-        (1 << 100, 3 << 70, 1 << 70),
-    ] {
-        assert_eq!(rt; gcd(a, b), divisor, "of {a} and {b}");
-    }
 }

@@ -1,7 +1,7 @@
 -- The fault of a row that was to be made, as the fault of the path.
 use Rattle.std.specs.Prelude.{ℕ}
-use Rattle.nrm_row.specs.declared.fault.RowFault.{RowFault}
-use Rattle.nrm_row.specs.declared.fault.RowFault.TheVariants as row
+use Rattle.nrm_fraction.specs.declared.fault.RowFault.{RowFault}
+use Rattle.nrm_fraction.specs.declared.fault.RowFault.TheVariants as row
 use Rattle.nrm_simplex.specs.declared.fault.SolveFault.{SolveFault}
 use Rattle.nrm_simplex.specs.declared.fault.SolveFault.TheVariants as fault
 

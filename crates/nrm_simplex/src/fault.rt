@@ -1,17 +1,14 @@
 //! Why a program has no certificate.
 use nrm_row::RowFault;
 use std::alloc::AllocError;
-use thiserror::Error;
 
 /// Why a program isn't solved.
-#[derive(Clone, Copy, Debug, PartialEq, Eq, Error)]
+#[derive(Clone, Copy, PartialEq, Eq)]
 pub enum SolveFault {
     /// The program is Large: a number of the pivot after these finished ones, or of the closing after all of them,
-    /// reaches 2^48 in size. `number` is the first that does; `pivots` is 4,294,967,295 where there were more.
-    #[error("overflow after {pivots} pivots at {number}")]
+    /// reaches the limit in size. `number` is the first that does; `pivots` is 4,294,967,295 where there were more.
     Overflow { pivots: u32, number: i128 },
     /// Want of memory.
-    #[error("out of memory")]
     NoMemory,
 }
 

@@ -2,6 +2,7 @@
 ghost use Rattle.std.specs.Prelude.{◌≡◌, ◌^◌, IfOk, MatchResult};
 ghost use Rattle.nrm_lp.specs.Certified.{Certifies};
 ghost use Rattle.nrm_simplex.specs.Solving.{IsClosing, IsSolveFault};
+ghost use Rattle.nrm_fraction.specs.Large.{size_limit};
 
 use crate::fault::SolveFault;
 use nrm_lp::{Certificate, Program};
@@ -14,10 +15,10 @@ use std::alloc::Global;
 /// It ends for every program: there is no budget of pivots, no tolerance and no restart.
 ///
 /// # Errors
-/// `Overflow` exactly where a number of the path or of its closing reaches 2^48 in size; `NoMemory`.
+/// `Overflow` exactly where a number of the path or of its closing reaches the limit in size; `NoMemory`.
 pub fn solve(alloc: Global, program: &Program) -> Result<Certificate, SolveFault>
     ensures path { MatchResult result (IsClosing program.now) (IsSolveFault program.now) }
-    ensures certified { IfOk result (Certifies (2 ^ 48) program.now) }
+    ensures certified { IfOk result (Certifies size_limit program.now) }
 {
     let mut tableau = Tableau::first(alloc, program)?;
     let mut pivots = 0u32;

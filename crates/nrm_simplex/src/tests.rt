@@ -81,7 +81,7 @@ fn dear_singles(alloc: Global) -> Result<Program, AllocError> {
 #[test]
 fn solves_two_legs(rt: HostRuntime) -> Result<(), Fail> {
     let program = two_legs(rt.alloc())?;
-    let certificate = solve(rt.alloc(), &program).expect(&rt, "two legs");
+    let certificate = solve(rt.alloc(), &program).ok().expect(&rt, "two legs");
     assert_eq!(rt; certificate.q, 1);
     assert_eq!(rt; certificate.x.as_slice(), [12, 12, 16, 24, 0].as_slice());
     assert_eq!(rt; certificate.den, 1);
@@ -94,7 +94,7 @@ fn solves_two_legs(rt: HostRuntime) -> Result<(), Fail> {
 #[test]
 fn solves_by_halves(rt: HostRuntime) -> Result<(), Fail> {
     let program = triangle(rt.alloc())?;
-    let certificate = solve(rt.alloc(), &program).expect(&rt, "triangle");
+    let certificate = solve(rt.alloc(), &program).ok().expect(&rt, "triangle");
     assert_eq!(rt; certificate.q, 2);
     assert_eq!(rt; certificate.x.as_slice(), [1, 1, 1].as_slice());
     assert_eq!(rt; certificate.den, 2);
@@ -108,13 +108,11 @@ fn solves_by_halves(rt: HostRuntime) -> Result<(), Fail> {
 fn tells_a_large_pivot(rt: HostRuntime) -> Result<(), Fail> {
     let program = dear_triangle(rt.alloc())?;
     let fault = solve(rt.alloc(), &program).err();
-    assert_eq!(rt;
-        fault,
-        Some(SolveFault::Overflow {
-            pivots: 64,
-            number: 399_599_996_004_000,
-        })
-    );
+    let large = SolveFault::Overflow {
+        pivots: 64,
+        number: 399_599_996_004_000,
+    };
+    assert!(rt; fault == Some(large));
     Ok(())
 }
 
@@ -122,7 +120,7 @@ fn tells_a_large_pivot(rt: HostRuntime) -> Result<(), Fail> {
 #[test]
 fn solves_what_is_just_not_large(rt: HostRuntime) -> Result<(), Fail> {
     let program = dear_singles(rt.alloc())?;
-    let certificate = solve(rt.alloc(), &program).expect(&rt, "singles");
+    let certificate = solve(rt.alloc(), &program).ok().expect(&rt, "singles");
     assert_eq!(rt; certificate.q, 1);
     assert_eq!(rt; certificate.x.as_slice(), [31_968; 61].as_slice());
     assert_eq!(rt; certificate.den, 1);

@@ -4,9 +4,9 @@ use Rattle.std.proofs.lemmas.List.{map-append, take-append-drop, drop_more, take
 use Rattle.nrm_fraction.specs.Fraction.{Fraction}
 use Rattle.nrm_fraction.specs.Large.{first_large, first_of_two, large_number}
 use Rattle.nrm_lp.specs.Overflow.{rows_but}
-use Rattle.nrm_row.specs.declared.fault.RowFault.{RowFault}
-use Rattle.nrm_row.specs.declared.fault.RowFault.TheVariants.{Large, NoMemory}
-use Rattle.nrm_row.specs.Fault.{IsFault}
+use Rattle.nrm_fraction.specs.declared.fault.RowFault.{RowFault}
+use Rattle.nrm_fraction.specs.declared.fault.RowFault.TheVariants.{Large, NoMemory}
+use Rattle.nrm_fraction.specs.Fault.{IsFault}
 
 module _ (limit : ℕ) where
   pub large-append : (xs ys : List (List Fraction)) → first_large limit (xs ++ ys) ≡ first_of_two (first_large limit xs) (first_large limit ys)

@@ -7,18 +7,13 @@ use Rattle.std.proofs.lemmas.Bool.{cases_lt}
 use Rattle.std.proofs.lemmas.List.FromFn.{map-range_with_len_more}
 use Rattle.nrm_fraction.specs.Fraction.{Fraction, whole}
 use Rattle.nrm_fraction.specs.Rows.{row_of}
-use Rattle.nrm_row.specs.Numbers.{IsSmall}
 use Rattle.nrm_lp.specs.Program.{ProgramValue, names}
 use Rattle.nrm_lp.specs.Limits.{IsLimited}
 use Rattle.nrm_lp.specs.Tableau.{product_count, right_side, row_bound, row_count, slack, first_entry, first_value, one_if}
 use Rattle.nrm_lp.proofs.Tables.{leg_entry, end_entry, slack_entry, fare_entry, nought_entry, row_bound-leg, row_bound-product}
 use Rattle.nrm_tableau.specs.Entries.{IsFilled}
 use Rattle.nrm_tableau.proofs.Filling.{filled_skip, filled_push, filled_until, filled_row}
-
--- whether a list of legs names this one, as `contains` finds it
-pub names_is : (i : ℕ) (ls : List ℕ) → list_any (λ l. eqb l i) ls ≡ names i ls
-names_is i [] = refl
-names_is i (l ∷ ls) = let turned : eqb l i ≡ eqb i l = grind arith in ap (λ t. t || list_any (λ l. eqb l i) ls) turned ∙ ap (λ t. eqb i l || t) (names_is i ls)
+use Rattle.nrm_fraction.specs.Large.{size_limit, IsSmall}
 
 pub small_one : IsSmall (pos 1)
 small_one = lit< tt
@@ -50,14 +45,14 @@ module _ (a : ProgramValue) where
   leg_left i j es new li lj unused e h = subst (λ n. IsFilled (j + 1) (first_entry a i) n) (sym e) (filled_skip (first_entry a i) j es h (sym (leg_entry a i j li lj ∙ ap one_if unused)))
 
   -- the bound of a row within the limits is small
-  pub bound_small : IsLimited a → (i : ℕ) → i < row_count a → row_bound a i < 2 ^ 48
+  pub bound_small : IsLimited a → (i : ℕ) → i < row_count a → row_bound a i < size_limit
   bound_small h i l = elim (cases_lt i (length a.caps)) [
     | inl m ↦ let e = row_bound-leg a i m in let k = h.cap_size i m in at_most_small (row_bound a i) (get_or a.caps i 0) e k
     | inr m ↦ let back : length a.caps + (i - length a.caps) ≡ i = omega arith in at_most_small (row_bound a i) (get_or a.bounds (i - length a.caps) 0) (ap (row_bound a) (sym back) ∙ row_bound-product a (i - length a.caps)) (h.bound_size (i - length a.caps) (omega arith))
   ]
     where
-      at_most_small : (n m : ℕ) → n ≡ m → m ≤ 31968 → n < 2 ^ 48
-      at_most_small n m e l = let f : 31968 < 2 ^ 48 = lit< tt in omega arith
+      at_most_small : (n m : ℕ) → n ≡ m → m ≤ 31968 → n < size_limit
+      at_most_small n m e l = let f : 31968 < size_limit = lit< tt in omega arith
 
   -- the row that a leg's or a bound's entries close to
   pub closed_filled : IsLimited a → (i bound : ℕ) (es : List (ℕ × ℤ)) (n : ℤ) → i < row_count a → bound ≡ row_bound a i → n ≡ pos bound → IsFilled (product_count a) (first_entry a i) es → IsFilled (suc (right_side a)) (first_entry a i) ((es ++ (slack a i, pos 1) ∷ []) ++ (right_side a, n) ∷ [])
@@ -88,7 +83,7 @@ fare_turned a j fare n es new limits l is e put h =
   where
     small_negative : (m : ℕ) → m ≤ 99999999 → IsSmall (neg_ℤ (pos m))
     small_negative zero l = lit< tt
-    small_negative (suc m) l = let f : 99999999 < 2 ^ 48 = lit< tt in omega arith
+    small_negative (suc m) l = let f : 99999999 < size_limit = lit< tt in omega arith
 
 pub value_list : (a : ProgramValue) (end : ℕ) (es xs : List (ℕ × ℤ)) → end ≡ right_side a → xs ≡ es → IsFilled (product_count a) (first_value a) es → IsFilled (end + 1) (first_value a) xs
 value_list a end es xs e same h =

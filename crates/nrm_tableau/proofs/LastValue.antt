@@ -23,10 +23,10 @@ use Rattle.nrm_lp.proofs.Optimal.{cost_value, ends}
 use Rattle.nrm_lp.proofs.Path.{last_signs}
 use Rattle.nrm_lp.proofs.Small.{common_of, not_negative}
 use Rattle.nrm_lp.proofs.Tables.{made_at}
-use Rattle.nrm_row.proofs.LowestTerms.{positive_abs}
 use Rattle.nrm_tableau.specs.Value.{TableauValue, IsOnPath}
 use Rattle.nrm_tableau.proofs.Paths.{kept}
 use Rattle.nrm_tableau.proofs.LastRows.{length-numerators, quotient_some}
+use Rattle.nrm_fraction.proofs.Sizes.{positive_abs}
 
 -- what isn't negative isn't less than 0
 sign_less : (x : Fraction) → IsNonNegative x → less x (whole (pos 0)) ≡ false

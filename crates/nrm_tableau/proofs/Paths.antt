@@ -3,7 +3,7 @@ use Rattle.std.proofs.Common.{◌≡◌, ℕ, zero, suc, ◌+◌, ◌<◌, ◌^�
 use Rattle.std.specs.Option.{option_map, IsSome}
 use Rattle.std.proofs.lemmas.List.{get_or_default, length-map, length-set}
 use Rattle.nrm_fraction.specs.Fraction.{Fraction, ◌<ᶠ◌, ◌/ᶠ◌, less, whole}
-use Rattle.nrm_fraction.specs.Large.{first_large, large_number}
+use Rattle.nrm_fraction.specs.Large.{first_large, large_number, size_limit}
 use Rattle.nrm_fraction.specs.Rows.{at, combine, unit_row}
 use Rattle.nrm_fraction.proofs.Tests.{less_if}
 use Rattle.nrm_lp.specs.Program.{ProgramValue}
@@ -14,8 +14,8 @@ use Rattle.nrm_lp.specs.Overflow.{large_at, made_large, pivot_large, rows_but}
 use Rattle.nrm_lp.proofs.Path.{entering_is, path_kept}
 use Rattle.nrm_lp.proofs.Rule.{IsKept, IsLeaving, leaving_exists}
 use Rattle.nrm_lp.proofs.Tables.{row_same}
-use Rattle.nrm_row.specs.declared.fault.RowFault.{RowFault}
-use Rattle.nrm_row.specs.Fault.{IsFault}
+use Rattle.nrm_fraction.specs.declared.fault.RowFault.{RowFault}
+use Rattle.nrm_fraction.specs.Fault.{IsFault}
 use Rattle.nrm_tableau.specs.Value.{TableauValue, IsOnPath}
 use Rattle.nrm_tableau.proofs.Faults.{but-map, but-set, fault_back, fault_front, fault_row, small_both, small_row}
 
@@ -120,7 +120,7 @@ module _ (s : TableauValue) (h : IsOnPath s) (col row : ℕ) (enters : entering 
   next_after : after s.program (suc h.pivots) ≡ Some (pivot s.table row col)
   next_after = ap (next_of s.program) h.reached.path ∙ ap (next_at s.program s.table) enters ∙ ap (λ r. Some (pivot s.table r col)) number
 
-  pub next_on_path : pivot_large (2 ^ 48) s.program s.table ≡ None → IsOnPath (record s { table = pivot s.table row col })
+  pub next_on_path : pivot_large size_limit s.program s.table ≡ None → IsOnPath (record s { table = pivot s.table row col })
   next_on_path small = record { limits = h.limits; pivots = suc h.pivots; reached = record { path = next_after; small = λ m u l e. before_or_here m u e (earlier m l) } }
     where
       earlier : (m : ℕ) → m < suc h.pivots → (m < h.pivots) ⊎ (m ≡ h.pivots)
@@ -129,9 +129,9 @@ module _ (s : TableauValue) (h : IsOnPath s) (col row : ℕ) (enters : entering 
       same_table : (x y : Tableau) → Some x ≡ Some y → x ≡ y
       same_table x y e = cc
 
-      before_or_here : (m : ℕ) (u : Tableau) → after s.program m ≡ Some u → (m < h.pivots) ⊎ (m ≡ h.pivots) → pivot_large (2 ^ 48) s.program u ≡ None
+      before_or_here : (m : ℕ) (u : Tableau) → after s.program m ≡ Some u → (m < h.pivots) ⊎ (m ≡ h.pivots) → pivot_large size_limit s.program u ≡ None
       before_or_here m u e (inl k) = h.reached.small m u k e
-      before_or_here m u e (inr k) = subst (λ t. pivot_large (2 ^ 48) s.program t ≡ None) (same_table s.table u (sym h.reached.path ∙ ap (after s.program) (sym k) ∙ e)) small
+      before_or_here m u e (inr k) = subst (λ t. pivot_large size_limit s.program t ≡ None) (same_table s.table u (sym h.reached.path ∙ ap (after s.program) (sym k) ∙ e)) small
 
   -- ---- told of the rows as they are read and made
   pub width_unit : length unit ≡ suc (right_side s.program)

@@ -4,6 +4,7 @@ use Rattle.nrm_lp.specs.Program.{ProgramValue}
 use Rattle.nrm_lp.specs.Limits.{IsLimited}
 use Rattle.nrm_lp.specs.Tableau.{Tableau}
 use Rattle.nrm_lp.specs.Overflow.{Reaches}
+use Rattle.nrm_fraction.specs.Large.{size_limit}
 
 -- a table of a program
 pub record TableauValue : Type 0 where
@@ -14,4 +15,4 @@ pub record TableauValue : Type 0 where
 pub record IsOnPath (s : TableauValue) : Type 0 where
   pub limits : IsLimited s.program
   pub pivots : ℕ
-  pub reached : Reaches (2 ^ 48) s.program pivots s.table
+  pub reached : Reaches size_limit s.program pivots s.table

@@ -4,15 +4,14 @@
 ghost use Rattle.std.specs.Prelude.{◌≡◌, ◌<◌, ◌≤◌, ◌^◌, ◌/◌, suc, pos, false, nat_abs, get_or, length, map, All, IfOk, MatchResult, None};
 ghost use Rattle.std.specs.List.{range_with_len};
 ghost use Rattle.nrm_fraction.specs.Fraction.{less, whole};
-ghost use Rattle.nrm_fraction.specs.Large.{common, numerators};
+ghost use Rattle.nrm_fraction.specs.Large.{common, numerators, size_limit, first_too_large};
 ghost use Rattle.nrm_fraction.specs.Rows.{at};
-ghost use Rattle.nrm_denominators.specs.Lists.{first_too_large};
 ghost use Rattle.nrm_lp.specs.Closing.{basic_value};
 ghost use Rattle.nrm_lp.specs.Tableau.{product_count, right_side, slack};
-ghost use Rattle.nrm_row.specs.Fault.{IsFault};
+ghost use Rattle.nrm_fraction.specs.Fault.{IsFault};
 
-use crate::columns::{leg_count, product_count, right_side};
-use nrm_denominators::{Fraction, over_common};
+use crate::columns::right_side;
+use nrm_fraction::{Fraction, over_common};
 use nrm_lp::Program;
 use nrm_row::{Row, RowFault};
 use std::alloc::{AllocError, Global};
@@ -29,12 +28,10 @@ pub fn allotted(
     requires signs { All (λ row. less (at row (right_side program.now)) (whole (pos 0)) ≡ false) rows.now }
     ensures { let values = map (λ j. basic_value (right_side program.now) j basis.now rows.now) (range_with_len 0 (product_count program.now)) in
         MatchResult result
-        (λ made. (made.0 ≡ pos (common values)) × (made.1.items ≡ numerators (common values) values) × (first_too_large (2 ^ 48) values ≡ None))
-        (λ f. IsFault f (first_too_large (2 ^ 48) values)) }
+        (λ made. (made.0 ≡ pos (common values)) × (made.1.items ≡ numerators (common values) values) × (first_too_large size_limit values ≡ None))
+        (λ f. IsFault f (first_too_large size_limit values)) }
 {
-    let Ok(values) = product_values(alloc, program, rows, basis) else {
-        return Err(RowFault::NoMemory);
-    };
+    let values = product_values(alloc, program, rows, basis)?;
     over_common(alloc, &values)
 }
 
@@ -51,7 +48,7 @@ fn product_values(
 {
     let end = right_side(program);
     let mut values = Vec::new(alloc);
-    for product in 0..product_count(program) {
+    for product in 0..program.product_count() {
         values.push(value_of(rows, basis, product, end))?;
     }
     Ok(values)
@@ -87,7 +84,8 @@ pub fn leg_prices(alloc: Global, program: &Program, value: &Row) -> Result<Row, 
     requires { length value.now ≡ suc (right_side program.now) }
     ensures { IfOk result (λ prices. prices ≡ map (λ i. at value.now (slack program.now i)) (range_with_len 0 (length program.now.caps))) }
 {
-    value.part(alloc, product_count(program), leg_count(program))
+    let legs = u16::from(program.leg_count());
+    value.part(alloc, program.product_count(), legs)
 }
 
 /// The numbers of a row over its least common denominator, in order.

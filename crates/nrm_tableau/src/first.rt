@@ -9,7 +9,7 @@ ghost use Rattle.nrm_lp.specs.Program.{names};
 ghost use Rattle.nrm_lp.specs.Tableau.{first_entry, first_tableau, first_value, product_count, right_side, row_bound, row_count};
 ghost use Rattle.nrm_tableau.specs.Entries.{IsFilled};
 
-use crate::columns::{leg_count, product_count, right_side, row_count, slack};
+use crate::columns::{right_side, row_count, slack};
 use nrm_lp::Program;
 use nrm_row::Row;
 use std::alloc::{AllocError, Global};
@@ -39,14 +39,14 @@ pub fn first_basis(alloc: Global, program: &Program) -> Result<Vec<u16>, AllocEr
     ensures basis { IfOk result (λ basis. basis.items ≡ (first_tableau program.now).basis) }
     ensures limits { IsLimited program.now }
 {
-    (product_count(program)..right_side(program)).collect(alloc)
+    (program.product_count()..right_side(program)).collect(alloc)
 }
 
 fn first_row(alloc: Global, program: &Program, row: u16) -> Result<Row, AllocError>
     requires { row < row_count program.now }
     ensures { IfOk result (λ made. made ≡ map (first_entry program.now row) (range_with_len 0 (suc (right_side program.now)))) }
 {
-    let legs = leg_count(program);
+    let legs = u16::from(program.leg_count());
     if row < legs {
         leg_row(alloc, program, row as u8)
     } else {
@@ -69,7 +69,8 @@ fn bound_row(alloc: Global, program: &Program, product: u16) -> Result<Row, Allo
 {
     let entries = vec![in alloc; (product, 1)]?;
     let bound = program.bounds()[usize::from(product)];
-    closed_row(alloc, program, leg_count(program) + product, entries, bound)
+    let row = u16::from(program.leg_count()) + product;
+    closed_row(alloc, program, row, entries, bound)
 }
 
 // The row with these entries at the products, a 1 at its slack, and its bound on the right side.
@@ -97,19 +98,12 @@ fn products_on(alloc: Global, program: &Program, leg: u8) -> Result<Vec<(u16, i6
     ensures { IfOk result (λ entries. IsFilled (product_count program.now) (first_entry program.now leg) entries.items) }
 {
     let mut entries = Vec::new(alloc);
-    for product in 0..product_count(program) {
-        if uses_leg(program, product, leg) {
+    for product in 0..program.product_count() {
+        if program.uses_leg(product, leg) {
             entries.push((product, 1))?;
         }
     }
     Ok(entries)
-}
-
-fn uses_leg(program: &Program, product: u16, leg: u8) -> bool
-    requires { product < product_count program.now }
-    ensures { result ≡ names leg (get_or program.now.legs product []) }
-{
-    program.legs_of(product).contains(&leg)
 }
 
 fn turned_fares(alloc: Global, program: &Program) -> Result<Vec<(u16, i64)>, AllocError>
@@ -117,7 +111,7 @@ fn turned_fares(alloc: Global, program: &Program) -> Result<Vec<(u16, i64)>, All
 {
     let fares = program.fares();
     let mut entries = Vec::new(alloc);
-    for product in 0..product_count(program) {
+    for product in 0..program.product_count() {
         entries.push((product, turned(fares[usize::from(product)])))?;
     }
     Ok(entries)

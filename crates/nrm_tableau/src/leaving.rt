@@ -8,7 +8,7 @@ ghost use Rattle.nrm_fraction.specs.Rows.{at, ratios};
 ghost use Rattle.nrm_lp.specs.Tableau.{better, entering_from, key_columns, leaving_from, right_side, row_count};
 ghost use Rattle.nrm_tableau.specs.Best.{IsCandidate, listed, wins_over};
 
-use crate::columns::{product_count, row_count};
+use crate::columns::row_count;
 use nrm_lp::Program;
 use nrm_row::Row;
 
@@ -69,7 +69,7 @@ fn wins(program: &Program, rows: &[Row], row: u16, best: Option<u16>, col: u16) 
         None => true,
         Some(other) => {
             let own = &rows[usize::from(row)];
-            own.less_ratio(&rows[usize::from(other)], col, product_count(program))
+            own.less_ratio(&rows[usize::from(other)], col, program.product_count())
         }
     }
 }

@@ -3,10 +3,10 @@
 
 ghost use Rattle.std.specs.Prelude.{◌≡◌, ◌<◌, ◌^◌, ◌++◌, ◌∷◌, pos, [], get_or, length, map, set, All, MatchResult, None, OnOk, IfErr};
 ghost use Rattle.nrm_fraction.specs.Fraction.{◌<ᶠ◌, whole};
-ghost use Rattle.nrm_fraction.specs.Large.{first_large, large_number};
+ghost use Rattle.nrm_fraction.specs.Large.{first_large, large_number, size_limit};
 ghost use Rattle.nrm_fraction.specs.Rows.{at, combine as combined, unit_row};
 ghost use Rattle.nrm_lp.specs.Overflow.{rows_but};
-ghost use Rattle.nrm_row.specs.Fault.{IsFault};
+ghost use Rattle.nrm_fraction.specs.Fault.{IsFault};
 ghost use Rattle.nrm_tableau.specs.Changes.{replaced};
 
 use nrm_row::{Row, RowFault};
@@ -18,12 +18,10 @@ pub fn pivot_row(alloc: Global, rows: &[Row], row: u16, col: u16) -> Result<Row,
     requires before { col < length (get_or rows.now row []) }
     requires positive { whole (pos 0) <ᶠ at (get_or rows.now row []) col }
     ensures row { MatchResult result (λ unit. unit ≡ unit_row col (get_or rows.now row [])) (λ f. IsFault f None) }
-    ensures small { large_number (2 ^ 48) (unit_row col (get_or rows.now row [])) ≡ None }
+    ensures small { large_number size_limit (unit_row col (get_or rows.now row [])) ≡ None }
 {
-    match rows[usize::from(row)].unit(alloc, col) {
-        Ok(unit) => Ok(unit),
-        Err(_) => Err(RowFault::NoMemory),
-    }
+    let unit = rows[usize::from(row)].unit(alloc, col)?;
+    Ok(unit)
 }
 
 /// For each constraint row, the row combined with the unit row, or `None` where it stays. The pivot row stays here.
@@ -39,17 +37,15 @@ pub fn other_rows(
     requires widths { All (λ other. length other ≡ length unit.now) rows.now }
     ensures { let others = map (combined col unit.now) (rows_but row rows.now) in
         MatchResult result
-        (λ v. (length v.items ≡ length rows.now) × (replaced v.items rows.now ≡ set (map (combined col unit.now) rows.now) row (get_or rows.now row [])) × (first_large (2 ^ 48) others ≡ None))
-        (λ f. IsFault f (first_large (2 ^ 48) others)) }
+        (λ v. (length v.items ≡ length rows.now) × (replaced v.items rows.now ≡ set (map (combined col unit.now) rows.now) row (get_or rows.now row [])) × (first_large size_limit others ≡ None))
+        (λ f. IsFault f (first_large size_limit others)) }
 {
     let at = usize::from(row);
     let mut made = changes(alloc, &rows[..at], unit, col)?;
     let mut behind = changes(alloc, &rows[at + 1..], unit, col)?;
-    put(&mut made, None)?;
-    match made.append(&mut behind) {
-        Ok(()) => Ok(made),
-        Err(_) => Err(RowFault::NoMemory),
-    }
+    made.push(None)?;
+    made.append(&mut behind)?;
+    Ok(made)
 }
 
 // Each row combined with the unit row, or `None` where it stays.
@@ -58,25 +54,15 @@ fn changes(alloc: Global, rows: &[Row], unit: &Row, col: u16) -> Result<Vec<Opti
     requires widths { All (λ row. length row ≡ length unit.now) rows.now }
     ensures { let made = map (combined col unit.now) rows.now in
         MatchResult result
-        (λ v. (length v.items ≡ length rows.now) × (replaced v.items rows.now ≡ made) × (first_large (2 ^ 48) made ≡ None))
-        (λ f. IsFault f (first_large (2 ^ 48) made)) }
+        (λ v. (length v.items ≡ length rows.now) × (replaced v.items rows.now ≡ made) × (first_large size_limit made ≡ None))
+        (λ f. IsFault f (first_large size_limit made)) }
 {
     let mut made = Vec::new(alloc);
     for row in rows {
         let changed = row.changed(alloc, unit, col)?;
-        put(&mut made, changed)?;
+        made.push(changed)?;
     }
     Ok(made)
-}
-
-fn put(made: &mut Vec<Option<Row>>, row: Option<Row>) -> Result<(), RowFault>
-    ensures put { OnOk result (made.new.items ≡ made.old.items ++ row ∷ []) }
-    ensures memory { IfErr result (λ f. IsFault f None) }
-{
-    match made.push(row) {
-        Ok(()) => Ok(()),
-        Err(_) => Err(RowFault::NoMemory),
-    }
 }
 
 /// Puts the rows that changed into their places.

@@ -5,11 +5,12 @@ ghost use Rattle.std.specs.Prelude.{◌≡◌, ◌<◌, ◌^◌, pos, true, IfOk
 ghost use Rattle.std.specs.Option.{option_map};
 ghost use Rattle.nrm_fraction.specs.Fraction.{less, whole};
 ghost use Rattle.nrm_fraction.specs.Rows.{at};
-ghost use Rattle.nrm_row.specs.Fault.{IsFault};
+ghost use Rattle.nrm_fraction.specs.Fault.{IsFault};
 ghost use Rattle.nrm_lp.specs.Tableau.{first_tableau, right_side, entering, leaving, pivot};
 ghost use Rattle.nrm_lp.specs.Closing.{certificate};
 ghost use Rattle.nrm_lp.specs.Overflow.{closing_large, pivot_large};
 ghost use Rattle.nrm_tableau.specs.Value.{IsOnPath};
+ghost use Rattle.nrm_fraction.specs.Large.{size_limit};
 
 use crate::columns::right_side;
 use crate::ending::{allotted, leg_prices, numbers, value_over};
@@ -80,13 +81,13 @@ impl<'a> Tableau<'a> {
     }
 
     /// Makes the next tableau: the pivot row first, then the other constraint rows by number, then the value row. After
-    /// an error the tableau is as it was. The number of a fault is the first that reaches 2^48 in size, in this order.
+    /// an error the tableau is as it was. The number of a fault is the first that reaches the limit in size, in this order.
     pub fn pivot(&mut self, alloc: Global, row: u16, col: u16) -> Result<(), RowFault>
         requires enters { entering self.old.table ≡ Some col }
         requires leaves { option_map (λ found. found.0) (leaving self.old.program self.old.table col) ≡ Some row }
         ensures next { OnOk result (self.new ≡ record self.old { table = pivot self.old.table row col }) }
-        ensures small { OnOk result (pivot_large (2 ^ 48) self.old.program self.old.table ≡ None) }
-        ensures fault { IfErr result (λ f. IsFault f (pivot_large (2 ^ 48) self.old.program self.old.table)) }
+        ensures small { OnOk result (pivot_large size_limit self.old.program self.old.table ≡ None) }
+        ensures fault { IfErr result (λ f. IsFault f (pivot_large size_limit self.old.program self.old.table)) }
         ensures kept { OnErr result (self.new ≡ self.old) }
     {
         let place = usize::from(row);
@@ -105,20 +106,16 @@ impl<'a> Tableau<'a> {
     /// over `den` too.
     ///
     /// # Errors
-    /// `Large`, with the first number that reaches 2^48: the least common denominators of the first product's value, of
+    /// `Large`, with the first number that reaches the limit: the least common denominators of the first product's value, of
     /// the first two and so on, then the numbers of the allotment. `NoMemory`.
     pub fn closing(&self, alloc: Global) -> Result<Certificate, RowFault>
         requires last { entering self.now.table ≡ None }
-        ensures { let found = closing_large (2 ^ 48) self.now.program self.now.table in
+        ensures { let found = closing_large size_limit self.now.program self.now.table in
             MatchResult result (λ made. (made ≡ certificate self.now.program self.now.table) × (found ≡ None)) (λ f. IsFault f found) }
     {
         let (q, x) = allotted(alloc, self.program, &self.rows, &self.basis)?;
-        let Ok(prices) = leg_prices(alloc, self.program, &self.value) else {
-            return Err(RowFault::NoMemory);
-        };
-        let Ok(p) = numbers(alloc, &prices) else {
-            return Err(RowFault::NoMemory);
-        };
+        let prices = leg_prices(alloc, self.program, &self.value)?;
+        let p = numbers(alloc, &prices)?;
         Ok(Certificate {
             q,
             x: Numbers::new(x),

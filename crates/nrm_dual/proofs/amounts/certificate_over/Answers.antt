@@ -1,7 +1,7 @@
 use Rattle.std.proofs.Common.{◌≡◌, ◌∙◌, ◌^◌, ◌∷◌, subst, List, map, None}
 use Rattle.nrm_fraction.specs.Fraction.{Fraction}
-use Rattle.nrm_row.specs.Fault.{IsFault}
-use Rattle.nrm_denominators.specs.Lists.{first_too_large}
+use Rattle.nrm_fraction.specs.Fault.{IsFault}
+use Rattle.nrm_fraction.specs.Large.{first_too_large}
 use Rattle.nrm_dual.specs.Reading.{prices_in, times, certificate_or_refusal}
 use Rattle.nrm_dual.specs.Sheets.{cause_of}
 use Rattle.nrm_dual.proofs.TooFine.{err_answer, fault_of_shares, fault_of_money, made_whole}

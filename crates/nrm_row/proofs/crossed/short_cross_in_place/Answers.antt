@@ -1,7 +1,7 @@
 use Rattle.std.proofs.Common.{rules, arith, ◌≡◌, ◌^◌, ◌+◌, ap, sym, subst, ◌∙◌, get_or, set, pos, unsigned_abs, leb, false, Some, to_z, of_z, to_z-of_z, w64}
 use mir.Syntax.{w128}
 use mir.Val.{SFits}
-use Rattle.nrm_fraction.specs.Large.{first_reaching}
+use Rattle.nrm_fraction.specs.Large.{first_reaching, size_limit}
 use Rattle.nrm_row.specs.Numbers.{crossed, shrunk}
 use Rattle.nrm_row.proofs.Combining.{IsPutTo, short_number_at_place, length-made, put_large, put_more, put_all}
 use Rattle.nrm_row.proofs.crossed.short_cross_in_place.Goals as goal
@@ -19,8 +19,8 @@ returns-then-is_short_large-clause-large c =
     let number : c.short_quotient-number.result ≡ get_or (shrunk G (crossed A E c.args.us.now c.args.xs.now)) c.loop-i.i (pos 0) = short_number_at_place G A E c.short_cross.result c.short_quotient-number.result c.args.us.now c.args.xs.now c.loop-i.xs c.loop-i.i c.requires.lengths c.loop-i-test.true c.loop-i.invariant fx fu ft c.short_cross.ensures.value c.short_quotient-number.ensures in
     ap Some (to_z-of_z fw ∙ c.from.ensures ∙ to_z-of_z fn)
     ∙ put_large (shrunk G (crossed A E c.args.us.now c.args.xs.now)) c.args.xs.now c.loop-i.xs c.loop-i.i c.short_quotient-number.result (length-made G A E c.args.us.now c.args.xs.now c.requires.lengths) (omega (arith, c.requires.lengths, c.loop-i-test.true)) number
-    (ap (λ z. leb (2 ^ 48) (unsigned_abs z)) (sym (to_z-of_z fn)) ∙ sym c.is_short_large.ensures ∙ c.if-is_short_large.true) c.loop-i.invariant
-    ∙ (λ i. first_reaching (2 ^ 48) (shrunk (unsigned_abs (to_z-of_z c.ranges.g i)) (crossed (to_z-of_z c.ranges.a i) (to_z-of_z c.ranges.e i) c.args.us.now c.args.xs.now)))
+    (ap (λ z. leb size_limit (unsigned_abs z)) (sym (to_z-of_z fn)) ∙ sym c.is_short_large.ensures ∙ c.if-is_short_large.true) c.loop-i.invariant
+    ∙ (λ i. first_reaching size_limit (shrunk (unsigned_abs (to_z-of_z c.ranges.g i)) (crossed (to_z-of_z c.ranges.a i) (to_z-of_z c.ranges.e i) c.args.us.now c.args.xs.now)))
 
 pub loop-i-preserved : goal.loop-i-preserved
 loop-i-preserved c =
@@ -32,7 +32,7 @@ loop-i-preserved c =
     let ft : SFits w64 c.short_cross.result = search rules in
     let fn : SFits w64 c.short_quotient-number.result = search rules in
     let number : c.short_quotient-number.result ≡ get_or (shrunk G (crossed A E c.args.us.now c.args.xs.now)) c.loop-i.i (pos 0) = short_number_at_place G A E c.short_cross.result c.short_quotient-number.result c.args.us.now c.args.xs.now c.loop-i.xs c.loop-i.i c.requires.lengths c.loop-i-test.true c.loop-i.invariant fx fu ft c.short_cross.ensures.value c.short_quotient-number.ensures in
-    let small : leb (2 ^ 48) (unsigned_abs c.short_quotient-number.result) ≡ false = ap (λ z. leb (2 ^ 48) (unsigned_abs z)) (sym (to_z-of_z fn)) ∙ sym c.is_short_large.ensures ∙ c.if-is_short_large.false in
+    let small : leb size_limit (unsigned_abs c.short_quotient-number.result) ≡ false = ap (λ z. leb size_limit (unsigned_abs z)) (sym (to_z-of_z fn)) ∙ sym c.is_short_large.ensures ∙ c.if-is_short_large.false in
     let put : to_z w64 (of_z w64 c.short_quotient-number.result) ≡ c.short_quotient-number.result = to_z-of_z fn in
     subst (λ z. IsPutTo (shrunk G (crossed A E c.args.us.now c.args.xs.now)) c.args.xs.now (set c.loop-i.xs c.loop-i.i z) (c.loop-i.i + 1)) (sym put)
     (put_more (shrunk G (crossed A E c.args.us.now c.args.xs.now)) c.args.xs.now c.loop-i.xs c.loop-i.i c.short_quotient-number.result (length-made G A E c.args.us.now c.args.xs.now c.requires.lengths) (omega (arith, c.requires.lengths, c.loop-i-test.true)) number small c.loop-i.invariant)
@@ -43,7 +43,7 @@ returns-clause-large c =
     let A = to_z w64 (of_z w64 c.args.a) in
     let E = to_z w64 (of_z w64 c.args.e) in
     (put_all (shrunk G (crossed A E c.args.us.now c.args.xs.now)) c.args.xs.now c.loop-i.xs c.loop-i.i (length-made G A E c.args.us.now c.args.xs.now c.requires.lengths) (omega (arith, c.requires.lengths)) c.loop-i.invariant).0
-    ∙ (λ i. first_reaching (2 ^ 48) (shrunk (unsigned_abs (to_z-of_z c.ranges.g i)) (crossed (to_z-of_z c.ranges.a i) (to_z-of_z c.ranges.e i) c.args.us.now c.args.xs.now)))
+    ∙ (λ i. first_reaching size_limit (shrunk (unsigned_abs (to_z-of_z c.ranges.g i)) (crossed (to_z-of_z c.ranges.a i) (to_z-of_z c.ranges.e i) c.args.us.now c.args.xs.now)))
 
 pub returns-clause-numbers : goal.returns-clause-numbers
 returns-clause-numbers c =

@@ -3,8 +3,8 @@ use mir.Val.{SFits}
 use Rattle.nrm_fraction.specs.Large.{gcd_all}
 use Rattle.nrm_row.specs.Numbers.{crossed}
 use Rattle.nrm_row.proofs.Bits.{zero_from_bits}
-use Rattle.nrm_row.proofs.Divisors.{gcd_nought}
 use Rattle.nrm_row.proofs.Combining.{divisor_more, crossed_one}
+use Rattle.nrm_fraction.proofs.CommonDivisors.{gcd_nought}
 use Rattle.nrm_row.proofs.crossed.short_divisor.Goals as goal
 
 pub loop-i-preserved-then-number-ne0 : goal.loop-i-preserved-then-number-ne0
@@ -15,7 +15,7 @@ loop-i-preserved-then-number-ne0 c =
     let number : c.short_cross-number.result ≡ get_or c.args.xs.now (c.loop-i.i - 1) (pos 0) *ℤ to_z w64 (of_z w64 c.args.e) -ℤ to_z w64 (of_z w64 c.args.a) *ℤ get_or c.args.us.now (c.loop-i.i - 1) (pos 0) =
     c.short_cross-number.ensures.value ∙ ap₂ (λ x u. x *ℤ to_z w64 (of_z w64 c.args.e) -ℤ to_z w64 (of_z w64 c.args.a) *ℤ u) (to_z-of_z fx) (to_z-of_z fu) in (
       omega arith,
-      c.short_gcd-common.ensures
+      c.short_gcd-common.ensures.value
           ∙ divisor_more c.args.d c.loop-i.common c.unsigned_abs.result (to_z w64 (of_z w64 c.args.a)) (to_z w64 (of_z w64 c.args.e)) c.args.us.now c.args.xs.now c.loop-i.i
           (omega arith) (omega arith) c.requires.lengths c.loop-i.invariant.1
           (c.unsigned_abs.ensures.value ∙ ap unsigned_abs (to_z-of_z fc ∙ number)),

@@ -1,7 +1,7 @@
 use Rattle.std.proofs.Common.{rules, refl, ◌<◌, length, arith, ◌≡◌, ◌^◌, ◌+◌, ap, sym, subst, ◌∙◌, get_or, set, pos, unsigned_abs, leb, false, Some, to_z, of_z, to_z-of_z, w64}
 use mir.Syntax.{w128}
 use mir.Val.{SFits}
-use Rattle.nrm_fraction.specs.Large.{first_reaching}
+use Rattle.nrm_fraction.specs.Large.{first_reaching, size_limit}
 use Rattle.nrm_row.specs.Numbers.{crossed, shrunk}
 use Rattle.nrm_row.proofs.Divisors.{shrink_one}
 use Rattle.nrm_row.proofs.Bits.{zero_from_bits}
@@ -18,8 +18,8 @@ returns-then-is_short_large-clause-large c =
     let number : c.short_cross-number.result ≡ get_or (shrunk 1 (crossed A (pos 1) c.args.us.now c.args.xs.now)) c.loop-i.i (pos 0) = short_number_at_place 1 A (pos 1) c.short_cross-number.result c.short_cross-number.result c.args.us.now c.args.xs.now c.loop-i.xs c.loop-i.i c.requires.lengths c.loop-i-test.true c.loop-i.invariant fx fu ft c.short_cross-number.ensures.value (sym (shrink_one (to_z w64 (of_z w64 c.short_cross-number.result)) ∙ to_z-of_z ft)) in
     ap Some (to_z-of_z fw ∙ c.from.ensures ∙ to_z-of_z ft)
     ∙ put_large (shrunk 1 (crossed A (pos 1) c.args.us.now c.args.xs.now)) c.args.xs.now c.loop-i.xs c.loop-i.i c.short_cross-number.result (length-made 1 A (pos 1) c.args.us.now c.args.xs.now c.requires.lengths) (omega (arith, c.requires.lengths, c.loop-i-test.true)) number
-    (ap (λ z. leb (2 ^ 48) (unsigned_abs z)) (sym (to_z-of_z ft)) ∙ sym c.is_short_large.ensures ∙ c.if-is_short_large.true) c.loop-i.invariant
-    ∙ (λ i. first_reaching (2 ^ 48) (shrunk 1 (crossed (to_z-of_z c.ranges.a i) (pos 1) c.args.us.now c.args.xs.now)))
+    (ap (λ z. leb size_limit (unsigned_abs z)) (sym (to_z-of_z ft)) ∙ sym c.is_short_large.ensures ∙ c.if-is_short_large.true) c.loop-i.invariant
+    ∙ (λ i. first_reaching size_limit (shrunk 1 (crossed (to_z-of_z c.ranges.a i) (pos 1) c.args.us.now c.args.xs.now)))
 
 pub loop-i-preserved : goal.loop-i-preserved
 loop-i-preserved c =
@@ -28,7 +28,7 @@ loop-i-preserved c =
     let fu : SFits w64 (get_or c.args.us.now c.loop-i.i (pos 0)) = search rules in
     let ft : SFits w64 c.short_cross-number.result = search rules in
     let number : c.short_cross-number.result ≡ get_or (shrunk 1 (crossed A (pos 1) c.args.us.now c.args.xs.now)) c.loop-i.i (pos 0) = short_number_at_place 1 A (pos 1) c.short_cross-number.result c.short_cross-number.result c.args.us.now c.args.xs.now c.loop-i.xs c.loop-i.i c.requires.lengths c.loop-i-test.true c.loop-i.invariant fx fu ft c.short_cross-number.ensures.value (sym (shrink_one (to_z w64 (of_z w64 c.short_cross-number.result)) ∙ to_z-of_z ft)) in
-    let small : leb (2 ^ 48) (unsigned_abs c.short_cross-number.result) ≡ false = ap (λ z. leb (2 ^ 48) (unsigned_abs z)) (sym (to_z-of_z ft)) ∙ sym c.is_short_large.ensures ∙ c.if-is_short_large.false in
+    let small : leb size_limit (unsigned_abs c.short_cross-number.result) ≡ false = ap (λ z. leb size_limit (unsigned_abs z)) (sym (to_z-of_z ft)) ∙ sym c.is_short_large.ensures ∙ c.if-is_short_large.false in
     let put : to_z w64 (of_z w64 c.short_cross-number.result) ≡ c.short_cross-number.result = to_z-of_z ft in
     subst (λ z. IsPutTo (shrunk 1 (crossed A (pos 1) c.args.us.now c.args.xs.now)) c.args.xs.now (set c.loop-i.xs c.loop-i.i z) (c.loop-i.i + 1)) (sym put)
     (put_more (shrunk 1 (crossed A (pos 1) c.args.us.now c.args.xs.now)) c.args.xs.now c.loop-i.xs c.loop-i.i c.short_cross-number.result (length-made 1 A (pos 1) c.args.us.now c.args.xs.now c.requires.lengths) (omega (arith, c.requires.lengths, c.loop-i-test.true)) number small c.loop-i.invariant)
@@ -37,7 +37,7 @@ pub returns-clause-large : goal.returns-clause-large
 returns-clause-large c =
     let A = to_z w64 (of_z w64 c.args.a) in
     (put_all (shrunk 1 (crossed A (pos 1) c.args.us.now c.args.xs.now)) c.args.xs.now c.loop-i.xs c.loop-i.i (length-made 1 A (pos 1) c.args.us.now c.args.xs.now c.requires.lengths) (omega (arith, c.requires.lengths)) c.loop-i.invariant).0
-    ∙ (λ i. first_reaching (2 ^ 48) (shrunk 1 (crossed (to_z-of_z c.ranges.a i) (pos 1) c.args.us.now c.args.xs.now)))
+    ∙ (λ i. first_reaching size_limit (shrunk 1 (crossed (to_z-of_z c.ranges.a i) (pos 1) c.args.us.now c.args.xs.now)))
 
 pub returns-clause-numbers : goal.returns-clause-numbers
 returns-clause-numbers c =

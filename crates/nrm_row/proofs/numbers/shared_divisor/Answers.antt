@@ -2,16 +2,17 @@ use Rattle.std.proofs.Common.{◌≡◌, ◌<◌, ◌^◌, arith, unsigned_abs, 
 use Rattle.std.proofs.lemmas.Int.{ints}
 use Rattle.nrm_number.specs.Gcd.{gcd as gcd_of}
 use Rattle.nrm_row.proofs.Combining.{shared_le}
+use Rattle.nrm_fraction.specs.Large.{size_limit}
 use Rattle.nrm_row.proofs.numbers.shared_divisor.Goals as goal
 
 value : (c : goal.After-short_gcd) → c.short_gcd.result ≡ gcd_of (unsigned_abs c.args.n) (unsigned_abs c.args.den)
-value c = c.short_gcd.ensures ∙ ap₂ gcd_of (c.unsigned_abs.ensures.value ∙ ap unsigned_abs (to_z-of_z c.ranges.n)) (c.unsigned_abs-2.ensures.value ∙ ap unsigned_abs (to_z-of_z c.ranges.den))
+value c = c.short_gcd.ensures.value ∙ ap₂ gcd_of (c.unsigned_abs.ensures.value ∙ ap unsigned_abs (to_z-of_z c.ranges.n)) (c.unsigned_abs-2.ensures.value ∙ ap unsigned_abs (to_z-of_z c.ranges.den))
 
-small : (c : goal.After-short_gcd) → c.short_gcd.result < 2 ^ 48
+small : (c : goal.After-short_gcd) → c.short_gcd.result < size_limit
 small c = omega (arith, value c, shared_le c.args.n c.args.den c.requires.positive, c.requires.small)
 
 pub overflow_cast-result : goal.overflow_cast-result
-overflow_cast-result c = let l : c.short_gcd.result < 2 ^ 48 = small c in omega (arith, ints)
+overflow_cast-result c = let l : c.short_gcd.result < size_limit = small c in omega (arith, ints)
 
 pub returns : goal.returns
-returns c = let l : c.short_gcd.result < 2 ^ 48 = small c in let same : to_z w64 c.short_gcd.result ≡ pos c.short_gcd.result = omega (arith, ints) in same ∙ ap pos (value c)
+returns c = let l : c.short_gcd.result < size_limit = small c in let same : to_z w64 c.short_gcd.result ≡ pos c.short_gcd.result = omega (arith, ints) in same ∙ ap pos (value c)

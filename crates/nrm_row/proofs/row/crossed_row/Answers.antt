@@ -1,15 +1,17 @@
 use Rattle.std.proofs.Common.{rules, ◌≡◌, ◌^◌, ap, ap₂, sym, subst, subst₂, ◌∙◌, unsigned_abs, pos, List, ℤ, ℕ, ◌*ℤ◌, ◌<ℤ◌, to_z, of_z, to_z-of_z, w64, Some, None, leb, true, false}
+use Rattle.std.proofs.lemmas.Result.{err_from_is_err_and}
 use mir.Syntax.{w128}
 use mir.Val.{SFits}
 use Rattle.std.specs.Int.{IsInRange}
 use Rattle.nrm_number.specs.Gcd.{shrink}
 use Rattle.nrm_number.proofs.Integers.{positive_product}
-use Rattle.nrm_fraction.specs.Large.{gcd_all, first_reaching, fractions}
-use Rattle.nrm_row.specs.Fault.{IsFault}
+use Rattle.nrm_fraction.specs.Large.{gcd_all, first_reaching, fractions, size_limit}
+use Rattle.nrm_fraction.specs.Fault.{IsFault}
 use Rattle.nrm_row.specs.Numbers.{crossed, shrunk, IsRow}
-use Rattle.nrm_row.proofs.Bits.{small_fits}
 use Rattle.nrm_row.proofs.Combining.{common_read, wide_read, length-crossed}
-use Rattle.nrm_row.proofs.LowestTerms.{reaching_yes, reaching_no, divisor_positive, made_is_row, lowest_same, large_is}
+use Rattle.nrm_row.proofs.LowestTerms.{divisor_positive, made_is_row, lowest_same, large_is}
+use Rattle.nrm_fraction.proofs.Sizes.{small_fits}
+use Rattle.nrm_fraction.proofs.Reaching.{reaching_yes, reaching_no}
 use Rattle.nrm_row.proofs.row.crossed_row.Goals as goal
 
 pub wide_quotient-wide-requires : goal.wide_quotient-wide-requires
@@ -29,8 +31,8 @@ returns-then-is_large c =
     let fp : SFits w128 c.product.result = search rules in
     let fw : SFits w128 c.wide_quotient-wide.result = search rules in
     let wide : to_z w128 (of_z w128 c.wide_quotient-wide.result) ≡ shrink (c.args.den *ℤ c.args.e) G = wide_read c.args.den c.args.e c.crossed_divisor-common.result c.product.result c.wide_quotient-wide.result G c.ranges.den c.ranges.e fp fw common c.product.ensures.value c.wide_quotient-wide.ensures in
-    let large : leb (2 ^ 48) (unsigned_abs (shrink (c.args.den *ℤ c.args.e) G)) ≡ true = ap (λ z. leb (2 ^ 48) (unsigned_abs z)) (sym wide) ∙ sym c.is_large.ensures ∙ c.if-is_large.true in
-    large_is (2 ^ 48) (c.args.den *ℤ c.args.e) ns positive ∙ reaching_yes (shrink (c.args.den *ℤ c.args.e) G) (shrunk G ns) large ∙ ap Some (sym wide)
+    let large : leb size_limit (unsigned_abs (shrink (c.args.den *ℤ c.args.e) G)) ≡ true = ap (λ z. leb size_limit (unsigned_abs z)) (sym wide) ∙ sym c.is_large.ensures ∙ c.if-is_large.true in
+    large_is size_limit (c.args.den *ℤ c.args.e) ns positive ∙ reaching_yes (shrink (c.args.den *ℤ c.args.e) G) (shrunk G ns) large ∙ ap Some (sym wide)
 
 pub crossed_numbers-requires-clause-positive : goal.crossed_numbers-requires-clause-positive
 crossed_numbers-requires-clause-positive c =
@@ -49,17 +51,17 @@ invariant_of-result c =
     let fp : SFits w128 c.product.result = search rules in
     let fw : SFits w128 c.wide_quotient-wide.result = search rules in
     let wide : to_z w128 (of_z w128 c.wide_quotient-wide.result) ≡ shrink (c.args.den *ℤ c.args.e) G = wide_read c.args.den c.args.e c.crossed_divisor-common.result c.product.result c.wide_quotient-wide.result G c.ranges.den c.ranges.e fp fw common c.product.ensures.value c.wide_quotient-wide.ensures in
-    let small : leb (2 ^ 48) (unsigned_abs (shrink (c.args.den *ℤ c.args.e) G)) ≡ false = ap (λ z. leb (2 ^ 48) (unsigned_abs z)) (sym wide) ∙ sym c.is_large.ensures ∙ c.if-is_large.false in
+    let small : leb size_limit (unsigned_abs (shrink (c.args.den *ℤ c.args.e) G)) ≡ false = ap (λ z. leb size_limit (unsigned_abs z)) (sym wide) ∙ sym c.is_large.ensures ∙ c.if-is_large.false in
     let numbers : shrunk (unsigned_abs (to_z w128 (of_z w128 c.crossed_divisor-common.result))) (crossed (to_z w64 (of_z w64 c.args.a)) (to_z w64 (of_z w64 c.args.e)) c.args.us.now c.args.xs.now) ≡ shrunk G ns =
     (λ i. shrunk (unsigned_abs (common i)) (crossed (to_z-of_z c.ranges.a i) (to_z-of_z c.ranges.e i) c.args.us.now c.args.xs.now)) in
     let den : to_z w64 (of_z w64 (to_z w128 (of_z w128 c.wide_quotient-wide.result))) ≡ shrink (c.args.den *ℤ c.args.e) G = ap (λ z. to_z w64 (of_z w64 z)) wide ∙ small_fits (shrink (c.args.den *ℤ c.args.e) G) small in
-    let items : c.in-Ok.nums.items ≡ shrunk G ns = c.in-Ok.ensures.0 ∙ numbers in
-    let none : first_reaching (2 ^ 48) (shrunk G ns) ≡ None = ap (first_reaching (2 ^ 48)) (sym numbers) ∙ c.in-Ok.ensures.1 in
+    let items : c.in_ok-nums.nums.items ≡ shrunk G ns = c.in_ok-nums.ensures.0 ∙ numbers in
+    let none : first_reaching size_limit (shrunk G ns) ≡ None = ap (first_reaching size_limit) (sym numbers) ∙ c.in_ok-nums.ensures.1 in
     let wide_enough = subst (IsInRange 1 577) (sym (length-crossed c.args.a c.args.e c.args.us.now c.args.xs.now c.requires.lengths)) c.requires.row.width in
     subst₂ (λ d ms. IsRow d ms) (sym den) (sym items) (made_is_row (c.args.den *ℤ c.args.e) ns positive small none wide_enough)
 
-pub returns-in-Ok : goal.returns-in-Ok
-returns-in-Ok c =
+pub returns : goal.returns
+returns c =
     let ns : List ℤ = crossed c.args.a c.args.e c.args.us.now c.args.xs.now in
     let G : ℕ = gcd_all (unsigned_abs (c.args.den *ℤ c.args.e)) (crossed c.args.a c.args.e c.args.us.now c.args.xs.now) in
     let positive : pos 0 <ℤ (c.args.den *ℤ c.args.e) = positive_product c.args.den c.args.e c.requires.row.positive c.requires.positive in
@@ -68,18 +70,18 @@ returns-in-Ok c =
     let fp : SFits w128 c.product.result = search rules in
     let fw : SFits w128 c.wide_quotient-wide.result = search rules in
     let wide : to_z w128 (of_z w128 c.wide_quotient-wide.result) ≡ shrink (c.args.den *ℤ c.args.e) G = wide_read c.args.den c.args.e c.crossed_divisor-common.result c.product.result c.wide_quotient-wide.result G c.ranges.den c.ranges.e fp fw common c.product.ensures.value c.wide_quotient-wide.ensures in
-    let small : leb (2 ^ 48) (unsigned_abs (shrink (c.args.den *ℤ c.args.e) G)) ≡ false = ap (λ z. leb (2 ^ 48) (unsigned_abs z)) (sym wide) ∙ sym c.is_large.ensures ∙ c.if-is_large.false in
+    let small : leb size_limit (unsigned_abs (shrink (c.args.den *ℤ c.args.e) G)) ≡ false = ap (λ z. leb size_limit (unsigned_abs z)) (sym wide) ∙ sym c.is_large.ensures ∙ c.if-is_large.false in
     let numbers : shrunk (unsigned_abs (to_z w128 (of_z w128 c.crossed_divisor-common.result))) (crossed (to_z w64 (of_z w64 c.args.a)) (to_z w64 (of_z w64 c.args.e)) c.args.us.now c.args.xs.now) ≡ shrunk G ns =
     (λ i. shrunk (unsigned_abs (common i)) (crossed (to_z-of_z c.ranges.a i) (to_z-of_z c.ranges.e i) c.args.us.now c.args.xs.now)) in
     let den : to_z w64 (of_z w64 (to_z w128 (of_z w128 c.wide_quotient-wide.result))) ≡ shrink (c.args.den *ℤ c.args.e) G = ap (λ z. to_z w64 (of_z w64 z)) wide ∙ small_fits (shrink (c.args.den *ℤ c.args.e) G) small in
-    let items : c.in-Ok.nums.items ≡ shrunk G ns = c.in-Ok.ensures.0 ∙ numbers in
-    let none : first_reaching (2 ^ 48) (shrunk G ns) ≡ None = ap (first_reaching (2 ^ 48)) (sym numbers) ∙ c.in-Ok.ensures.1 in (
+    let items : c.in_ok-nums.nums.items ≡ shrunk G ns = c.in_ok-nums.ensures.0 ∙ numbers in
+    let none : first_reaching size_limit (shrunk G ns) ≡ None = ap (first_reaching size_limit) (sym numbers) ∙ c.in_ok-nums.ensures.1 in (
       ap₂ (λ d ms. fractions (unsigned_abs d) ms) den items ∙ lowest_same (c.args.den *ℤ c.args.e) ns positive,
-      large_is (2 ^ 48) (c.args.den *ℤ c.args.e) ns positive ∙ reaching_no (shrink (c.args.den *ℤ c.args.e) G) (shrunk G ns) small ∙ none,
+      large_is size_limit (c.args.den *ℤ c.args.e) ns positive ∙ reaching_no (shrink (c.args.den *ℤ c.args.e) G) (shrunk G ns) small ∙ none,
     )
 
-pub returns-in-Err : goal.returns-in-Err
-returns-in-Err c =
+pub returns-in_err-nums : goal.returns-in_err-nums
+returns-in_err-nums c =
     let ns : List ℤ = crossed c.args.a c.args.e c.args.us.now c.args.xs.now in
     let G : ℕ = gcd_all (unsigned_abs (c.args.den *ℤ c.args.e)) (crossed c.args.a c.args.e c.args.us.now c.args.xs.now) in
     let positive : pos 0 <ℤ (c.args.den *ℤ c.args.e) = positive_product c.args.den c.args.e c.requires.row.positive c.requires.positive in
@@ -88,9 +90,11 @@ returns-in-Err c =
     let fp : SFits w128 c.product.result = search rules in
     let fw : SFits w128 c.wide_quotient-wide.result = search rules in
     let wide : to_z w128 (of_z w128 c.wide_quotient-wide.result) ≡ shrink (c.args.den *ℤ c.args.e) G = wide_read c.args.den c.args.e c.crossed_divisor-common.result c.product.result c.wide_quotient-wide.result G c.ranges.den c.ranges.e fp fw common c.product.ensures.value c.wide_quotient-wide.ensures in
-    let small : leb (2 ^ 48) (unsigned_abs (shrink (c.args.den *ℤ c.args.e) G)) ≡ false = ap (λ z. leb (2 ^ 48) (unsigned_abs z)) (sym wide) ∙ sym c.is_large.ensures ∙ c.if-is_large.false in
+    let small : leb size_limit (unsigned_abs (shrink (c.args.den *ℤ c.args.e) G)) ≡ false = ap (λ z. leb size_limit (unsigned_abs z)) (sym wide) ∙ sym c.is_large.ensures ∙ c.if-is_large.false in
     let numbers : shrunk (unsigned_abs (to_z w128 (of_z w128 c.crossed_divisor-common.result))) (crossed (to_z w64 (of_z w64 c.args.a)) (to_z w64 (of_z w64 c.args.e)) c.args.us.now c.args.xs.now) ≡ shrunk G ns =
     (λ i. shrunk (unsigned_abs (common i)) (crossed (to_z-of_z c.ranges.a i) (to_z-of_z c.ranges.e i) c.args.us.now c.args.xs.now)) in
-    subst (λ found. IsFault c.in-Err.fault found)
-    (ap (first_reaching (2 ^ 48)) numbers ∙ sym (large_is (2 ^ 48) (c.args.den *ℤ c.args.e) ns positive ∙ reaching_no (shrink (c.args.den *ℤ c.args.e) G) (shrunk G ns) small))
-    c.in-Err.ensures
+    let p = err_from_is_err_and c.from_residual.result c.from_residual.ensures.1 in
+    rw (p.1, p.2)
+    (subst (λ found. IsFault c.in_err-nums.field-0.0 found)
+    (ap (first_reaching size_limit) numbers ∙ sym (large_is size_limit (c.args.den *ℤ c.args.e) ns positive ∙ reaching_no (shrink (c.args.den *ℤ c.args.e) G) (shrunk G ns) small))
+    c.in_err-nums.ensures)

@@ -1,8 +1,8 @@
 -- The number and the denominator are read as sizes.
 use Rattle.std.proofs.Common.{◌<◌, ◌∙◌, ap, sym, subst, nat_abs}
 use Rattle.nrm_fraction.proofs.Lowest.{common_pos}
-use Rattle.nrm_row.proofs.Bits.{small_same}
 use Rattle.nrm_tableau.proofs.LastRows.{entry_read}
+use Rattle.nrm_fraction.proofs.Sizes.{small_same}
 use Rattle.nrm_tableau.proofs.ending.entry.Goals as goal
 
 pub new-requires-clause-some : goal.new-requires-clause-some

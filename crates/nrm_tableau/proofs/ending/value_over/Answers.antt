@@ -2,8 +2,8 @@
 use Rattle.std.proofs.Common.{◌<◌, ◌/◌, ◌∙◌, ap, ap₂, sym, subst, nat_abs}
 use Rattle.nrm_fraction.specs.Large.{common}
 use Rattle.nrm_fraction.proofs.Lowest.{common_pos}
-use Rattle.nrm_row.proofs.Bits.{small_same}
 use Rattle.nrm_tableau.proofs.LastRows.{quotient_some}
+use Rattle.nrm_fraction.proofs.Sizes.{small_same}
 use Rattle.nrm_tableau.proofs.ending.value_over.Goals as goal
 
 pub nonzero_div-times : goal.nonzero_div-times

@@ -18,8 +18,8 @@ loop-product-preserved c =
     let es = c.loop-product.entries.items in
     let new = c.if-uses_leg.entries.items in
     elim c.if-uses_leg.branch [
-      | then-uses_leg+in_ok-push w ↦ leg_taken a i j es new c.requires (omega arith) (sym c.uses_leg.ensures ∙ w.if-uses_leg.true) (ap (λ v. v.items) w.entries-is ∙ w.in_ok-push.ensures.items) c.loop-product.invariant
-      | else-uses_leg w ↦ leg_left a i j es new c.requires (omega arith) (sym c.uses_leg.ensures ∙ w.if-uses_leg.false) (ap (λ v. v.items) w.entries-is) c.loop-product.invariant
+      | then-uses_leg+in_ok-push w ↦ leg_taken a i j es new c.requires (omega arith) (sym c.uses_leg.ensures.uses ∙ w.if-uses_leg.true) (ap (λ v. v.items) w.entries-is ∙ w.in_ok-push.ensures.items) c.loop-product.invariant
+      | else-uses_leg w ↦ leg_left a i j es new c.requires (omega arith) (sym c.uses_leg.ensures.uses ∙ w.if-uses_leg.false) (ap (λ v. v.items) w.entries-is) c.loop-product.invariant
     ]
 
 pub returns : goal.returns

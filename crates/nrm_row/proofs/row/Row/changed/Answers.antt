@@ -1,5 +1,5 @@
 use Rattle.std.proofs.Common.{◌≡◌, ◌<◌, ◌^◌, arith, ap, ap₂, sym, ◌∙◌, get_or, length, pos, to_z, of_z, w64}
-use Rattle.nrm_fraction.specs.Large.{large_number}
+use Rattle.nrm_fraction.specs.Large.{large_number, size_limit}
 use Rattle.nrm_fraction.specs.Rows.{combine}
 use Rattle.nrm_row.proofs.Bits.{read_at}
 use Rattle.nrm_row.proofs.LowestTerms.{row_length, row_not_large}
@@ -16,5 +16,5 @@ returns-then-index-eq0 c =
     let same = uncombined_is c.self.inside.den c.unit.inside.den c.unit.inside.nums.items ns c.args.col c.self.invariant.positive c.unit.invariant.positive lengths within nought in
     let exact : c.args.self.now ≡ combine c.args.col c.args.unit.now c.args.self.now = sym c.self.view_is ∙ sym same ∙ ap₂ (λ us xs. combine c.args.col us xs) c.unit.view_is c.self.view_is in (
       exact,
-      ap (large_number (2 ^ 48)) (sym exact ∙ sym c.self.view_is) ∙ row_not_large c.self.inside.den ns c.self.invariant,
+      ap (large_number size_limit) (sym exact ∙ sym c.self.view_is) ∙ row_not_large c.self.inside.den ns c.self.invariant,
     )

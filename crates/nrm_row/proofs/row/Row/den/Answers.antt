@@ -1,6 +1,6 @@
 use Rattle.std.proofs.Common.{◌∙◌}
 use Rattle.nrm_row.proofs.LowestTerms.{row_den}
-use Rattle.nrm_row.proofs.Bits.{small_same}
+use Rattle.nrm_fraction.proofs.Sizes.{small_same}
 use Rattle.nrm_row.proofs.row.Row.den.Goals as goal
 
 pub returns-clause-den : goal.returns-clause-den

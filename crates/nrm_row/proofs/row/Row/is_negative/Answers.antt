@@ -1,7 +1,7 @@
 use Rattle.std.proofs.Common.{pos, ap, ◌∙◌}
 use Rattle.std.specs.Int.RustNames.{int_lt}
-use Rattle.nrm_row.proofs.Bits.{small_same}
 use Rattle.nrm_row.proofs.Entries.{negative_is}
+use Rattle.nrm_fraction.proofs.Sizes.{small_same}
 use Rattle.nrm_row.proofs.row.Row.is_negative.Goals as goal
 
 pub returns : goal.returns

@@ -1,7 +1,7 @@
 use Rattle.std.proofs.Common.{◌≡◌, ◌+◌, ◌-◌, ap₂, subst, ◌∙◌, arith, IfOk, unsigned_abs, take, drop}
 use Rattle.nrm_fraction.specs.Large.{fractions}
-use Rattle.nrm_row.proofs.Bits.{small_same}
 use Rattle.nrm_row.proofs.LowestTerms.{row_part}
+use Rattle.nrm_fraction.proofs.Sizes.{small_same}
 use Rattle.nrm_row.proofs.row.Row.part.Goals as goal
 
 pub returns : goal.returns

@@ -1,8 +1,8 @@
 use Rattle.std.proofs.Common.{◌≡◌, ◌<◌, length, get_or, pos, ◌<ℤ◌, unsigned_abs, arith, ap, sym, subst, ◌∙◌, IfOk, to_z, of_z, w64}
 use Rattle.nrm_fraction.specs.Large.{fractions}
 use Rattle.nrm_row.proofs.LowestTerms.{row_length, row_nums}
-use Rattle.nrm_row.proofs.Bits.{small_same}
 use Rattle.nrm_row.proofs.Entries.{positive_number, unit_row_is, unit_small}
+use Rattle.nrm_fraction.proofs.Sizes.{small_same}
 use Rattle.nrm_row.proofs.row.Row.unit.Goals as goal
 
 pub lowest_row-requires-clause-positive : goal.lowest_row-requires-clause-positive

@@ -4,11 +4,11 @@ use Rattle.std.specs.Option.{option_map}
 use Rattle.std.proofs.lemmas.List.{length-map, length-set}
 use Rattle.std.proofs.lemmas.Result.{err_from_is_err_and}
 use Rattle.nrm_fraction.specs.Fraction.{Fraction}
-use Rattle.nrm_fraction.specs.Large.{first_large, large_number}
+use Rattle.nrm_fraction.specs.Large.{first_large, large_number, size_limit}
 use Rattle.nrm_fraction.specs.Rows.{combine, unit_row}
 use Rattle.nrm_lp.specs.Overflow.{pivot_large, rows_but}
 use Rattle.nrm_lp.specs.Tableau.{entering, leaving, pivot}
-use Rattle.nrm_row.specs.Fault.{IsFault}
+use Rattle.nrm_fraction.specs.Fault.{IsFault}
 use Rattle.nrm_tableau.specs.Changes.{replaced}
 use Rattle.nrm_tableau.specs.Value.{TableauValue}
 use Rattle.nrm_tableau.proofs.Changing.{set_again, written_whole}
@@ -52,11 +52,11 @@ returns-in_err-made-clause-fault c =
     let enters = subst (λ (s : TableauValue). entering s.table ≡ Some c.args.col) (sym c.self.view_is) c.requires.enters in
     let left = subst (λ (s : TableauValue). option_map (λ found. found.0) (leaving s.program s.table c.args.col) ≡ Some c.args.row) (sym c.self.view_is) c.requires.leaves in
     let unit_is : c.in_ok-unit.unit ≡ unit_row c.args.col (get_or c.self.inside.rows.items c.args.row []) = c.in_ok-unit.ensures.row ∙ ap (λ (xs : List (List Fraction)). unit_row c.args.col (get_or xs c.args.row [])) c.deref.ensures.value in
-    let unit_small = subst (λ (xs : List (List Fraction)). large_number (2 ^ 48) (unit_row c.args.col (get_or xs c.args.row [])) ≡ None) c.deref.ensures.value c.in_ok-unit.ensures.small in
-    let others = subst (λ (xs : List (List Fraction)). IsFault c.in_err-made.field-0.0 (first_large (2 ^ 48) (map (combine c.args.col (unit_row c.args.col (get_or c.self.inside.rows.items c.args.row []))) (rows_but c.args.row xs)))) c.deref-2.ensures.value
-    (subst (λ (us : List Fraction). IsFault c.in_err-made.field-0.0 (first_large (2 ^ 48) (map (combine c.args.col us) (rows_but c.args.row c.deref-2.result.now)))) unit_is c.in_err-made.ensures) in
+    let unit_small = subst (λ (xs : List (List Fraction)). large_number size_limit (unit_row c.args.col (get_or xs c.args.row [])) ≡ None) c.deref.ensures.value c.in_ok-unit.ensures.small in
+    let others = subst (λ (xs : List (List Fraction)). IsFault c.in_err-made.field-0.0 (first_large size_limit (map (combine c.args.col (unit_row c.args.col (get_or c.self.inside.rows.items c.args.row []))) (rows_but c.args.row xs)))) c.deref-2.ensures.value
+    (subst (λ (us : List Fraction). IsFault c.in_err-made.field-0.0 (first_large size_limit (map (combine c.args.col us) (rows_but c.args.row c.deref-2.result.now)))) unit_is c.in_err-made.ensures) in
     let p = err_from_is_err_and c.from_residual-in_err-made.result c.from_residual-in_err-made.ensures.1 in
-    rw (p.1, p.2) (subst (λ (s : TableauValue). IsFault c.in_err-made.field-0.0 (pivot_large (2 ^ 48) s.program s.table)) c.self.view_is (fault_others _ c.self.invariant c.args.col c.args.row enters left (2 ^ 48) c.in_err-made.field-0.0 unit_small others))
+    rw (p.1, p.2) (subst (λ (s : TableauValue). IsFault c.in_err-made.field-0.0 (pivot_large size_limit s.program s.table)) c.self.view_is (fault_others _ c.self.invariant c.args.col c.args.row enters left size_limit c.in_err-made.field-0.0 unit_small others))
 
 pub combine-requires-clause-widths : goal.combine-requires-clause-widths
 combine-requires-clause-widths c =
@@ -76,11 +76,11 @@ returns-in_err-value-clause-fault c =
     let enters = subst (λ (s : TableauValue). entering s.table ≡ Some c.args.col) (sym c.self.view_is) c.requires.enters in
     let left = subst (λ (s : TableauValue). option_map (λ found. found.0) (leaving s.program s.table c.args.col) ≡ Some c.args.row) (sym c.self.view_is) c.requires.leaves in
     let unit_is : c.in_ok-unit.unit ≡ unit_row c.args.col (get_or c.self.inside.rows.items c.args.row []) = c.in_ok-unit.ensures.row ∙ ap (λ (xs : List (List Fraction)). unit_row c.args.col (get_or xs c.args.row [])) c.deref.ensures.value in
-    let unit_small = subst (λ (xs : List (List Fraction)). large_number (2 ^ 48) (unit_row c.args.col (get_or xs c.args.row [])) ≡ None) c.deref.ensures.value c.in_ok-unit.ensures.small in
-    let others_small : first_large (2 ^ 48) (map (combine c.args.col (unit_row c.args.col (get_or c.self.inside.rows.items c.args.row []))) (rows_but c.args.row c.self.inside.rows.items)) ≡ None = (λ i. first_large (2 ^ 48) (map (combine c.args.col (sym unit_is i)) (rows_but c.args.row (sym c.deref-2.ensures.value i)))) ∙ c.in_ok-made.ensures.2 in
-    let last = subst (λ (us : List Fraction). IsFault c.in_err-value.field-0.0 (large_number (2 ^ 48) (combine c.args.col us c.self.inside.value))) unit_is c.in_err-value.ensures in
+    let unit_small = subst (λ (xs : List (List Fraction)). large_number size_limit (unit_row c.args.col (get_or xs c.args.row [])) ≡ None) c.deref.ensures.value c.in_ok-unit.ensures.small in
+    let others_small : first_large size_limit (map (combine c.args.col (unit_row c.args.col (get_or c.self.inside.rows.items c.args.row []))) (rows_but c.args.row c.self.inside.rows.items)) ≡ None = (λ i. first_large size_limit (map (combine c.args.col (sym unit_is i)) (rows_but c.args.row (sym c.deref-2.ensures.value i)))) ∙ c.in_ok-made.ensures.2 in
+    let last = subst (λ (us : List Fraction). IsFault c.in_err-value.field-0.0 (large_number size_limit (combine c.args.col us c.self.inside.value))) unit_is c.in_err-value.ensures in
     let p = err_from_is_err_and c.from_residual-in_err-value.result c.from_residual-in_err-value.ensures.1 in
-    rw (p.1, p.2) (subst (λ (s : TableauValue). IsFault c.in_err-value.field-0.0 (pivot_large (2 ^ 48) s.program s.table)) c.self.view_is (fault_value _ c.self.invariant c.args.col c.args.row enters left (2 ^ 48) c.in_err-value.field-0.0 unit_small others_small last))
+    rw (p.1, p.2) (subst (λ (s : TableauValue). IsFault c.in_err-value.field-0.0 (pivot_large size_limit s.program s.table)) c.self.view_is (fault_value _ c.self.invariant c.args.col c.args.row enters left size_limit c.in_err-value.field-0.0 unit_small others_small last))
 
 pub index_mut-requires-2 : goal.index_mut-requires-2
 index_mut-requires-2 c =
@@ -93,10 +93,10 @@ invariant_of-self c =
     let enters = subst (λ (s : TableauValue). entering s.table ≡ Some c.args.col) (sym c.self.view_is) c.requires.enters in
     let left = subst (λ (s : TableauValue). option_map (λ found. found.0) (leaving s.program s.table c.args.col) ≡ Some c.args.row) (sym c.self.view_is) c.requires.leaves in
     let unit_is : c.in_ok-unit.unit ≡ unit_row c.args.col (get_or c.self.inside.rows.items c.args.row []) = c.in_ok-unit.ensures.row ∙ ap (λ (xs : List (List Fraction)). unit_row c.args.col (get_or xs c.args.row [])) c.deref.ensures.value in
-    let unit_small = subst (λ (xs : List (List Fraction)). large_number (2 ^ 48) (unit_row c.args.col (get_or xs c.args.row [])) ≡ None) c.deref.ensures.value c.in_ok-unit.ensures.small in
-    let others_small : first_large (2 ^ 48) (map (combine c.args.col (unit_row c.args.col (get_or c.self.inside.rows.items c.args.row []))) (rows_but c.args.row c.self.inside.rows.items)) ≡ None = (λ i. first_large (2 ^ 48) (map (combine c.args.col (sym unit_is i)) (rows_but c.args.row (sym c.deref-2.ensures.value i)))) ∙ c.in_ok-made.ensures.2 in
-    let last = subst (λ (us : List Fraction). large_number (2 ^ 48) (combine c.args.col us c.self.inside.value) ≡ None) unit_is c.in_ok-value.ensures.1 in
-    let small = small_all _ c.self.invariant c.args.col c.args.row enters left (2 ^ 48) unit_small others_small last in
+    let unit_small = subst (λ (xs : List (List Fraction)). large_number size_limit (unit_row c.args.col (get_or xs c.args.row [])) ≡ None) c.deref.ensures.value c.in_ok-unit.ensures.small in
+    let others_small : first_large size_limit (map (combine c.args.col (unit_row c.args.col (get_or c.self.inside.rows.items c.args.row []))) (rows_but c.args.row c.self.inside.rows.items)) ≡ None = (λ i. first_large size_limit (map (combine c.args.col (sym unit_is i)) (rows_but c.args.row (sym c.deref-2.ensures.value i)))) ∙ c.in_ok-made.ensures.2 in
+    let last = subst (λ (us : List Fraction). large_number size_limit (combine c.args.col us c.self.inside.value) ≡ None) unit_is c.in_ok-value.ensures.1 in
+    let small = small_all _ c.self.invariant c.args.col c.args.row enters left size_limit unit_small others_small last in
     let rows = c.self.inside.rows.items in
     let own = get_or rows c.args.row [] in
     let F = combine c.args.col c.in_ok-unit.unit in
@@ -140,8 +140,8 @@ returns-clause-small c =
     let enters = subst (λ (s : TableauValue). entering s.table ≡ Some c.args.col) (sym c.self.view_is) c.requires.enters in
     let left = subst (λ (s : TableauValue). option_map (λ found. found.0) (leaving s.program s.table c.args.col) ≡ Some c.args.row) (sym c.self.view_is) c.requires.leaves in
     let unit_is : c.in_ok-unit.unit ≡ unit_row c.args.col (get_or c.self.inside.rows.items c.args.row []) = c.in_ok-unit.ensures.row ∙ ap (λ (xs : List (List Fraction)). unit_row c.args.col (get_or xs c.args.row [])) c.deref.ensures.value in
-    let unit_small = subst (λ (xs : List (List Fraction)). large_number (2 ^ 48) (unit_row c.args.col (get_or xs c.args.row [])) ≡ None) c.deref.ensures.value c.in_ok-unit.ensures.small in
-    let others_small : first_large (2 ^ 48) (map (combine c.args.col (unit_row c.args.col (get_or c.self.inside.rows.items c.args.row []))) (rows_but c.args.row c.self.inside.rows.items)) ≡ None = (λ i. first_large (2 ^ 48) (map (combine c.args.col (sym unit_is i)) (rows_but c.args.row (sym c.deref-2.ensures.value i)))) ∙ c.in_ok-made.ensures.2 in
-    let last = subst (λ (us : List Fraction). large_number (2 ^ 48) (combine c.args.col us c.self.inside.value) ≡ None) unit_is c.in_ok-value.ensures.1 in
-    let small = small_all _ c.self.invariant c.args.col c.args.row enters left (2 ^ 48) unit_small others_small last in
-    subst (λ (s : TableauValue). pivot_large (2 ^ 48) s.program s.table ≡ None) c.self.view_is small
+    let unit_small = subst (λ (xs : List (List Fraction)). large_number size_limit (unit_row c.args.col (get_or xs c.args.row [])) ≡ None) c.deref.ensures.value c.in_ok-unit.ensures.small in
+    let others_small : first_large size_limit (map (combine c.args.col (unit_row c.args.col (get_or c.self.inside.rows.items c.args.row []))) (rows_but c.args.row c.self.inside.rows.items)) ≡ None = (λ i. first_large size_limit (map (combine c.args.col (sym unit_is i)) (rows_but c.args.row (sym c.deref-2.ensures.value i)))) ∙ c.in_ok-made.ensures.2 in
+    let last = subst (λ (us : List Fraction). large_number size_limit (combine c.args.col us c.self.inside.value) ≡ None) unit_is c.in_ok-value.ensures.1 in
+    let small = small_all _ c.self.invariant c.args.col c.args.row enters left size_limit unit_small others_small last in
+    subst (λ (s : TableauValue). pivot_large size_limit s.program s.table ≡ None) c.self.view_is small

@@ -1,5 +1,0 @@
-use Rattle.nrm_denominators.proofs.Running.{IsRun}
-use Rattle.nrm_denominators.proofs.over.common_denominator.Given as goal
-
-abbrev pub invariant-loop-fraction : goal.invariant-loop-fraction
-invariant-loop-fraction l = IsRun l.fractions l.fraction-index l.den

@@ -1,5 +1,0 @@
-use Rattle.nrm_denominators.proofs.Numerators.{AreMade}
-use Rattle.nrm_denominators.proofs.over.numerators.Given as goal
-
-abbrev pub invariant-loop-fraction : goal.invariant-loop-fraction
-invariant-loop-fraction l = AreMade l.fn.den l.fractions l.fraction-index l.made.items
