@@ -1,14 +1,8 @@
 -- The steps of the loops that add up loads, price sums and costs, and the sizes of what they add.
-use Rattle.std.proofs.Common.{◌≡◌, ℕ, zero, suc, ◌+◌, ◌-◌, ◌*◌, ◌^◌, ◌<◌, ◌≤◌, arith, refl, ap, ◌∙◌, subst, List, [], ◌∷◌, drop, length, get_or, true, false, cond, ◌||◌, eqb}
-use Rattle.std.specs.List.{list_any}
+use Rattle.std.proofs.Common.{◌≡◌, ℕ, zero, suc, ◌+◌, ◌-◌, ◌*◌, ◌^◌, ◌<◌, ◌≤◌, arith, ap, ◌∙◌, subst, List, [], ◌∷◌, drop, length, get_or, true, false, cond}
 use Rattle.std.proofs.lemmas.List.{at_drop_more, at_drop_all}
 use Rattle.std.proofs.Math.Nat.{mul-le-mul}
 use Rattle.nrm_lp.specs.Program.{AreLegs, AreProducts, IsProgram, ProgramValue, dot, load, names, price_sum, surplus}
-
--- whether a list of legs names this one, as `contains` finds it
-pub names_is : (i : ℕ) (ls : List ℕ) → list_any (λ l. eqb l i) ls ≡ names i ls
-names_is i [] = refl
-names_is i (l ∷ ls) = let turned : eqb l i ≡ eqb i l = grind arith in ap (λ t. t || list_any (λ l. eqb l i) ls) turned ∙ ap (λ t. eqb i l || t) (names_is i ls)
 
 -- ---- one more product, leg or price
 pub load_more : (i : ℕ) (legs : List (List ℕ)) (xs : List ℕ) (j : ℕ) → j < length legs → j < length xs → load i (drop j legs) (drop j xs) ≡ cond (names i (get_or legs j [])) (get_or xs j 0) 0 + load i (drop (j + 1) legs) (drop (j + 1) xs)

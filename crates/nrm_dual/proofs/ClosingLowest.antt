@@ -4,7 +4,6 @@ use Prim.Native.Nat.{◌∣◌}
 use Rattle.std.proofs.lemmas.Nat.Gcd.{dvd_refl, dvd_trans, le_of_dvd}
 use Rattle.std.proofs.lemmas.Int.{unsigned_abs-mul}
 use Rattle.std.proofs.lemmas.Bool.{ltb-true}
-use Rattle.std.proofs.lemmas.List.{length-map}
 use native.Mathlib.Nat.{one-dvd, div-mul_cancel, mul-div_cancel', mul-dvd-mul_left, dvd_of_mul-dvd-mul_right, pos_of_dvd_of_pos}
 use Rattle.nrm_number.proofs.GcdLaws.{gcd-dvd_left, gcd-dvd_right, divides_other, dvd-lcm_left, dvd-lcm_right, lcm-dvd, lowest_out}
 use Rattle.nrm_fraction.specs.Fraction.{Fraction}
@@ -16,7 +15,7 @@ use Rattle.nrm_lp.specs.Tableau.{Tableau}
 use Rattle.nrm_lp.specs.Closing.{certificate, product_values, leg_prices}
 use Rattle.nrm_lp.specs.Certified.{Certifies}
 use Rattle.nrm_lp.proofs.Certify.{certifies}
-use Rattle.nrm_dual.specs.Texts.{IsShaped}
+use Rattle.nrm_lp.specs.Shape.{HasShape}
 use Rattle.nrm_dual.specs.ReadBack.{IsLowest, WrittenIsRead, ClosingsAreRead}
 use Rattle.nrm_fraction.proofs.CommonDivisors.{gcd_all-dvd}
 
@@ -86,18 +85,10 @@ over_common_lowest xs = is_one g r some_r some (le_of_dvd some_r (subst (λ t. t
 closing_lowest : (a : ProgramValue) (t : Tableau) → IsLowest (certificate a t)
 closing_lowest a t = record { allocation = over_common_lowest (product_values a t); prices = over_common_lowest (leg_prices a t) }
 
-closing_shaped : (net : NetworkValue) (a : ProgramValue) (t : Tableau) → length a.bounds ≡ length net.products → length a.caps ≡ length net.legs → Certifies (2 ^ 48) a (certificate a t) → IsShaped net (certificate a t)
-closing_shaped net a t products legs h = record {
-  products = sym (length-map (certificate a t).x (λ n. nat_abs n)) ∙ h.meet.allocation.shape ∙ products;
-  legs = sym (length-map (certificate a t).p (λ n. nat_abs n)) ∙ h.meet.prices.shape ∙ legs;
-  q_size = h.q_size;
-  x_sizes = h.x_sizes;
-  den_size = h.den_size;
-  p_sizes = h.p_sizes;
-  value_size = h.value_size;
-  some_q = common_pos (product_values a t);
-  some_den = common_pos (leg_prices a t);
-}
+-- a program with the network's legs and products asks for the same shape
+closing_shaped : (net : NetworkValue) (a : ProgramValue) (t : Tableau) → length a.bounds ≡ length net.products → length a.caps ≡ length net.legs → Certifies (2 ^ 48) a (certificate a t) → HasShape (2 ^ 48) (length net.products) (length net.legs) (certificate a t)
+closing_shaped net a t products legs h =
+    subst (λ n. HasShape (2 ^ 48) n (length net.legs) (certificate a t)) products (subst (λ n. HasShape (2 ^ 48) (length a.bounds) n (certificate a t)) legs h.shape)
 
 pub closings_read : WrittenIsRead → ClosingsAreRead
 closings_read written net is a ok products legs n t closes =

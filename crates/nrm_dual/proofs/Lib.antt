@@ -1,4 +1,5 @@
 pub mod Failing
+pub mod Sizes
 pub mod Passing
 pub mod Naming
 pub mod Adding

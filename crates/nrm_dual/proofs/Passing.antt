@@ -1,16 +1,19 @@
 -- A certificate at which no condition fails shows what it should, and one that shows it fails none.
-use Rattle.std.proofs.Common.{◌≡◌, ℕ, zero, suc, ◌*◌, ◌^◌, ◌<◌, ℤ, pos, negsuc, nat_abs, arith, lit<, refl, sym, ap, ◌∙◌, subst, List, [], ◌∷◌, length, get_or, All, Bool, true, false, cond, ◌&&◌, eqb, ltb, lt-ltb, eq-eqb}
+use Rattle.std.proofs.Common.{Option, Some, None, ◌≢◌, ◌≡◌, ℕ, ◌*◌, ◌<◌, ℤ, pos, negsuc, nat_abs, arith, refl, ap, ◌∙◌, List, [], ◌∷◌, length, All, Bool, true, false, cond, ◌&&◌, eqb, ltb, lt-ltb, eq-eqb}
 use Rattle.std.proofs.lemmas.Bool.{ltb-true, eqb-true}
 use Rattle.std.proofs.lemmas.List.{length-map}
 use Rattle.std.proofs.lemmas.List.Elements.{All-nil, All-cons, All-head, All-tail}
 use Rattle.nrm_lp.specs.declared.certificate.Certificate.{Certificate}
 use Rattle.nrm_lp.specs.Program.{ProgramValue, IsProgram, IsAllocation, IsPrices, gain, cost}
-use Rattle.nrm_lp.specs.Certified.{Meet, Certifies, IsNumber, sizes}
+use Rattle.nrm_lp.specs.Shape.{HasShape, IsNumber}
+use Rattle.nrm_lp.specs.Certified.{Meet, Certifies, sizes}
 use Rattle.nrm_lp.proofs.Duality.{optimal_allocation, optimal_prices}
+use Rattle.nrm_lp.proofs.Audited.{optimal_certify}
 use Rattle.nrm_lp.proofs.Slackness.{meets_if, product_tight, leg_tight}
-use Rattle.nrm_dual.specs.declared.verdict.Verdict.TheVariants.{Optimal, WrongShape}
-use Rattle.nrm_dual.specs.Conditions.{is_small, are_small, has_shape, first_wrong, first_failing}
-use Rattle.nrm_dual.specs.Shape.{IsShaped}
+use Rattle.nrm_dual.specs.declared.verdict.Verdict.{Verdict}
+use Rattle.nrm_dual.specs.declared.verdict.Verdict.TheVariants.{Optimal, WrongShape, WrongValue}
+use Rattle.nrm_dual.specs.Conditions.{is_over_bound, is_over_cap, is_priced_short, is_unmet_dear, is_used_cheap, least, is_small, are_small, has_shape, or_product, or_leg, first_wrong, first_failing}
+use Rattle.nrm_dual.specs.Laws.{OptimalPasses}
 use Rattle.nrm_dual.proofs.Failing.{Holds, conditions_hold, meet_passes, false_true, and_true, both_true}
 
 wrong_shape : WrongShape ≡ Optimal → ⊥
@@ -35,31 +38,12 @@ small_numbers limit (n ∷ ns) e =
     let both : (is_small limit n ≡ true) × (are_small limit ns ≡ true) = and_true (is_small limit n) (are_small limit ns) e in
     All-cons (IsNumber limit) n ns (small_number limit n both.0) (small_numbers limit ns both.1)
 
--- what the shape says
-pub record HasShape (limit : ℕ) (a : ProgramValue) (c : Certificate) : Type 0 where
-  pub products : length c.x ≡ length a.bounds
-  pub prices : length c.p ≡ length a.caps
-  pub some_q : 0 < nat_abs c.q
-  pub some_den : 0 < nat_abs c.den
-  pub q_size : IsNumber limit c.q
-  pub x_sizes : All (IsNumber limit) c.x
-  pub den_size : IsNumber limit c.den
-  pub p_sizes : All (IsNumber limit) c.p
-  pub value_size : IsNumber limit c.value
-
-number_below : (limit : ℕ) (n : ℤ) → IsNumber limit n → nat_abs n < limit
-number_below limit n h = subst (λ z. nat_abs z < limit) (sym h.1) h.2
-
-sizes_below : (limit : ℕ) → 0 < limit → (ns : List ℤ) → All (IsNumber limit) ns → (k : ℕ) → get_or (sizes ns) k 0 < limit
-sizes_below limit room [] h k = room
-sizes_below limit room (n ∷ ns) h zero = number_below limit n (All-head (IsNumber limit) n ns h)
-sizes_below limit room (n ∷ ns) h (suc k) = sizes_below limit room ns (All-tail (IsNumber limit) n ns h) k
-
+-- ---- the test of the shape
 module _ (limit : ℕ) (a : ProgramValue) (c : Certificate) where
   abbrev from_sizes : Bool
   from_sizes = is_small limit c.q && (are_small limit c.x && (is_small limit c.den && (are_small limit c.p && is_small limit c.value)))
 
-  pub shape_out : has_shape limit a c ≡ true → HasShape limit a c
+  pub shape_out : has_shape limit a c ≡ true → HasShape limit (length a.bounds) (length a.caps) c
   shape_out e =
       let e1 : (eqb (length c.x) (length a.bounds) ≡ true) × ((eqb (length c.p) (length a.caps) && (ltb 0 (nat_abs c.q) && (ltb 0 (nat_abs c.den) && from_sizes))) ≡ true) = and_true _ _ e in
       let e2 : (eqb (length c.p) (length a.caps) ≡ true) × ((ltb 0 (nat_abs c.q) && (ltb 0 (nat_abs c.den) && from_sizes)) ≡ true) = and_true _ _ e1.1 in
@@ -70,7 +54,7 @@ module _ (limit : ℕ) (a : ProgramValue) (c : Certificate) where
       let e7 : (is_small limit c.den ≡ true) × ((are_small limit c.p && is_small limit c.value) ≡ true) = and_true _ _ e6.1 in
       let e8 : (are_small limit c.p ≡ true) × (is_small limit c.value ≡ true) = and_true _ _ e7.1 in
       record {
-        products = eqb-true (length c.x) (length a.bounds) e1.0;
+        allocation = eqb-true (length c.x) (length a.bounds) e1.0;
         prices = eqb-true (length c.p) (length a.caps) e2.0;
         some_q = ltb-true 0 (nat_abs c.q) e3.0;
         some_den = ltb-true 0 (nat_abs c.den) e4.0;
@@ -81,9 +65,9 @@ module _ (limit : ℕ) (a : ProgramValue) (c : Certificate) where
         value_size = small_number limit c.value e8.1;
       }
 
-  pub shape_in : HasShape limit a c → has_shape limit a c ≡ true
+  pub shape_in : HasShape limit (length a.bounds) (length a.caps) c → has_shape limit a c ≡ true
   shape_in s =
-      both_true _ _ (eq-eqb _ _ s.products)
+      both_true _ _ (eq-eqb _ _ s.allocation)
       (both_true _ _ (eq-eqb _ _ s.prices)
       (both_true _ _ (lt-ltb 0 (nat_abs c.q) s.some_q)
       (both_true _ _ (lt-ltb 0 (nat_abs c.den) s.some_den)
@@ -92,18 +76,26 @@ module _ (limit : ℕ) (a : ProgramValue) (c : Certificate) where
       (both_true _ _ (number_small limit c.den s.den_size)
       (both_true _ _ (numbers_small limit c.p s.p_sizes) (number_small limit c.value s.value_size))))))))
 
--- what the code's conditions ask of the shape
-pub shaped : (a : ProgramValue) (c : Certificate) → has_shape (2 ^ 48) a c ≡ true → IsShaped a c
-shaped a c e =
-    let s : HasShape (2 ^ 48) a c = shape_out (2 ^ 48) a c e in
-    record {
-      products = s.products;
-      prices = s.prices;
-      q_below = number_below (2 ^ 48) c.q s.q_size;
-      x_below = sizes_below (2 ^ 48) (lit< tt) c.x s.x_sizes;
-      den_below = number_below (2 ^ 48) c.den s.den_size;
-      p_below = sizes_below (2 ^ 48) (lit< tt) c.p s.p_sizes;
-    }
+-- ---- no other condition answers as the shape does
+other_product : (o : Option ℕ) (v : Verdict) → v ≢ WrongShape → or_product o v ≢ WrongShape
+other_product None v other = other
+other_product (Some j) v other = λ e. cc
+
+other_leg : (o : Option ℕ) (v : Verdict) → v ≢ WrongShape → or_leg o v ≢ WrongShape
+other_leg None v other = other
+other_leg (Some i) v other = λ e. cc
+
+other_last : (b : Bool) → cond b Optimal WrongValue ≢ WrongShape
+other_last true = λ e. cc
+other_last false = λ e. cc
+
+pub wrong_elsewhere : (a : ProgramValue) (q : ℕ) (x : List ℕ) (d : ℕ) (p : List ℕ) (value : ℕ) → first_wrong a q x d p value ≢ WrongShape
+wrong_elsewhere a q x d p value =
+    other_product (least (is_over_bound a q x) 0 (length a.bounds)) _
+    (other_leg (least (is_over_cap a q x) 0 (length a.caps)) _
+    (other_leg (least (is_priced_short a q x p) 0 (length a.caps)) _
+    (other_product (least (is_unmet_dear a q x d p) 0 (length a.bounds)) _
+    (other_product (least (is_used_cheap a x d p) 0 (length a.bounds)) _ (other_last (eqb value (cost a d p)))))))
 
 module _ (a : ProgramValue) (ok : IsProgram a) (q : ℕ) (x : List ℕ) (d : ℕ) (p : List ℕ) (value : ℕ) (h : Holds a q x d p value) (some_q : 0 < q) (some_d : 0 < d) (products : length x ≡ length a.bounds) (legs : length p ≡ length a.caps) where
   pub allocation : IsAllocation a q x
@@ -135,16 +127,12 @@ passing_certifies limit a ok c e = go (has_shape limit a c) refl e
     go : (b : Bool) → has_shape limit a c ≡ b → cond b (first_wrong a (nat_abs c.q) (sizes c.x) (nat_abs c.den) (sizes c.p) (nat_abs c.value)) WrongShape ≡ Optimal → Certifies limit a c
     go false f e = absurd (wrong_shape e)
     go true f e =
-        let s : HasShape limit a c = shape_out limit a c f in
+        let s : HasShape limit (length a.bounds) (length a.caps) c = shape_out limit a c f in
         let h : Holds a (nat_abs c.q) (sizes c.x) (nat_abs c.den) (sizes c.p) (nat_abs c.value) = conditions_hold a (nat_abs c.q) (sizes c.x) (nat_abs c.den) (sizes c.p) (nat_abs c.value) e in
-        let m : Meet a (nat_abs c.q) (sizes c.x) (nat_abs c.den) (sizes c.p) (nat_abs c.value) = they_meet a ok _ _ _ _ _ h s.some_q s.some_den (length-map c.x (λ n. nat_abs n) ∙ s.products) (length-map c.p (λ n. nat_abs n) ∙ s.prices) in
+        let m : Meet a (nat_abs c.q) (sizes c.x) (nat_abs c.den) (sizes c.p) (nat_abs c.value) = they_meet a ok _ _ _ _ _ h s.some_q s.some_den (length-map c.x (λ n. nat_abs n) ∙ s.allocation) (length-map c.p (λ n. nat_abs n) ∙ s.prices) in
         let tied : gain a (sizes c.x) * nat_abs c.den ≡ cost a (nat_abs c.den) (sizes c.p) * nat_abs c.q = meeting a ok _ _ _ _ _ h s.some_q s.some_den m.allocation.shape m.prices.shape in
         record {
-          q_size = s.q_size;
-          x_sizes = s.x_sizes;
-          den_size = s.den_size;
-          p_sizes = s.p_sizes;
-          value_size = s.value_size;
+          shape = s;
           meet = m;
           best_allocation = optimal_allocation a (nat_abs c.q) (nat_abs c.den) (sizes c.x) (sizes c.p) ok m.allocation m.prices tied;
           best_prices = optimal_prices a (nat_abs c.q) (nat_abs c.den) (sizes c.x) (sizes c.p) ok m.allocation m.prices tied;
@@ -152,18 +140,8 @@ passing_certifies limit a ok c e = go (has_shape limit a c) refl e
 
 pub certified_passes : (limit : ℕ) (a : ProgramValue) (c : Certificate) → Certifies limit a c → first_failing limit a c ≡ Optimal
 certified_passes limit a c h =
-    ap (λ b. cond b (first_wrong a (nat_abs c.q) (sizes c.x) (nat_abs c.den) (sizes c.p) (nat_abs c.value)) WrongShape) (shape_in limit a c shaped)
+    ap (λ b. cond b (first_wrong a (nat_abs c.q) (sizes c.x) (nat_abs c.den) (sizes c.p) (nat_abs c.value)) WrongShape) (shape_in limit a c h.shape)
     ∙ meet_passes a (nat_abs c.q) (sizes c.x) (nat_abs c.den) (sizes c.p) (nat_abs c.value) h.meet
-  where
-    shaped : HasShape limit a c
-    shaped = record {
-      products = omega (arith, length-map c.x (λ n. nat_abs n), h.meet.allocation.shape);
-      prices = omega (arith, length-map c.p (λ n. nat_abs n), h.meet.prices.shape);
-      some_q = omega (arith, h.meet.allocation.whole);
-      some_den = omega (arith, h.meet.prices.whole);
-      q_size = h.q_size;
-      x_sizes = h.x_sizes;
-      den_size = h.den_size;
-      p_sizes = h.p_sizes;
-      value_size = h.value_size;
-    }
+
+pub optimal_passes : OptimalPasses
+optimal_passes limit a ok n t closes c shape best least value = certified_passes limit a c (optimal_certify limit a ok n t closes c shape best least value)

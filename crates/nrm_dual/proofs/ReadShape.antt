@@ -10,11 +10,10 @@ use Rattle.nrm_fraction.proofs.Lowest.{common_pos}
 use Rattle.nrm_model.specs.Network.{NetworkValue}
 use Rattle.nrm_stream.specs.Lines.{lines_of}
 use Rattle.nrm_lp.specs.declared.certificate.Certificate.{Certificate}
-use Rattle.nrm_lp.specs.Certified.{IsNumber}
+use Rattle.nrm_lp.specs.Shape.{HasShape, IsNumber}
 use Rattle.nrm_lp.proofs.Small.{reach_first}
 use Rattle.nrm_dual.specs.Refusals.{CertRefusal, too_long, bad_line, large_line, no_value, no_product, no_leg, too_fine}
 use Rattle.nrm_dual.specs.Reading.{Written, Place, the_value, of_product, of_leg, Entry, entry_of, Sheet, blank, given, with_given, is_over, after_entry, after_line, after_lines, or_refusal, first_missing, times, certificate_over, certificate_or_refusal, small_or_refusal, whole_or_refusal, certificate_on, certificate_of, allocation_in, value_in, prices_in}
-use Rattle.nrm_dual.specs.Texts.{IsShaped}
 
 fault_ok : {A : Type 0} (cause : CertRefusal) (x : A) → Err cause ≡ Ok x → ⊥
 fault_ok cause x e = cc
@@ -96,7 +95,7 @@ small_out (Some number) found made c e = absurd (fault_ok too_fine c e)
 
 module _ (net : NetworkValue) (sheet : Sheet) (h : HasPlaces net sheet) where
   shaped_over : large_number (2 ^ 48) (allocation_in net sheet) ≡ None → large_number (2 ^ 48) (value_in net sheet ∷ prices_in sheet) ≡ None
-      → IsShaped net (certificate_over (allocation_in net sheet) (value_in net sheet) (prices_in sheet))
+      → HasShape (2 ^ 48) (length net.products) (length net.legs) (certificate_over (allocation_in net sheet) (value_in net sheet) (prices_in sheet))
   shaped_over few_shares few_prices =
       let shares : List Fraction = allocation_in net sheet in
       let value : Fraction = value_in net sheet in
@@ -107,8 +106,8 @@ module _ (net : NetworkValue) (sheet : Sheet) (h : HasPlaces net sheet) where
       let b = reach_first (2 ^ 48) (pos den) (numerators den (value ∷ prices)) few_prices in
       let v = reach_first (2 ^ 48) (value.num *ℤ pos (den / value.den)) (numerators den prices) b.1 in
       record {
-        products = length-numerators q net.histories sheet.products ∙ h.products;
-        legs = length-numerators den 1 sheet.legs ∙ h.legs;
+        allocation = length-numerators q net.histories sheet.products ∙ h.products;
+        prices = length-numerators den 1 sheet.legs ∙ h.legs;
         q_size = (q, refl, a.0);
         x_sizes = numerators_small (2 ^ 48) q net.histories sheet.products a.1;
         den_size = (den, refl, b.0);
@@ -118,19 +117,19 @@ module _ (net : NetworkValue) (sheet : Sheet) (h : HasPlaces net sheet) where
         some_den = common_pos (value ∷ prices);
       }
 
-  sheet_shaped : (c : Certificate) → certificate_on net sheet ≡ Ok c → IsShaped net c
+  sheet_shaped : (c : Certificate) → certificate_on net sheet ≡ Ok c → HasShape (2 ^ 48) (length net.products) (length net.legs) c
   sheet_shaped c e =
       let made = whole_out sheet.value (first_missing 0 sheet.products) (first_missing 0 sheet.legs) (certificate_or_refusal (allocation_in net sheet) (value_in net sheet) (prices_in sheet)) c e in
       let w = small_out (large_number (2 ^ 48) (allocation_in net sheet)) (large_number (2 ^ 48) (value_in net sheet ∷ prices_in sheet)) (certificate_over (allocation_in net sheet) (value_in net sheet) (prices_in sheet)) c made in
-      subst (IsShaped net) w.2 (shaped_over w.0 w.1)
+      subst (HasShape (2 ^ 48) (length net.products) (length net.legs)) w.2 (shaped_over w.0 w.1)
 
-pub read_shaped : (net : NetworkValue) (bytes : List ℕ) (c : Certificate) → certificate_of net bytes ≡ Ok c → IsShaped net c
+pub read_shaped : (net : NetworkValue) (bytes : List ℕ) (c : Certificate) → certificate_of net bytes ≡ Ok c → HasShape (2 ^ 48) (length net.products) (length net.legs) c
 read_shaped net bytes c e = go (nat_lt 65536 (length bytes)) e
   where
-    on : (r : Result Sheet CertRefusal) → after_lines net (blank net) 1 (lines_of bytes) ≡ r → or_refusal r (certificate_on net) ≡ Ok c → IsShaped net c
+    on : (r : Result Sheet CertRefusal) → after_lines net (blank net) 1 (lines_of bytes) ≡ r → or_refusal r (certificate_on net) ≡ Ok c → HasShape (2 ^ 48) (length net.products) (length net.legs) c
     on (Ok sheet) s e = sheet_shaped net sheet (lines_places net (blank net) 1 (lines_of bytes) (blank_places net) sheet s) c e
     on (Err cause) s e = absurd (fault_ok cause c e)
 
-    go : (long : Bool) → (if long then Err too_long else or_refusal (after_lines net (blank net) 1 (lines_of bytes)) (certificate_on net)) ≡ Ok c → IsShaped net c
+    go : (long : Bool) → (if long then Err too_long else or_refusal (after_lines net (blank net) 1 (lines_of bytes)) (certificate_on net)) ≡ Ok c → HasShape (2 ^ 48) (length net.products) (length net.legs) c
     go true e = absurd (fault_ok too_long c e)
     go false e = on (after_lines net (blank net) 1 (lines_of bytes)) refl e

@@ -3,7 +3,6 @@ use Rattle.std.proofs.Common.{◌≡◌, pos, refl, [], ◌∷◌, codes, Ok, Er
 use Rattle.std.specs.Fmt.{digits}
 use Rattle.nrm_number.specs.Gcd.{gcd, lcm, in_lowest_terms}
 use Rattle.nrm_fraction.specs.Fraction.{◌over◌}
-use Rattle.nrm_text.specs.Fractions.{gcd_of}
 use Rattle.nrm_model.proofs.Examples.{two_legs_five_products}
 use Rattle.nrm_lp.specs.declared.certificate.Certificate.{Certificate}
 use Rattle.nrm_dual.specs.Reading.{certificate_of}
@@ -15,7 +14,7 @@ abbrev pub closing_of_two_legs : Certificate
 closing_of_two_legs = record { q = pos 1; x = pos 12 ∷ pos 12 ∷ pos 16 ∷ pos 24 ∷ pos 0 ∷ []; den = pos 1; p = pos 150 ∷ pos 80 ∷ []; value = pos 16520 }
 
 written : certificate_text two_legs_five_products closing_of_two_legs ≡ codes "value 4130/1\nproduct ABH 3/1\nproduct ABL 3/1\nproduct ACH 4/1\nproduct BCL 6/1\nproduct ACL 0/1\nleg AB 150/1\nleg BC 80/1\n"
-unfolding digits gcd_of
+unfolding digits ◌over◌ gcd in_lowest_terms
 written = refl
 
 read_again : certificate_of two_legs_five_products (codes "value 4130/1\nproduct ABH 3/1\nproduct ABL 3/1\nproduct ACH 4/1\nproduct BCL 6/1\nproduct ACL 0/1\nleg AB 150/1\nleg BC 80/1\n") ≡ Ok closing_of_two_legs

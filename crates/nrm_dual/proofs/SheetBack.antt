@@ -15,9 +15,8 @@ use Rattle.nrm_fraction.proofs.Values.{IsValue_over, same_value}
 use Rattle.nrm_fraction.proofs.Lowest.{common_is, numerators_are}
 use Rattle.nrm_model.specs.Network.{NetworkValue}
 use Rattle.nrm_lp.specs.declared.certificate.Certificate.{Certificate}
-use Rattle.nrm_lp.specs.Certified.{IsNumber}
+use Rattle.nrm_lp.specs.Shape.{HasShape, IsNumber}
 use Rattle.nrm_dual.specs.Reading.{Written, Sheet, first_missing, times, certificate_over, certificate_or_refusal, small_or_refusal, whole_or_refusal, certificate_on, allocation_in, value_in, prices_in}
-use Rattle.nrm_dual.specs.Texts.{IsShaped}
 use Rattle.nrm_dual.specs.ReadBack.{IsLowest}
 
 -- a fraction that was written for n / d
@@ -91,7 +90,7 @@ full_sheet net value shares prices = record {
   legs = map (λ i. Some (prices i)) (range_with_len 0 (length net.legs));
 }
 
-module _ (net : NetworkValue) (c : Certificate) (shaped : IsShaped net c) (lowest : IsLowest c) where
+module _ (net : NetworkValue) (c : Certificate) (shaped : HasShape (2 ^ 48) (length net.products) (length net.legs) c) (lowest : IsLowest c) where
   both_lowest : gcd_all (nat_abs c.den) (c.value ∷ c.p) ≡ 1
   both_lowest = ap (gcd (nat_abs c.value)) lowest.prices ∙ dvd_antisymm (gcd-dvd_right (nat_abs c.value) 1) (one-dvd (gcd (nat_abs c.value) 1))
 
@@ -127,10 +126,10 @@ module _ (net : NetworkValue) (c : Certificate) (shaped : IsShaped net c) (lowes
         sheet = full_sheet net value shares prices
 
         allocation : allocation_in net sheet ≡ fractions (nat_abs c.q) c.x
-        allocation = ap (λ n. map (times net.histories) (map (λ j. Some (shares j)) (range_with_len 0 n))) (sym shaped.products) ∙ given_each net.histories (nat_abs c.q) c.x shares shaped.x_sizes shaped.some_q for_shares
+        allocation = ap (λ n. map (times net.histories) (map (λ j. Some (shares j)) (range_with_len 0 n))) (sym shaped.allocation) ∙ given_each net.histories (nat_abs c.q) c.x shares shaped.x_sizes shaped.some_q for_shares
 
         worth : value_in net sheet ≡ c.value over nat_abs c.den
         worth = times_written net.histories (nat_abs c.den) c.value shaped.value_size.0 value shaped.value_size.1 shaped.some_den for_value
 
         bid_prices : prices_in sheet ≡ fractions (nat_abs c.den) c.p
-        bid_prices = ap (λ n. map (times 1) (map (λ i. Some (prices i)) (range_with_len 0 n))) (sym shaped.legs) ∙ given_each 1 (nat_abs c.den) c.p prices shaped.p_sizes shaped.some_den for_prices
+        bid_prices = ap (λ n. map (times 1) (map (λ i. Some (prices i)) (range_with_len 0 n))) (sym shaped.prices) ∙ given_each 1 (nat_abs c.den) c.p prices shaped.p_sizes shaped.some_den for_prices

@@ -6,11 +6,12 @@ use Rattle.std.specs.Option.{option_map}
 use Rattle.std.specs.Str.Lines.{strip_carriage_return}
 use Rattle.std.proofs.lemmas.Bool.{ne_eqb, le-leb, le-ltb}
 use Rattle.std.proofs.lemmas.List.Elements.{All-nil, All-cons, All-head, All-tail, All-append}
+use Rattle.nrm_fraction.specs.Fraction.{Fraction, ◌over◌}
 use Rattle.nrm_text.specs.Fractions.{sign_of, fraction_text}
-use Rattle.nrm_text.specs.ReadBack.{HasNone, IsOneWord, FractionParts}
+use Rattle.nrm_text.specs.ReadBack.{HasNone, IsOneWord, FractionParts, IsQuotient}
 use Rattle.nrm_text.proofs.Decimals.{is_whole-decimal, value_of-decimal}
 use Rattle.nrm_text.proofs.ReadBack as back
-use Rattle.nrm_lp.specs.Certified.{IsNumber}
+use Rattle.nrm_lp.specs.Shape.{IsNumber}
 use Rattle.nrm_model.specs.Network.{NetworkValue, leg_named, product_named}
 use Rattle.nrm_dual.specs.Reading.{Written, written_by, written_in, the_value, of_product, of_leg, entry_at, entry_of_words, entry_of, is_over}
 use Rattle.nrm_dual.proofs.SheetBack.{IsWritten, below_limit}
@@ -32,7 +33,7 @@ not_over p q few_p few_q =
 
 -- the fraction that a text of n / d gives: it is that fraction, and its numbers aren't too large
 pub record GivesBack (n : ℤ) (d : ℕ) (w : Written) : Type 0 where
-  pub read : written_in (fraction_text n d) ≡ Some w
+  pub read : written_in (fraction_text (n over d)) ≡ Some w
   pub fits : is_over w ≡ false
   pub is : IsWritten n d w
 
@@ -41,19 +42,19 @@ no_sign n k e = ap sign_of e
 
 pub fraction_back : (n : ℤ) (d : ℕ) → IsNumber (2 ^ 48) n → 0 < d → d < 2 ^ 63 → (w : Written) × GivesBack n d w
 fraction_back n d number some few =
+    let x : Fraction = n over d in
     let size : nat_abs n < 2 ^ 48 = below_limit n number in
-    let parts = back.fractions n d (omega arith) some (omega arith) in
-    let p : ℕ = parts.0 in
-    let q : ℕ = parts.1 in
-    let is : FractionParts n d p q = parts.2 in
-    let less_p : p ≤ nat_abs n = is.small.0 in
-    let less_q : q ≤ d = is.small.1 in
-    let digits : (sign_of n ++ decimal p) ∷ decimal q ∷ [] ≡ decimal p ∷ decimal q ∷ [] = ap (λ s. (s ++ decimal p) ∷ decimal q ∷ []) (no_sign n number.0 number.1) in (
-      as_written p q,
+    let is : IsQuotient n d x = back.quotients n d some in
+    let less_p : nat_abs x.num ≤ nat_abs n = is.small.0 in
+    let less_q : x.den ≤ d = is.small.1 in
+    let parts : FractionParts x = back.fractions x (omega arith) (omega arith) in
+    let digits : (sign_of x.num ++ decimal (nat_abs x.num)) ∷ decimal x.den ∷ [] ≡ decimal (nat_abs x.num) ∷ decimal x.den ∷ [] =
+    ap (λ s. (s ++ decimal (nat_abs x.num)) ∷ decimal x.den ∷ []) (is.sign ∙ no_sign n number.0 number.1) in (
+      as_written (nat_abs x.num) x.den,
       record {
-        read = ap written_by (is.cut ∙ digits) ∙ digits_back p q (omega arith) (omega arith) is.positive;
-        fits = not_over p q (omega arith) (omega arith);
-        is = record { same = is.same; positive = is.positive };
+        read = ap written_by (parts.cut ∙ digits) ∙ digits_back (nat_abs x.num) x.den (omega arith) (omega arith) parts.positive;
+        fits = not_over (nat_abs x.num) x.den (omega arith) (omega arith);
+        is = record { same = is.same; positive = parts.positive };
       },
     )
 

@@ -6,21 +6,23 @@ use Rattle.std.proofs.Math.Nat.{mul-le-mul_left, mul-pos, mul-one}
 use Rattle.std.proofs.lemmas.Bool.{le-ltb}
 use Rattle.std.proofs.lemmas.List.Elements.{All-nil, All-cons, All-head, All-tail}
 use Rattle.std.proofs.lemmas.Option.{unwrap_or-slice_get}
+use Rattle.nrm_fraction.specs.Fraction.{◌over◌}
 use Rattle.nrm_text.specs.Names.{is_name}
 use Rattle.nrm_text.specs.Fractions.{fraction_text}
 use Rattle.nrm_text.specs.ReadBack.{HasNone, IsOneWord}
 use Rattle.nrm_text.proofs.ReadBack.{texts-words}
-use Rattle.nrm_text.proofs.Fractions.{short_fraction}
+use Rattle.nrm_text.proofs.Fractions.{over_small, short_fraction}
 use Rattle.nrm_model.specs.declared.leg.Leg.{Leg}
 use Rattle.nrm_model.specs.declared.product.Product.{Product}
 use Rattle.nrm_model.specs.Network.{NetworkValue, leg_of, product_of, leg_named, product_named}
 use Rattle.nrm_model.specs.Limits.{IsNetwork}
 use Rattle.nrm_stream.specs.Lines.{lines_of}
 use Rattle.nrm_lp.specs.declared.certificate.Certificate.{Certificate}
-use Rattle.nrm_lp.specs.Certified.{IsNumber}
+use Rattle.nrm_lp.specs.Means.{bid_price, mean_allocation, mean_value}
+use Rattle.nrm_lp.specs.Shape.{HasShape, IsNumber}
 use Rattle.nrm_dual.specs.Refusals.{too_long}
 use Rattle.nrm_dual.specs.Reading.{Written, blank, after_lines, or_refusal, certificate_on, certificate_of}
-use Rattle.nrm_dual.specs.Texts.{IsShaped, value_line, product_line, leg_line, certificate_text}
+use Rattle.nrm_dual.specs.Texts.{value_line, product_line, leg_line, certificate_text}
 use Rattle.nrm_dual.specs.ReadBack.{IsLowest, WrittenIsRead}
 use Rattle.nrm_dual.proofs.SheetBack.{IsWritten, below_limit, full_sheet, sheet_back}
 use Rattle.nrm_dual.proofs.WrittenFractions.{GivesBack, fraction_back, joined_none, line_back, value_entry, product_entry, leg_entry}
@@ -45,13 +47,14 @@ over_histories d h some few least most =
 
 -- ---- the text of a number over a denominator
 module _ (n : ℤ) (d : ℕ) (number : IsNumber (2 ^ 48) n) (den : IsDenominator d) where
-  text_word : IsOneWord (fraction_text n d)
+  text_word : IsOneWord (fraction_text (n over d))
   text_word =
       let size : nat_abs n < 2 ^ 48 = below_limit n number in
       let small : d < 2 ^ 63 = den.small in
-      texts-words.2 n d (omega arith) den.some (omega arith)
+      let less : (nat_abs (n over d).num ≤ nat_abs n) × ((n over d).den ≤ d) = over_small n d den.some in
+      texts-words.2 (n over d) (omega (arith, less.0)) (omega (arith, less.1))
 
-  text_length : length (fraction_text n d) ≤ 78
+  text_length : length (fraction_text (n over d)) ≤ 78
   text_length =
       let size : nat_abs n < 2 ^ 48 = below_limit n number in
       let small : d < 2 ^ 63 = den.small in
@@ -101,7 +104,7 @@ module _ (net : NetworkValue) (is : IsNetwork net) where
       ∙ found_by_name (λ (product : Product). product.name) net.products no_product j 0 l is.product_names
       ∙ ap Some (omega arith)
 
-module _ (net : NetworkValue) (is : IsNetwork net) (c : Certificate) (shaped : IsShaped net c) where
+module _ (net : NetworkValue) (is : IsNetwork net) (c : Certificate) (shaped : HasShape (2 ^ 48) (length net.products) (length net.legs) c) where
   value_den : IsDenominator (nat_abs c.den * net.histories)
   value_den = over_histories (nat_abs c.den) net.histories shaped.some_den (below_limit c.den shaped.den_size) is.histories.0 is.histories.1
 
@@ -114,13 +117,13 @@ module _ (net : NetworkValue) (is : IsNetwork net) (c : Certificate) (shaped : I
       record { some = shaped.some_den; small = omega (arith, few) }
 
   abbrev value_text : List ℕ
-  value_text = fraction_text c.value (nat_abs c.den * net.histories)
+  value_text = fraction_text (mean_value net.histories c)
 
   abbrev share_text : ℕ → List ℕ
-  share_text j = fraction_text (get_or c.x j (pos 0)) (nat_abs c.q * net.histories)
+  share_text j = fraction_text (mean_allocation net.histories c j)
 
   abbrev price_text : ℕ → List ℕ
-  price_text i = fraction_text (get_or c.p i (pos 0)) (nat_abs c.den)
+  price_text i = fraction_text (bid_price c i)
 
   value_words : All IsOneWord (codes "value" ∷ value_text ∷ [])
   value_words = two_words (codes "value") value_text word_value (text_word c.value (nat_abs c.den * net.histories) shaped.value_size value_den)

@@ -1,11 +1,12 @@
 -- The laws of the conditions: what passes them shows what it should, whoever made it, and what shows that passes.
-use Rattle.std.specs.Prelude.{ℕ, ◌≡◌, ◌^◌}
+use Rattle.std.specs.Prelude.{ℕ, ◌≡◌, ◌^◌, nat_abs, length}
 use Rattle.nrm_lp.specs.declared.certificate.Certificate.{Certificate}
-use Rattle.nrm_lp.specs.Program.{ProgramValue, IsProgram}
+use Rattle.nrm_lp.specs.Program.{ProgramValue, IsProgram, IsOptimalAllocation, IsOptimalPrices, cost}
 use Rattle.nrm_lp.specs.Tableau.{Tableau}
 use Rattle.nrm_lp.specs.Closing.{certificate}
 use Rattle.nrm_lp.specs.Overflow.{Closes}
-use Rattle.nrm_lp.specs.Certified.{Certifies}
+use Rattle.nrm_lp.specs.Shape.{HasShape}
+use Rattle.nrm_lp.specs.Certified.{Certifies, sizes}
 use Rattle.nrm_dual.specs.Conditions.{first_failing, verdict_on}
 use Rattle.nrm_dual.specs.declared.verdict.Verdict.TheVariants.{Optimal}
 
@@ -20,3 +21,11 @@ CertifiedPass = (limit : ℕ) (a : ProgramValue) (c : Certificate) → Certifies
 -- so the certificate of a path that ends and isn't Large passes
 abbrev pub ClosingsPass : Type 0
 ClosingsPass = (a : ProgramValue) → IsProgram a → (n : ℕ) (t : Tableau) → Closes (2 ^ 48) a n t → verdict_on a (certificate a t) ≡ Optimal
+
+-- and where some path closes, each certificate of the shape passes whose allocation and bid prices are optimal and whose value is
+-- the cost of its prices, whoever made it
+abbrev pub OptimalPasses : Type 0
+OptimalPasses = (limit : ℕ) (a : ProgramValue) → IsProgram a → (n : ℕ) (t : Tableau) → Closes limit a n t
+    → (c : Certificate) → HasShape limit (length a.bounds) (length a.caps) c
+    → IsOptimalAllocation a (nat_abs c.q) (sizes c.x) → IsOptimalPrices a (nat_abs c.den) (sizes c.p)
+    → nat_abs c.value ≡ cost a (nat_abs c.den) (sizes c.p) → first_failing limit a c ≡ Optimal

@@ -4,6 +4,6 @@ pub mod Named
 pub mod ReadBack
 pub mod Reading
 pub mod Refusals
-pub mod Shape
+pub mod Inner
 pub mod Texts
 pub mod Sheets

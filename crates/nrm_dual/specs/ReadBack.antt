@@ -5,11 +5,12 @@ use Rattle.nrm_model.specs.Network.{NetworkValue}
 use Rattle.nrm_model.specs.Limits.{IsNetwork}
 use Rattle.nrm_lp.specs.declared.certificate.Certificate.{Certificate}
 use Rattle.nrm_lp.specs.Program.{ProgramValue, IsProgram}
+use Rattle.nrm_lp.specs.Shape.{HasShape}
 use Rattle.nrm_lp.specs.Tableau.{Tableau}
 use Rattle.nrm_lp.specs.Closing.{certificate}
 use Rattle.nrm_lp.specs.Overflow.{Closes}
 use Rattle.nrm_dual.specs.Reading.{certificate_of}
-use Rattle.nrm_dual.specs.Texts.{IsShaped, certificate_text}
+use Rattle.nrm_dual.specs.Texts.{certificate_text}
 
 -- 1 alone divides q and the whole allocation, and 1 alone divides den and all bid prices
 pub record IsLowest (c : Certificate) : Type 0 where
@@ -18,7 +19,7 @@ pub record IsLowest (c : Certificate) : Type 0 where
 
 -- the text of a certificate in lowest terms is read as that certificate
 abbrev pub WrittenIsRead : Type 0
-WrittenIsRead = (net : NetworkValue) → IsNetwork net → (c : Certificate) → IsShaped net c → IsLowest c → certificate_of net (certificate_text net c) ≡ Ok c
+WrittenIsRead = (net : NetworkValue) → IsNetwork net → (c : Certificate) → HasShape (2 ^ 48) (length net.products) (length net.legs) c → IsLowest c → certificate_of net (certificate_text net c) ≡ Ok c
 
 -- and so is the text of a closing, of a program with the network's legs and products
 abbrev pub ClosingsAreRead : Type 0
@@ -29,4 +30,4 @@ ClosingsAreRead = (net : NetworkValue) → IsNetwork net → (a : ProgramValue) 
 
 -- a certificate that is read has the shape of the network's
 abbrev pub ReadIsShaped : Type 0
-ReadIsShaped = (net : NetworkValue) → IsNetwork net → (bytes : List ℕ) (c : Certificate) → certificate_of net bytes ≡ Ok c → IsShaped net c
+ReadIsShaped = (net : NetworkValue) → IsNetwork net → (bytes : List ℕ) (c : Certificate) → certificate_of net bytes ≡ Ok c → HasShape (2 ^ 48) (length net.products) (length net.legs) c

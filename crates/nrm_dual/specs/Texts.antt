@@ -1,37 +1,24 @@
 -- A certificate as a text: the mean value over the histories, the mean allocation of each product and the bid price of each leg.
-use Rattle.std.specs.Prelude.{ℕ, ◌≡◌, ◌<◌, ◌^◌, ◌*◌, pos, nat_abs, List, [], ◌∷◌, ◌++◌, length, get_or, flat_map, codes, All}
+use Rattle.std.specs.Prelude.{ℕ, List, [], ◌∷◌, ◌++◌, length, flat_map, codes}
 use Rattle.std.specs.List.{range_with_len}
 use Rattle.nrm_text.specs.Words.{text_line}
 use Rattle.nrm_text.specs.Fractions.{fraction_text}
 use Rattle.nrm_model.specs.Network.{NetworkValue, leg_of, product_of}
 use Rattle.nrm_lp.specs.declared.certificate.Certificate.{Certificate}
-use Rattle.nrm_lp.specs.Certified.{IsNumber}
-
--- the shape that a certificate of a network has: a number for each product and each leg, none negative and all below the limit,
--- and denominators of at least 1
-pub record IsShaped (net : NetworkValue) (c : Certificate) : Type 0 where
-  pub products : length c.x ≡ length net.products
-  pub legs : length c.p ≡ length net.legs
-  pub q_size : IsNumber (2 ^ 48) c.q
-  pub x_sizes : All (IsNumber (2 ^ 48)) c.x
-  pub den_size : IsNumber (2 ^ 48) c.den
-  pub p_sizes : All (IsNumber (2 ^ 48)) c.p
-  pub value_size : IsNumber (2 ^ 48) c.value
-  pub some_q : 0 < nat_abs c.q
-  pub some_den : 0 < nat_abs c.den
+use Rattle.nrm_lp.specs.Means.{bid_price, mean_allocation, mean_value}
 
 -- the mean value: a history's share of the value
 abbrev pub value_line : NetworkValue → Certificate → List ℕ
-value_line net c = text_line (codes "value" ∷ fraction_text c.value (nat_abs c.den * net.histories) ∷ [])
+value_line net c = text_line (codes "value" ∷ fraction_text (mean_value net.histories c) ∷ [])
 
 -- what a product is allotted in a history, on the mean
 abbrev pub product_line : NetworkValue → Certificate → ℕ → List ℕ
 product_line net c j =
-    text_line (codes "product" ∷ (product_of net j).name ∷ fraction_text (get_or c.x j (pos 0)) (nat_abs c.q * net.histories) ∷ [])
+    text_line (codes "product" ∷ (product_of net j).name ∷ fraction_text (mean_allocation net.histories c j) ∷ [])
 
 -- the bid price of a leg
 abbrev pub leg_line : NetworkValue → Certificate → ℕ → List ℕ
-leg_line net c i = text_line (codes "leg" ∷ (leg_of net i).name ∷ fraction_text (get_or c.p i (pos 0)) (nat_abs c.den) ∷ [])
+leg_line net c i = text_line (codes "leg" ∷ (leg_of net i).name ∷ fraction_text (bid_price c i) ∷ [])
 
 -- the value's line, those of the products, those of the legs
 abbrev pub certificate_text : NetworkValue → Certificate → List ℕ

@@ -1,10 +1,11 @@
 //! The checker: it reads and compares, and never solves.
-ghost use Rattle.std.specs.Prelude.{◌≡◌, ◌^◌, nat_abs};
+ghost use Rattle.std.specs.Prelude.{◌≡◌, ◌≢◌, ◌^◌, length, nat_abs};
 ghost use Rattle.nrm_lp.specs.Certified.{Certifies, sizes};
+ghost use Rattle.nrm_lp.specs.Shape.{HasShape};
 ghost use Rattle.nrm_dual.specs.Conditions.{first_wrong, verdict_on};
-ghost use Rattle.nrm_dual.specs.declared.verdict.Verdict.TheVariants.{Optimal};
+ghost use Rattle.nrm_dual.specs.declared.verdict.Verdict.TheVariants.{Optimal, WrongShape};
 ghost use Rattle.nrm_dual.specs.Named.{IsOfProgram};
-ghost use Rattle.nrm_dual.specs.Shape.{IsShaped};
+ghost use Rattle.nrm_dual.specs.Inner.Shapes.{HasItsShape};
 
 use crate::conditions::{over_bound, over_cap, priced_short, unmet_dear, used_cheap};
 use crate::shape::has_shape;
@@ -27,6 +28,7 @@ use nrm_lp::{Certificate, Program};
 /// chapter 3 of Talluri and van Ryzin). It takes no memory.
 pub fn check(program: &Program, certificate: &Certificate) -> Verdict
     ensures verdict { result ≡ verdict_on program.now certificate.now }
+    ensures shape { HasShape (2 ^ 48) (length program.now.bounds) (length program.now.caps) certificate.now → result ≢ WrongShape }
     ensures named { IsOfProgram program.now result }
     ensures optimal { result ≡ Optimal → Certifies (2 ^ 48) program.now certificate.now }
 {
@@ -39,7 +41,7 @@ pub fn check(program: &Program, certificate: &Certificate) -> Verdict
 
 // What the conditions after the shape say.
 fn first_wrong(program: &Program, certificate: &Certificate) -> Verdict
-    requires { IsShaped program.now certificate.now }
+    requires { HasItsShape program.now certificate.now }
     ensures { result ≡ first_wrong program.now (nat_abs certificate.now.q) (sizes certificate.now.x) (nat_abs certificate.now.den) (sizes certificate.now.p) (nat_abs certificate.now.value) }
 {
     if let Some(product) = over_bound(program, certificate) {

@@ -2,17 +2,17 @@
 ghost use Rattle.std.specs.Prelude.{◌≡◌, ◌<◌, nat_abs, length};
 ghost use Rattle.nrm_lp.specs.Certified.{sizes};
 ghost use Rattle.nrm_dual.specs.Conditions.{is_over_bound, is_over_cap, is_priced_short, is_unmet_dear, is_used_cheap, least};
-ghost use Rattle.nrm_dual.specs.Shape.{IsShaped};
+ghost use Rattle.nrm_dual.specs.Inner.Shapes.{HasItsShape};
 
-use crate::sums::{allotted, bound, cap, fare, leg_count, load, price, price_sum, product_count};
+use crate::sums::{allotted, bound, cap, fare, load, price, price_sum};
 use nrm_lp::{Certificate, Program};
 
 /// The least product with more than its bound.
 pub fn over_bound(program: &Program, certificate: &Certificate) -> Option<u16>
-    requires shaped { IsShaped program.now certificate.now }
+    requires shaped { HasItsShape program.now certificate.now }
     ensures { result ≡ least (is_over_bound program.now (nat_abs certificate.now.q) (sizes certificate.now.x)) 0 (length program.now.bounds) }
 {
-    for product in 0..product_count(program) {
+    for product in 0..program.product_count() {
         if is_over_bound(program, certificate, product) {
             return Some(product);
         }
@@ -22,10 +22,10 @@ pub fn over_bound(program: &Program, certificate: &Certificate) -> Option<u16>
 
 /// The least leg with more than its cap.
 pub fn over_cap(program: &Program, certificate: &Certificate) -> Option<u8>
-    requires shaped { IsShaped program.now certificate.now }
+    requires shaped { HasItsShape program.now certificate.now }
     ensures { result ≡ least (is_over_cap program.now (nat_abs certificate.now.q) (sizes certificate.now.x)) 0 (length program.now.caps) }
 {
-    for leg in 0..leg_count(program) {
+    for leg in 0..program.leg_count() {
         if is_over_cap(program, certificate, leg) {
             return Some(leg);
         }
@@ -35,10 +35,10 @@ pub fn over_cap(program: &Program, certificate: &Certificate) -> Option<u8>
 
 /// The least leg with a price above 0 that isn't full.
 pub fn priced_short(program: &Program, certificate: &Certificate) -> Option<u8>
-    requires shaped { IsShaped program.now certificate.now }
+    requires shaped { HasItsShape program.now certificate.now }
     ensures { result ≡ least (is_priced_short program.now (nat_abs certificate.now.q) (sizes certificate.now.x) (sizes certificate.now.p)) 0 (length program.now.caps) }
 {
-    for leg in 0..leg_count(program) {
+    for leg in 0..program.leg_count() {
         if is_priced_short(program, certificate, leg) {
             return Some(leg);
         }
@@ -48,10 +48,10 @@ pub fn priced_short(program: &Program, certificate: &Certificate) -> Option<u8>
 
 /// The least product below its bound with a fare above the bid prices of its legs.
 pub fn unmet_dear(program: &Program, certificate: &Certificate) -> Option<u16>
-    requires shaped { IsShaped program.now certificate.now }
+    requires shaped { HasItsShape program.now certificate.now }
     ensures { result ≡ least (is_unmet_dear program.now (nat_abs certificate.now.q) (sizes certificate.now.x) (nat_abs certificate.now.den) (sizes certificate.now.p)) 0 (length program.now.bounds) }
 {
-    for product in 0..product_count(program) {
+    for product in 0..program.product_count() {
         if is_unmet_dear(program, certificate, product) {
             return Some(product);
         }
@@ -61,10 +61,10 @@ pub fn unmet_dear(program: &Program, certificate: &Certificate) -> Option<u16>
 
 /// The least product that is sold with a fare below the bid prices of its legs.
 pub fn used_cheap(program: &Program, certificate: &Certificate) -> Option<u16>
-    requires shaped { IsShaped program.now certificate.now }
+    requires shaped { HasItsShape program.now certificate.now }
     ensures { result ≡ least (is_used_cheap program.now (sizes certificate.now.x) (nat_abs certificate.now.den) (sizes certificate.now.p)) 0 (length program.now.bounds) }
 {
-    for product in 0..product_count(program) {
+    for product in 0..program.product_count() {
         if is_used_cheap(program, certificate, product) {
             return Some(product);
         }
@@ -73,7 +73,7 @@ pub fn used_cheap(program: &Program, certificate: &Certificate) -> Option<u16>
 }
 
 fn is_over_bound(program: &Program, certificate: &Certificate, product: u16) -> bool
-    requires shaped { IsShaped program.now certificate.now }
+    requires shaped { HasItsShape program.now certificate.now }
     requires within { product < length program.now.bounds }
     ensures { result ≡ is_over_bound program.now (nat_abs certificate.now.q) (sizes certificate.now.x) product }
 {
@@ -81,7 +81,7 @@ fn is_over_bound(program: &Program, certificate: &Certificate, product: u16) -> 
 }
 
 fn is_over_cap(program: &Program, certificate: &Certificate, leg: u8) -> bool
-    requires shaped { IsShaped program.now certificate.now }
+    requires shaped { HasItsShape program.now certificate.now }
     requires within { leg < length program.now.caps }
     ensures { result ≡ is_over_cap program.now (nat_abs certificate.now.q) (sizes certificate.now.x) leg }
 {
@@ -89,7 +89,7 @@ fn is_over_cap(program: &Program, certificate: &Certificate, leg: u8) -> bool
 }
 
 fn is_priced_short(program: &Program, certificate: &Certificate, leg: u8) -> bool
-    requires shaped { IsShaped program.now certificate.now }
+    requires shaped { HasItsShape program.now certificate.now }
     requires within { leg < length program.now.caps }
     ensures { result ≡ is_priced_short program.now (nat_abs certificate.now.q) (sizes certificate.now.x) (sizes certificate.now.p) leg }
 {
@@ -97,7 +97,7 @@ fn is_priced_short(program: &Program, certificate: &Certificate, leg: u8) -> boo
 }
 
 fn is_unmet_dear(program: &Program, certificate: &Certificate, product: u16) -> bool
-    requires shaped { IsShaped program.now certificate.now }
+    requires shaped { HasItsShape program.now certificate.now }
     requires within { product < length program.now.bounds }
     ensures { result ≡ is_unmet_dear program.now (nat_abs certificate.now.q) (sizes certificate.now.x) (nat_abs certificate.now.den) (sizes certificate.now.p) product }
 {
@@ -106,7 +106,7 @@ fn is_unmet_dear(program: &Program, certificate: &Certificate, product: u16) -> 
 }
 
 fn is_used_cheap(program: &Program, certificate: &Certificate, product: u16) -> bool
-    requires shaped { IsShaped program.now certificate.now }
+    requires shaped { HasItsShape program.now certificate.now }
     requires within { product < length program.now.bounds }
     ensures { result ≡ is_used_cheap program.now (sizes certificate.now.x) (nat_abs certificate.now.den) (sizes certificate.now.p) product }
 {

@@ -1,6 +1,6 @@
 //! Laws of the conditions and of certificate files. Each is the contract of a function that does nothing.
 ghost use Rattle.nrm_dual.specs.ReadBack.{ClosingsAreRead, ReadIsShaped, WrittenIsRead};
-ghost use Rattle.nrm_dual.specs.Laws.{CertifiedPass, ClosingsPass, PassesCertify};
+ghost use Rattle.nrm_dual.specs.Laws.{CertifiedPass, ClosingsPass, OptimalPasses, PassesCertify};
 
 /// A certificate at which no condition fails shows an optimal allocation and optimal bid prices, whoever made it.
 pub fn passes_certify()
@@ -15,6 +15,12 @@ pub fn certified_pass()
 /// The certificate of a path that ends and isn't Large passes.
 pub fn closings_pass()
     ensures { ClosingsPass }
+{}
+
+/// Where a path closes, every certificate of the shape whose allocation and bid prices are optimal, and whose value is
+/// the cost of its prices, passes, whoever made it.
+pub fn optimal_passes()
+    ensures { OptimalPasses }
 {}
 
 /// The text of a certificate in lowest terms is read as that certificate.

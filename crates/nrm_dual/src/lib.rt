@@ -21,8 +21,8 @@ mod written;
 pub use checking::check;
 pub use fault::CertFault;
 pub use laws::{
-    certified_pass, closings_are_read, closings_pass, passes_certify, read_is_shaped,
-    written_is_read,
+    certified_pass, closings_are_read, closings_pass, optimal_passes, passes_certify,
+    read_is_shaped, written_is_read,
 };
 pub use reading::read_certificate;
 pub use verdict::Verdict;

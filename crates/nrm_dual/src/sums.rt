@@ -1,48 +1,36 @@
 //! What the conditions compare: seats over `q`, money over `den`. Numbers of a certificate that has its shape are
 //! below 2^48, so that seats fit 64 bits and money 128.
-ghost use Rattle.std.specs.Prelude.{◌≡◌, ◌<◌, ◌≤◌, ◌*◌, ◌-◌, ◌^◌, nat_abs, length, get_or, []};
-ghost use Rattle.nrm_lp.specs.Program.{cost, dot, load, names, price_sum, surplus};
+ghost use Rattle.std.specs.Prelude.{◌≡◌, ◌<◌, ◌≤◌, ◌*◌, ◌-◌, ◌^◌, nat_abs, length, get_or, All, []};
+ghost use Rattle.nrm_lp.specs.Program.{cost, dot, load, price_sum, surplus};
+ghost use Rattle.nrm_lp.specs.Shape.{IsNumber};
 ghost use Rattle.nrm_lp.specs.Certified.{sizes};
-ghost use Rattle.nrm_lp.specs.Limits.{IsLimited};
-ghost use Rattle.nrm_dual.specs.Shape.{IsShaped};
+ghost use Rattle.nrm_dual.specs.Inner.Shapes.{HasItsShape};
 
 use nrm_lp::{Certificate, Program};
 
-/// How many products there are.
-pub fn product_count(program: &Program) -> u16
-    ensures count { result ≡ length program.now.bounds }
-    ensures limits { IsLimited program.now }
-{
-    program.bounds().len() as u16
-}
-
-/// How many legs there are.
-pub fn leg_count(program: &Program) -> u8
-    ensures count { result ≡ length program.now.caps }
-    ensures limits { IsLimited program.now }
-{
-    program.caps().len() as u8
-}
-
 /// What a product is allotted, over `q`.
 pub fn allotted(certificate: &Certificate, product: u16) -> u64
-    requires { product < length certificate.now.x }
-    ensures { result ≡ get_or (sizes certificate.now.x) product 0 }
+    requires within { product < length certificate.now.x }
+    requires numbers { All (IsNumber (2 ^ 48)) certificate.now.x }
+    ensures value { result ≡ get_or (sizes certificate.now.x) product 0 }
+    ensures limit { result < 2 ^ 48 }
 {
     certificate.x.as_slice()[usize::from(product)].unsigned_abs()
 }
 
 /// The bid price of a leg, over `den`.
 pub fn price(certificate: &Certificate, leg: u8) -> u64
-    requires { leg < length certificate.now.p }
-    ensures { result ≡ get_or (sizes certificate.now.p) leg 0 }
+    requires within { leg < length certificate.now.p }
+    requires numbers { All (IsNumber (2 ^ 48)) certificate.now.p }
+    ensures value { result ≡ get_or (sizes certificate.now.p) leg 0 }
+    ensures limit { result < 2 ^ 48 }
 {
     certificate.p.as_slice()[usize::from(leg)].unsigned_abs()
 }
 
 /// The bound of a product, over `q`.
 pub fn bound(program: &Program, certificate: &Certificate, product: u16) -> u64
-    requires shaped { IsShaped program.now certificate.now }
+    requires shaped { HasItsShape program.now certificate.now }
     requires within { product < length program.now.bounds }
     ensures { result ≡ nat_abs certificate.now.q * get_or program.now.bounds product 0 }
 {
@@ -52,7 +40,7 @@ pub fn bound(program: &Program, certificate: &Certificate, product: u16) -> u64
 
 /// The cap of a leg, over `q`.
 pub fn cap(program: &Program, certificate: &Certificate, leg: u8) -> u64
-    requires shaped { IsShaped program.now certificate.now }
+    requires shaped { HasItsShape program.now certificate.now }
     requires within { leg < length program.now.caps }
     ensures { result ≡ nat_abs certificate.now.q * get_or program.now.caps leg 0 }
 {
@@ -62,7 +50,7 @@ pub fn cap(program: &Program, certificate: &Certificate, leg: u8) -> u64
 
 /// The fare of a product, over `den`.
 pub fn fare(program: &Program, certificate: &Certificate, product: u16) -> u128
-    requires shaped { IsShaped program.now certificate.now }
+    requires shaped { HasItsShape program.now certificate.now }
     requires within { product < length program.now.bounds }
     ensures value { result ≡ nat_abs certificate.now.den * get_or program.now.fares product 0 }
     ensures limit { result < 2 ^ 75 }
@@ -73,28 +61,21 @@ pub fn fare(program: &Program, certificate: &Certificate, product: u16) -> u128
 
 /// The seats of a leg that the allocation takes, over `q`.
 pub fn load(program: &Program, certificate: &Certificate, leg: u8) -> u64
-    requires shaped { IsShaped program.now certificate.now }
+    requires shaped { HasItsShape program.now certificate.now }
     ensures { result ≡ load leg program.now.legs (sizes certificate.now.x) }
 {
     let mut seats = 0;
-    for product in 0..product_count(program) {
-        if uses_leg(program, product, leg) {
+    for product in 0..program.product_count() {
+        if program.uses_leg(product, leg) {
             seats += allotted(certificate, product);
         }
     }
     seats
 }
 
-fn uses_leg(program: &Program, product: u16, leg: u8) -> bool
-    requires { product < length program.now.bounds }
-    ensures { result ≡ names leg (get_or program.now.legs product []) }
-{
-    program.legs_of(product).contains(&leg)
-}
-
 /// The sum of the bid prices of a product's legs, over `den`.
 pub fn price_sum(program: &Program, certificate: &Certificate, product: u16) -> u128
-    requires shaped { IsShaped program.now certificate.now }
+    requires shaped { HasItsShape program.now certificate.now }
     requires within { product < length program.now.bounds }
     ensures { result ≡ price_sum (sizes certificate.now.p) (get_or program.now.legs product []) }
 {
@@ -108,19 +89,19 @@ pub fn price_sum(program: &Program, certificate: &Certificate, product: u16) -> 
 
 /// The cost of the bid prices, over `den`: the caps at their prices, and the bounds at what each fare exceeds them by.
 pub fn cost(program: &Program, certificate: &Certificate) -> u128
-    requires shaped { IsShaped program.now certificate.now }
+    requires shaped { HasItsShape program.now certificate.now }
     ensures { result ≡ cost program.now (nat_abs certificate.now.den) (sizes certificate.now.p) }
 {
     caps_cost(program, certificate) + bounds_cost(program, certificate)
 }
 
 fn caps_cost(program: &Program, certificate: &Certificate) -> u128
-    requires shaped { IsShaped program.now certificate.now }
+    requires shaped { HasItsShape program.now certificate.now }
     ensures value { result ≡ dot program.now.caps (sizes certificate.now.p) }
     ensures limit { result ≤ 64 * 2 ^ 63 }
 {
     let mut sum = 0;
-    for leg in 0..leg_count(program) {
+    for leg in 0..program.leg_count() {
         let cap = program.caps()[usize::from(leg)];
         sum += u128::from(cap) * u128::from(price(certificate, leg));
     }
@@ -128,19 +109,19 @@ fn caps_cost(program: &Program, certificate: &Certificate) -> u128
 }
 
 fn bounds_cost(program: &Program, certificate: &Certificate) -> u128
-    requires shaped { IsShaped program.now certificate.now }
+    requires shaped { HasItsShape program.now certificate.now }
     ensures value { result ≡ surplus (nat_abs certificate.now.den) (sizes certificate.now.p) program.now.bounds program.now.fares program.now.legs }
     ensures limit { result ≤ 256 * 2 ^ 90 }
 {
     let mut sum = 0;
-    for product in 0..product_count(program) {
+    for product in 0..program.product_count() {
         sum += bound_cost(program, certificate, product);
     }
     sum
 }
 
 fn bound_cost(program: &Program, certificate: &Certificate, product: u16) -> u128
-    requires shaped { IsShaped program.now certificate.now }
+    requires shaped { HasItsShape program.now certificate.now }
     requires within { product < length program.now.bounds }
     ensures value { result ≡ get_or program.now.bounds product 0 * (nat_abs certificate.now.den * get_or program.now.fares product 0 - price_sum (sizes certificate.now.p) (get_or program.now.legs product [])) }
     ensures limit { result ≤ 2 ^ 90 }

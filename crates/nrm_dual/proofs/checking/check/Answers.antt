@@ -4,12 +4,21 @@ use Rattle.nrm_lp.specs.Certified.{sizes}
 use Rattle.nrm_dual.specs.declared.verdict.Verdict.TheVariants.{WrongShape}
 use Rattle.nrm_dual.specs.Conditions.{has_shape, first_wrong}
 use Rattle.nrm_dual.specs.Named.{IsOfProgram}
+use Rattle.nrm_dual.proofs.Failing.{false_true}
 use Rattle.nrm_dual.proofs.Naming.{first_named}
-use Rattle.nrm_dual.proofs.Passing.{passing_certifies, shaped}
+use Rattle.nrm_dual.proofs.Passing.{passing_certifies, shape_in, shape_out, wrong_elsewhere}
 use Rattle.nrm_dual.proofs.checking.check.Goals as goal
 
 pub first_wrong-requires : goal.first_wrong-requires
-first_wrong-requires c = shaped c.args.program.now c.args.certificate.now (sym c.has_shape.ensures.shape ∙ c.if-has_shape.true)
+first_wrong-requires c = shape_out (2 ^ 48) c.args.program.now c.args.certificate.now (sym c.has_shape.ensures.shape ∙ c.if-has_shape.true)
+
+pub returns-then-has_shape-clause-shape : goal.returns-then-has_shape-clause-shape
+returns-then-has_shape-clause-shape c =
+    let k = c.args.certificate.now in
+    λ shape e. wrong_elsewhere c.args.program.now (nat_abs k.q) (sizes k.x) (nat_abs k.den) (sizes k.p) (nat_abs k.value) (sym c.first_wrong.ensures ∙ e)
+
+pub returns-else-has_shape-clause-shape : goal.returns-else-has_shape-clause-shape
+returns-else-has_shape-clause-shape c = λ shape e. false_true (sym c.if-has_shape.false ∙ c.has_shape.ensures.shape ∙ shape_in (2 ^ 48) c.args.program.now c.args.certificate.now shape)
 
 pub returns-then-has_shape-clause-optimal : goal.returns-then-has_shape-clause-optimal
 returns-then-has_shape-clause-optimal c =

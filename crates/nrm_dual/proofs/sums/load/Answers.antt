@@ -17,15 +17,15 @@ loop-product-preserved c =
     let sum = c.loop-product.seats in
     let counts = lengths_are (length a.caps) a.bounds a.fares a.legs c.product_count-product-end.ensures.limits.products in
     let listed : j < length a.legs = omega (arith, counts.1) in
-    let held : j < length xs = omega (arith, c.requires.shaped.products, length-map c.args.certificate.now.x (λ n. nat_abs n)) in
+    let held : j < length xs = omega (arith, c.requires.shaped.allocation, length-map c.args.certificate.now.x (λ n. nat_abs n)) in
     elim c.if-uses_leg.branch [
       | then-uses_leg w ↦
           let added : sum + w.allotted-seats.result + load i (drop (j + 1) a.legs) (drop (j + 1) xs) ≡ load i a.legs xs =
-          subst (λ n. sum + n + load i (drop (j + 1) a.legs) (drop (j + 1) xs) ≡ load i a.legs xs) (sym w.allotted-seats.ensures)
-          (load_named i a.legs xs j sum _ listed held (sym c.uses_leg.ensures ∙ w.if-uses_leg.true) c.loop-product.invariant.counted) in
-          record { counted = omega (arith, added, w.seats-is); limit = omega (arith, w.seats-is, w.allotted-seats.ensures, c.requires.shaped.x_below j, c.loop-product.invariant.limit) }
+          subst (λ n. sum + n + load i (drop (j + 1) a.legs) (drop (j + 1) xs) ≡ load i a.legs xs) (sym w.allotted-seats.ensures.value)
+          (load_named i a.legs xs j sum _ listed held (sym c.uses_leg.ensures.uses ∙ w.if-uses_leg.true) c.loop-product.invariant.counted) in
+          record { counted = omega (arith, added, w.seats-is); limit = omega (arith, w.seats-is, w.allotted-seats.ensures.limit, c.loop-product.invariant.limit) }
       | else-uses_leg w ↦
-          let added : sum + load i (drop (j + 1) a.legs) (drop (j + 1) xs) ≡ load i a.legs xs = load_unnamed i a.legs xs j sum _ listed held (sym c.uses_leg.ensures ∙ w.if-uses_leg.false) c.loop-product.invariant.counted in
+          let added : sum + load i (drop (j + 1) a.legs) (drop (j + 1) xs) ≡ load i a.legs xs = load_unnamed i a.legs xs j sum _ listed held (sym c.uses_leg.ensures.uses ∙ w.if-uses_leg.false) c.loop-product.invariant.counted in
           record { counted = omega (arith, added, w.seats-is); limit = omega (arith, w.seats-is, c.loop-product.invariant.limit) }
     ]
 

@@ -6,8 +6,8 @@ use Rattle.nrm_lp.specs.Certified.{sizes}
 use Rattle.nrm_dual.proofs.Adding.{product_leg, prices_done}
 use Rattle.nrm_dual.proofs.sums.price_sum.Goals as goal
 
-pub price-requires : goal.price-requires
-price-requires c =
+pub price-requires-clause-within : goal.price-requires-clause-within
+price-requires-clause-within c =
     let a = c.args.program.now in
     let ls = c.legs_of-legs.result.now in
     let read : get_or a.legs c.args.product [] ≡ ls = get_or_from_slice_get a.legs c.args.product ls [] (sym c.legs_of-legs.ensures.legs) in

@@ -1,0 +1,5 @@
+use Rattle.nrm_dual.proofs.Passing.{optimal_passes}
+use Rattle.nrm_dual.proofs.laws.optimal_passes.Goals as goal
+
+pub returns : goal.returns
+returns c = optimal_passes
