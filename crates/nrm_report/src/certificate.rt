@@ -5,9 +5,11 @@ ghost use Rattle.std.specs.Io.KnownBytes.{Appends};
 ghost use Rattle.std.specs.List.{range_with_len};
 ghost use Rattle.nrm_edge.specs.Causes.{HasCause};
 ghost use Rattle.nrm_edge.specs.Pieces.{AppendsFront};
+ghost use Rattle.nrm_fraction.specs.Fraction.{◌over◌};
 ghost use Rattle.nrm_text.specs.Fractions.{fraction_text};
 ghost use Rattle.nrm_text.specs.Words.{text_line};
-ghost use Rattle.nrm_dual.specs.Texts.{certificate_text, IsShaped, leg_line, product_line, value_line};
+ghost use Rattle.nrm_lp.specs.Shape.{HasShape};
+ghost use Rattle.nrm_dual.specs.Texts.{certificate_text, leg_line, product_line, value_line};
 
 use nrm_edge::{Failed, Sink, put_all};
 use nrm_lp::Certificate;
@@ -19,7 +21,7 @@ use nrm_text::{Line, Name};
 fn line_of_value(value: i64, den: u128) -> Line
     requires some { 1 ≤ den }
     requires den_size { den < 2 ^ 126 }
-    ensures { result ≡ text_line (codes "value" ∷ fraction_text value den ∷ []) }
+    ensures { result ≡ text_line (codes "value" ∷ fraction_text (value over den) ∷ []) }
 {
     let mut line = Line::new();
     line.push_bytes(b"value ");
@@ -33,7 +35,7 @@ fn line_of_value(value: i64, den: u128) -> Line
 fn line_of_product(name: &Name, allotted: i64, den: u128) -> Line
     requires some { 1 ≤ den }
     requires den_size { den < 2 ^ 126 }
-    ensures { result ≡ text_line (codes "product" ∷ name.now ∷ fraction_text allotted den ∷ []) }
+    ensures { result ≡ text_line (codes "product" ∷ name.now ∷ fraction_text (allotted over den) ∷ []) }
 {
     let mut line = Line::new();
     line.push_bytes(b"product ");
@@ -49,7 +51,7 @@ fn line_of_product(name: &Name, allotted: i64, den: u128) -> Line
 fn line_of_leg(name: &Name, price: i64, den: u128) -> Line
     requires some { 1 ≤ den }
     requires den_size { den < 2 ^ 126 }
-    ensures { result ≡ text_line (codes "leg" ∷ name.now ∷ fraction_text price den ∷ []) }
+    ensures { result ≡ text_line (codes "leg" ∷ name.now ∷ fraction_text (price over den) ∷ []) }
 {
     let mut line = Line::new();
     line.push_bytes(b"leg ");
@@ -72,7 +74,7 @@ fn over_histories(net: &Network, den: i64) -> u128
 
 // The line of the mean value.
 fn line_for_value(net: &Network, certificate: &Certificate) -> Line
-    requires { IsShaped net.now certificate.now }
+    requires { HasShape (2 ^ 48) (length net.now.products) (length net.now.legs) certificate.now }
     ensures { result ≡ value_line net.now certificate.now }
 {
     line_of_value(certificate.value, over_histories(net, certificate.den))
@@ -80,7 +82,7 @@ fn line_for_value(net: &Network, certificate: &Certificate) -> Line
 
 // The line of a product.
 fn line_for_product(net: &Network, certificate: &Certificate, product: u16) -> Line
-    requires shape { IsShaped net.now certificate.now }
+    requires shape { HasShape (2 ^ 48) (length net.now.products) (length net.now.legs) certificate.now }
     requires product { product < length net.now.products }
     ensures { result ≡ product_line net.now certificate.now product }
 {
@@ -94,7 +96,7 @@ fn line_for_product(net: &Network, certificate: &Certificate, product: u16) -> L
 
 // The line of a leg.
 fn line_for_leg(net: &Network, certificate: &Certificate, leg: u8) -> Line
-    requires shape { IsShaped net.now certificate.now }
+    requires shape { HasShape (2 ^ 48) (length net.now.products) (length net.now.legs) certificate.now }
     requires leg { leg < length net.now.legs }
     ensures { result ≡ leg_line net.now certificate.now leg }
 {
@@ -112,7 +114,7 @@ fn put_allotted<K: Sink>(
     certificate: &Certificate,
     sink: &mut K,
 ) -> Result<(), Failed>
-    requires { IsShaped net.now certificate.now }
+    requires { HasShape (2 ^ 48) (length net.now.products) (length net.now.legs) certificate.now }
     ensures whole { OnOk result (Appends (K.held sink.old) (K.held sink.new) (flat_map (product_line net.now certificate.now) (range_with_len 0 (length net.now.products)))) }
     ensures cut { OnErr result (AppendsFront (K.held sink.old) (K.held sink.new) (flat_map (product_line net.now certificate.now) (range_with_len 0 (length net.now.products)))) }
     ensures cause { HasCause (K.faults sink.old) (K.faults sink.new) result }
@@ -125,7 +127,7 @@ fn put_allotted<K: Sink>(
 
 // Puts the lines of the legs, in file order.
 fn put_prices<K: Sink>(net: &Network, certificate: &Certificate, sink: &mut K) -> Result<(), Failed>
-    requires { IsShaped net.now certificate.now }
+    requires { HasShape (2 ^ 48) (length net.now.products) (length net.now.legs) certificate.now }
     ensures whole { OnOk result (Appends (K.held sink.old) (K.held sink.new) (flat_map (leg_line net.now certificate.now) (range_with_len 0 (length net.now.legs)))) }
     ensures cut { OnErr result (AppendsFront (K.held sink.old) (K.held sink.new) (flat_map (leg_line net.now certificate.now) (range_with_len 0 (length net.now.legs)))) }
     ensures cause { HasCause (K.faults sink.old) (K.faults sink.new) result }
@@ -147,7 +149,7 @@ pub fn certificate_text<K: Sink>(
     certificate: &Certificate,
     sink: &mut K,
 ) -> Result<(), Failed>
-    requires { IsShaped net.now certificate.now }
+    requires { HasShape (2 ^ 48) (length net.now.products) (length net.now.legs) certificate.now }
     ensures whole { OnOk result (Appends (K.held sink.old) (K.held sink.new) (certificate_text net.now certificate.now)) }
     ensures cut { OnErr result (AppendsFront (K.held sink.old) (K.held sink.new) (certificate_text net.now certificate.now)) }
     ensures cause { HasCause (K.faults sink.old) (K.faults sink.new) result }

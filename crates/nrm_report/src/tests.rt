@@ -1,7 +1,7 @@
 //! The texts of a leg, AB with 4 seats, and of a certificate, worked by hand.
-ghost use Rattle.std.specs.Prelude.{◌≡◌, [], ◌∷◌, codes, IfOk, length};
+ghost use Rattle.std.specs.Prelude.{◌≡◌, ◌^◌, [], ◌∷◌, codes, IfOk, length};
 ghost use Rattle.nrm_model.specs.Inventory.{inventory_of};
-ghost use Rattle.nrm_dual.specs.Texts.{IsShaped};
+ghost use Rattle.nrm_lp.specs.Shape.{HasShape};
 
 use crate::{certificate_text, leg_text};
 use nrm_book::Book;
@@ -88,7 +88,7 @@ fn tells_by_hand(rt: HostRuntime) -> Result<(), Fail> {
 fn hand_certificate(alloc: Global, net: &Network) -> Result<Certificate, AllocError>
     requires legs { length net.now.legs ≡ 2 }
     requires products { length net.now.products ≡ 2 }
-    ensures { IfOk result (λ certificate. IsShaped net.now certificate) }
+    ensures { IfOk result (λ certificate. HasShape (2 ^ 48) (length net.now.products) (length net.now.legs) certificate) }
 {
     Ok(Certificate {
         q: 2,

@@ -1,6 +1,6 @@
 use Rattle.std.proofs.Common.{◌++◌, ◌∙◌, flat_map, length, subst}
 use Rattle.std.proofs.KnownBytes.{Appends-trans}
-use Rattle.std.proofs.lemmas.Result.{on_err_weaker}
+use Rattle.std.proofs.lemmas.Result.{on_err_weaker, on_ok_weaker}
 use Rattle.std.specs.Io.KnownBytes.{Appends}
 use Rattle.std.specs.List.{range_with_len}
 use Rattle.nrm_edge.specs.Pieces.{AppendsFront}
@@ -47,3 +47,17 @@ returns-clause-cut g c =
     on_err_weaker c.put_prices.result
     (AppendsFront-after (held c.args.sink.now) (held c.put_allotted.new.sink) (held c.put_prices.new.sink) (value_line net certificate ++ products) legs whole)
     c.put_prices.ensures.cut
+
+pub returns-clause-whole : goal.returns-clause-whole
+returns-clause-whole g c =
+    let net = c.args.net.now in
+    let certificate = c.args.certificate.now in
+    let held = g.K.Sink.held in
+    let products = flat_map (product_line net certificate) (range_with_len 0 (length net.products)) in
+    let legs = flat_map (leg_line net certificate) (range_with_len 0 (length net.legs)) in
+    let line = c.bytes.ensures ∙ c.line_for_value.ensures in
+    let value = subst (Appends (held c.args.sink.now) (held c.put_all.new.sink)) line c.in_ok-put_all.ensures.whole in
+    let whole = Appends-trans (held c.args.sink.now) (held c.put_all.new.sink) (held c.put_allotted.new.sink) (value_line net certificate) products value c.in_ok-put_allotted.ensures.whole in
+    on_ok_weaker c.put_prices.result
+    (Appends-trans (held c.args.sink.now) (held c.put_allotted.new.sink) (held c.put_prices.new.sink) (value_line net certificate ++ products) legs whole)
+    c.put_prices.ensures.whole
