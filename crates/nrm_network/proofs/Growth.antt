@@ -13,11 +13,11 @@ use Rattle.nrm_text.specs.Names.{is_name, name_in}
 use Rattle.nrm_text.specs.Numbers.{value_of}
 use Rattle.nrm_model.specs.declared.leg.Leg.{Leg}
 use Rattle.nrm_model.specs.declared.product.Product.{Product}
-use Rattle.nrm_network.specs.Rows.{Row, Kind, leg_kind, product_kind, field, begins, leg_rows, product_rows, demand_rows, histories_in, periods_in, is_named, further, further_numbers, gives_demand}
+use Rattle.nrm_network.specs.Rows.{Row, Kind, periods_kind, leg_kind, product_kind, field, begins, leg_rows, product_rows, demand_rows, histories_in, periods_in, is_named, further, further_numbers, gives_demand}
 use Rattle.nrm_network.specs.Checks.{why_refused, out_of_order, is_periods}
 use Rattle.nrm_network.specs.File.{leg_in, product_in, number_of_leg}
 use Rattle.nrm_network.specs.Draft.{Accepts, AddsLeg, AddsProduct, Stands, NameProducts, names_of, demand_by, given_by}
-use Rattle.nrm_network.specs.Shape.{HasShape}
+use Rattle.nrm_network.specs.Entries.{HasShape}
 use Rattle.nrm_network.specs.declared.draft.Draft.{Draft}
 use Rattle.nrm_network.proofs.Taken.{Accepts-append}
 use Rattle.nrm_network.proofs.Checked.{begins-as, first-checked, product-checked}
@@ -83,6 +83,18 @@ products-stay legs row (product ∷ products) there =
     let first = product-stays legs row product (All-head (LegsThere legs) product products there) in
     let rest = products-stay legs row products (All-tail (LegsThere legs) product products there) in
     ap (λ (p : Product). p ∷ map (product_in (legs ++ row ∷ [])) products) first ∙ ap (λ (ps : List Product). product_in legs product ∷ ps) rest
+
+-- the first row
+pub periods-grow : (draft after : Draft) (taken : List Row) (row : Row) (histories periods : ℕ) → Stands draft taken → HasShape taken row periods_kind → why_refused taken row ≡ None → histories ≡ value_of (field row 1) → periods ≡ value_of (field row 2)
+    → after ≡ record draft { histories = histories; periods = periods } → Stands after (taken ++ row ∷ [])
+periods-grow draft after (first ∷ more) row histories periods is shape free is_histories is_periods others = let no : true ≡ false = shape.order in cc
+periods-grow draft after [] row histories periods is shape free is_histories is_periods others =
+    let word = word-of [] row periods_kind shape in
+    stands-by after (row ∷ []) [] [] [] (value_of (field row 1)) (value_of (field row 2)) (free, tt) refl refl
+    (push-no (begins (codes "leg")) [] row (begins-as (codes "periods") (codes "leg") row word)) (push-no (begins (codes "product")) [] row (begins-as (codes "periods") (codes "product") row word)) (push-no (begins (codes "demand")) [] row (begins-as (codes "periods") (codes "demand") row word))
+    (ap (λ (d : Draft). d.histories) others ∙ is_histories) (ap (λ (d : Draft). d.periods) others ∙ is_periods)
+    (ap (λ (d : Draft). d.legs.items) others ∙ is.legs) (ap (λ (d : Draft). d.leg_names) others ∙ is.leg_names) (ap (λ (d : Draft). d.products.items) others ∙ is.products) (ap (λ (d : Draft). d.product_names) others ∙ is.product_names)
+    is.named (ap (λ (d : Draft). d.demand.items) others ∙ is.demand) (ap (λ (d : Draft). d.given.items) others ∙ is.given)
 
 -- one leg more
 pub leg-grows : (draft after : Draft) (taken : List Row) (row : Row) → Stands draft taken → HasShape taken row leg_kind → why_refused taken row ≡ None → AddsLeg draft after (leg_in row) → Stands after (taken ++ row ∷ [])

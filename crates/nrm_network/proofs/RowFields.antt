@@ -1,13 +1,18 @@
 -- The fields of a row one after another.
-use Rattle.std.proofs.Common.{ℕ, zero, suc, ◌≡◌, ◌∙◌, ◌+◌, ◌<◌, ◌≤◌, Bool, true, false, not, ◌&&◌, ◌||◌, List, [], ◌∷◌, ◌++◌, length, drop, map, bytes_eq, refl, sym, ap, subst, arith, add-one, All, append_assoc}
+use Rattle.std.proofs.Common.{ℕ, zero, suc, ◌≡◌, ◌∙◌, ◌+◌, ◌<◌, Bool, true, false, not, ◌&&◌, ◌||◌, List, [], ◌∷◌, ◌++◌, length, drop, map, get_or, bytes_eq, refl, sym, ap, subst, arith, inl, inr, add-one, append_assoc, Some, None, Ok}
 use Rattle.std.specs.List.{list_any, list_all}
-use Rattle.std.proofs.lemmas.Bool.{and_parts}
+use Rattle.std.proofs.lemmas.Bool.{cases_Bool, true≢false}
+use Rattle.std.proofs.lemmas.Slice.Eq.{bytes_eq-Decides}
 use Rattle.std.proofs.lemmas.List.Folds.{list_all-map}
-use Rattle.std.proofs.lemmas.List.Elements.{All-head, All-tail}
 use Rattle.nrm_text.specs.Numbers.{is_whole, value_of}
 use Rattle.nrm_model.specs.Limits.{differ}
-use Rattle.nrm_network.specs.Rows.{field}
+use Rattle.nrm_network.specs.Rows.{field, further, further_numbers}
 use Rattle.nrm_network.specs.Checks.{NumberField, is_within}
+use Rattle.nrm_network.specs.Fields.{NumberIn, are_whole, bounded}
+
+and-false : (b : Bool) → b && false ≡ false
+and-false true = refl
+and-false false = refl
 
 -- the fields from a place on are the one there and those after it
 next : (fields : List (List ℕ)) (i : ℕ) → i < length fields → drop i fields ≡ field fields i ∷ drop (suc i) fields
@@ -29,39 +34,79 @@ pub differ_next : (fields : List (List ℕ)) (i : ℕ) → i < length fields
 differ_next fields i short = ap (λ (fs : List (List ℕ)). differ bytes_eq fs) (next_field fields i short)
 
 -- the numbers from a place on
-pub whole_next : (fields : List (List ℕ)) (i : ℕ) → i < length fields → list_all is_whole (drop i fields) ≡ true → (is_whole (field fields i) ≡ true) × (list_all is_whole (drop (i + 1) fields) ≡ true)
-whole_next fields i short whole = and_parts (is_whole (field fields i)) (list_all is_whole (drop (i + 1) fields)) (sym (all_next is_whole fields i short) ∙ whole)
+push_next : (fields : List (List ℕ)) (i n : ℕ) (read all : List ℕ) → i < length fields → n ≡ value_of (field fields i) → read ++ map value_of (drop i fields) ≡ all → (read ++ n ∷ []) ++ map value_of (drop (i + 1) fields) ≡ all
+push_next fields i n read all short value is =
+    let whole : map value_of (drop i fields) ≡ value_of (field fields i) ∷ map value_of (drop (i + 1) fields) = ap (λ (fs : List (List ℕ)). map value_of fs) (next_field fields i short) in
+    append_assoc read (n ∷ []) (map value_of (drop (i + 1) fields)) ∙ ap (λ (m : ℕ). read ++ m ∷ map value_of (drop (i + 1) fields)) value ∙ ap (λ (ns : List ℕ). read ++ ns) (sym whole) ∙ is
 
-pub numbers_next : (fields : List (List ℕ)) (i : ℕ) → i < length fields → map value_of (drop i fields) ≡ value_of (field fields i) ∷ map value_of (drop (i + 1) fields)
-numbers_next fields i short = ap (λ (fs : List (List ℕ)). map value_of fs) (next_field fields i short)
+-- the names from a place on
+pub push_name : (fields : List (List ℕ)) (i : ℕ) (name : List ℕ) (read all : List (List ℕ)) → i < length fields → name ≡ field fields i → read ++ drop i fields ≡ all → (read ++ name ∷ []) ++ drop (i + 1) fields ≡ all
+push_name fields i name read all short same is =
+    append_assoc read (name ∷ []) (drop (i + 1) fields) ∙ ap (λ (n : List ℕ). read ++ n ∷ drop (i + 1) fields) same ∙ ap (λ (fs : List (List ℕ)). read ++ fs) (sym (next_field fields i short)) ∙ is
 
-pub small_next : (most : ℕ) (fields : List (List ℕ)) (i : ℕ) → i < length fields → All (λ number. number ≤ most) (map value_of (drop i fields))
-    → (value_of (field fields i) ≤ most) × All (λ number. number ≤ most) (map value_of (drop (i + 1) fields))
-small_next most fields i short small =
-    let both : All (λ number. number ≤ most) (value_of (field fields i) ∷ map value_of (drop (i + 1) fields)) = subst (λ (n : List ℕ). All (λ number. number ≤ most) n) (numbers_next fields i short) small in
-    (All-head (λ number. number ≤ most) (value_of (field fields i)) (map value_of (drop (i + 1) fields)) both, All-tail (λ number. number ≤ most) (value_of (field fields i)) (map value_of (drop (i + 1) fields)) both)
+-- what is known of the fields from the fourth on where those up to a place were read: these numbers, and whether each was within the bounds
+pub record ReadTo (least greatest : ℕ) (fields : List (List ℕ)) (i : ℕ) (numbers : List ℕ) (inside : Bool) : Type 0 where
+  pub whole : are_whole (bounded least greatest (further fields)) ≡ are_whole (bounded least greatest (drop i fields))
+  pub within : list_all is_within (bounded least greatest (further fields)) ≡ (inside && list_all is_within (bounded least greatest (drop i fields)))
+  pub read : inside ≡ true → numbers ++ map value_of (drop i fields) ≡ further_numbers fields
 
-pub push_next : (fields : List (List ℕ)) (i : ℕ) (read all : List ℕ) → i < length fields → read ++ map value_of (drop i fields) ≡ all → (read ++ value_of (field fields i) ∷ []) ++ map value_of (drop (i + 1) fields) ≡ all
-push_next fields i read all short is = append_assoc read (value_of (field fields i) ∷ []) (map value_of (drop (i + 1) fields)) ∙ ap (λ (n : List ℕ). read ++ n) (sym (numbers_next fields i short)) ∙ is
+module _ (least greatest : ℕ) (fields : List (List ℕ)) (i : ℕ) (short : i < length fields) where
+  whole-step : are_whole (bounded least greatest (drop i fields)) ≡ is_whole (field fields i) && are_whole (bounded least greatest (drop (i + 1) fields))
+  whole-step = ap (λ (fs : List (List ℕ)). are_whole (bounded least greatest fs)) (next_field fields i short)
 
--- the bounds from a place on
-pub within_next : (least greatest : ℕ) (fields : List (List ℕ)) (i : ℕ) → i < length fields
-    → list_all is_within (map (λ text. (text, least, greatest)) (drop i fields)) ≡ is_within (field fields i, least, greatest) && list_all is_within (map (λ text. (text, least, greatest)) (drop (i + 1) fields))
-within_next least greatest fields i short = ap (λ (fs : List (List ℕ)). list_all is_within (map (λ text. (text, least, greatest)) fs)) (next_field fields i short)
+  within-step : list_all is_within (bounded least greatest (drop i fields)) ≡ is_within (field fields i, least, greatest) && list_all is_within (bounded least greatest (drop (i + 1) fields))
+  within-step = ap (λ (fs : List (List ℕ)). list_all is_within (bounded least greatest fs)) (next_field fields i short)
 
--- one field that isn't within them, and one that is
-pub within_fails : (least greatest : ℕ) (fields : List (List ℕ)) (i : ℕ) (text : List ℕ) (b : Bool) → i < length fields → text ≡ field fields i → b ≡ is_within (text, least, greatest) → b ≡ false
-    → list_all is_within (map (λ text. (text, least, greatest)) (drop i fields)) ≡ false
-within_fails least greatest fields i text b short is test fails =
-    let other : is_within (field fields i, least, greatest) ≡ false = ap (λ (t : List ℕ). is_within (t, least, greatest)) (sym is) ∙ sym test ∙ fails in
-    within_next least greatest fields i short ∙ rw other refl
+  -- one number more, one outside its bounds, and a field that is no number
+  pub read-within : (text : List ℕ) (n : ℕ) (numbers : List ℕ) (inside : Bool) → text ≡ field fields i → NumberIn (text, least, greatest) (Ok (Some n)) → ReadTo least greatest fields i numbers inside → ReadTo least greatest fields (i + 1) (numbers ++ n ∷ []) inside
+  read-within text n numbers inside is number so_far =
+      let (whole, within, value) = subst (λ (t : List ℕ). NumberIn (t, least, greatest) (Ok (Some n))) is number in
+      record {
+        whole = so_far.whole ∙ whole-step ∙ rw whole refl;
+        within = so_far.within ∙ ap (λ (b : Bool). inside && b) (within-step ∙ rw within refl);
+        read = λ all. push_next fields i n numbers (further_numbers fields) short value (so_far.read all);
+      }
 
-pub within_goes : (least greatest : ℕ) (fields : List (List ℕ)) (i : ℕ) (text : List ℕ) (b : Bool) → i < length fields → text ≡ field fields i → b ≡ is_within (text, least, greatest) → b ≡ true
-    → list_all is_within (map (λ text. (text, least, greatest)) (drop i fields)) ≡ list_all is_within (map (λ text. (text, least, greatest)) (drop (i + 1) fields))
-within_goes least greatest fields i text b short is test goes =
-    let other : is_within (field fields i, least, greatest) ≡ true = ap (λ (t : List ℕ). is_within (t, least, greatest)) (sym is) ∙ sym test ∙ goes in
-    within_next least greatest fields i short ∙ rw other refl
+  pub read-outside : (text numbers : List ℕ) (inside : Bool) → text ≡ field fields i → NumberIn (text, least, greatest) (Ok None) → ReadTo least greatest fields i numbers inside → ReadTo least greatest fields (i + 1) numbers false
+  read-outside text numbers inside is number so_far =
+      let (whole, outside) = subst (λ (t : List ℕ). NumberIn (t, least, greatest) (Ok None)) is number in
+      record {
+        whole = so_far.whole ∙ whole-step ∙ rw whole refl;
+        within = so_far.within ∙ ap (λ (b : Bool). inside && b) (within-step ∙ rw outside refl) ∙ and-false inside;
+        read = λ all. absurd (true≢false (sym all));
+      }
+
+  pub read-off : (text numbers : List ℕ) (inside : Bool) → text ≡ field fields i → is_whole text ≡ false → ReadTo least greatest fields i numbers inside → are_whole (bounded least greatest (further fields)) ≡ false
+  read-off text numbers inside is off so_far =
+      let other : is_whole (field fields i) ≡ false = subst (λ (t : List ℕ). is_whole t ≡ false) is off in
+      so_far.whole ∙ whole-step ∙ rw other refl
 
 -- number fields are whole where their texts are
 pub whole_fields : (least greatest : ℕ) (fields : List (List ℕ)) → list_all (λ (number : NumberField). is_whole number.0) (map (λ text. (text, least, greatest)) fields) ≡ list_all is_whole fields
 whole_fields least greatest fields = list_all-map (λ (number : NumberField). is_whole number.0) (λ text. (text, least, greatest)) fields
+
+-- an item read from a list is its field there
+pub field-is : (fields : List (List ℕ)) (i : ℕ) (item : List ℕ) → i < length fields → item ≡ get_or fields i item → item ≡ field fields i
+field-is [] i item short is = absurd (omega arith)
+field-is (f ∷ fields) zero item short is = is
+field-is (f ∷ fields) (suc i) item short is = field-is fields i item (omega arith) is
+
+same-either-way : (a b : List ℕ) → bytes_eq a b ≡ bytes_eq b a
+same-either-way a b = elim (cases_Bool (bytes_eq a b)) [
+  | inl e ↦ e ∙ sym ((bytes_eq-Decides b a).1 (sym ((bytes_eq-Decides a b).0 e)))
+  | inr e ↦ elim (cases_Bool (bytes_eq b a)) [
+    | inl f ↦ let clash : true ≡ false = sym ((bytes_eq-Decides a b).1 (sym ((bytes_eq-Decides b a).0 f))) ∙ e in absurd (true≢false clash)
+    | inr f ↦ e ∙ sym f
+  ]
+]
+
+any-either-way : (x : List ℕ) (xs : List (List ℕ)) → list_any (λ y. bytes_eq y x) xs ≡ list_any (bytes_eq x) xs
+any-either-way x [] = refl
+any-either-way x (y ∷ ys) = ap (λ (b : Bool). b || list_any (λ y. bytes_eq y x) ys) (same-either-way y x) ∙ ap (λ (b : Bool). bytes_eq x y || b) (any-either-way x ys)
+
+-- a name that stands again among those after it, and one that doesn't
+pub differ-step : (names : List (List ℕ)) (i : ℕ) (x : List ℕ) (b : Bool) → i < length names → x ≡ field names i → b ≡ list_any (λ y. bytes_eq y x) (drop (i + 1) names)
+    → differ bytes_eq (drop i names) ≡ not b && differ bytes_eq (drop (i + 1) names)
+differ-step names i x b short is found =
+    differ_next names i short
+    ∙ ap (λ (c : Bool). not c && differ bytes_eq (drop (i + 1) names)) (ap (λ (y : List ℕ). list_any (bytes_eq y) (drop (i + 1) names)) (sym is) ∙ sym (any-either-way x (drop (i + 1) names)) ∙ sym found)

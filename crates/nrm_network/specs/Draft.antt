@@ -1,17 +1,18 @@
 -- The draft of a network, and the rows that it stands for.
-use Rattle.std.specs.Prelude.{ℕ, ◌≡◌, ◌+◌, ◌*◌, Bool, true, false, List, take, drop, slice_set, [], ◌∷◌, ◌++◌, length, map, find, replicate, flat_map, Option, None, Some, Result, Ok, Err, ⊤, All}
+use Rattle.std.specs.Prelude.{ℕ, ◌≡◌, ◌+◌, ◌*◌, Bool, true, false, List, take, drop, slice_set, [], ◌∷◌, ◌++◌, length, map, find, replicate, flat_map, Option, None, Result, Ok, Err, ⊤, All}
 use Rattle.std.specs.List.{list_any, range_with_len}
 use Rattle.std.specs.Option.{option_map_or}
-use Rattle.nrm_network.specs.Rows.{Kind, field, leg_rows, product_rows, demand_rows, histories_in, periods_in, is_named, further_numbers, gives_demand}
+use Rattle.nrm_network.specs.Rows.{field, leg_rows, product_rows, demand_rows, histories_in, periods_in, is_named, further_numbers, gives_demand}
 use Rattle.nrm_network.specs.Checks.{why_refused}
-use Rattle.nrm_network.specs.Shape.{HasShape}
+use Rattle.nrm_network.specs.Entries.{IsRead}
+use Rattle.nrm_network.specs.Faults.{Refuses}
 use Rattle.nrm_network.specs.File.{leg_in, product_in}
 use Rattle.nrm_network.specs.declared.fault.Why.{Why}
 use Rattle.nrm_network.specs.declared.fault.RowFault.{RowFault}
-use Rattle.nrm_network.specs.declared.fault.RowFault.TheVariants as fault
 use Rattle.nrm_model.specs.declared.leg.Leg.{Leg}
 use Rattle.nrm_model.specs.declared.product.Product.{Product}
 use Rattle.nrm_network.specs.declared.draft.Draft.{Draft}
+use Rattle.nrm_network.specs.declared.entry.Entry.{Entry}
 
 -- a cause refuses none of these rows, each against those before it
 abbrev pub Accepts : (List (List (List ℕ)) → List (List ℕ) → Option Why) → List (List (List ℕ)) → List (List (List ℕ)) → Type 0
@@ -48,23 +49,22 @@ pub record Stands (draft : Draft) (taken : List (List (List ℕ))) : Type 0 wher
   pub demand : draft.demand.items ≡ demand_by (histories_in taken) (periods_in taken) (demand_rows taken) (product_rows taken)
   pub given : draft.given.items ≡ given_by (histories_in taken) (demand_rows taken) (product_rows taken)
 
--- what a row does to a draft: it is refused as the checks say, or the draft then stands for it too; want of memory is free
+-- what a row does to a draft: it is refused as the checks say, or the draft then stands for it too
 abbrev pub TakesRow : Draft → List (List (List ℕ)) → List (List ℕ) → Result Unit RowFault → Type 0
 TakesRow after taken row (Ok done) = (why_refused taken row ≡ None) × Stands after (taken ++ row ∷ [])
-TakesRow after taken row (Err (fault.Refused why)) = why_refused taken row ≡ Some why
-TakesRow after taken row (Err fault.NoMemory) = ⊤
+TakesRow after taken row (Err fault) = Refuses taken row fault
 
 -- whatever rows the draft stands for, the row is taken or refused so
 abbrev pub Takes : Draft → Draft → List (List ℕ) → Result Unit RowFault → Type 0
 Takes before after row result = (taken : List (List (List ℕ))) → Stands before taken → TakesRow after taken row result
 
--- the draft stands for some rows, and after them the row has the shape of its kind
-abbrev pub Awaits : Draft → List (List ℕ) → Kind → Type 0
-Awaits before row kind = (taken : List (List (List ℕ))) × Stands before taken × HasShape taken row kind
+-- the draft stands for some rows, after which a row may say this
+abbrev pub Awaits : Draft → Entry → Type 0
+Awaits before entry = (taken : List (List (List ℕ))) × (row : List (List ℕ)) × Stands before taken × IsRead taken row entry
 
--- and where it has that shape after the rows, the row is taken or refused as the other checks say
-abbrev pub TakesAs : Kind → Draft → Draft → List (List ℕ) → Result Unit RowFault → Type 0
-TakesAs kind before after row result = (taken : List (List (List ℕ))) → Stands before taken → HasShape taken row kind → TakesRow after taken row result
+-- whatever rows the draft stands for, and whatever row after them says this, the row is taken or refused as the checks say
+abbrev pub TakesSaid : Entry → Draft → Draft → Result Unit RowFault → Type 0
+TakesSaid entry before after result = (taken : List (List (List ℕ))) (row : List (List ℕ)) → Stands before taken → IsRead taken row entry → TakesRow after taken row result
 
 -- one leg more, after the others, and all else as it was
 abbrev pub AddsLeg : Draft → Draft → Leg → Type 0

@@ -2,9 +2,10 @@ pub mod Answer
 pub mod Canonical
 pub mod Checks
 pub mod Draft
+pub mod Entries
 pub mod Faults
+pub mod Fields
 pub mod File
 pub mod RowText
 pub mod Rows
-pub mod Shape
 pub mod Valid

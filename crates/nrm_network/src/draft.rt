@@ -1,25 +1,24 @@
 //! A network as it is read, row by row: legs and products with tables of their names, and the demand of each product
 //! in each history and period, 0 until a row gives it. Nothing else of a row is kept.
-ghost use Rattle.std.specs.Prelude.{◌≡◌, ◌<◌, ◌≤◌, ◌+◌, ◌-◌, ◌*◌, ◌^◌, List, [], ℕ, IfOk, MatchOption, OnOk, bytes_eq, false, length, map, sum, true};
+ghost use Rattle.std.specs.Prelude.{◌≡◌, ◌<◌, ◌≤◌, ◌+◌, ◌-◌, ◌*◌, ◌^◌, List, [], ℕ, All, IfOk, MatchOption, OnOk, bytes_eq, false, length, map, sum, true};
 ghost use Rattle.std.specs.List.{list_all, list_any};
 ghost use Rattle.std.specs.Int.{IsInRange};
-ghost use Rattle.nrm_text.specs.Names.{is_name};
-ghost use Rattle.nrm_model.specs.Limits.{falls};
+ghost use Rattle.nrm_model.specs.Limits.{differ, falls};
 ghost use Rattle.csv.specs.Records.{fields_of};
-ghost use Rattle.nrm_network.specs.Rows.{further, is_named, periods_kind, leg_kind, product_kind, demand_kind};
+ghost use Rattle.nrm_network.specs.Rows.{is_named};
 ghost use Rattle.nrm_network.specs.Answer.{AnswersFile};
 ghost use Rattle.nrm_network.specs.Checks.{why_refused};
 ghost use Rattle.nrm_network.specs.File.{lacks_a_kind, network_or_refusal, number_of_leg};
 ghost use Rattle.nrm_network.specs.declared.fault.Why.TheVariants as why;
-ghost use Rattle.nrm_network.specs.Draft.{AddsLeg, AddsProduct, Awaits, SetsDemand, Stands, Takes, TakesAs, names_of};
-ghost use Rattle.nrm_network.specs.Shape.{Counted};
+ghost use Rattle.nrm_network.specs.Draft.{AddsLeg, AddsProduct, Awaits, SetsDemand, Stands, Takes, TakesSaid, names_of};
+ghost use Rattle.nrm_network.specs.Entries.{Counted};
+ghost use Rattle.nrm_network.specs.declared.entry.Entry.TheVariants as says;
 
+use crate::entry::{Counts, DemandEntry, Entry, ProductEntry, read_row};
 use crate::fault::{NetFault, RowFault, Why};
-use crate::row::{RowKind, differ, field, numbers, seats, value};
-use crate::shape::{Counts, shape_of};
 use csv::ByteRecord;
-use nrm_model::{Leg, LegNumbers, NameTable, Network, Product, Thresholds};
-use nrm_text::{Name, name_of};
+use nrm_model::{Leg, LegNumbers, NameTable, Network, Product};
+use nrm_text::Name;
 use std::alloc::{AllocError, Global};
 
 /// What was read so far.
@@ -47,15 +46,45 @@ fn falls(cuts: &[u32]) -> bool
     true
 }
 
-fn total(seats: &[u16]) -> u32
+fn total(seats: &[u32]) -> u64
     requires { length seats.now ≤ 65536 }
     ensures { result ≡ sum seats.now }
 {
     let mut total = 0;
     for seats in seats {
-        total += u32::from(*seats);
+        total += u64::from(*seats);
     }
     total
+}
+
+fn stands_in(name: &Name, others: &[Name]) -> bool
+    ensures { result ≡ list_any (λ other. bytes_eq other name.now) others.now }
+{
+    others.contains(name)
+}
+
+// Whether the names differ.
+fn differ(names: &[Name]) -> bool
+    ensures { result ≡ differ bytes_eq names.now }
+{
+    for i in 0..names.len() {
+        let later = &names[i + 1..];
+        if stands_in(&names[i], later) {
+            return false;
+        }
+    }
+    true
+}
+
+// Writes the seats of each period.
+fn put(places: &mut [u16], seats: &[u32])
+    requires same { length places.old ≡ length seats.now }
+    requires small { All (λ number. number ≤ 999) seats.now }
+    ensures { places.new ≡ seats.now }
+{
+    for i in 0..seats.len() {
+        places[i] = seats[i] as u16;
+    }
 }
 
 impl Draft {
@@ -86,12 +115,12 @@ impl Draft {
         }
     }
 
-    fn take_periods(&mut self, row: &ByteRecord)
-        requires { Awaits self.old (fields_of row.now) periods_kind }
-        ensures { TakesAs periods_kind self.old self.new (fields_of row.now) (Ok tt) }
+    fn take_periods(&mut self, histories: u8, periods: u8)
+        requires { Awaits self.old (says.Periods histories periods) }
+        ensures { TakesSaid (says.Periods histories periods) self.old self.new (Ok tt) }
     {
-        self.histories = value(field(row, 1)) as u8;
-        self.periods = value(field(row, 2)) as u8;
+        self.histories = histories;
+        self.periods = periods;
     }
 
     fn add_leg(&mut self, leg: Leg) -> Result<(), AllocError>
@@ -103,48 +132,28 @@ impl Draft {
         Ok(())
     }
 
-    fn take_leg(&mut self, alloc: Global, row: &ByteRecord) -> Result<(), RowFault>
-        requires { Awaits self.old (fields_of row.now) leg_kind }
-        ensures { TakesAs leg_kind self.old self.new (fields_of row.now) result }
+    fn take_leg(&mut self, leg: Leg) -> Result<(), RowFault>
+        ensures { TakesSaid (says.Leg leg) self.old self.new result }
     {
-        let Some(name) = name_of(field(row, 1)) else {
-            return Err(RowFault::Refused(Why::Name));
-        };
-        if self.leg_names.number_of(&name).is_some() {
+        if self.leg_names.number_of(&leg.name).is_some() {
             return Err(RowFault::Refused(Why::Twice));
         }
-        let cuts = numbers(alloc, row)?;
-        if !falls(&cuts) {
+        if !falls(leg.cuts.as_slice()) {
             return Err(RowFault::Refused(Why::Thresholds));
         }
-        self.add_leg(Leg {
-            name,
-            seats: value(field(row, 2)) as u16,
-            cuts: Thresholds::new(cuts),
-        })?;
+        self.add_leg(leg)?;
         Ok(())
     }
 
-    fn leg_number(&self, text: &[u8]) -> Option<u8>
-        requires name { is_name text.now ≡ true }
-        requires few { length self.now.leg_names ≤ 256 }
-        ensures { (legs : List (List (List ℕ))) → self.now.leg_names ≡ names_of legs → MatchOption result (is_named legs text.now ≡ false) (λ number. (is_named legs text.now ≡ true) × (number ≡ number_of_leg legs text.now)) }
-    {
-        let name = name_of(text)?;
-        let number = self.leg_names.number_of(&name)?;
-        Some(number as u8)
-    }
-
-    // The numbers of the legs that a product's row names, if each is there.
-    fn leg_numbers(&self, alloc: Global, row: &ByteRecord) -> Result<Option<Vec<u8>>, AllocError>
-        requires names { list_all is_name (further (fields_of row.now)) ≡ true }
-        requires few { length self.now.leg_names ≤ 256 }
-        ensures { (legs : List (List (List ℕ))) → self.now.leg_names ≡ names_of legs → IfOk result (λ found. MatchOption found (list_all (is_named legs) (further (fields_of row.now)) ≡ false) (λ numbers. (list_all (is_named legs) (further (fields_of row.now)) ≡ true) × (numbers.items ≡ map (number_of_leg legs) (further (fields_of row.now))))) }
+    // The numbers of the legs of these names, if each is there.
+    fn leg_numbers(&self, alloc: Global, names: &[Name]) -> Result<Option<Vec<u8>>, AllocError>
+        requires { length self.now.leg_names ≤ 256 }
+        ensures { (legs : List (List (List ℕ))) → self.now.leg_names ≡ names_of legs → IfOk result (λ found. MatchOption found (list_all (is_named legs) names.now ≡ false) (λ numbers. (list_all (is_named legs) names.now ≡ true) × (numbers.items ≡ map (number_of_leg legs) names.now))) }
     {
         let mut numbers = Vec::new(alloc);
-        for i in 3..row.len() {
-            match self.leg_number(field(row, i)) {
-                Some(number) => numbers.push(number)?,
+        for name in names {
+            match self.leg_names.number_of(name) {
+                Some(number) => numbers.push(number as u8)?,
                 None => return Ok(None),
             }
         }
@@ -164,42 +173,40 @@ impl Draft {
         Ok(())
     }
 
-    fn take_product(&mut self, alloc: Global, row: &ByteRecord) -> Result<(), RowFault>
-        requires { Awaits self.old (fields_of row.now) product_kind }
-        ensures { TakesAs product_kind self.old self.new (fields_of row.now) result }
+    fn take_product(&mut self, alloc: Global, product: &ProductEntry) -> Result<(), RowFault>
+        requires { Awaits self.old (says.Product product.now) }
+        ensures { TakesSaid (says.Product product.now) self.old self.new result }
     {
-        let Some(name) = name_of(field(row, 1)) else {
-            return Err(RowFault::Refused(Why::Name));
-        };
-        if self.product_names.number_of(&name).is_some() {
+        if self.product_names.number_of(&product.name).is_some() {
             return Err(RowFault::Refused(Why::Twice));
         }
-        if !differ(row) {
+        if !differ(&product.legs) {
             return Err(RowFault::Refused(Why::Twice));
         }
-        let Some(legs) = self.leg_numbers(alloc, row)? else {
+        let Some(legs) = self.leg_numbers(alloc, &product.legs)? else {
             return Err(RowFault::Refused(Why::Missing));
         };
         self.add_product(Product {
-            name,
-            fare: value(field(row, 2)),
+            name: product.name,
+            fare: product.fare,
             legs: LegNumbers::new(legs),
         })?;
         Ok(())
     }
 
-    fn set_demand(&mut self, cell: usize, seats: &[u16])
+    fn set_demand(&mut self, cell: usize, seats: &[u32])
         requires given { cell < length self.old.given.items }
         requires room { cell * self.old.periods + length seats.now ≤ length self.old.demand.items }
+        requires small { All (λ number. number ≤ 999) seats.now }
         ensures { SetsDemand self.old self.new cell seats.now }
     {
         let at = cell * self.periods as usize;
-        self.demand[at..at + seats.len()].copy_from_slice(seats);
+        put(&mut self.demand[at..at + seats.len()], seats);
         self.given[cell] = true;
     }
 
     // The place of a product's demand in a history, which counts from 1, among those of all products and histories.
-    fn cell_of(&self, product: usize, history: u32) -> usize
+    fn cell_of(&self, product: usize, history: u8) -> usize
         requires product { product < 256 }
         requires history { IsInRange 1 self.now.histories history }
         ensures { result ≡ product * self.now.histories + (history - 1) }
@@ -207,25 +214,21 @@ impl Draft {
         product * self.histories as usize + (history - 1) as usize
     }
 
-    fn take_demand(&mut self, alloc: Global, row: &ByteRecord) -> Result<(), RowFault>
-        requires { Awaits self.old (fields_of row.now) demand_kind }
-        ensures { TakesAs demand_kind self.old self.new (fields_of row.now) result }
+    fn take_demand(&mut self, demand: &DemandEntry) -> Result<(), RowFault>
+        requires { Awaits self.old (says.Demand demand.now) }
+        ensures { TakesSaid (says.Demand demand.now) self.old self.new result }
     {
-        let Some(name) = name_of(field(row, 1)) else {
-            return Err(RowFault::Refused(Why::Name));
-        };
-        let Some(product) = self.product_names.number_of(&name) else {
+        let Some(product) = self.product_names.number_of(&demand.product) else {
             return Err(RowFault::Refused(Why::Missing));
         };
-        let cell = self.cell_of(product, value(field(row, 2)));
+        let cell = self.cell_of(product, demand.history);
         if self.given[cell] {
             return Err(RowFault::Refused(Why::Twice));
         }
-        let seats = seats(alloc, row)?;
-        if total(&seats) > 999 {
+        if total(&demand.seats) > 999 {
             return Err(RowFault::Refused(Why::Sum));
         }
-        self.set_demand(cell, &seats);
+        self.set_demand(cell, &demand.seats);
         Ok(())
     }
 
@@ -237,16 +240,14 @@ impl Draft {
         requires { (taken : List (List (List ℕ))) × Stands self.old taken }
         ensures { Takes self.old self.new (fields_of row.now) result }
     {
-        match shape_of(self.counts(), row) {
-            Ok(RowKind::Periods) => {
-                self.take_periods(row);
+        match read_row(alloc, self.counts(), row)? {
+            Entry::Periods { histories, periods } => {
+                self.take_periods(histories, periods);
                 Ok(())
             }
-            Ok(RowKind::Leg) => self.take_leg(alloc, row),
-            Ok(RowKind::Product) => self.take_product(alloc, row),
-            Ok(RowKind::Demand) => self.take_demand(alloc, row),
-            Ok(RowKind::Unknown) => Err(RowFault::Refused(Why::Kind)),
-            Err(why) => Err(RowFault::Refused(why)),
+            Entry::Leg(leg) => self.take_leg(leg),
+            Entry::Product(product) => self.take_product(alloc, &product),
+            Entry::Demand(demand) => self.take_demand(&demand),
         }
     }
 

@@ -1,5 +1,5 @@
 //! Why a file gives no network.
-use std::alloc::AllocError;
+use std::alloc::{AllocError, AllocFailed};
 use thiserror::Error;
 
 /// Why a file is refused: the first check that a row fails, in this order, or what the file lacks.
@@ -71,6 +71,28 @@ impl From<AllocError> for RowFault {
     ghost from_gives = { λ _ e. e ≡ NoMemory };
 
     fn from(_: AllocError) -> RowFault {
+        RowFault::NoMemory
+    }
+}
+
+impl From<Why> for RowFault {
+    ghost use Rattle.std.specs.Prelude.{◌≡◌};
+    ghost use Rattle.nrm_network.specs.declared.fault.RowFault.TheVariants.{Refused};
+
+    ghost from_gives = { λ why fault. fault ≡ Refused why };
+
+    fn from(why: Why) -> RowFault {
+        RowFault::Refused(why)
+    }
+}
+
+impl<T: Drop> From<AllocFailed<T>> for RowFault {
+    ghost use Rattle.std.specs.Prelude.{◌≡◌};
+    ghost use Rattle.nrm_network.specs.declared.fault.RowFault.TheVariants.{NoMemory};
+
+    ghost from_gives = { λ _ fault. fault ≡ NoMemory };
+
+    fn from(_failed: AllocFailed<T>) -> RowFault {
         RowFault::NoMemory
     }
 }

@@ -2,11 +2,11 @@
 #![tactic(auto)]
 
 mod draft;
+mod entry;
 mod fault;
 mod laws;
 mod reading;
 mod row;
-mod shape;
 #[cfg(test)]
 mod tests;
 mod writing;

@@ -1,16 +1,30 @@
+use Rattle.std.proofs.lemmas.Result.{err_from_is_err_and}
+use Rattle.csv.specs.Records.{fields_of}
 use Rattle.nrm_network.proofs.draft.Draft.take.Goals as goal
 
-pub returns-in-Ok-Periods : goal.returns-in-Ok-Periods
-returns-in-Ok-Periods c = λ taken is. c.take_periods.ensures taken is (rw c.in-Ok-Periods.field-0-is at (c.in-Ok-Periods.ensures taken (c.counts.ensures taken is)))
+pub take_product-requires : goal.take_product-requires
+take_product-requires c =
+    let (taken, is) = c.requires in
+    (taken, fields_of c.args.row.now, is, rw c.in-Product.is at (c.in_ok-histories.ensures taken (c.counts.ensures taken is)))
 
-pub returns-in-Ok-Leg : goal.returns-in-Ok-Leg
-returns-in-Ok-Leg c = λ taken is. c.take_leg.ensures taken is (rw c.in-Ok-Leg.field-0-is at (c.in-Ok-Leg.ensures taken (c.counts.ensures taken is)))
+pub take_demand-requires : goal.take_demand-requires
+take_demand-requires c =
+    let (taken, is) = c.requires in
+    (taken, fields_of c.args.row.now, is, rw c.in-Demand.is at (c.in_ok-histories.ensures taken (c.counts.ensures taken is)))
 
-pub returns-in-Ok-Product : goal.returns-in-Ok-Product
-returns-in-Ok-Product c = λ taken is. c.take_product.ensures taken is (rw c.in-Ok-Product.field-0-is at (c.in-Ok-Product.ensures taken (c.counts.ensures taken is)))
+pub returns-in-Periods : goal.returns-in-Periods
+returns-in-Periods c = λ taken is. c.take_periods.ensures taken (fields_of c.args.row.now) is (rw c.in-Periods.is at (c.in_ok-histories.ensures taken (c.counts.ensures taken is)))
 
-pub returns-in-Ok-Demand : goal.returns-in-Ok-Demand
-returns-in-Ok-Demand c = λ taken is. c.take_demand.ensures taken is (rw c.in-Ok-Demand.field-0-is at (c.in-Ok-Demand.ensures taken (c.counts.ensures taken is)))
+pub returns-in-Leg : goal.returns-in-Leg
+returns-in-Leg c = λ taken is. c.take_leg.ensures taken (fields_of c.args.row.now) is (rw c.in-Leg.is at (c.in_ok-histories.ensures taken (c.counts.ensures taken is)))
 
-pub returns-in-Err : goal.returns-in-Err
-returns-in-Err c = λ taken is. c.in-Err.ensures taken (c.counts.ensures taken is)
+pub returns-in-Product : goal.returns-in-Product
+returns-in-Product c = λ taken is. c.take_product.ensures taken (fields_of c.args.row.now) is (rw c.in-Product.is at (c.in_ok-histories.ensures taken (c.counts.ensures taken is)))
+
+pub returns-in-Demand : goal.returns-in-Demand
+returns-in-Demand c = λ taken is. c.take_demand.ensures taken (fields_of c.args.row.now) is (rw c.in-Demand.is at (c.in_ok-histories.ensures taken (c.counts.ensures taken is)))
+
+pub returns-in_err-histories : goal.returns-in_err-histories
+returns-in_err-histories c = λ taken is.
+    let p = err_from_is_err_and c.from_residual.result c.from_residual.ensures.1 in
+    rw (p.1, p.2) (c.in_err-histories.ensures taken (c.counts.ensures taken is))

@@ -1,0 +1,90 @@
+-- A row as the code reads it, and what the checks before the look-ups say of it.
+use Rattle.std.specs.Prelude.{ℕ, ◌≡◌, ◌==◌, Bool, true, false, List, length, bytes_eq, codes, Option, Some, None, Result, Ok, Err, if◌then◌else◌}
+use Rattle.std.specs.List.{list_all}
+use Rattle.nrm_text.specs.Names.{is_name}
+use Rattle.nrm_text.specs.Numbers.{is_whole, value_of}
+use Rattle.nrm_network.specs.Rows.{Kind, periods_kind, leg_kind, product_kind, demand_kind, no_kind, kind_of, field, further, further_numbers, leg_rows, product_rows, histories_in, periods_in}
+use Rattle.nrm_network.specs.Checks.{NumberField, is_within, no_such_kind, out_of_order, miscounted, too_many, name_fields, number_fields}
+use Rattle.nrm_network.specs.Faults.{Refuses}
+use Rattle.nrm_network.specs.File.{leg_in}
+use Rattle.nrm_network.specs.declared.fault.RowFault.{RowFault}
+use Rattle.nrm_network.specs.declared.fault.Why.{Why}
+use Rattle.nrm_network.specs.declared.fault.Why.TheVariants as why
+use Rattle.nrm_network.specs.declared.entry.RowKind.{RowKind}
+use Rattle.nrm_network.specs.declared.entry.RowKind.TheVariants as seen
+use Rattle.nrm_network.specs.declared.entry.Entry.{Entry}
+use Rattle.nrm_network.specs.declared.entry.Entry.TheVariants as is
+use Rattle.nrm_network.specs.declared.entry.Counts.{Counts}
+
+-- the kind that a value of the code stands for
+abbrev pub kind_seen : RowKind → Kind
+kind_seen seen.Periods = periods_kind
+kind_seen seen.Leg = leg_kind
+kind_seen seen.Product = product_kind
+kind_seen seen.Demand = demand_kind
+kind_seen seen.Unknown = no_kind
+
+-- the kind of the rows that begin with this word
+abbrev pub kind_by : List ℕ → Kind
+kind_by word =
+    if bytes_eq word (codes "periods") then periods_kind
+    else if bytes_eq word (codes "leg") then leg_kind
+    else if bytes_eq word (codes "product") then product_kind
+    else if bytes_eq word (codes "demand") then demand_kind
+    else no_kind
+
+-- a row of this kind passes the checks that need no look-up
+pub record HasShape (before : List (List (List ℕ))) (row : List (List ℕ)) (kind : Kind) : Type 0 where
+  pub is_kind : kind_of row ≡ kind
+  pub known : no_such_kind kind ≡ false
+  pub order : out_of_order before kind ≡ false
+  pub count : miscounted (periods_in before) kind (length row) ≡ false
+  pub few : too_many before kind ≡ false
+  pub names : list_all is_name (name_fields kind row) ≡ true
+  pub numbers : list_all (λ (number : NumberField). is_whole number.0) (number_fields (histories_in before) kind row) ≡ true
+  pub range : list_all is_within (number_fields (histories_in before) kind row) ≡ true
+
+-- the counts are those of the rows before
+pub record Counted (counts : Counts) (before : List (List (List ℕ))) : Type 0 where
+  pub first : (counts.histories == 0) ≡ (length before == 0)
+  pub histories : counts.histories ≡ histories_in before
+  pub periods : counts.periods ≡ periods_in before
+  pub legs : counts.legs ≡ length (leg_rows before)
+  pub products : counts.products ≡ length (product_rows before)
+
+-- the first of these three checks that refuses a row
+abbrev pub first_refusal : Bool → Bool → Bool → Option Why
+first_refusal unordered miscounted crowded =
+    if unordered then Some why.Order else if miscounted then Some why.Fields else if crowded then Some why.Many else None
+
+-- the kind of the rows that say this
+abbrev pub kind_said : Entry → Kind
+kind_said (is.Periods histories periods) = periods_kind
+kind_said (is.Leg leg) = leg_kind
+kind_said (is.Product product) = product_kind
+kind_said (is.Demand demand) = demand_kind
+
+-- the fields of a row say this
+abbrev pub Says : Entry → List (List ℕ) → Type 0
+Says (is.Periods histories periods) row = (histories ≡ value_of (field row 1)) × (periods ≡ value_of (field row 2))
+Says (is.Leg leg) row = leg ≡ leg_in row
+Says (is.Product product) row = (product.name ≡ field row 1) × (product.fare ≡ value_of (field row 2)) × (product.legs.items ≡ further row)
+Says (is.Demand demand) row = (demand.product ≡ field row 1) × (demand.history ≡ value_of (field row 2)) × (demand.seats.items ≡ further_numbers row)
+
+-- a row passes the checks that need no look-up, and says this
+pub record IsRead (before : List (List (List ℕ))) (row : List (List ℕ)) (entry : Entry) : Type 0 where
+  pub shape : HasShape before row (kind_said entry)
+  pub says : Says entry row
+
+-- what reading a row after those before it gives
+abbrev pub Reads : List (List (List ℕ)) → List (List ℕ) → Result Entry RowFault → Type 0
+Reads before row (Ok entry) = IsRead before row entry
+Reads before row (Err fault) = Refuses before row fault
+
+-- whatever rows the counts are of
+abbrev pub ReadsRow : Counts → List (List ℕ) → Result Entry RowFault → Type 0
+ReadsRow counts row result = (before : List (List (List ℕ))) → Counted counts before → Reads before row result
+
+-- and where the row is of this kind
+abbrev pub ReadsAs : Kind → Counts → List (List ℕ) → Result Entry RowFault → Type 0
+ReadsAs kind counts row result = kind_of row ≡ kind → ReadsRow counts row result

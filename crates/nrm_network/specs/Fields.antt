@@ -1,0 +1,44 @@
+-- What reading the fields of a row gives.
+use Rattle.std.specs.Prelude.{ℕ, ◌≡◌, Bool, true, false, List, map, Option, Some, None, Result, Ok, Err, ⊤, Vec}
+use Rattle.std.specs.declared.alloc.Global.{Global}
+use Rattle.std.specs.List.{list_all}
+use Rattle.nrm_text.specs.Names.{is_name}
+use Rattle.nrm_text.specs.Numbers.{is_whole, value_of}
+use Rattle.nrm_network.specs.Rows.{further, further_numbers}
+use Rattle.nrm_network.specs.Checks.{NumberField, is_within}
+use Rattle.nrm_network.specs.declared.fault.RowFault.{RowFault}
+use Rattle.nrm_network.specs.declared.fault.RowFault.TheVariants as fault
+use Rattle.nrm_network.specs.declared.fault.Why.{Why}
+use Rattle.nrm_network.specs.declared.fault.Why.TheVariants as why
+
+-- the field is a name, which is given, or none
+abbrev pub NameIn : List ℕ → Result (List ℕ) Why → Type 0
+NameIn text (Ok name) = (is_name text ≡ true) × (name ≡ text)
+NameIn text (Err cause) = (is_name text ≡ false) × (cause ≡ why.Name)
+
+-- the fields from the fourth on are names, or one is none; want of memory is free
+abbrev pub NamesIn : List (List ℕ) → Result (Vec (List ℕ) Global) RowFault → Type 0
+NamesIn row (Ok names) = (list_all is_name (further row) ≡ true) × (names.items ≡ further row)
+NamesIn row (Err (fault.Refused cause)) = (list_all is_name (further row) ≡ false) × (cause ≡ why.Name)
+NamesIn row (Err fault.NoMemory) = ⊤
+
+-- the field writes a number within its bounds, which is given, or one outside them, or none
+abbrev pub NumberIn : NumberField → Result (Option ℕ) Why → Type 0
+NumberIn number (Ok (Some value)) = (is_whole number.0 ≡ true) × (is_within number ≡ true) × (value ≡ value_of number.0)
+NumberIn number (Ok None) = (is_whole number.0 ≡ true) × (is_within number ≡ false)
+NumberIn number (Err cause) = (is_whole number.0 ≡ false) × (cause ≡ why.Number)
+
+-- texts with the same bounds
+abbrev pub bounded : ℕ → ℕ → List (List ℕ) → List (List ℕ × ℕ × ℕ)
+bounded least greatest texts = map (λ text. (text, least, greatest)) texts
+
+abbrev pub are_whole : List (List ℕ × ℕ × ℕ) → Bool
+are_whole numbers = list_all (λ (number : NumberField). is_whole number.0) numbers
+
+-- the fields from the fourth on write numbers within these bounds, or one is outside them, or one is none; want of memory is free
+abbrev pub NumbersIn : ℕ → ℕ → List (List ℕ) → Result (Option (Vec ℕ Global)) RowFault → Type 0
+NumbersIn least greatest row (Ok (Some numbers)) =
+    (are_whole (bounded least greatest (further row)) ≡ true) × (list_all is_within (bounded least greatest (further row)) ≡ true) × (numbers.items ≡ further_numbers row)
+NumbersIn least greatest row (Ok None) = (are_whole (bounded least greatest (further row)) ≡ true) × (list_all is_within (bounded least greatest (further row)) ≡ false)
+NumbersIn least greatest row (Err (fault.Refused cause)) = (are_whole (bounded least greatest (further row)) ≡ false) × (cause ≡ why.Number)
+NumbersIn least greatest row (Err fault.NoMemory) = ⊤

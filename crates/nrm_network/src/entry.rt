@@ -1,0 +1,183 @@
+//! A row as it is read: its fields by their meaning, each read once. What is asked of a row before any look-up stands
+//! here, kind by kind: its place, how many fields it has, that there is room for it, and what its fields are.
+ghost use Rattle.std.specs.Prelude.{◌≡◌, List, ℕ, MatchResult, false};
+ghost use Rattle.csv.specs.Records.{fields_of};
+ghost use Rattle.nrm_network.specs.Rows.{kind_of, periods_kind, leg_kind, product_kind, demand_kind};
+ghost use Rattle.nrm_network.specs.Entries.{Counted, ReadsAs, ReadsRow, first_refusal, kind_by, kind_seen};
+
+use crate::fault::{RowFault, Why};
+use crate::row::{field, name_in, names_in, number_in, numbers_in};
+use csv::ByteRecord;
+use nrm_model::{Leg, Thresholds};
+use nrm_text::Name;
+use std::alloc::Global;
+
+/// What a row says.
+#[derive(Drop)]
+pub enum Entry {
+    Periods { histories: u8, periods: u8 },
+    Leg(Leg),
+    Product(ProductEntry),
+    Demand(DemandEntry),
+}
+
+/// What a row of a product says: its legs are named.
+#[derive(Drop)]
+pub struct ProductEntry {
+    pub name: Name,
+    pub fare: u32,
+    pub legs: Vec<Name>,
+}
+
+/// What a row of demand says: the seats of each period.
+#[derive(Drop)]
+pub struct DemandEntry {
+    pub product: Name,
+    pub history: u8,
+    pub seats: Vec<u32>,
+}
+
+/// What was read before a row: how many histories and periods there are, both 0 before the first row, and how many
+/// legs and products were read.
+#[derive(Clone, Copy)]
+pub struct Counts {
+    pub histories: u8,
+    pub periods: u8,
+    pub legs: usize,
+    pub products: usize,
+}
+
+/// The kind of a row, by its first field.
+#[derive(Clone, Copy)]
+pub enum RowKind {
+    Periods,
+    Leg,
+    Product,
+    Demand,
+    Unknown,
+}
+
+// The kind of the rows that begin with this word.
+fn kind_named(word: &[u8]) -> RowKind
+    ensures { kind_seen result ≡ kind_by word.now }
+{
+    if word == b"periods".as_slice() {
+        RowKind::Periods
+    } else if word == b"leg".as_slice() {
+        RowKind::Leg
+    } else if word == b"product".as_slice() {
+        RowKind::Product
+    } else if word == b"demand".as_slice() {
+        RowKind::Demand
+    } else {
+        RowKind::Unknown
+    }
+}
+
+fn kind_of(row: &ByteRecord) -> RowKind
+    ensures { kind_seen result ≡ kind_of (fields_of row.now) }
+{
+    kind_named(field(row, 0))
+}
+
+// The first of these checks that refuses a row: it is out of order, its fields are too few or too many, or there is no
+// room for it.
+fn admit(out_of_order: bool, miscounted: bool, too_many: bool) -> Result<(), Why>
+    ensures { MatchResult result (λ done. (out_of_order ≡ false) × (miscounted ≡ false) × (too_many ≡ false)) (λ cause. first_refusal out_of_order miscounted too_many ≡ Some cause) }
+{
+    if out_of_order {
+        return Err(Why::Order);
+    }
+    if miscounted {
+        return Err(Why::Fields);
+    }
+    if too_many {
+        return Err(Why::Many);
+    }
+    Ok(())
+}
+
+fn read_periods(counts: Counts, row: &ByteRecord) -> Result<Entry, RowFault>
+    ensures { ReadsAs periods_kind counts (fields_of row.now) result }
+{
+    let first = counts.histories == 0;
+    admit(!first, row.len() != 3, false)?;
+    let histories = number_in(field(row, 1), 1, 32)?;
+    let periods = number_in(field(row, 2), 1, 16)?;
+    Ok(Entry::Periods {
+        histories: histories.ok_or(Why::Range)? as u8,
+        periods: periods.ok_or(Why::Range)? as u8,
+    })
+}
+
+fn read_leg(alloc: Global, counts: Counts, row: &ByteRecord) -> Result<Entry, RowFault>
+    ensures { ReadsAs leg_kind counts (fields_of row.now) result }
+{
+    let count = row.len();
+    admit(
+        counts.histories == 0,
+        !(3 <= count && count <= 12),
+        64 <= counts.legs,
+    )?;
+    let name = name_in(field(row, 1))?;
+    let seats = number_in(field(row, 2), 0, 999)?;
+    let cuts = numbers_in(alloc, row, 1, 99_999_999)?;
+    Ok(Entry::Leg(Leg {
+        name,
+        seats: seats.ok_or(Why::Range)? as u16,
+        cuts: Thresholds::new(cuts.ok_or(Why::Range)?),
+    }))
+}
+
+fn read_product(alloc: Global, counts: Counts, row: &ByteRecord) -> Result<Entry, RowFault>
+    ensures { ReadsAs product_kind counts (fields_of row.now) result }
+{
+    let count = row.len();
+    admit(
+        counts.histories == 0,
+        !(4 <= count && count <= 7),
+        256 <= counts.products,
+    )?;
+    let name = name_in(field(row, 1))?;
+    let legs = names_in(alloc, row)?;
+    let fare = number_in(field(row, 2), 1, 99_999_999)?;
+    Ok(Entry::Product(ProductEntry {
+        name,
+        fare: fare.ok_or(Why::Range)?,
+        legs,
+    }))
+}
+
+fn read_demand(alloc: Global, counts: Counts, row: &ByteRecord) -> Result<Entry, RowFault>
+    ensures { ReadsAs demand_kind counts (fields_of row.now) result }
+{
+    admit(
+        counts.histories == 0,
+        row.len() != 3 + counts.periods as usize,
+        false,
+    )?;
+    let product = name_in(field(row, 1))?;
+    let history = number_in(field(row, 2), 1, u32::from(counts.histories))?;
+    let seats = numbers_in(alloc, row, 0, 999)?;
+    Ok(Entry::Demand(DemandEntry {
+        product,
+        history: history.ok_or(Why::Range)? as u8,
+        seats: seats.ok_or(Why::Range)?,
+    }))
+}
+
+/// What a row says that passes the checks that need no look-up.
+///
+/// # Errors
+/// The first check that it fails, or want of memory.
+pub fn read_row(alloc: Global, counts: Counts, row: &ByteRecord) -> Result<Entry, RowFault>
+    ensures { ReadsRow counts (fields_of row.now) result }
+{
+    match kind_of(row) {
+        RowKind::Periods => read_periods(counts, row),
+        RowKind::Leg => read_leg(alloc, counts, row),
+        RowKind::Product => read_product(alloc, counts, row),
+        RowKind::Demand => read_demand(alloc, counts, row),
+        RowKind::Unknown => Err(RowFault::Refused(Why::Kind)),
+    }
+}
