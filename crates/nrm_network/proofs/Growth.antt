@@ -111,10 +111,6 @@ leg-grows draft after (first ∷ more) row is shape free (legs, leg_names, other
     (ap (λ (d : Draft). d.products.items) others ∙ is.products ∙ sym (products-stay (leg_rows taken) row (product_rows taken) good.there))
     (ap (λ (d : Draft). d.product_names) others ∙ is.product_names) is.named (ap (λ (d : Draft). d.demand.items) others ∙ is.demand) (ap (λ (d : Draft). d.given.items) others ∙ is.given)
 
--- a leg of these parts is the row's
-pub leg-same : (row : Row) (name cuts : List ℕ) (seats : ℕ) → name ≡ field row 1 → seats ≡ value_of (field row 2) → cuts ≡ further_numbers row → (let leg : Leg = record { name = name; seats = seats; cuts = cuts } in leg) ≡ leg_in row
-leg-same row name cuts seats n s c = λ i. record { name = n i; seats = s i; cuts = c i }
-
 -- a look-up by name: whether there is such a row, and which
 pub place-any : {X : Type 0} (p : X → Bool) (k : ℕ) (xs : List X) → is_some (position_from p k xs) ≡ list_any p xs
 place-any p k [] = refl
@@ -127,17 +123,6 @@ place-named (row ∷ rows) name k = elim (cases_Bool (bytes_eq (field row 1) nam
 pub named-by : (o : Option ℕ) (b : Bool) (names : List (List ℕ)) (rows : List Row) (name text : List ℕ) → o ≡ position_from (λ other. bytes_eq other name) 0 names → b ≡ is_some o → names ≡ names_of rows → name ≡ text → b ≡ is_named rows text
 named-by o b names rows name text found some are same =
     some ∙ ap (λ (p : Option ℕ). is_some p) found ∙ place-any (λ other. bytes_eq other name) 0 names ∙ ap (λ (n : List (List ℕ)). list_any (λ other. bytes_eq other name) n) are ∙ any-second rows name ∙ ap (λ (n : List ℕ). is_named rows n) same
-
--- the name in bytes is those bytes
-pub name-is : (name bytes : List ℕ) → Some name ≡ name_in bytes → name ≡ bytes
-name-is name bytes is = elim (cases_Bool (is_name bytes)) [
-  | inl e ↦ let same : Some name ≡ Some bytes = rw e at is in cc
-  | inr e ↦ let none : Some name ≡ None = rw e at is in cc
-]
-
--- and where they are a name, it is there
-pub name-there : (bytes : List ℕ) → None ≡ name_in bytes → is_name bytes ≡ true → ⊥
-name-there bytes none e = let same : None ≡ Some bytes = rw e at none in cc
 
 -- what a look-up by name gives
 pub look-up : (o : Option ℕ) (names : List (List ℕ)) (rows : List Row) (name text : List ℕ) → o ≡ position_from (λ other. bytes_eq other name) 0 names → names ≡ names_of rows → name ≡ text

@@ -141,42 +141,6 @@ further-small row least greatest whole within = record {
   small = λ k d short. (in-range least greatest _ (AllPass-from_list_all (is_in_range least greatest) (further_numbers row) (further-within least greatest row within) k d short)).1;
 }
 
-pub record PeriodsShape (row : Row) : Type 0 where
-  pub histories : Number (field row 1) 1 32
-  pub periods : Number (field row 2) 1 16
-
-pub periods-shape : (before : List Row) (row : Row) → HasShape before row periods_kind → PeriodsShape row
-periods-shape before row shape =
-    let (whole, more) = and_parts (is_whole (field row 1)) (is_whole (field row 2) && true) shape.numbers in
-    let (whole_periods, end) = and_parts (is_whole (field row 2)) true more in
-    let (range, rest) = and_parts (is_within (field row 1, 1, 32)) (is_within (field row 2, 1, 16) && true) shape.range in
-    let (range_periods, last) = and_parts (is_within (field row 2, 1, 16)) true rest in
-    record { histories = number (field row 1) 1 32 whole range; periods = number (field row 2) 1 16 whole_periods range_periods }
-
-pub record LegShape (row : Row) : Type 0 where
-  pub name : is_name (field row 1) ≡ true
-  pub seats : Number (field row 2) 0 999
-  pub cuts : Further row 99999999
-
-pub leg-shape : (before : List Row) (row : Row) → HasShape before row leg_kind → LegShape row
-leg-shape before row shape =
-    let (name, end) = and_parts (is_name (field row 1)) true shape.names in
-    let (whole, whole_cuts) = and_parts (is_whole (field row 2)) (list_all (λ (number : NumberField). is_whole number.0) (map (λ cut. (cut, 1, 99999999)) (further row))) shape.numbers in
-    let (range, range_cuts) = and_parts (is_within (field row 2, 0, 999)) (list_all is_within (map (λ cut. (cut, 1, 99999999)) (further row))) shape.range in
-    record { name = name; seats = number (field row 2) 0 999 whole range; cuts = further-small row 1 99999999 whole_cuts range_cuts }
-
-pub record ProductShape (row : Row) : Type 0 where
-  pub name : is_name (field row 1) ≡ true
-  pub fare : Number (field row 2) 1 99999999
-  pub legs : list_all is_name (further row) ≡ true
-
-pub product-shape : (before : List Row) (row : Row) → HasShape before row product_kind → ProductShape row
-product-shape before row shape =
-    let (name, legs) = and_parts (is_name (field row 1)) (list_all is_name (further row)) shape.names in
-    let (whole, end) = and_parts (is_whole (field row 2)) true shape.numbers in
-    let (range, last) = and_parts (is_within (field row 2, 1, 99999999)) true shape.range in
-    record { name = name; fare = number (field row 2) 1 99999999 whole range; legs = legs }
-
 pub record DemandShape (histories periods : ℕ) (row : Row) : Type 0 where
   pub name : is_name (field row 1) ≡ true
   pub history : Number (field row 2) 1 histories

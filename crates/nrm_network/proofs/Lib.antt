@@ -1,5 +1,6 @@
 pub mod CsvRows
 pub mod Examples
+pub mod CauseTexts
 pub mod OnLiterals
 pub mod Passes
 pub mod PlainRows

@@ -26,9 +26,6 @@ next_field fields i short = subst (λ (n : ℕ). drop i fields ≡ field fields 
 pub all_next : (p : List ℕ → Bool) (fields : List (List ℕ)) (i : ℕ) → i < length fields → list_all p (drop i fields) ≡ p (field fields i) && list_all p (drop (i + 1) fields)
 all_next p fields i short = ap (λ (fs : List (List ℕ)). list_all p fs) (next_field fields i short)
 
-pub any_next : (p : List ℕ → Bool) (fields : List (List ℕ)) (i : ℕ) → i < length fields → list_any p (drop i fields) ≡ p (field fields i) || list_any p (drop (i + 1) fields)
-any_next p fields i short = ap (λ (fs : List (List ℕ)). list_any p fs) (next_field fields i short)
-
 pub differ_next : (fields : List (List ℕ)) (i : ℕ) → i < length fields
     → differ bytes_eq (drop i fields) ≡ not (list_any (bytes_eq (field fields i)) (drop (i + 1) fields)) && differ bytes_eq (drop (i + 1) fields)
 differ_next fields i short = ap (λ (fs : List (List ℕ)). differ bytes_eq fs) (next_field fields i short)

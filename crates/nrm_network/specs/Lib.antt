@@ -1,5 +1,6 @@
 pub mod Answer
 pub mod Canonical
+pub mod Causes
 pub mod Checks
 pub mod Draft
 pub mod Entries

@@ -33,6 +33,33 @@ pub enum Why {
     Size,
 }
 
+impl Why {
+    ghost use Rattle.std.specs.Prelude.{◌≡◌, ◌≤◌, length};
+    ghost use Rattle.nrm_network.specs.Causes.{why_text};
+
+    /// The number of the cause and its word, as `1 kind`.
+    pub fn text(self) -> &'static [u8]
+        ensures text { result.now ≡ why_text self }
+        ensures length { length result.now ≤ 13 }
+    {
+        match self {
+            Why::Kind => b"1 kind",
+            Why::Order => b"2 order",
+            Why::Fields => b"3 fields",
+            Why::Many => b"4 many",
+            Why::Name => b"5 name",
+            Why::Number => b"6 number",
+            Why::Range => b"7 range",
+            Why::Twice => b"8 twice",
+            Why::Missing => b"9 missing",
+            Why::Thresholds => b"10 thresholds",
+            Why::Sum => b"11 sum",
+            Why::Empty => b"12 empty",
+            Why::Size => b"13 size",
+        }
+    }
+}
+
 /// A file that gives no network: it is refused at a row, counted from 1, or memory ran out.
 #[derive(Debug, Drop, Error)]
 pub enum NetFault {
