@@ -41,7 +41,8 @@ impl Book {
     /// # Errors
     /// Want of memory.
     pub fn new(alloc: Global, net: &Network) -> Result<Book, AllocError>
-        ensures { IfOk result (λ book. book ≡ record { inventory = inventory_of net.now; bookings = []; next = 1 }) }
+        ensures empty { IfOk result (λ book. book ≡ record { inventory = inventory_of net.now; bookings = []; next = 1 }) }
+        ensures kept { IfOk result IsBook }
     {
         // For its clause alone: a network is within its limits.
         let _ = net.n();
@@ -132,6 +133,7 @@ impl Book {
         requires next { self.old.next < 1000000000000 }
         ensures number { result ≡ self.old.next }
         ensures added { self.new ≡ with_booking self.old product party }
+        ensures kept { IsBook self.new }
     {
         let number = self.next;
         let booking = Booking {
@@ -150,7 +152,8 @@ impl Book {
         ensures booking { result ≡ booking_numbered self.old.bookings number }
         ensures removed { self.new ≡ record self.old { bookings = without self.old.bookings number } }
         ensures within { IfSome result (λ booking. booking.product < length self.old.inventory.legs) }
-        ensures kept { IfNone result (self.new ≡ self.old) }
+        ensures dead { IfNone result (self.new ≡ self.old) }
+        ensures kept { IsBook self.new }
     {
         let place = self.place_of(number)?;
         Some(self.bookings.remove(place))

@@ -1,2 +1,3 @@
+pub mod Examples
 pub mod Inventories
 pub mod States

@@ -3,15 +3,17 @@ use Rattle.std.specs.Prelude.{ℕ, ◌≡◌, ◌<◌, ◌+◌, List, ◌∷◌,
 use Rattle.nrm_model.specs.Inventory.{inventory_of}
 use Rattle.nrm_model.specs.Network.{NetworkValue}
 use Rattle.nrm_model.specs.Limits.{IsNetwork}
+use Rattle.nrm_model.specs.declared.mode.Mode.{Mode}
 use Rattle.nrm_book.specs.declared.booking.Booking.{Booking}
 use Rattle.nrm_book.specs.Book.{BookValue, IsBook}
 use Rattle.nrm_control.specs.State.{SeatState}
 use Rattle.nrm_control.specs.declared.answer.Answer.{Answer}
 use Rattle.nrm_control.specs.declared.answer.Answer.TheVariants as answer
 
--- the network, the bookings that stand and the next number
+-- the network, how it is controlled, the bookings that stand and the next number
 pub record ControlValue : Type 0 where
   pub net : NetworkValue
+  pub mode : Mode
   pub bookings : List Booking
   pub next : ℕ
 
@@ -19,10 +21,17 @@ pub record ControlValue : Type 0 where
 abbrev pub book_of : ControlValue → BookValue
 book_of control = record { inventory = inventory_of control.net; bookings = control.bookings; next = control.next }
 
--- A controller stands for each state that has its bookings and its number. It doesn't keep the requests, so they may be any.
+-- A controller stands for each state that has its mode, its bookings and its number. It doesn't keep the requests, so they may be any.
 pub record StandsFor (control : ControlValue) (s : SeatState) : Type 0 where
+  pub mode : s.mode ≡ control.mode
   pub bookings : s.bookings ≡ control.bookings
   pub next : s.next ≡ control.next
+
+-- a network within the limits, and a book of it
+pub record IsBookOf (net : NetworkValue) (book : BookValue) : Type 0 where
+  pub network : IsNetwork net
+  pub inventory : book.inventory ≡ inventory_of net
+  pub kept : IsBook book
 
 -- its network is within the limits, and its book is one of that network: no leg has more seats sold than it has
 pub record IsControl (control : ControlValue) : Type 0 where
@@ -44,4 +53,4 @@ IsOnNetwork net (answer.Leg i) = i < length net.legs
 
 -- each controller stands for some state
 abbrev pub StandsForSome : Type 0
-StandsForSome = (control : ControlValue) → (s : SeatState) × StandsFor control s
+StandsForSome = (control : ControlValue) → IsControl control → (s : SeatState) × StandsFor control s

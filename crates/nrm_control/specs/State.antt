@@ -1,6 +1,7 @@
 -- What the controller remembers, and how each call changes it.
 use Rattle.std.specs.Prelude.{ℕ, ◌+◌, List, [], ◌∷◌, ◌++◌}
 use Rattle.nrm_model.specs.Network.{NetworkValue}
+use Rattle.nrm_model.specs.declared.mode.Mode.{Mode}
 use Rattle.nrm_book.specs.declared.booking.Booking.{Booking}
 use Rattle.nrm_book.specs.Bookings.{without}
 use Rattle.nrm_control.specs.Verdict.{verdict_of}
@@ -12,15 +13,16 @@ pub record Request : Type 0 where
   pub product : ℕ
   pub party : ℕ
 
--- the bookings that stand, the next number, and the requests so far, sold or not
+-- how the seats are controlled, the bookings that stand, the next number, and the requests so far, sold or not
 pub record SeatState : Type 0 where
+  pub mode : Mode
   pub bookings : List Booking
   pub next : ℕ
   pub requests : List Request
 
--- no booking, number 1, and no request
-abbrev pub opening : SeatState
-opening = record { bookings = []; next = 1; requests = [] }
+-- a session in a mode begins with no booking, number 1, and no request
+abbrev pub opening : Mode → SeatState
+opening mode = record { mode = mode; bookings = []; next = 1; requests = [] }
 
 -- what a request is answered in a state
 abbrev pub answer_in : NetworkValue → SeatState → ℕ → ℕ → Answer
@@ -28,7 +30,7 @@ answer_in net s j party = verdict_of net s.bookings s.next j party
 
 -- the state after a request, by its answer: each is remembered, and one that was sold is booked
 abbrev pub after_answer : SeatState → ℕ → ℕ → Answer → SeatState
-after_answer s j party (answer.Sold number) = record {
+after_answer s j party (answer.Sold number) = record s {
   bookings = s.bookings ++ record { number = number; product = j; party = party } ∷ [];
   next = number + 1;
   requests = s.requests ++ record { product = j; party = party } ∷ [];

@@ -1,4 +1,5 @@
-//! The controller: a network and the book of what was sold of it. Requests are served first come, first served.
+//! The controller: a network, how it is controlled, and the book of what was sold of it. Requests are served first come,
+//! first served.
 ghost use Rattle.std.specs.Prelude.{◌≡◌, ◌<◌, [], All, find, IfNone, IfOk, length, nat_lt, option_map};
 ghost use Rattle.std.specs.Int.{IsInRange};
 ghost use Rattle.nrm_model.specs.Inventory.{inventory_of};
@@ -14,19 +15,18 @@ use std::marker::Model;
 #[derive(Drop)]
 pub struct Controller {
     network: Network,
+    mode: Mode,
     book: Book,
 }
 
 impl Model for Controller {
-    ghost use Rattle.std.specs.Prelude.{◌≡◌};
-    ghost use Rattle.nrm_model.specs.Inventory.{inventory_of};
-    ghost use Rattle.nrm_control.specs.Standing.{ControlValue};
+    ghost use Rattle.nrm_control.specs.Standing.{ControlValue, IsBookOf};
 
     ghost Value = { ControlValue };
 
-    ghost view = { λ c. record { net = c.network; bookings = c.book.bookings; next = c.book.next } };
+    ghost view = { λ c. record { net = c.network; mode = c.mode; bookings = c.book.bookings; next = c.book.next } };
 
-    ghost invariant = { λ c. c.book.inventory ≡ inventory_of c.network };
+    ghost invariant = { λ c. IsBookOf c.network c.book };
 }
 
 // The first of these legs whose seats left don't cover the party.
@@ -54,11 +54,17 @@ impl Controller {
     /// Want of memory; the network is dropped.
     pub fn start(alloc: Global, net: Network, mode: Mode) -> Result<Controller, AllocError>
         requires { mode ≡ modes.FirstCome }
-        ensures { IfOk result (λ controller. controller ≡ record { net = net; bookings = []; next = 1 }) }
+        ensures begins { IfOk result (λ controller. controller ≡ record { net = net; mode = mode; bookings = []; next = 1 }) }
+        ensures kept { IfOk result IsControl }
     {
-        let _ = mode;
+        // For its clause alone: a network is within its limits.
+        let _ = net.n();
         let book = Book::new(alloc, &net)?;
-        Ok(Controller { network: net, book })
+        Ok(Controller {
+            network: net,
+            mode,
+            book,
+        })
     }
 
     /// Asks for seats of a product for a party. A refusal changes nothing. It takes no memory.
@@ -69,6 +75,7 @@ impl Controller {
         ensures answer { result ≡ verdict_of self.old.net self.old.bookings self.old.next product party }
         ensures leg { IsOnNetwork self.old.net result }
         ensures changed { self.new ≡ with_answer self.old product party result }
+        ensures kept { IsControl self.new }
         ensures state { (s : SeatState) → StandsFor self.old s → StandsFor self.new (after_request self.old.net s product party) }
     {
         let legs = self.network.product_at(product).legs.as_slice();
@@ -85,7 +92,8 @@ impl Controller {
     pub fn cancel(&mut self, number: u64) -> Option<u64>
         ensures refund { result ≡ option_map (worth_of (inventory_of self.old.net)) (booking_numbered self.old.bookings number) }
         ensures removed { self.new ≡ record self.old { bookings = without self.old.bookings number } }
-        ensures kept { IfNone result (self.new ≡ self.old) }
+        ensures dead { IfNone result (self.new ≡ self.old) }
+        ensures kept { IsControl self.new }
         ensures state { (s : SeatState) → StandsFor self.old s → StandsFor self.new (after_cancellation s number) }
     {
         let booking = self.book.remove(number)?;
@@ -100,13 +108,18 @@ impl Controller {
         &self.network
     }
 
+    /// How requests are controlled.
+    pub fn mode(&self) -> Mode
+        ensures { result ≡ self.now.mode }
+    {
+        self.mode
+    }
+
     /// The book of what was sold. It is one of the network, on which no leg has more seats sold than it has.
     pub fn book(&self) -> &Book
         ensures book { result.now ≡ book_of self.now }
         ensures kept { IsControl self.now }
     {
-        // With these answers comes that both are within their limits.
-        let _ = (self.network.n(), self.book.next());
         &self.book
     }
 }

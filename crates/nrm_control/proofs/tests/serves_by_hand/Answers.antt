@@ -26,7 +26,7 @@ next-moved old new j party given is changed =
 
 pub request-requires-5-clause-product : goal.request-requires-5-clause-product
 request-requires-5-clause-product g c =
-    let start : length c.in_ok-controller.controller.net.products ≡ 2 = ap (λ (v : ControlValue). length v.net.products) c.in_ok-controller.ensures ∙ c.in_ok-net.ensures.products in
+    let start : length c.in_ok-controller.controller.net.products ≡ 2 = ap (λ (v : ControlValue). length v.net.products) c.in_ok-controller.ensures.begins ∙ c.in_ok-net.ensures.products in
     let first = products-kept c.in_ok-controller.controller c.request.new.self 0 2 c.request.result c.request.ensures.changed in
     let second = products-kept c.request.new.self c.request-2.new.self 0 1 c.request-2.result c.request-2.ensures.changed in
     let third = products-kept c.request-2.new.self c.request-3.new.self 1 1 c.request-3.result c.request-3.ensures.changed in
@@ -38,7 +38,7 @@ request-requires-5-clause-product g c =
 
 pub request-requires-5-clause-next : goal.request-requires-5-clause-next
 request-requires-5-clause-next g c =
-    let start : c.in_ok-controller.controller.next ≡ 1 = ap (λ (v : ControlValue). v.next) c.in_ok-controller.ensures in
+    let start : c.in_ok-controller.controller.next ≡ 1 = ap (λ (v : ControlValue). v.next) c.in_ok-controller.ensures.begins in
     let first = next-moved c.in_ok-controller.controller c.request.new.self 0 2 c.request.result c.request.ensures.answer c.request.ensures.changed in
     let second = next-moved c.request.new.self c.request-2.new.self 0 1 c.request-2.result c.request-2.ensures.answer c.request-2.ensures.changed in
     let third = next-moved c.request-2.new.self c.request-3.new.self 1 1 c.request-3.result c.request-3.ensures.answer c.request-3.ensures.changed in

@@ -13,3 +13,6 @@ invariant_of-self c = record {
   kept = IsBook-sold _ c.args.self.now c.args.product c.args.party _ c.self.view_is c.self.invariant.kept c.requires.product c.requires.party c.requires.seats c.requires.next c.push_reserved.ensures.items;
   room = omega (arith, c.self.invariant.room, c.push_reserved.ensures.capacity);
 }
+
+pub returns-clause-kept : goal.returns-clause-kept
+returns-clause-kept c = (invariant_of-self c).kept

@@ -18,3 +18,6 @@ invariant_of-result c = record {
       let exact = c.in_ok-bookings.ensures.exact in
       omega arith;
 }
+
+pub returns-clause-kept : goal.returns-clause-kept
+returns-clause-kept c = (invariant_of-result c).kept

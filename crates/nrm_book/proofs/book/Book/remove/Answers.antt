@@ -40,3 +40,6 @@ returns-clause-within c =
     let read = subst (λ (bookings : List Booking). c.remove.result ≡ get_or bookings c.in_ok-place.place c.remove.result) items c.remove.ensures.value in
     let short = (position-Some (λ (booking : Booking). booking.number == c.args.number) c.args.self.now.bookings c.in_ok-place.place c.remove.result (sym c.in_ok-place.ensures)).0 in
     subst (λ (booking : Booking). booking.product < length c.args.self.now.inventory.legs) (sym read) (is.products c.in_ok-place.place c.remove.result short)
+
+pub returns-clause-kept : goal.returns-clause-kept
+returns-clause-kept c = (invariant_of-self c).kept

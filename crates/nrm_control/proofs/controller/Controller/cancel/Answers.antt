@@ -6,7 +6,7 @@ use Rattle.nrm_control.proofs.Inventories.{product-within, refund-is}
 use Rattle.nrm_control.proofs.controller.Controller.cancel.Goals as goal
 
 pub product_at-requires : goal.product_at-requires
-product_at-requires c = product-within c.self.inside.network c.self.inside.book.inventory c.in_ok-booking.booking.product c.self.invariant c.in_ok-booking.ensures.within
+product_at-requires c = product-within c.self.inside.network c.self.inside.book.inventory c.in_ok-booking.booking.product c.self.invariant.inventory c.in_ok-booking.ensures.within
 
 pub returns-clause-refund : goal.returns-clause-refund
 returns-clause-refund c =

@@ -9,17 +9,17 @@ use Rattle.nrm_control.proofs.controller.Controller.request.Goals as goal
 
 pub refusing_leg-requires : goal.refusing_leg-requires
 refusing_leg-requires c =
-    legs-within c.self.inside.network c.self.inside.book.inventory c.as_slice-legs.result.now c.product_at.result.now.legs c.self.invariant c.as_slice-legs.ensures c.product_at.ensures.limits.legs
+    legs-within c.self.inside.network c.self.inside.book.inventory c.as_slice-legs.result.now c.product_at.result.now.legs c.self.invariant.inventory c.as_slice-legs.ensures c.product_at.ensures.limits.legs
 
 pub add-requires-clause-seats : goal.add-requires-clause-seats
 add-requires-clause-seats c =
     seats-cover c.self.inside.network c.self.inside.book.inventory c.self.inside.book.bookings c.args.party c.args.product c.product_at.result.now c.as_slice-legs.result.now
-    c.self.invariant c.product_at.ensures.product c.as_slice-legs.ensures c.in-None.ensures
+    c.self.invariant.inventory c.product_at.ensures.product c.as_slice-legs.ensures c.in-None.ensures
 
 pub returns-in-Some-clause-answer : goal.returns-in-Some-clause-answer
 returns-in-Some-clause-answer c =
     verdict-is c.self.inside.network c.self.inside.book.inventory c.self.inside.book.bookings c.self.inside.book.next c.args.party c.args.product c.product_at.result.now c.as_slice-legs.result.now (Some c.in-Some.leg)
-    c.self.invariant c.product_at.ensures.product c.as_slice-legs.ensures c.in-Some.ensures
+    c.self.invariant.inventory c.product_at.ensures.product c.as_slice-legs.ensures c.in-Some.ensures
     ∙ ap (λ (control : ControlValue). verdict_of control.net control.bookings control.next c.args.product c.args.party) c.self.view_is
 
 pub returns-in-Some-clause-state : goal.returns-in-Some-clause-state
@@ -29,13 +29,13 @@ pub returns-in-None-clause-answer : goal.returns-in-None-clause-answer
 returns-in-None-clause-answer c =
     ap answer.Sold c.add.ensures.number
     ∙ verdict-is c.self.inside.network c.self.inside.book.inventory c.self.inside.book.bookings c.self.inside.book.next c.args.party c.args.product c.product_at.result.now c.as_slice-legs.result.now None
-    c.self.invariant c.product_at.ensures.product c.as_slice-legs.ensures c.in-None.ensures
+    c.self.invariant.inventory c.product_at.ensures.product c.as_slice-legs.ensures c.in-None.ensures
     ∙ ap (λ (control : ControlValue). verdict_of control.net control.bookings control.next c.args.product c.args.party) c.self.view_is
 
 pub returns-in-None-clause-state : goal.returns-in-None-clause-state
 returns-in-None-clause-state c =
     request-stands-through _ c.args.self.now _ c.args.product c.args.party (answer.Sold c.add.result) c.self.view_is (returns-in-None-clause-answer c)
-    (sold-is c.self.inside.network c.self.inside.book c.add.new.self c.args.product c.args.party c.add.result c.add.ensures.number c.add.ensures.added)
+    (sold-is c.self.inside.network c.self.inside.mode c.self.inside.book c.add.new.self c.args.product c.args.party c.add.result c.add.ensures.number c.add.ensures.added)
 
 pub returns-in-Some-clause-leg : goal.returns-in-Some-clause-leg
 returns-in-Some-clause-leg c =
