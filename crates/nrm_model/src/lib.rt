@@ -6,8 +6,6 @@ mod mode;
 mod names;
 mod network;
 mod product;
-#[cfg(test)]
-mod tests;
 
 pub use leg::{Leg, Thresholds};
 pub use mode::Mode;

@@ -1,0 +1,11 @@
+//! Small networks for the tests of the crates above, each worked by hand. The value of each stands in specs/Networks
+//! under the same name.
+#![tactic(auto)]
+
+mod networks;
+mod parts;
+#[cfg(test)]
+mod tests;
+
+pub use networks::{two_legs, two_legs_five_products, two_legs_last_first};
+pub use parts::{leg, name, product};
