@@ -1,5 +1,5 @@
 -- What the code's numbers are at 64 and at 128 bits.
-use Rattle.std.proofs.Common.{refl, sym, to_z-of_z, ◌≡◌, ℕ, zero, suc, ◌^◌, ◌<◌, ℤ, pos, negsuc, ◌-ℤ◌, ◌*ℤ◌, subst, ◌<ℤ◌, nat_abs, arith, ap, ◌∙◌, List, [], ◌∷◌, length, get_or, leb, false, leb-false, All}
+use Rattle.std.proofs.Common.{refl, sym, to_z-of_z, ◌≡◌, ℕ, zero, suc, ◌^◌, ◌<◌, ℤ, pos, negsuc, ◌-ℤ◌, ◌*ℤ◌, subst, ◌<ℤ◌, nat_abs, arith, ap, ◌∙◌, List, [], ◌∷◌, length, get_or, All}
 use Rattle.std.proofs.lemmas.List.{get_or_default}
 use Rattle.std.proofs.lemmas.Int.{ints, to_z_pos, unsigned_abs-mul}
 use Rattle.std.proofs.lemmas.Nat.{mul-lt}

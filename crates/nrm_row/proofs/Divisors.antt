@@ -1,13 +1,12 @@
 -- The greatest common divisor of a denominator and numbers, and these divided by it.
 use Rattle.std.proofs.Common.{length, get_or, ◌+◌, ◌-◌, ◌≡◌, ℕ, zero, suc, ◌*◌, ◌/◌, ◌<◌, ◌≤◌, ◌⊎◌, inl, inr, ℤ, pos, negsuc, ◌*ℤ◌, neg_ℤ, ◌<ℤ◌, nat_abs, arith, refl, sym, ap, ap₂, ◌∙◌, subst, List, [], ◌∷◌, map, drop}
 use Prim.Native.Nat.{◌∣◌}
-use Rattle.std.proofs.lemmas.Nat.Gcd.{dvd_trans, dvd_refl, dvd-zero, le_of_dvd}
 use Rattle.std.proofs.lemmas.List.{drop_more}
 use Rattle.std.proofs.lemmas.Int.{ints}
 use Rattle.std.specs.Int.RustNames.{int_div}
-use native.Mathlib.Nat.{div-mul_cancel, eq_of_mul-eq-mul_right, one-dvd, div-one}
+use native.Mathlib.Nat.{div-mul_cancel, eq_of_mul-eq-mul_right, div-one}
 use Rattle.nrm_number.specs.Gcd.{gcd, shrink}
-use Rattle.nrm_number.proofs.GcdLaws.{gcd-dvd_left, gcd-dvd_right, gcd-scaled, gcd_pos, gcd_unique, nat_abs-shrink}
+use Rattle.nrm_number.proofs.GcdLaws.{gcd-scaled, nat_abs-shrink}
 use Rattle.nrm_number.proofs.Integers.{ring_ℤ}
 use Rattle.nrm_number.proofs.Ring.{solve, v0, v1}
 use Rattle.nrm_number.proofs.Ring.Expr.{◌⊗◌, minus}

@@ -1,5 +1,5 @@
 -- What a row's numbers are of its entries, and the signs of these.
-use Rattle.std.proofs.Common.{◌≡◌, ℕ, ◌/◌, ◌^◌, ◌<◌, ℤ, pos, ◌*ℤ◌, ◌<ℤ◌, nat_abs, arith, refl, sym, ap, ap₂, ◌∙◌, subst, List, [], ◌∷◌, length, get_or, None}
+use Rattle.std.proofs.Common.{◌≡◌, ℕ, ◌/◌, ◌<◌, ℤ, pos, ◌*ℤ◌, ◌<ℤ◌, nat_abs, arith, refl, sym, ap, ap₂, ◌∙◌, subst, List, [], ◌∷◌, length, get_or, None}
 use Rattle.std.proofs.lemmas.List.{get_or-map}
 use Rattle.std.specs.Int.RustNames.{int_lt}
 use Rattle.nrm_number.specs.Gcd.{shrink}

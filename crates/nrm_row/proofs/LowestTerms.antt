@@ -1,6 +1,6 @@
 -- A row made of numbers over a denominator, in lowest terms: that it is a row, which fractions it stands for, and
 -- whether it is Large. Then what a row's parts are of its fractions.
-use Rattle.std.proofs.Common.{◌≡◌, ℕ, zero, suc, ◌/◌, ◌^◌, ◌<◌, ℤ, pos, negsuc, ◌<ℤ◌, nat_abs, arith, refl, sym, ap, ap₂, ◌∙◌, subst, List, [], ◌∷◌, length, take, drop, get_or, leb, cond, Bool, true, false, Some, None, leb-false, All}
+use Rattle.std.proofs.Common.{◌≡◌, ℕ, zero, suc, ◌/◌, ◌<◌, ℤ, pos, negsuc, ◌<ℤ◌, nat_abs, arith, refl, sym, ap, ap₂, ◌∙◌, subst, List, [], ◌∷◌, length, take, drop, get_or, leb, cond, Bool, true, false, Some, None, leb-false, All}
 use Rattle.std.specs.Int.{IsInRange}
 use Rattle.std.proofs.lemmas.Bool.Decides.{nat_tests}
 use Rattle.std.proofs.lemmas.Int.{ints}

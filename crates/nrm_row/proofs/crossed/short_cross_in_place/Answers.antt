@@ -1,4 +1,4 @@
-use Rattle.std.proofs.Common.{rules, arith, ◌≡◌, ◌^◌, ◌+◌, ap, sym, subst, ◌∙◌, get_or, set, pos, unsigned_abs, leb, false, Some, to_z, of_z, to_z-of_z, w64}
+use Rattle.std.proofs.Common.{rules, arith, ◌≡◌, ◌+◌, ap, sym, subst, ◌∙◌, get_or, set, pos, unsigned_abs, leb, false, Some, to_z, of_z, to_z-of_z, w64}
 use mir.Syntax.{w128}
 use mir.Val.{SFits}
 use Rattle.nrm_fraction.specs.Large.{first_reaching, size_limit}

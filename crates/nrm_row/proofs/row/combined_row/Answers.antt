@@ -1,4 +1,4 @@
-use Rattle.std.proofs.Common.{rules, ◌≡◌, ◌^◌, ap, ap₂, sym, subst, ◌∙◌, get_or, unsigned_abs, pos, ℕ, ℤ, ◌*ℤ◌, ◌<ℤ◌, to_z, of_z, to_z-of_z, w64, None, MatchResult}
+use Rattle.std.proofs.Common.{rules, ◌≡◌, ap, ap₂, sym, subst, ◌∙◌, get_or, unsigned_abs, pos, ℕ, ℤ, ◌*ℤ◌, ◌<ℤ◌, to_z, of_z, to_z-of_z, w64, None, MatchResult}
 use mir.Val.{SFits}
 use Rattle.nrm_number.specs.Gcd.{gcd, shrink}
 use Rattle.nrm_fraction.specs.Large.{fractions, large_number, size_limit}

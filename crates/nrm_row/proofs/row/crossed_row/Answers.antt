@@ -1,4 +1,4 @@
-use Rattle.std.proofs.Common.{rules, ◌≡◌, ◌^◌, ap, ap₂, sym, subst, subst₂, ◌∙◌, unsigned_abs, pos, List, ℤ, ℕ, ◌*ℤ◌, ◌<ℤ◌, to_z, of_z, to_z-of_z, w64, Some, None, leb, true, false}
+use Rattle.std.proofs.Common.{rules, ◌≡◌, ap, ap₂, sym, subst, subst₂, ◌∙◌, unsigned_abs, pos, List, ℤ, ℕ, ◌*ℤ◌, ◌<ℤ◌, to_z, of_z, to_z-of_z, w64, Some, None, leb, true, false}
 use Rattle.std.proofs.lemmas.Result.{err_from_is_err_and}
 use mir.Syntax.{w128}
 use mir.Val.{SFits}

@@ -1,4 +1,4 @@
-use Rattle.std.proofs.Common.{◌≡◌, ◌<◌, ◌^◌, arith, ap, ap₂, sym, ◌∙◌, get_or, length, pos, to_z, of_z, w64}
+use Rattle.std.proofs.Common.{◌≡◌, ◌<◌, arith, ap, ap₂, sym, ◌∙◌, get_or, length, pos, to_z, of_z, w64}
 use Rattle.nrm_fraction.specs.Large.{large_number, size_limit}
 use Rattle.nrm_fraction.specs.Rows.{combine}
 use Rattle.nrm_row.proofs.Bits.{read_at}
