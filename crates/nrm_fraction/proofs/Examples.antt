@@ -1,8 +1,9 @@
 -- Examples at closed fractions: the operations, a list over its least common denominator, and Large lists.
-use Rattle.std.proofs.Common.{◌≡◌, ◌^◌, pos, negsuc, refl, true, [], ◌∷◌, Some, None}
+use Rattle.std.proofs.Common.{◌≡◌, pos, negsuc, refl, true, [], ◌∷◌, Some, None}
 use Rattle.nrm_number.specs.Gcd.{gcd, lcm, in_lowest_terms}
 use Rattle.nrm_fraction.specs.Fraction.{◌over◌, ◌+ᶠ◌, ◌*ᶠ◌, ◌-ᶠ◌, ◌/ᶠ◌, inverse, negative, less, whole}
-use Rattle.nrm_fraction.specs.Large.{common, numerators, large_number, size_limit}
+use Rattle.nrm_fraction.specs.declared.TheConstants.{SIZE_LIMIT}
+use Rattle.nrm_fraction.specs.Large.{common, numerators, large_number, first_too_large, size_limit}
 use Rattle.nrm_fraction.specs.Lex.{lex_below}
 use Rattle.nrm_fraction.specs.Rows.{row_of, unit_row, combine, ratio_columns, ratios}
 
@@ -42,6 +43,23 @@ large_denominator = refl
 not_large : large_number size_limit (pos 281474976710655 over 1 ∷ negsuc 281474976710654 over 1 ∷ []) ≡ None
 unfolding ◌over◌ gcd lcm in_lowest_terms
 not_large = refl
+
+-- the code's limit is that of the definitions
+limit_of_code : SIZE_LIMIT ≡ size_limit
+limit_of_code = refl
+
+-- over 6 the numerators are 30 and 8, and the denominators on the way are 2 and 6: the denominators come first
+large_on_the_way : first_too_large 6 (pos 5 over 1 ∷ pos 1 over 2 ∷ pos 4 over 3 ∷ []) ≡ Some (pos 6)
+unfolding ◌over◌ gcd lcm in_lowest_terms
+large_on_the_way = refl
+
+large_over_all : first_too_large 7 (pos 5 over 1 ∷ pos 1 over 2 ∷ pos 4 over 3 ∷ []) ≡ Some (pos 30)
+unfolding ◌over◌ gcd lcm in_lowest_terms
+large_over_all = refl
+
+first_denominator_on_the_way : first_too_large 2 (pos 5 over 1 ∷ pos 1 over 2 ∷ pos 4 over 3 ∷ []) ≡ Some (pos 2)
+unfolding ◌over◌ gcd lcm in_lowest_terms
+first_denominator_on_the_way = refl
 
 -- ---- rows
 unit_of_evens : unit_row 0 (row_of 4 ((0, pos 2) ∷ (1, pos 4) ∷ (3, pos 6) ∷ [])) ≡ row_of 4 ((0, pos 1) ∷ (1, pos 2) ∷ (3, pos 3) ∷ [])

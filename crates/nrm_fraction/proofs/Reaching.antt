@@ -1,5 +1,5 @@
 -- The first number that reaches the limit.
-use Rattle.std.proofs.Common.{◌≡◌, ◌^◌, ℤ, nat_abs, ap, List, ◌∷◌, leb, cond, true, false, Some}
+use Rattle.std.proofs.Common.{◌≡◌, ℤ, nat_abs, ap, List, ◌∷◌, leb, cond, true, false, Some}
 use Rattle.nrm_fraction.specs.Large.{first_reaching, size_limit}
 
 pub reaching_yes : (n : ℤ) (ns : List ℤ) → leb size_limit (nat_abs n) ≡ true → first_reaching size_limit (n ∷ ns) ≡ Some n

@@ -1,5 +1,5 @@
 -- The running least common denominator ends at the least common denominator.
-use Rattle.std.proofs.Common.{◌≡◌, ℕ, ◌+◌, ◌/◌, ◌*◌, ◌<◌, ◌≤◌, ◌^◌, pos, arith, refl, sym, ap, ◌∙◌, List, ◌∷◌, drop, length, get_or, Some, None}
+use Rattle.std.proofs.Common.{◌≡◌, ℕ, ◌+◌, ◌/◌, ◌*◌, ◌<◌, ◌≤◌, pos, arith, refl, sym, ap, ◌∙◌, List, ◌∷◌, drop, length, get_or, Some, None}
 use Rattle.std.proofs.lemmas.List.{drop_all, drop_more}
 use Rattle.std.proofs.lemmas.Bool.{lt-leb, le-leb}
 use Rattle.std.proofs.lemmas.Nat.Gcd.{dvd_antisymm, dvd_trans, dvd_refl}

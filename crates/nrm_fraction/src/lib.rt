@@ -5,8 +5,6 @@
 mod fault;
 mod fraction;
 mod over;
-#[cfg(test)]
-mod tests;
 
 pub use fault::RowFault;
 pub use fraction::Fraction;

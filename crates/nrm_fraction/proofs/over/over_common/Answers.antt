@@ -1,4 +1,4 @@
-use Rattle.std.proofs.Common.{◌≡◌, ◌^◌, ap, ◌∙◌, subst, pos, None}
+use Rattle.std.proofs.Common.{◌≡◌, ap, ◌∙◌, subst, pos, None}
 use Rattle.std.proofs.lemmas.Result.{err_from_is_err_and}
 use Rattle.nrm_fraction.specs.Large.{common, running, numerators as numerators_over, first_reaching, size_limit}
 use Rattle.nrm_fraction.specs.Fault.{IsFault}
