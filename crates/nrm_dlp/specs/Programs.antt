@@ -6,12 +6,13 @@ use Rattle.nrm_model.specs.Demand.{total_to_come}
 use Rattle.nrm_model.specs.Inventory.{inventory_of}
 use Rattle.nrm_lp.specs.Program.{ProgramValue}
 
--- the program with these caps, leg by leg, and bounds, product by product: the fares and the legs are those of the network
+-- the program with these caps, leg by leg, and bounds, product by product: the fares and the legs are those of the
+-- network
 abbrev pub program_of : NetworkValue → List ℕ → List ℕ → ProgramValue
 program_of net caps bounds = record { caps = caps; bounds = bounds; fares = (inventory_of net).fares; legs = (inventory_of net).legs }
 
--- the program at these seats left and period k: over all histories together, so that every number is whole: each leg has its
--- seats left in each history, and a product is bounded by its demand to come in all histories
+-- the program at these seats left and period k: over all histories together, so that every number is whole: each leg
+-- has its seats left in each history, and a product is bounded by its demand to come in all histories
 abbrev pub program_at : NetworkValue → List ℕ → ℕ → ProgramValue
 program_at net left k = program_of net (map (λ seats. net.histories * seats) left) (map (λ j. total_to_come net j k) (range_with_len 0 (length net.products)))
 

@@ -10,7 +10,8 @@ use Rattle.nrm_lp.specs.Certified.{Meet, Certifies, sizes}
 use Rattle.nrm_lp.proofs.Duality.{weak_duality}
 use Rattle.nrm_lp.proofs.Meeting.{ends_meet, meet_of}
 
--- gains and costs as fractions: g over q is at most c over d, at least g0 over q0, and c over d at most c0 over d0, which is g0 over q0
+-- gains and costs as fractions: g over q is at most c over d, at least g0 over q0, and c over d at most c0 over d0,
+-- which is g0 over q0
 same : (g c g0 c0 q d q0 d0 : ℕ) → 1 ≤ q0 → 1 ≤ d0 → g * d ≤ c * q → g0 * q ≤ g * q0 → c * d0 ≤ c0 * d → g0 * d0 ≡ c0 * q0 → g * d ≡ c * q
 same g c g0 c0 q d q0 d0 some_q some_d weak allocation prices meets =
     let up : (c * d0) * (q * q0) ≤ (c0 * d) * (q * q0) = mul-le-mul_right (q * q0) prices in

@@ -9,7 +9,8 @@ use Rattle.nrm_lp.specs.Means.{bid_price, mean_allocation, mean_value}
 abbrev of_q : ℤ → Certificate
 of_q q = record { q = q; x = pos 6 ∷ pos 7 ∷ []; den = pos 4; p = pos 10 ∷ pos 6 ∷ []; value = pos 90 }
 
--- the value 90/4 of all histories is 9/2 each, the second product's 7/3 seats are 7/15 each, and the second leg's bid price 6/4 is 3/2
+-- the value 90/4 of all histories is 9/2 each, the second product's 7/3 seats are 7/15 each, and the second leg's bid
+-- price 6/4 is 3/2
 value_of_a_history : mean_value 5 (of_q (pos 3)) ≡ pos 9 over 2
 unfolding ◌over◌ gcd in_lowest_terms
 value_of_a_history = refl

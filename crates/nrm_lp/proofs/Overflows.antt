@@ -1,7 +1,8 @@
 -- Examples of the order in which the numbers of a pivot and of a closing are asked.
-use Rattle.std.proofs.Common.{◌≡◌, ◌^◌, inl, arith, ℕ, zero, suc, pos, negsuc, ℤ, refl, List, [], ◌∷◌, Option, Some, None}
+use Rattle.std.proofs.Common.{◌≡◌, inl, arith, ℕ, zero, suc, pos, negsuc, ℤ, refl, List, [], ◌∷◌, Option, Some, None}
 use Rattle.nrm_number.specs.Gcd.{gcd, lcm, in_lowest_terms}
 use Rattle.nrm_fraction.specs.Fraction.{◌over◌, ◌+ᶠ◌, ◌*ᶠ◌, inverse, negative, less, whole}
+use Rattle.nrm_fraction.specs.Large.{size_limit}
 use Rattle.nrm_lp.specs.Program.{ProgramValue}
 use Rattle.nrm_lp.specs.Tableau.{Tableau, first_tableau, entering}
 use Rattle.nrm_lp.specs.Closing.{closing, value_over}
@@ -63,7 +64,8 @@ a_at_twelve : pivot_large 12 network_a (first_tableau network_a) ≡ Some (pos 1
 unfolding ◌over◌ ◌+ᶠ◌ ◌*ᶠ◌ negative inverse less whole gcd lcm in_lowest_terms
 a_at_twelve = refl
 
--- at 13 row 0, with the 28 seats that are left on its leg: before the 40 and the 32 of rows 1 and 5, and before the value row's fares
+-- at 13 row 0, with the 28 seats that are left on its leg: before the 40 and the 32 of rows 1 and 5, and before the
+-- value row's fares
 a_at_thirteen : pivot_large 13 network_a (first_tableau network_a) ≡ Some (pos 28)
 unfolding ◌over◌ ◌+ᶠ◌ ◌*ᶠ◌ negative inverse less whole gcd lcm in_lowest_terms
 a_at_thirteen = refl
@@ -92,7 +94,8 @@ closing_at_twelve : story 12 halves_and_thirds 7 (first_tableau halves_and_third
 unfolding ◌over◌ ◌+ᶠ◌ ◌*ᶠ◌ negative inverse less whole gcd lcm in_lowest_terms
 closing_at_twelve = refl
 
--- of its closing the running denominators 2, 6, 6 .. are asked first, from the first one on, and behind them the numbers
+-- of its closing the running denominators 2, 6, 6 .. are asked first, from the first one on, and behind them the
+-- numbers
 closing_at_two : closing_large 2 halves_and_thirds (reached_by halves_and_thirds 7) ≡ Some (pos 2)
 unfolding ◌over◌ ◌+ᶠ◌ ◌*ᶠ◌ negative inverse less whole gcd lcm in_lowest_terms
 closing_at_two = refl
@@ -102,7 +105,7 @@ unfolding ◌over◌ ◌+ᶠ◌ ◌*ᶠ◌ negative inverse less whole gcd lcm i
 closing_at_four = refl
 
 -- ---- the seven pivots of two legs and five products and their closing stay below the limit of the code
-a_is_small : story (2 ^ 48) network_a 7 (first_tableau network_a) ≡ None ∷ None ∷ None ∷ None ∷ None ∷ None ∷ None ∷ None ∷ []
+a_is_small : story size_limit network_a 7 (first_tableau network_a) ≡ None ∷ None ∷ None ∷ None ∷ None ∷ None ∷ None ∷ None ∷ []
 unfolding ◌over◌ ◌+ᶠ◌ ◌*ᶠ◌ negative inverse less whole gcd lcm in_lowest_terms
 a_is_small = refl
 

@@ -1,5 +1,5 @@
--- Complementary slackness: an allocation and bid prices that meet, what a certificate of them says, and that the closing of a
--- path is one.
+-- Complementary slackness: an allocation and bid prices that meet, what a certificate of them says, and that the
+-- closing of a path is one.
 use Rattle.std.specs.Prelude.{ℕ, ◌≡◌, ◌<◌, ◌≤◌, ◌*◌, ℤ, nat_abs, List, [], length, map, get_or}
 use Rattle.nrm_lp.specs.declared.certificate.Certificate.{Certificate}
 use Rattle.nrm_lp.specs.Program.{ProgramValue, IsProgram, IsAllocation, IsPrices, IsOptimalAllocation, IsOptimalPrices, load, price_sum, gain, cost}
@@ -9,8 +9,9 @@ use Rattle.nrm_lp.specs.Closing.{closing, value_over, certificate}
 use Rattle.nrm_lp.specs.Overflow.{Closes}
 use Rattle.nrm_lp.specs.Shape.{HasShape}
 
--- an allocation and bid prices that meet: a leg with a price above 0 is full, a product short of its bound isn't worth more than
--- the bid prices of its legs, and one that is sold isn't worth less; the value is the cost of the prices, and the revenue
+-- an allocation and bid prices that meet: a leg with a price above 0 is full, a product short of its bound isn't worth
+-- more than the bid prices of its legs, and one that is sold isn't worth less; the value is the cost of the prices, and
+-- the revenue
 pub record Meet (a : ProgramValue) (q : ℕ) (x : List ℕ) (d : ℕ) (p : List ℕ) (value : ℕ) : Type 0 where
   pub allocation : IsAllocation a q x
   pub prices : IsPrices a d p
@@ -24,8 +25,8 @@ pub record Meet (a : ProgramValue) (q : ℕ) (x : List ℕ) (d : ℕ) (p : List 
 abbrev pub sizes : List ℤ → List ℕ
 sizes ns = map (λ n. nat_abs n) ns
 
--- a certificate shows what it should: it has the shape of the program's, its allocation and its bid prices meet, and both are
--- optimal
+-- a certificate shows what it should: it has the shape of the program's, its allocation and its bid prices meet, and
+-- both are optimal
 pub record Certifies (limit : ℕ) (a : ProgramValue) (c : Certificate) : Type 0 where
   pub shape : HasShape limit (length a.bounds) (length a.caps) c
   pub meet : Meet a (nat_abs c.q) (sizes c.x) (nat_abs c.den) (sizes c.p) (nat_abs c.value)
@@ -37,12 +38,7 @@ abbrev pub EndsMeet : Type 0
 EndsMeet = (a : ProgramValue) → IsProgram a → (t : Tableau) → IsLast a t
     → Meet a (closing a t).q (closing a t).x (closing a t).den (closing a t).p (value_over a t (closing a t).den)
 
--- and so do those of the closing of a path that ends and isn't Large
-abbrev pub ClosesMeet : Type 0
-ClosesMeet = (limit : ℕ) (a : ProgramValue) → IsProgram a → (n : ℕ) (t : Tableau) → Closes limit a n t
-    → Meet a (closing a t).q (closing a t).x (closing a t).den (closing a t).p (value_over a t (closing a t).den)
-
--- the certificate of such a closing shows what it should
+-- the certificate of a path that ends, and whose closing isn't Large, shows what it should
 abbrev pub ClosesCertify : Type 0
 ClosesCertify = (limit : ℕ) → 1 < limit → (a : ProgramValue) → IsProgram a → (n : ℕ) (t : Tableau) → Closes limit a n t → Certifies limit a (certificate a t)
 
@@ -51,8 +47,8 @@ abbrev pub OptimalMeet : Type 0
 OptimalMeet = (a : ProgramValue) → IsProgram a → (q d value : ℕ) (x p : List ℕ) → Meet a q x d p value
     → (q' d' : ℕ) (x' p' : List ℕ) → IsOptimalAllocation a q' x' → IsOptimalPrices a d' p' → Meet a q' x' d' p' (cost a d' p')
 
--- and where a path closes, each certificate of the shape whose allocation and bid prices are optimal, and whose value is the cost
--- of its prices, shows what it should: not only the certificate of the closing
+-- and where a path closes, each certificate of the shape whose allocation and bid prices are optimal, and whose value
+-- is the cost of its prices, shows what it should: not only the certificate of the closing
 abbrev pub OptimalCertify : Type 0
 OptimalCertify = (limit : ℕ) (a : ProgramValue) → IsProgram a → (n : ℕ) (t : Tableau) → Closes limit a n t
     → (c : Certificate) → HasShape limit (length a.bounds) (length a.caps) c

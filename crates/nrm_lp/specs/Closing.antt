@@ -1,4 +1,5 @@
--- The closing of a path: the allocation and the bid prices that its last tableau shows, as whole numbers over two denominators.
+-- The closing of a path: the allocation and the bid prices that its last tableau shows, as whole numbers over two
+-- denominators.
 use Rattle.std.specs.Prelude.{ℕ, ◌≡◌, pos, nat_abs, cond, eqb, List, ◌∷◌, map, length}
 use Rattle.std.specs.List.{range_with_len}
 use Rattle.nrm_fraction.specs.Fraction.{Fraction, ◌*ᶠ◌, whole}
@@ -32,12 +33,13 @@ pub record Closing : Type 0 where
 abbrev pub closing : ProgramValue → Tableau → Closing
 closing a t = record { q = common (product_values a t); x = over_common (product_values a t); den = common (leg_prices a t); p = over_common (leg_prices a t) }
 
--- the value over the denominator d of the bid prices: the size of the value row's right side times d. Where the path ends that is
--- the number itself
+-- the value over the denominator d of the bid prices: the size of the value row's right side times d. Where the path
+-- ends that is the number itself
 abbrev pub value_over : ProgramValue → Tableau → ℕ → ℕ
 value_over a t d = nat_abs (at t.value (right_side a) *ᶠ whole (pos d)).num
 
--- at a last tableau the value row's right side times the denominator of the bid prices is whole and not negative: nothing is lost
+-- at a last tableau the value row's right side times the denominator of the bid prices is whole and not negative:
+-- nothing is lost
 abbrev pub ValueIsWhole : Type 0
 ValueIsWhole = (a : ProgramValue) → IsProgram a → (t : Tableau) → IsLast a t
     → at t.value (right_side a) *ᶠ whole (pos (closing a t).den) ≡ whole (pos (value_over a t (closing a t).den))

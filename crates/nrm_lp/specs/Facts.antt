@@ -24,7 +24,8 @@ total (suc n) f = total n f +ᶠ f n
 abbrev pub key : ProgramValue → Tableau → ℕ → ℕ → List Fraction
 key a t s i = ratios (key_columns a) s (get_or t.rows i [])
 
--- row r leaves when column s enters: the rule answers it, its entry is positive, and the list of every other row with a positive entry is greater
+-- row r leaves when column s enters: the rule answers it, its entry is positive, and the list of every other row with a
+-- positive entry is greater
 pub record Leaves (a : ProgramValue) (t : Tableau) (s r : ℕ) : Type 0 where
   pub within : r < row_count a
   pub answer : leaving a t s ≡ Some (r, key a t s r)

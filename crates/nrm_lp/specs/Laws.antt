@@ -1,4 +1,5 @@
--- The laws over the definitions: weak duality, and that the closing of a path that ends is optimal, its allocation and its bid prices both.
+-- The laws over the definitions: weak duality, and that the closing of a path that ends is optimal, its allocation and
+-- its bid prices both.
 use Rattle.std.specs.Prelude.{ℕ, List, ◌*◌, ◌≤◌}
 use Rattle.nrm_lp.specs.Program.{ProgramValue, IsProgram, IsAllocation, IsPrices, IsOptimalAllocation, IsOptimalPrices, gain, cost}
 use Rattle.nrm_lp.specs.Tableau.{Tableau}

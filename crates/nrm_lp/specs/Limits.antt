@@ -1,5 +1,5 @@
--- The limits of the programs that the code takes: 1 to 64 legs and 1 to 256 products of 1 to 4 legs each, caps and bounds of at
--- most 31,968, fares of 1 to 99,999,999. The laws need none of them but `IsProgram`.
+-- The limits of the programs that the code takes: 1 to 64 legs and 1 to 256 products of 1 to 4 legs each, caps and
+-- bounds of at most 31,968, fares of 1 to 99,999,999. The laws need none of them but `IsProgram`.
 use Rattle.std.specs.Prelude.{ℕ, ◌<◌, ◌≤◌, [], length, get_or}
 use Rattle.nrm_lp.specs.Program.{ProgramValue, IsProgram}
 

@@ -1,5 +1,5 @@
--- What a certificate says of one demand history, on the mean, and of one seat. Its program counts seats and money over all the
--- histories together; a bid price is the same in each of them.
+-- What a certificate says of one demand history, on the mean, and of one seat. Its program counts seats and money over
+-- all the histories together; a bid price is the same in each of them.
 use Rattle.std.specs.Prelude.{ℕ, ◌*◌, pos, nat_abs, get_or}
 use Rattle.nrm_fraction.specs.Fraction.{Fraction, ◌over◌}
 use Rattle.nrm_lp.specs.declared.certificate.Certificate.{Certificate}

@@ -13,7 +13,8 @@ rows_but r [] = []
 rows_but zero (row ∷ rows) = rows
 rows_but (suc r) (row ∷ rows) = row ∷ rows_but r rows
 
--- the number of the first Large row of the tableau that a pivot in row r made: that row, the other constraint rows by number, the value row
+-- the number of the first Large row of the tableau that a pivot in row r made: that row, the other constraint rows by
+-- number, the value row
 abbrev pub made_large : ℕ → ℕ → Tableau → Option ℤ
 made_large limit r t = first_large limit (get_or t.rows r [] ∷ (rows_but r t.rows ++ t.value ∷ []))
 

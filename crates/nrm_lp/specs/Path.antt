@@ -5,8 +5,8 @@ use Rattle.nrm_lp.specs.Program.{ProgramValue}
 use Rattle.nrm_lp.specs.Tableau.{Tableau, first_tableau, entering, leaving, pivot}
 
 -- the row that the leaving rule found. On a path there is one whichever column enters, a product's or a slack's (law
--- `path_has_facts`): each column has a 1 in some first row, its bound's or its own, and no first row has an entry below 0 before
--- the right side. That holds of every record, also of one that is no program, so the 0 for no row is never met
+-- `path_has_facts`), since each column has a 1 in some first row and no first row has an entry below 0. That holds of
+-- every record, also of one that is no program: the 0, which stands for no row, is never met
 abbrev pub row_number : Option (ℕ × List Fraction) → ℕ
 row_number None = 0
 row_number (Some found) = found.0

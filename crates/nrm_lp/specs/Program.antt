@@ -1,6 +1,6 @@
--- The deterministic linear program of a network, and its dual. The program allots seats to products, so that the revenue is
--- greatest; the dual sets bid prices for the legs, so that their cost is least. Both are told in whole numbers: an allocation
--- is x over a denominator q, bid prices are p over a denominator d.
+-- The deterministic linear program of a network, and its dual. The program allots seats to products, so that the
+-- revenue is greatest; the dual sets bid prices for the legs, so that their cost is least. Both are told in whole
+-- numbers: an allocation is x over a denominator q, bid prices are p over a denominator d.
 use Rattle.std.specs.Prelude.{ℕ, ◌+◌, ◌*◌, ◌-◌, ◌<◌, ◌≤◌, ◌≡◌, ◌||◌, Bool, false, cond, eqb, List, [], ◌∷◌, length, get_or}
 
 -- the seats of each leg, and for each product the most that can be sold, the fare and the numbers of its legs
@@ -37,8 +37,8 @@ abbrev pub price_sum : List ℕ → List ℕ → ℕ
 price_sum p [] = 0
 price_sum p (l ∷ ls) = get_or p l 0 + price_sum p ls
 
--- what the fares exceed the bid prices by, each product times its bound: a product that isn't worth its bid prices counts 0,
--- since a difference of whole numbers ends at 0
+-- what the fares exceed the bid prices by, each product times its bound: a product that isn't worth its bid prices
+-- counts 0, since a difference of whole numbers ends at 0
 abbrev pub surplus : ℕ → List ℕ → List ℕ → List ℕ → List (List ℕ) → ℕ
 surplus d p (u ∷ us) (r ∷ rs) (ls ∷ legs) = u * (d * r - price_sum p ls) + surplus d p us rs legs
 surplus d p _ _ _ = 0
@@ -47,7 +47,8 @@ surplus d p _ _ _ = 0
 abbrev pub gain : ProgramValue → List ℕ → ℕ
 gain a x = dot a.fares x
 
--- the cost of bid prices, the dual's objective: the seats at their prices, and the bounds at what each fare exceeds them by
+-- the cost of bid prices, the dual's objective: the seats at their prices, and the bounds at what each fare exceeds
+-- them by
 abbrev pub cost : ProgramValue → ℕ → List ℕ → ℕ
 cost a d p = dot a.caps p + surplus d p a.bounds a.fares a.legs
 

@@ -38,11 +38,13 @@ one_if b = cond b (whole (pos 1)) (whole (pos 0))
 abbrev pub row_bound : ProgramValue → ℕ → ℕ
 row_bound a i = cond (ltb i (length a.caps)) (get_or a.caps i 0) (get_or a.bounds (i - length a.caps) 0)
 
--- whether product c counts in constraint row i: the row's leg is one of the product's, or the row's bound is the product's
+-- whether product c counts in constraint row i: the row's leg is one of the product's, or the row's bound is the
+-- product's
 abbrev pub uses : ProgramValue → ℕ → ℕ → Bool
 uses a i c = cond (ltb i (length a.caps)) (names i (get_or a.legs c [])) (eqb c (i - length a.caps))
 
--- the first constraint row i: a 1 at each product that counts in it, a 1 at its own slack, and its bound on the right side
+-- the first constraint row i: a 1 at each product that counts in it, a 1 at its own slack, and its bound on the right
+-- side
 abbrev pub first_entry : ProgramValue → ℕ → ℕ → Fraction
 first_entry a i c = cond (ltb c (product_count a)) (one_if (uses a i c)) (cond (ltb c (right_side a)) (one_if (eqb c (slack a i))) (whole (pos (row_bound a i))))
 
@@ -86,7 +88,8 @@ abbrev pub better : ℕ → List Fraction → Option (ℕ × List Fraction) → 
 better k list None = Some (k, list)
 better k list (Some best) = cond (lex_below list (best.1)) (Some (k, list)) (Some best)
 
--- among these rows, numbered from k on, those with a positive entry at column s: the one whose list, divided by that entry, is least
+-- among these rows, numbered from k on, those with a positive entry at column s: the one whose list, divided by that
+-- entry, is least
 abbrev pub leaving_from : List ℕ → ℕ → ℕ → List (List Fraction) → Option (ℕ × List Fraction)
 leaving_from cs s k [] = None
 leaving_from cs s k (xs ∷ rows) = cond (less (whole (pos 0)) (at xs s)) (better k (ratios cs s xs) (leaving_from cs s (suc k) rows)) (leaving_from cs s (suc k) rows)

@@ -3,7 +3,7 @@ ghost use Rattle.nrm_lp.specs.Laws.{EndsOptimal, WeakDuality};
 ghost use Rattle.nrm_lp.specs.Facts.{PathHasFacts};
 ghost use Rattle.nrm_lp.specs.Ends.{EveryPathEnds, PathsEndOnce};
 ghost use Rattle.nrm_lp.specs.Closing.{ValueIsWhole};
-ghost use Rattle.nrm_lp.specs.Certified.{ClosesCertify, ClosesMeet, EndsMeet, OptimalCertify, OptimalMeet};
+ghost use Rattle.nrm_lp.specs.Certified.{ClosesCertify, EndsMeet, OptimalCertify, OptimalMeet};
 
 /// No allocation gains more than any prices cost.
 pub fn weakly_dual()
@@ -33,13 +33,8 @@ pub fn value_is_whole()
     ensures { ValueIsWhole }
 {}
 
-/// The closing of a path that ends without a Large pivot, and with a closing that isn't Large, meets in the same way.
-pub fn closes_meet()
-    ensures { ClosesMeet }
-{}
-
-/// The certificate of such a closing shows what it should: its numbers are not negative and below the limit, its
-/// allocation and its bid prices meet, and both are optimal.
+/// Where no pivot of the path is Large, nor its closing, the certificate of the closing shows what it should: its
+/// numbers are not negative and below the limit, its allocation and its bid prices meet, and both are optimal.
 pub fn closes_certify()
     ensures { ClosesCertify }
 {}

@@ -9,7 +9,7 @@ mod program;
 
 pub use certificate::{Certificate, Numbers};
 pub use laws::{
-    closes_certify, closes_meet, ends_meet, ends_optimal, every_path_ends, optimal_certify,
-    optimal_meet, path_has_facts, paths_end_once, value_is_whole, weakly_dual,
+    closes_certify, ends_meet, ends_optimal, every_path_ends, optimal_certify, optimal_meet,
+    path_has_facts, paths_end_once, value_is_whole, weakly_dual,
 };
 pub use program::Program;
