@@ -10,7 +10,7 @@ use Rattle.nrm_control.specs.declared.answer.Answer.{Answer}
 use Rattle.nrm_control.specs.declared.answer.Answer.TheVariants as answer
 
 -- the answer in a state that the controller stands for is the controller's
-answer-same : (old : ControlValue) (s : SeatState) (j party : ℕ) → StandsFor old s → answer_in old.net s j party ≡ verdict_of old.net old.bookings old.next j party
+pub answer-same : (old : ControlValue) (s : SeatState) (j party : ℕ) → StandsFor old s → answer_in old.net s j party ≡ verdict_of old.net old.bookings old.next j party
 answer-same old s j party stands = ap (λ bookings. verdict_of old.net bookings s.next j party) stands.bookings ∙ ap (λ next. verdict_of old.net old.bookings next j party) stands.next
 
 answered : (old : ControlValue) (s : SeatState) (j party : ℕ) (given : Answer) → StandsFor old s → StandsFor (with_answer old j party given) (after_answer s j party given)

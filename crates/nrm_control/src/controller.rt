@@ -103,7 +103,8 @@ impl Controller {
 
     /// The network.
     pub fn network(&self) -> &Network
-        ensures { result.now ≡ self.now.net }
+        ensures network { result.now ≡ self.now.net }
+        ensures kept { IsControl self.now }
     {
         &self.network
     }

@@ -8,7 +8,7 @@ use Rattle.nrm_stream.specs.declared.command.Command.TheVariants as command
 use Rattle.nrm_session.specs.Replies.{Reply}
 use Rattle.nrm_session.specs.Step.{Step}
 use Rattle.nrm_session.specs.Run.{Run}
-use Rattle.nrm_session.specs.Laws.{RepliesAreDetermined}
+use Rattle.nrm_session.specs.Laws.{RepliesAreDetermined, StatesAreDetermined}
 
 -- two replies and two states that are each these
 same-pair : (reply other expected : Reply) (s' s'' wanted : SeatState) → (reply ≡ expected) × (s' ≡ wanted) → (other ≡ expected) × (s'' ≡ wanted) → (other ≡ reply) × (s'' ≡ s')
@@ -41,3 +41,6 @@ determined net s (c ∷ commands) (reply ∷ replies) (other ∷ others) s' s'' 
     let run'' = subst (λ (m : SeatState). Run net m commands others s'') same_mid run' in
     let (same_replies, same_state) = determined net mid commands replies others s' s'' run run'' in
     ((λ k. same_reply k ∷ same_replies k), same_state)
+
+pub states-determined : StatesAreDetermined
+states-determined net s commands replies s' s'' first second = (determined net s commands replies replies s' s'' first second).1

@@ -1,4 +1,6 @@
 pub mod Determined
+pub mod Examples
+pub mod Runs
 pub mod Seats
 pub mod SoFar
 pub mod Steps

@@ -3,10 +3,11 @@ use Rattle.std.proofs.Common.{ℕ, ◌≡◌, ◌∙◌, ◌<◌, ◌≤◌, All
 use Rattle.std.specs.Option.{option_map_or}
 use Rattle.std.proofs.lemmas.Option.{slice_get-map}
 use Rattle.std.proofs.lemmas.List.{length-map}
-use Rattle.std.proofs.lemmas.List.Elements.{All-filter, All-nil, All-push}
+use Rattle.std.proofs.lemmas.List.Elements.{All-filter, All-nil, All-push, All-weaker}
 use Rattle.nrm_model.specs.declared.product.Product.{Product}
 use Rattle.nrm_model.specs.Inventory.{inventory_of, legs_of}
 use Rattle.nrm_model.specs.Network.{NetworkValue, leg_named, product_named, product_of}
+use Rattle.nrm_model.specs.declared.mode.Mode.{Mode}
 use Rattle.nrm_model.proofs.NameLemmas.{number-below, position_from-map}
 use Rattle.nrm_book.specs.declared.booking.Booking.{Booking}
 use Rattle.nrm_book.specs.Bookings.{booking_numbered, left_on, worth_of}
@@ -22,7 +23,7 @@ use Rattle.nrm_report.specs.Texts.{leg_text}
 use Rattle.nrm_session.specs.Replies.{Reply, unknown, cancelled, leg_told, reply_to}
 use Rattle.nrm_session.specs.Step.{Step}
 use Rattle.nrm_session.specs.Run.{Run}
-use Rattle.nrm_session.specs.Laws.{NoLegOversold, SeatsAreKept}
+use Rattle.nrm_session.specs.Laws.{IsKept, NoLegOversold, SeatsAreKept}
 
 -- the bookings are of the network's products, and no leg is oversold
 record Kept (net : NetworkValue) (s : SeatState) : Type 0 where
@@ -97,11 +98,31 @@ run-keeps net s [] (reply ∷ replies) s' kept run = absurd run
 run-keeps net s (c ∷ commands) [] s' kept run = absurd run
 run-keeps net s (c ∷ commands) (reply ∷ replies) s' kept (mid, step, run) = run-keeps net mid commands replies s' (step-keeps net s c reply mid kept step) run
 
-opens-kept : (net : NetworkValue) → Kept net opening
-opens-kept net = record {
+opens-kept : (net : NetworkValue) (mode : Mode) → Kept net (opening mode)
+opens-kept net mode = record {
   products = All-nil (λ (b : Booking). b.product < length (inventory_of net).legs);
   seats = λ i at. let none = sold_on-by_booking (inventory_of net) i [] (All-nil (λ (b : Booking). b.product < length (inventory_of net).legs)) in omega (arith, none);
 }
 
+-- the inventory has a list of legs for each product
+out : (net : NetworkValue) (s : SeatState) → Kept net s → IsKept net s
+out net s kept = record {
+  products =
+      All-weaker (λ (b : Booking). b.product < length (inventory_of net).legs) (λ (b : Booking). b.product < length net.products)
+      (λ b below. omega (arith, length-map net.products (λ (p : Product). p.legs), below)) s.bookings kept.products;
+  seats = kept.seats;
+}
+
+into : (net : NetworkValue) (s : SeatState) → IsKept net s → Kept net s
+into net s kept = record {
+  products =
+      All-weaker (λ (b : Booking). b.product < length net.products) (λ (b : Booking). b.product < length (inventory_of net).legs)
+      (λ b below. omega (arith, length-map net.products (λ (p : Product). p.legs), below)) s.bookings kept.products;
+  seats = kept.seats;
+}
+
 pub kept : SeatsAreKept
-kept net commands replies s run = (run-keeps net opening commands replies s (opens-kept net) run).seats
+kept = (
+  (λ net mode. out net (opening mode) (opens-kept net mode)),
+  (λ net s s' commands replies kept run. out net s' (run-keeps net s commands replies s' (into net s kept) run)),
+)

@@ -7,7 +7,7 @@ use Rattle.nrm_edge.specs.Causes.{Rose}
 use Rattle.nrm_edge.specs.Pieces.{AppendsFront}
 use Rattle.nrm_model.specs.Network.{NetworkValue}
 use Rattle.nrm_control.specs.State.{SeatState}
-use Rattle.nrm_control.specs.Standing.{ControlValue}
+use Rattle.nrm_control.specs.Standing.{ControlValue, IsControl}
 use Rattle.nrm_stream.specs.Lines.{lines_of}
 use Rattle.nrm_stream.specs.Commands.{command_of, commands_of}
 use Rattle.nrm_stream.specs.declared.command.Command.{Command}
@@ -23,18 +23,20 @@ pub record SoFar (old now : ControlValue) (stream rest : List ℕ) (held held' :
   pub lines : commands_of stream ≡ done ++ commands_of rest
   pub written : Appends held held' output
   pub refines : Refines old now done output
-  pub later : faults ≤ faults'
+  pub count : faults' ≡ faults
+  pub kept : IsControl now
   pub next : now.next + length rest ≤ old.next + length stream
 
 -- nothing was answered yet
-pub nothing-so-far : (old : ControlValue) (stream : List ℕ) (held : Option (List ℕ)) (faults : ℕ) → SoFar old old stream stream held held faults faults
-nothing-so-far old stream held faults = record {
+pub nothing-so-far : (old : ControlValue) (stream : List ℕ) (held : Option (List ℕ)) (faults : ℕ) → IsControl old → SoFar old old stream stream held held faults faults
+nothing-so-far old stream held faults kept = record {
   done = [];
   output = [];
   lines = refl;
   written = Appends-nil held;
   refines = record { network = refl; run = λ s stands. (s, stands, record { replies = []; run = refl; output = refl }) };
-  later = omega arith;
+  count = refl;
+  kept = kept;
   next = omega arith;
 }
 
@@ -65,8 +67,8 @@ module _ (old now new : ControlValue) (stream rest after : List ℕ) (held held'
   on-network mid s' step = subst (λ (net : NetworkValue). Step net mid c reply s') so_far.refines.network step
 
   -- a line was answered
-  pub more-so-far : Appends held' held'' (text_of reply) → faults' ≤ faults'' → SoFar old new stream after held held'' faults faults''
-  more-so-far whole later = record {
+  pub more-so-far : Appends held' held'' (text_of reply) → faults'' ≡ faults' → IsControl new → SoFar old new stream after held held'' faults faults''
+  more-so-far whole count kept = record {
     done = so_far.done ++ c ∷ [];
     output = so_far.output ++ text_of reply;
     lines = these ∙ sym (append_assoc so_far.done (c ∷ []) (commands_of after));
@@ -85,7 +87,8 @@ module _ (old now new : ControlValue) (stream rest after : List ℕ) (held held'
             },
           );
     };
-    later = omega (arith, so_far.later, later);
+    count = count ∙ so_far.count;
+    kept = kept;
     next = omega (arith, so_far.next, steps.next, shorter);
   }
 
@@ -126,6 +129,6 @@ all-so-far old now stream rest held held' faults faults' so_far none =
     let all : commands_of stream ≡ so_far.done = so_far.lines ∙ ap (λ lines. so_far.done ++ map command_of lines) none ∙ append-nil so_far.done in
     (so_far.output, so_far.written, subst (λ (commands : List Command). Refines old now commands so_far.output) (sym all) so_far.refines)
 
--- a count that rose since a later count rose since an earlier one
-pub rose-since : (before mid now : ℕ) → before ≤ mid → Rose mid now → Rose before now
-rose-since before mid now later rose = omega (arith, later, rose)
+-- a count that rose since it stood as it did before rose since then
+pub rose-since : (before mid now : ℕ) → mid ≡ before → Rose mid now → Rose before now
+rose-since before mid now same rose = subst (λ count. Rose count now) same rose

@@ -1,27 +1,37 @@
 -- The steps that a controller makes, and their replies.
-use Rattle.std.proofs.Common.{ℕ, ◌≡◌, ◌∙◌, List, Option, Some, None, MatchOption, option_map, Result, Ok, Err, refl, sym, ap, subst, arith}
-use Rattle.std.specs.Prelude.{OnOk, OnErr}
-use Rattle.std.specs.Io.KnownBytes.{Appends}
-use Rattle.nrm_edge.specs.Pieces.{AppendsFront}
-use Rattle.nrm_edge.specs.declared.source.Failed.{Failed}
+use Rattle.std.proofs.Common.{ℕ, ◌≡◌, ◌∙◌, List, Option, Some, None, MatchOption, option_map, refl, sym, ap, subst, arith}
 use Rattle.nrm_model.specs.Inventory.{inventory_of}
-use Rattle.nrm_model.specs.Network.{NetworkValue, leg_named}
+use Rattle.nrm_model.specs.Network.{NetworkValue, leg_named, leg_of, product_named}
 use Rattle.nrm_book.specs.declared.booking.Booking.{Booking}
 use Rattle.nrm_book.specs.Bookings.{booking_numbered, without, worth_of}
-use Rattle.nrm_control.specs.State.{SeatState, after_cancellation}
+use Rattle.nrm_control.specs.State.{SeatState, after_cancellation, after_request, answer_in}
 use Rattle.nrm_control.specs.Standing.{ControlValue, StandsFor}
+use Rattle.nrm_control.specs.Verdict.{verdict_of}
+use Rattle.nrm_control.specs.declared.answer.Answer.TheVariants as answer
+use Rattle.nrm_control.proofs.States.{answer-same}
 use Rattle.nrm_report.specs.Texts.{leg_text}
-use Rattle.nrm_stream.specs.declared.command.Command.{Command}
 use Rattle.nrm_stream.specs.declared.command.Command.TheVariants as command
-use Rattle.nrm_session.specs.Replies.{Reply, unknown, cancelled, leg_told, text_of}
+use Rattle.nrm_session.specs.Replies.{Reply, unknown, no_leg, cancelled, leg_told, reply_to}
 use Rattle.nrm_session.specs.Step.{Gives}
-use Rattle.nrm_session.specs.Answering.{Answers, Steps}
+use Rattle.nrm_session.specs.Answering.{Steps}
 
--- a step whose reply went out whole, or a front of it
-pub answers-from : (old new : ControlValue) (command : Command) (reply : Reply) (held held' : Option (List ℕ)) (result : Result (Unit {0}) Failed) → Steps old new command reply
-    → OnOk result (Appends held held' (text_of reply)) → OnErr result (AppendsFront held held' (text_of reply)) → Answers old new command held held' result
-answers-from old new command reply held held' (Ok done) steps whole cut = (reply, steps, whole)
-answers-from old new command reply held held' (Err failed) steps whole cut = (reply, steps, cut)
+-- a request that a leg refused leaves the controller as it was
+pub refused-steps : (old new : ControlValue) (name : List ℕ) (j party leg : ℕ) → Some j ≡ product_named old.net name → answer.Leg leg ≡ verdict_of old.net old.bookings old.next j party → new ≡ old
+    → ((s : SeatState) → StandsFor old s → StandsFor new (after_request old.net s j party)) → Steps old new (command.Book name party) (no_leg (leg_of new.net leg).name)
+refused-steps old new name j party leg found refuses same stay =
+    let net : new.net ≡ old.net = ap (λ (control : ControlValue). control.net) same in
+    let reply : Reply = no_leg (leg_of new.net leg).name in
+    record {
+      network = net;
+      next = let next = ap (λ (control : ControlValue). control.next) same in omega (arith, next);
+      step = λ s stands.
+          let after : SeatState = after_request old.net s j party in
+          let told : reply ≡ reply_to old.net (answer_in old.net s j party) = ap (λ (net : NetworkValue). no_leg (leg_of net leg).name) net ∙ ap (reply_to old.net) (refuses ∙ sym (answer-same old s j party stands)) in (
+            after,
+            subst (λ (o : Option ℕ). MatchOption o (Gives unknown reply s after) (λ j'. (reply ≡ reply_to old.net (answer_in old.net s j' party)) × (after ≡ after_request old.net s j' party))) found (told, refl),
+            stay s stands,
+          );
+    }
 
 -- a leg that was found is told of
 pub leg-steps : (control : ControlValue) (name : List ℕ) (i : ℕ) → Some i ≡ leg_named control.net name → Steps control control (command.Leg name) (leg_told (leg_text control.net control.bookings i))

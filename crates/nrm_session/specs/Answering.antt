@@ -1,13 +1,14 @@
--- What answering one command does.
-use Rattle.std.specs.Prelude.{ℕ, ◌≡◌, ◌+◌, ◌≤◌, List, Option, Result, Ok, Err}
-use Rattle.std.specs.Io.KnownBytes.{Appends}
-use Rattle.nrm_edge.specs.Pieces.{AppendsFront}
-use Rattle.nrm_edge.specs.declared.source.Failed.{Failed}
+-- What carrying out one command does, and what its reply is.
+use Rattle.std.specs.Prelude.{◌≡◌, ◌+◌, ◌<◌, ◌≤◌, length, ⊤}
+use Rattle.nrm_model.specs.Network.{NetworkValue, leg_of}
 use Rattle.nrm_control.specs.State.{SeatState}
 use Rattle.nrm_control.specs.Standing.{ControlValue, StandsFor}
+use Rattle.nrm_report.specs.Texts.{leg_text}
 use Rattle.nrm_stream.specs.declared.command.Command.{Command}
-use Rattle.nrm_session.specs.Replies.{Reply, text_of}
+use Rattle.nrm_session.specs.Replies.{Reply, bad, unknown, sold, no_leg, cancelled, leg_told}
 use Rattle.nrm_session.specs.Step.{Step}
+use Rattle.nrm_session.specs.declared.reply.Reply.{Reply as Answered}
+use Rattle.nrm_session.specs.declared.reply.Reply.TheVariants as answered
 
 -- the controller makes the step that gives this reply, from each state that it stood for
 pub record Steps (old new : ControlValue) (command : Command) (reply : Reply) : Type 0 where
@@ -15,7 +16,20 @@ pub record Steps (old new : ControlValue) (command : Command) (reply : Reply) : 
   pub next : new.next ≤ old.next + 1
   pub step : (s : SeatState) → StandsFor old s → (s' : SeatState) × Step old.net s command reply s' × StandsFor new s'
 
--- and its reply was written whole, or a front of it
-abbrev pub Answers : ControlValue → ControlValue → Command → Option (List ℕ) → Option (List ℕ) → Result (Unit {0}) Failed → Type 0
-Answers old new command held held' (Ok done) = (reply : Reply) × Steps old new command reply × Appends held held' (text_of reply)
-Answers old new command held held' (Err failed) = (reply : Reply) × Steps old new command reply × AppendsFront held held' (text_of reply)
+-- the reply that a controller means, with its legs by their names and as they stand
+abbrev pub reply_in : ControlValue → Answered → Reply
+reply_in control answered.Bad = bad
+reply_in control answered.Unknown = unknown
+reply_in control (answered.Sold number) = sold number
+reply_in control (answered.NoLeg i) = no_leg (leg_of control.net i).name
+reply_in control (answered.Cancelled number refund) = cancelled number refund
+reply_in control (answered.Leg i) = leg_told (leg_text control.net control.bookings i)
+
+-- a leg that a reply names is one of the network
+abbrev pub NamesItsLeg : NetworkValue → Answered → Type 0
+NamesItsLeg net (answered.NoLeg i) = i < length net.legs
+NamesItsLeg net (answered.Leg i) = i < length net.legs
+NamesItsLeg net answered.Bad = ⊤
+NamesItsLeg net answered.Unknown = ⊤
+NamesItsLeg net (answered.Sold number) = ⊤
+NamesItsLeg net (answered.Cancelled number refund) = ⊤

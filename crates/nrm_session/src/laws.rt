@@ -1,7 +1,7 @@
 //! Laws of whole sessions. Each is the contract of a function that does nothing.
-ghost use Rattle.nrm_session.specs.Laws.{RepliesAreDetermined, SeatsAreKept};
+ghost use Rattle.nrm_session.specs.Laws.{EachListHasARun, RepliesAreDetermined, SeatsAreKept, StatesAreDetermined};
 
-/// In every state of every session no leg has more seats sold than it has.
+/// No leg has more seats sold than it has in the opening of any mode, and a run keeps that from any state.
 pub fn seats_are_kept()
     ensures { SeatsAreKept }
 {}
@@ -9,4 +9,14 @@ pub fn seats_are_kept()
 /// The commands of a session determine its replies and its states.
 pub fn replies_are_determined()
     ensures { RepliesAreDetermined }
+{}
+
+/// The commands of a session and its replies determine its states.
+pub fn states_are_determined()
+    ensures { StatesAreDetermined }
+{}
+
+/// From each state, each list of commands has a run.
+pub fn each_list_has_a_run()
+    ensures { EachListHasARun }
 {}

@@ -1,8 +1,10 @@
 //! A session over a stream that was read whole.
-ghost use Rattle.std.specs.Prelude.{◌≤◌, ◌^◌, length};
+ghost use Rattle.std.specs.Prelude.{◌≡◌, ◌≤◌, ◌^◌, length};
+ghost use Rattle.nrm_control.specs.Standing.{IsControl};
 ghost use Rattle.nrm_session.specs.Serving.{ServesWhole};
+ghost use Rattle.nrm_session.specs.declared.whole.WholeEnd.TheVariants as end;
 
-use crate::reply::answer;
+use crate::reply::{carry_out, put_reply};
 use nrm_control::Controller;
 use nrm_edge::Sink;
 use nrm_stream::{command_of, next_line};
@@ -23,11 +25,16 @@ pub fn serve_whole<K: Sink>(controller: &mut Controller, stream: &[u8], sink: &m
     requires stream { length stream.now ≤ 2 ^ 32 }
     requires next { controller.old.next ≤ 100000000000 }
     ensures serves { ServesWhole controller.old controller.new stream.now (K.held sink.old) (K.held sink.new) (K.faults sink.old) (K.faults sink.new) result }
+    ensures done { result ≡ end.Done → K.faults sink.new ≡ K.faults sink.old }
     ensures later { K.faults sink.old ≤ K.faults sink.new }
+    ensures kept { IsControl controller.new }
 {
+    // For its clause alone: this is a controller of a network within the limits.
+    let _ = controller.network();
     let mut rest = stream;
     while let Some((line, after)) = next_line(rest) {
-        match answer(controller, &command_of(line), sink) {
+        let reply = carry_out(controller, &command_of(line));
+        match put_reply(controller, reply, sink) {
             Ok(()) => rest = after,
             Err(_) => return WholeEnd::WriteFault,
         }

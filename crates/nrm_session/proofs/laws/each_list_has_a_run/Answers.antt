@@ -1,0 +1,5 @@
+use Rattle.nrm_session.proofs.Runs.{runs}
+use Rattle.nrm_session.proofs.laws.each_list_has_a_run.Goals as goal
+
+pub returns : goal.returns
+returns c = runs
