@@ -1,5 +1,5 @@
 -- A row of fractions over its least common denominator is in lowest terms, so the certificate of a closing is.
-use Rattle.std.proofs.Common.{◌≡◌, ℕ, zero, suc, ◌*◌, ◌/◌, ◌<◌, ◌≤◌, ℤ, pos, ◌*ℤ◌, nat_abs, arith, refl, sym, ap, ◌∙◌, subst, ◌^◌, List, [], ◌∷◌, map, length}
+use Rattle.std.proofs.Common.{◌≡◌, ℕ, zero, suc, ◌*◌, ◌/◌, ◌<◌, ◌≤◌, ℤ, pos, ◌*ℤ◌, nat_abs, arith, refl, sym, ap, ◌∙◌, subst, List, [], ◌∷◌, map, length}
 use Prim.Native.Nat.{◌∣◌}
 use Rattle.std.proofs.lemmas.Nat.Gcd.{dvd_refl, dvd_trans, le_of_dvd}
 use Rattle.std.proofs.lemmas.Int.{unsigned_abs-mul}
@@ -7,7 +7,7 @@ use Rattle.std.proofs.lemmas.Bool.{ltb-true}
 use native.Mathlib.Nat.{one-dvd, div-mul_cancel, mul-div_cancel', mul-dvd-mul_left, dvd_of_mul-dvd-mul_right, pos_of_dvd_of_pos}
 use Rattle.nrm_number.proofs.GcdLaws.{gcd-dvd_left, gcd-dvd_right, divides_other, dvd-lcm_left, dvd-lcm_right, lcm-dvd, lowest_out}
 use Rattle.nrm_fraction.specs.Fraction.{Fraction}
-use Rattle.nrm_fraction.specs.Large.{common, numerators, over_common, gcd_all}
+use Rattle.nrm_fraction.specs.Large.{common, numerators, over_common, gcd_all, size_limit}
 use Rattle.nrm_fraction.proofs.Lowest.{common_pos}
 use Rattle.nrm_model.specs.Network.{NetworkValue}
 use Rattle.nrm_lp.specs.Program.{ProgramValue}
@@ -86,10 +86,10 @@ closing_lowest : (a : ProgramValue) (t : Tableau) → IsLowest (certificate a t)
 closing_lowest a t = record { allocation = over_common_lowest (product_values a t); prices = over_common_lowest (leg_prices a t) }
 
 -- a program with the network's legs and products asks for the same shape
-closing_shaped : (net : NetworkValue) (a : ProgramValue) (t : Tableau) → length a.bounds ≡ length net.products → length a.caps ≡ length net.legs → Certifies (2 ^ 48) a (certificate a t) → HasShape (2 ^ 48) (length net.products) (length net.legs) (certificate a t)
+closing_shaped : (net : NetworkValue) (a : ProgramValue) (t : Tableau) → length a.bounds ≡ length net.products → length a.caps ≡ length net.legs → Certifies size_limit a (certificate a t) → HasShape size_limit (length net.products) (length net.legs) (certificate a t)
 closing_shaped net a t products legs h =
-    subst (λ n. HasShape (2 ^ 48) n (length net.legs) (certificate a t)) products (subst (λ n. HasShape (2 ^ 48) (length a.bounds) n (certificate a t)) legs h.shape)
+    subst (λ n. HasShape size_limit n (length net.legs) (certificate a t)) products (subst (λ n. HasShape size_limit (length a.bounds) n (certificate a t)) legs h.shape)
 
 pub closings_read : WrittenIsRead → ClosingsAreRead
 closings_read written net is a ok products legs n t closes =
-    written net is (certificate a t) (closing_shaped net a t products legs (certifies (2 ^ 48) (ltb-true 1 (2 ^ 48) refl) a ok n t closes)) (closing_lowest a t)
+    written net is (certificate a t) (closing_shaped net a t products legs (certifies size_limit (ltb-true 1 size_limit refl) a ok n t closes)) (closing_lowest a t)

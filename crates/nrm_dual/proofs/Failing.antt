@@ -5,7 +5,7 @@ use Rattle.nrm_lp.specs.Program.{ProgramValue, load, price_sum, cost}
 use Rattle.nrm_lp.specs.Certified.{Meet}
 use Rattle.nrm_dual.specs.declared.verdict.Verdict.{Verdict}
 use Rattle.nrm_dual.specs.declared.verdict.Verdict.TheVariants.{Optimal, WrongProduct, WrongLeg, WrongValue}
-use Rattle.nrm_dual.specs.Conditions.{least, or_product, or_leg, is_over_bound, is_over_cap, is_priced_short, is_unmet_dear, is_used_cheap, first_wrong}
+use Rattle.nrm_dual.specs.Conditions.{least, or_product, or_leg, is_above_demand, is_above_capacity, is_priced_with_seats_left, is_rejected_above_bid_price, is_accepted_below_bid_price, first_wrong}
 
 pub false_true : false ≡ true → ⊥
 false_true e = cc
@@ -98,40 +98,40 @@ module _ (a : ProgramValue) (q : ℕ) (x : List ℕ) (d : ℕ) (p : List ℕ) (v
   last = cond (eqb value (cost a d p)) Optimal WrongValue
 
   abbrev from_used : Verdict
-  from_used = or_product (least (is_used_cheap a x d p) 0 (length a.bounds)) last
+  from_used = or_product (least (is_accepted_below_bid_price a x d p) 0 (length a.bounds)) last
 
   abbrev from_unmet : Verdict
-  from_unmet = or_product (least (is_unmet_dear a q x d p) 0 (length a.bounds)) from_used
+  from_unmet = or_product (least (is_rejected_above_bid_price a q x d p) 0 (length a.bounds)) from_used
 
   abbrev from_full : Verdict
-  from_full = or_leg (least (is_priced_short a q x p) 0 (length a.caps)) from_unmet
+  from_full = or_leg (least (is_priced_with_seats_left a q x p) 0 (length a.caps)) from_unmet
 
   abbrev from_seats : Verdict
-  from_seats = or_leg (least (is_over_cap a q x) 0 (length a.caps)) from_full
+  from_seats = or_leg (least (is_above_capacity a q x) 0 (length a.caps)) from_full
 
   pub conditions_hold : first_wrong a q x d p value ≡ Optimal → Holds a q x d p value
   conditions_hold e =
-      let e1 : (least (is_over_bound a q x) 0 (length a.bounds) ≡ None) × (from_seats ≡ Optimal) = product_out _ _ e in
-      let e2 : (least (is_over_cap a q x) 0 (length a.caps) ≡ None) × (from_full ≡ Optimal) = leg_out _ _ e1.1 in
-      let e3 : (least (is_priced_short a q x p) 0 (length a.caps) ≡ None) × (from_unmet ≡ Optimal) = leg_out _ _ e2.1 in
-      let e4 : (least (is_unmet_dear a q x d p) 0 (length a.bounds) ≡ None) × (from_used ≡ Optimal) = product_out _ _ e3.1 in
-      let e5 : (least (is_used_cheap a x d p) 0 (length a.bounds) ≡ None) × (last ≡ Optimal) = product_out _ _ e4.1 in
+      let e1 : (least (is_above_demand a q x) 0 (length a.bounds) ≡ None) × (from_seats ≡ Optimal) = product_out _ _ e in
+      let e2 : (least (is_above_capacity a q x) 0 (length a.caps) ≡ None) × (from_full ≡ Optimal) = leg_out _ _ e1.1 in
+      let e3 : (least (is_priced_with_seats_left a q x p) 0 (length a.caps) ≡ None) × (from_unmet ≡ Optimal) = leg_out _ _ e2.1 in
+      let e4 : (least (is_rejected_above_bid_price a q x d p) 0 (length a.bounds) ≡ None) × (from_used ≡ Optimal) = product_out _ _ e3.1 in
+      let e5 : (least (is_accepted_below_bid_price a x d p) 0 (length a.bounds) ≡ None) × (last ≡ Optimal) = product_out _ _ e4.1 in
       record {
-        within = λ j l. ltb-false (q * get_or a.bounds j 0) (get_or x j 0) (never (is_over_bound a q x) (length a.bounds) e1.0 j l);
-        seats = λ i l. ltb-false (q * get_or a.caps i 0) (load i a.legs x) (never (is_over_cap a q x) (length a.caps) e2.0 i l);
-        full = λ i l h. ltb-false (load i a.legs x) (q * get_or a.caps i 0) (not_second _ _ (never (is_priced_short a q x p) (length a.caps) e3.0 i l) (lt-ltb 0 (get_or p i 0) h));
-        unmet = λ j l h. ltb-false (price_sum p (get_or a.legs j [])) (d * get_or a.fares j 0) (not_second _ _ (never (is_unmet_dear a q x d p) (length a.bounds) e4.0 j l) (lt-ltb (get_or x j 0) (q * get_or a.bounds j 0) h));
-        used = λ j l h. ltb-false (d * get_or a.fares j 0) (price_sum p (get_or a.legs j [])) (not_second _ _ (never (is_used_cheap a x d p) (length a.bounds) e5.0 j l) (lt-ltb 0 (get_or x j 0) h));
+        within = λ j l. ltb-false (q * get_or a.bounds j 0) (get_or x j 0) (never (is_above_demand a q x) (length a.bounds) e1.0 j l);
+        seats = λ i l. ltb-false (q * get_or a.caps i 0) (load i a.legs x) (never (is_above_capacity a q x) (length a.caps) e2.0 i l);
+        full = λ i l h. ltb-false (load i a.legs x) (q * get_or a.caps i 0) (not_second _ _ (never (is_priced_with_seats_left a q x p) (length a.caps) e3.0 i l) (lt-ltb 0 (get_or p i 0) h));
+        unmet = λ j l h. ltb-false (price_sum p (get_or a.legs j [])) (d * get_or a.fares j 0) (not_second _ _ (never (is_rejected_above_bid_price a q x d p) (length a.bounds) e4.0 j l) (lt-ltb (get_or x j 0) (q * get_or a.bounds j 0) h));
+        used = λ j l h. ltb-false (d * get_or a.fares j 0) (price_sum p (get_or a.legs j [])) (not_second _ _ (never (is_accepted_below_bid_price a x d p) (length a.bounds) e5.0 j l) (lt-ltb 0 (get_or x j 0) h));
         value_is = eqb-true value (cost a d p) (same_out (eqb value (cost a d p)) e5.1);
       }
 
   no_condition_fails : Holds a q x d p value → first_wrong a q x d p value ≡ Optimal
   no_condition_fails h =
-      product_in _ _ (none_found (is_over_bound a q x) (length a.bounds) (λ j l. le-ltb (q * get_or a.bounds j 0) (get_or x j 0) (h.within j l)))
-      (leg_in _ _ (none_found (is_over_cap a q x) (length a.caps) (λ i l. le-ltb (q * get_or a.caps i 0) (load i a.legs x) (h.seats i l)))
-      (leg_in _ _ (none_found (is_priced_short a q x p) (length a.caps) (λ i l. not_both _ _ (λ e. le-ltb (load i a.legs x) (q * get_or a.caps i 0) (h.full i l (ltb-true 0 (get_or p i 0) e)))))
-      (product_in _ _ (none_found (is_unmet_dear a q x d p) (length a.bounds) (λ j l. not_both _ _ (λ e. le-ltb (price_sum p (get_or a.legs j [])) (d * get_or a.fares j 0) (h.unmet j l (ltb-true (get_or x j 0) (q * get_or a.bounds j 0) e)))))
-      (product_in _ _ (none_found (is_used_cheap a x d p) (length a.bounds) (λ j l. not_both _ _ (λ e. le-ltb (d * get_or a.fares j 0) (price_sum p (get_or a.legs j [])) (h.used j l (ltb-true 0 (get_or x j 0) e)))))
+      product_in _ _ (none_found (is_above_demand a q x) (length a.bounds) (λ j l. le-ltb (q * get_or a.bounds j 0) (get_or x j 0) (h.within j l)))
+      (leg_in _ _ (none_found (is_above_capacity a q x) (length a.caps) (λ i l. le-ltb (q * get_or a.caps i 0) (load i a.legs x) (h.seats i l)))
+      (leg_in _ _ (none_found (is_priced_with_seats_left a q x p) (length a.caps) (λ i l. not_both _ _ (λ e. le-ltb (load i a.legs x) (q * get_or a.caps i 0) (h.full i l (ltb-true 0 (get_or p i 0) e)))))
+      (product_in _ _ (none_found (is_rejected_above_bid_price a q x d p) (length a.bounds) (λ j l. not_both _ _ (λ e. le-ltb (price_sum p (get_or a.legs j [])) (d * get_or a.fares j 0) (h.unmet j l (ltb-true (get_or x j 0) (q * get_or a.bounds j 0) e)))))
+      (product_in _ _ (none_found (is_accepted_below_bid_price a x d p) (length a.bounds) (λ j l. not_both _ _ (λ e. le-ltb (d * get_or a.fares j 0) (price_sum p (get_or a.legs j [])) (h.used j l (ltb-true 0 (get_or x j 0) e)))))
       (ap (λ b. cond b Optimal WrongValue) (eq-eqb value (cost a d p) h.value_is))))))
 
   -- an allocation and prices that meet fail none of them

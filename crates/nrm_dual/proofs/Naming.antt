@@ -1,12 +1,12 @@
 -- A product or a leg that is named is one of the program's, or of the network's.
-use Rattle.std.proofs.Common.{◌≡◌, ℕ, zero, suc, ◌+◌, ◌^◌, ◌<◌, ℤ, arith, refl, ap, ◌∙◌, subst, List, [], ◌∷◌, length, Bool, true, false, cond, eqb, nat_lt, Option, Some, None, Result, Ok, Err}
+use Rattle.std.proofs.Common.{◌≡◌, ℕ, zero, suc, ◌+◌, ◌<◌, ℤ, arith, refl, ap, ◌∙◌, subst, List, [], ◌∷◌, length, Bool, true, false, cond, eqb, nat_lt, Option, Some, None, Result, Ok, Err}
 use Rattle.std.specs.Prelude.{IfErr, ⊤, if◌then◌else◌}
 use Rattle.nrm_model.specs.Network.{NetworkValue}
 use Rattle.nrm_stream.specs.Lines.{lines_of}
-use Rattle.nrm_fraction.specs.Large.{large_number}
+use Rattle.nrm_fraction.specs.Large.{large_number, size_limit}
 use Rattle.nrm_lp.specs.declared.certificate.Certificate.{Certificate}
 use Rattle.nrm_lp.specs.Program.{ProgramValue, cost}
-use Rattle.nrm_dual.specs.Conditions.{first_wrong, is_over_bound, is_over_cap, is_priced_short, is_unmet_dear, is_used_cheap, least, or_leg, or_product}
+use Rattle.nrm_dual.specs.Conditions.{first_wrong, is_above_demand, is_above_capacity, is_priced_with_seats_left, is_rejected_above_bid_price, is_accepted_below_bid_price, least, or_leg, or_product}
 use Rattle.nrm_dual.specs.Named.{IsOfNetwork, IsOfProgram}
 use Rattle.nrm_dual.specs.Reading.{Entry, Sheet, Written, after_entry, after_line, after_lines, allocation_in, blank, certificate_of, certificate_on, certificate_over, entry_of, first_missing, given, is_over, or_refusal, prices_in, small_or_refusal, value_in, whole_or_refusal, with_given}
 use Rattle.nrm_dual.specs.Refusals.{AnswersCertificate, CertRefusal, too_long, bad_line, large_line, no_value, no_product, no_leg, too_fine}
@@ -53,8 +53,8 @@ leg_named a test later h = go (least test 0 (length a.caps)) (λ i e. omega (ari
 
 pub first_named : (a : ProgramValue) (q : ℕ) (x : List ℕ) (d : ℕ) (p : List ℕ) (value : ℕ) → IsOfProgram a (first_wrong a q x d p value)
 first_named a q x d p value =
-    product_named a (is_over_bound a q x) _ (leg_named a (is_over_cap a q x) _ (leg_named a (is_priced_short a q x p) _
-    (product_named a (is_unmet_dear a q x d p) _ (product_named a (is_used_cheap a x d p) _ (last (eqb value (cost a d p)))))))
+    product_named a (is_above_demand a q x) _ (leg_named a (is_above_capacity a q x) _ (leg_named a (is_priced_with_seats_left a q x p) _
+    (product_named a (is_rejected_above_bid_price a q x d p) _ (product_named a (is_accepted_below_bid_price a x d p) _ (last (eqb value (cost a d p)))))))
   where
     last : (b : Bool) → IsOfProgram a (cond b verdict.Optimal verdict.WrongValue)
     last true = tt
@@ -102,11 +102,11 @@ sheet_named net sheet h f e =
     small (Some number) found e = subst (IsNamed net) (err_same {A = Certificate} too_fine f e) tt
 
     on : (value : Option Written) (product leg : Option ℕ) → ((j : ℕ) → product ≡ Some j → j < length net.products) → ((i : ℕ) → leg ≡ Some i → i < length net.legs)
-        → whole_or_refusal value product leg (small_or_refusal (large_number (2 ^ 48) (allocation_in net sheet)) (large_number (2 ^ 48) (value_in net sheet ∷ prices_in sheet)) made) ≡ Err f → IsNamed net f
+        → whole_or_refusal value product leg (small_or_refusal (large_number size_limit (allocation_in net sheet)) (large_number size_limit (value_in net sheet ∷ prices_in sheet)) made) ≡ Err f → IsNamed net f
     on None product leg j_within i_within e = subst (IsNamed net) (err_same {A = Certificate} no_value f e) tt
     on (Some value) (Some j) leg j_within i_within e = subst (IsNamed net) (err_same {A = Certificate} (no_product j) f e) (j_within j refl)
     on (Some value) None (Some i) j_within i_within e = subst (IsNamed net) (err_same {A = Certificate} (no_leg i) f e) (i_within i refl)
-    on (Some value) None None j_within i_within e = small (large_number (2 ^ 48) (allocation_in net sheet)) (large_number (2 ^ 48) (value_in net sheet ∷ prices_in sheet)) e
+    on (Some value) None None j_within i_within e = small (large_number size_limit (allocation_in net sheet)) (large_number size_limit (value_in net sheet ∷ prices_in sheet)) e
 
 lines_named : (net : NetworkValue) (sheet : Sheet) (number : ℕ) (lines : List (List ℕ)) → HasPlaces net sheet → (f : CertRefusal) → or_refusal (after_lines net sheet number lines) (certificate_on net) ≡ Err f → IsNamed net f
 lines_named net sheet number [] h f e = sheet_named net sheet h f e

@@ -12,7 +12,7 @@ use Rattle.nrm_lp.proofs.Audited.{optimal_certify}
 use Rattle.nrm_lp.proofs.Slackness.{meets_if, product_tight, leg_tight}
 use Rattle.nrm_dual.specs.declared.verdict.Verdict.{Verdict}
 use Rattle.nrm_dual.specs.declared.verdict.Verdict.TheVariants.{Optimal, WrongShape, WrongValue}
-use Rattle.nrm_dual.specs.Conditions.{is_over_bound, is_over_cap, is_priced_short, is_unmet_dear, is_used_cheap, least, is_small, are_small, has_shape, or_product, or_leg, first_wrong, first_failing}
+use Rattle.nrm_dual.specs.Conditions.{is_above_demand, is_above_capacity, is_priced_with_seats_left, is_rejected_above_bid_price, is_accepted_below_bid_price, least, is_small, are_small, has_shape, or_product, or_leg, first_wrong, first_failing}
 use Rattle.nrm_dual.specs.Laws.{OptimalPasses}
 use Rattle.nrm_dual.proofs.Failing.{Holds, conditions_hold, meet_passes, false_true, and_true, both_true}
 
@@ -91,11 +91,11 @@ other_last false = λ e. cc
 
 pub wrong_elsewhere : (a : ProgramValue) (q : ℕ) (x : List ℕ) (d : ℕ) (p : List ℕ) (value : ℕ) → first_wrong a q x d p value ≢ WrongShape
 wrong_elsewhere a q x d p value =
-    other_product (least (is_over_bound a q x) 0 (length a.bounds)) _
-    (other_leg (least (is_over_cap a q x) 0 (length a.caps)) _
-    (other_leg (least (is_priced_short a q x p) 0 (length a.caps)) _
-    (other_product (least (is_unmet_dear a q x d p) 0 (length a.bounds)) _
-    (other_product (least (is_used_cheap a x d p) 0 (length a.bounds)) _ (other_last (eqb value (cost a d p)))))))
+    other_product (least (is_above_demand a q x) 0 (length a.bounds)) _
+    (other_leg (least (is_above_capacity a q x) 0 (length a.caps)) _
+    (other_leg (least (is_priced_with_seats_left a q x p) 0 (length a.caps)) _
+    (other_product (least (is_rejected_above_bid_price a q x d p) 0 (length a.bounds)) _
+    (other_product (least (is_accepted_below_bid_price a x d p) 0 (length a.bounds)) _ (other_last (eqb value (cost a d p)))))))
 
 module _ (a : ProgramValue) (ok : IsProgram a) (q : ℕ) (x : List ℕ) (d : ℕ) (p : List ℕ) (value : ℕ) (h : Holds a q x d p value) (some_q : 0 < q) (some_d : 0 < d) (products : length x ≡ length a.bounds) (legs : length p ≡ length a.caps) where
   pub allocation : IsAllocation a q x

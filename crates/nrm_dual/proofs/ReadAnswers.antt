@@ -1,8 +1,9 @@
 -- What is answered on the sheet that the lines give is what the file gives, and has its shape.
-use Rattle.std.proofs.Common.{◌≡◌, ℕ, ◌^◌, ◌≤◌, List, length, false, Ok, Err, nat_lt, arith, sym, ap, ◌∙◌, subst}
+use Rattle.std.proofs.Common.{◌≡◌, ℕ, ◌≤◌, List, length, false, Ok, Err, nat_lt, arith, sym, ap, ◌∙◌, subst}
 use Rattle.std.specs.Prelude.{Option, Some, None, Result, IfOk, if◌then◌else◌}
 use Rattle.std.specs.Option.{option_map}
 use Rattle.std.proofs.lemmas.Bool.Decides.{nat_tests}
+use Rattle.nrm_fraction.specs.Large.{size_limit}
 use Rattle.nrm_model.specs.Network.{NetworkValue}
 use Rattle.nrm_stream.specs.Lines.{lines_of}
 use Rattle.nrm_lp.specs.declared.certificate.Certificate.{Certificate}
@@ -10,7 +11,7 @@ use Rattle.nrm_lp.specs.Shape.{HasShape}
 use Rattle.nrm_dual.specs.declared.fault.CertFault.{CertFault}
 use Rattle.nrm_dual.specs.Refusals.{AnswersCertificate, CertRefusal, IsRefusedFor, refusal_of, too_long}
 use Rattle.nrm_dual.specs.Reading.{Sheet, after_lines, blank, certificate_of, certificate_on, or_refusal}
-use Rattle.nrm_dual.specs.Sheets.{Refuses, certificate_in}
+use Rattle.nrm_dual.specs.Inner.Sheets.{Refuses, certificate_in}
 use Rattle.nrm_dual.proofs.ReadShape.{read_shaped}
 
 not_long : (n : ℕ) → n ≤ 65536 → nat_lt 65536 n ≡ false
@@ -26,7 +27,7 @@ module _ (net : NetworkValue) (bytes : List ℕ) (sheet : Sheet) (histories : �
   pub file_answer : AnswersCertificate result (certificate_of net bytes)
   file_answer = subst (AnswersCertificate result) (sym file_is) answer
 
-pub answer_shaped : (net : NetworkValue) (bytes : List ℕ) (result : Result Certificate CertFault) → AnswersCertificate result (certificate_of net bytes) → IfOk result (HasShape (2 ^ 48) (length net.products) (length net.legs))
+pub answer_shaped : (net : NetworkValue) (bytes : List ℕ) (result : Result Certificate CertFault) → AnswersCertificate result (certificate_of net bytes) → IfOk result (HasShape size_limit (length net.products) (length net.legs))
 answer_shaped net bytes (Ok certificate) read = read_shaped net bytes certificate read
 answer_shaped net bytes (Err cause) read = tt
 

@@ -1,11 +1,11 @@
 -- What is read has the network's shape: a sheet keeps its lengths, and numbers that aren't Large are below the limit.
-use Rattle.std.proofs.Common.{◌≡◌, ℕ, zero, suc, ◌*◌, ◌/◌, ◌<◌, ◌^◌, ℤ, pos, ◌*ℤ◌, nat_abs, refl, ap, ◌∙◌, subst, List, [], ◌∷◌, map, length, All, Bool, true, false, Option, Some, None, Ok, Err, nat_lt}
+use Rattle.std.proofs.Common.{◌≡◌, ℕ, zero, suc, ◌*◌, ◌/◌, ◌<◌, ℤ, pos, ◌*ℤ◌, nat_abs, refl, ap, ◌∙◌, subst, List, [], ◌∷◌, map, length, All, Bool, true, false, Option, Some, None, Ok, Err, nat_lt}
 use Rattle.std.specs.Prelude.{Result, if◌then◌else◌}
 use Rattle.std.proofs.lemmas.List.{length-map, length-set, length-replicate}
 use Rattle.std.proofs.lemmas.List.Elements.{All-nil, All-cons}
 use Rattle.nrm_number.specs.Gcd.{gcd}
 use Rattle.nrm_fraction.specs.Fraction.{Fraction, ◌over◌}
-use Rattle.nrm_fraction.specs.Large.{common, numerators, first_reaching, large_number}
+use Rattle.nrm_fraction.specs.Large.{common, numerators, first_reaching, large_number, size_limit}
 use Rattle.nrm_fraction.proofs.Lowest.{common_pos}
 use Rattle.nrm_model.specs.Network.{NetworkValue}
 use Rattle.nrm_stream.specs.Lines.{lines_of}
@@ -94,42 +94,42 @@ small_out None (Some number) made c e = absurd (fault_ok too_fine c e)
 small_out (Some number) found made c e = absurd (fault_ok too_fine c e)
 
 module _ (net : NetworkValue) (sheet : Sheet) (h : HasPlaces net sheet) where
-  shaped_over : large_number (2 ^ 48) (allocation_in net sheet) ≡ None → large_number (2 ^ 48) (value_in net sheet ∷ prices_in sheet) ≡ None
-      → HasShape (2 ^ 48) (length net.products) (length net.legs) (certificate_over (allocation_in net sheet) (value_in net sheet) (prices_in sheet))
+  shaped_over : large_number size_limit (allocation_in net sheet) ≡ None → large_number size_limit (value_in net sheet ∷ prices_in sheet) ≡ None
+      → HasShape size_limit (length net.products) (length net.legs) (certificate_over (allocation_in net sheet) (value_in net sheet) (prices_in sheet))
   shaped_over few_shares few_prices =
       let shares : List Fraction = allocation_in net sheet in
       let value : Fraction = value_in net sheet in
       let prices : List Fraction = prices_in sheet in
       let q : ℕ = common shares in
       let den : ℕ = common (value ∷ prices) in
-      let a = reach_first (2 ^ 48) (pos q) (numerators q shares) few_shares in
-      let b = reach_first (2 ^ 48) (pos den) (numerators den (value ∷ prices)) few_prices in
-      let v = reach_first (2 ^ 48) (value.num *ℤ pos (den / value.den)) (numerators den prices) b.1 in
+      let a = reach_first size_limit (pos q) (numerators q shares) few_shares in
+      let b = reach_first size_limit (pos den) (numerators den (value ∷ prices)) few_prices in
+      let v = reach_first size_limit (value.num *ℤ pos (den / value.den)) (numerators den prices) b.1 in
       record {
         allocation = length-numerators q net.histories sheet.products ∙ h.products;
         prices = length-numerators den 1 sheet.legs ∙ h.legs;
         q_size = (q, refl, a.0);
-        x_sizes = numerators_small (2 ^ 48) q net.histories sheet.products a.1;
+        x_sizes = numerators_small size_limit q net.histories sheet.products a.1;
         den_size = (den, refl, b.0);
-        p_sizes = numerators_small (2 ^ 48) den 1 sheet.legs v.1;
-        value_size = numerator (2 ^ 48) den value (times_sign net.histories sheet.value) v.0;
+        p_sizes = numerators_small size_limit den 1 sheet.legs v.1;
+        value_size = numerator size_limit den value (times_sign net.histories sheet.value) v.0;
         some_q = common_pos shares;
         some_den = common_pos (value ∷ prices);
       }
 
-  sheet_shaped : (c : Certificate) → certificate_on net sheet ≡ Ok c → HasShape (2 ^ 48) (length net.products) (length net.legs) c
+  sheet_shaped : (c : Certificate) → certificate_on net sheet ≡ Ok c → HasShape size_limit (length net.products) (length net.legs) c
   sheet_shaped c e =
       let made = whole_out sheet.value (first_missing 0 sheet.products) (first_missing 0 sheet.legs) (certificate_or_refusal (allocation_in net sheet) (value_in net sheet) (prices_in sheet)) c e in
-      let w = small_out (large_number (2 ^ 48) (allocation_in net sheet)) (large_number (2 ^ 48) (value_in net sheet ∷ prices_in sheet)) (certificate_over (allocation_in net sheet) (value_in net sheet) (prices_in sheet)) c made in
-      subst (HasShape (2 ^ 48) (length net.products) (length net.legs)) w.2 (shaped_over w.0 w.1)
+      let w = small_out (large_number size_limit (allocation_in net sheet)) (large_number size_limit (value_in net sheet ∷ prices_in sheet)) (certificate_over (allocation_in net sheet) (value_in net sheet) (prices_in sheet)) c made in
+      subst (HasShape size_limit (length net.products) (length net.legs)) w.2 (shaped_over w.0 w.1)
 
-pub read_shaped : (net : NetworkValue) (bytes : List ℕ) (c : Certificate) → certificate_of net bytes ≡ Ok c → HasShape (2 ^ 48) (length net.products) (length net.legs) c
+pub read_shaped : (net : NetworkValue) (bytes : List ℕ) (c : Certificate) → certificate_of net bytes ≡ Ok c → HasShape size_limit (length net.products) (length net.legs) c
 read_shaped net bytes c e = go (nat_lt 65536 (length bytes)) e
   where
-    on : (r : Result Sheet CertRefusal) → after_lines net (blank net) 1 (lines_of bytes) ≡ r → or_refusal r (certificate_on net) ≡ Ok c → HasShape (2 ^ 48) (length net.products) (length net.legs) c
+    on : (r : Result Sheet CertRefusal) → after_lines net (blank net) 1 (lines_of bytes) ≡ r → or_refusal r (certificate_on net) ≡ Ok c → HasShape size_limit (length net.products) (length net.legs) c
     on (Ok sheet) s e = sheet_shaped net sheet (lines_places net (blank net) 1 (lines_of bytes) (blank_places net) sheet s) c e
     on (Err cause) s e = absurd (fault_ok cause c e)
 
-    go : (long : Bool) → (if long then Err too_long else or_refusal (after_lines net (blank net) 1 (lines_of bytes)) (certificate_on net)) ≡ Ok c → HasShape (2 ^ 48) (length net.products) (length net.legs) c
+    go : (long : Bool) → (if long then Err too_long else or_refusal (after_lines net (blank net) 1 (lines_of bytes)) (certificate_on net)) ≡ Ok c → HasShape size_limit (length net.products) (length net.legs) c
     go true e = absurd (fault_ok too_long c e)
     go false e = on (after_lines net (blank net) 1 (lines_of bytes)) refl e

@@ -10,7 +10,7 @@ use Rattle.std.proofs.lemmas.List.FromFn.{length-map-range_with_len, get_or-map-
 use Rattle.nrm_number.specs.Gcd.{gcd}
 use Rattle.nrm_number.proofs.GcdLaws.{gcd-dvd_right}
 use Rattle.nrm_fraction.specs.Fraction.{◌over◌}
-use Rattle.nrm_fraction.specs.Large.{common, numerators, fractions, first_reaching, large_number, gcd_all}
+use Rattle.nrm_fraction.specs.Large.{common, numerators, fractions, first_reaching, large_number, gcd_all, size_limit}
 use Rattle.nrm_fraction.proofs.Values.{IsValue_over, same_value}
 use Rattle.nrm_fraction.proofs.Lowest.{common_is, numerators_are}
 use Rattle.nrm_model.specs.Network.{NetworkValue}
@@ -34,7 +34,7 @@ times_written m d n k w is some h =
     turn m a d = omega arith
 
 -- a fraction for each number of a list
-given_each : (m d : ℕ) (ns : List ℤ) (w : ℕ → Written) → All (IsNumber (2 ^ 48)) ns → 0 < d → ((j : ℕ) → IsWritten (get_or ns j (pos 0)) (d * m) (w j))
+given_each : (m d : ℕ) (ns : List ℤ) (w : ℕ → Written) → All (IsNumber size_limit) ns → 0 < d → ((j : ℕ) → IsWritten (get_or ns j (pos 0)) (d * m) (w j))
     → map (times m) (map (λ j. Some (w j)) (range_with_len 0 (length ns))) ≡ fractions d ns
 given_each m d ns w small some h =
     same_lists (map (times m) given) (fractions d ns)
@@ -42,7 +42,7 @@ given_each m d ns w small some h =
     (λ k e short.
     let few : k < length ns = omega (arith, length-map given (times m), count) in
     let there : k < length given = omega (arith, count) in
-    let number : IsNumber (2 ^ 48) (get_or ns k (pos 0)) = small k (pos 0) few in
+    let number : IsNumber size_limit (get_or ns k (pos 0)) = small k (pos 0) few in
     get_or-map (times m) given k None e there
     ∙ ap (times m) (get_or-map-range_with_len (λ j. Some (w j)) 0 (length ns) k k None few (omega arith))
     ∙ times_written m d (get_or ns k (pos 0)) number.0 (w k) number.1 some (h k)
@@ -60,26 +60,26 @@ none_missing w k [] = refl
 none_missing w k (j ∷ js) = none_missing w (suc k) js
 
 -- numbers below the limit don't reach it
-pub below_limit : (n : ℤ) → IsNumber (2 ^ 48) n → nat_abs n < 2 ^ 48
+pub below_limit : (n : ℤ) → IsNumber size_limit n → nat_abs n < 2 ^ 48
 below_limit n h = subst (λ z. nat_abs z < 2 ^ 48) (sym h.1) h.2
 
-one_below : (n : ℤ) (ns : List ℤ) → nat_abs n < 2 ^ 48 → first_reaching (2 ^ 48) ns ≡ None → first_reaching (2 ^ 48) (n ∷ ns) ≡ None
-one_below n ns l e = ap (λ b. cond b (Some n) (first_reaching (2 ^ 48) ns)) (lt-leb (2 ^ 48) (nat_abs n) l) ∙ e
+one_below : (n : ℤ) (ns : List ℤ) → nat_abs n < 2 ^ 48 → first_reaching size_limit ns ≡ None → first_reaching size_limit (n ∷ ns) ≡ None
+one_below n ns l e = ap (λ b. cond b (Some n) (first_reaching size_limit ns)) (lt-leb size_limit (nat_abs n) l) ∙ e
 
-all_below : (ns : List ℤ) → All (IsNumber (2 ^ 48)) ns → first_reaching (2 ^ 48) ns ≡ None
+all_below : (ns : List ℤ) → All (IsNumber size_limit) ns → first_reaching size_limit ns ≡ None
 all_below [] h = refl
-all_below (n ∷ ns) h = one_below n ns (below_limit n (All-head (IsNumber (2 ^ 48)) n ns h)) (all_below ns (All-tail (IsNumber (2 ^ 48)) n ns h))
+all_below (n ∷ ns) h = one_below n ns (below_limit n (All-head (IsNumber size_limit) n ns h)) (all_below ns (All-tail (IsNumber size_limit) n ns h))
 
 -- a row in lowest terms isn't Large where its numbers are below the limit
-row_small : (d : ℕ) (ns : List ℤ) → 0 < d → d < 2 ^ 48 → gcd_all d ns ≡ 1 → All (IsNumber (2 ^ 48)) ns → large_number (2 ^ 48) (fractions d ns) ≡ None
+row_small : (d : ℕ) (ns : List ℤ) → 0 < d → d < 2 ^ 48 → gcd_all d ns ≡ 1 → All (IsNumber size_limit) ns → large_number size_limit (fractions d ns) ≡ None
 row_small d ns some l lowest h =
-    ap₂ (λ m ms. first_reaching (2 ^ 48) (pos m ∷ ms)) (common_is d ns some lowest) (ap (λ m. numerators m (fractions d ns)) (common_is d ns some lowest) ∙ numerators_are d ns some)
+    ap₂ (λ m ms. first_reaching size_limit (pos m ∷ ms)) (common_is d ns some lowest) (ap (λ m. numerators m (fractions d ns)) (common_is d ns some lowest) ∙ numerators_are d ns some)
     ∙ one_below (pos d) ns l (all_below ns h)
 
 row_back : (d : ℕ) (ns : List ℤ) → 0 < d → gcd_all d ns ≡ 1 → numerators (common (fractions d ns)) (fractions d ns) ≡ ns
 row_back d ns some lowest = ap (λ m. numerators m (fractions d ns)) (common_is d ns some lowest) ∙ numerators_are d ns some
 
-signless : (n : ℤ) → IsNumber (2 ^ 48) n → pos (nat_abs n) ≡ n
+signless : (n : ℤ) → IsNumber size_limit n → pos (nat_abs n) ≡ n
 signless n h = ap (λ z. pos (nat_abs z)) h.1 ∙ sym h.1
 
 -- a sheet with a fraction for each place
@@ -90,7 +90,7 @@ full_sheet net value shares prices = record {
   legs = map (λ i. Some (prices i)) (range_with_len 0 (length net.legs));
 }
 
-module _ (net : NetworkValue) (c : Certificate) (shaped : HasShape (2 ^ 48) (length net.products) (length net.legs) c) (lowest : IsLowest c) where
+module _ (net : NetworkValue) (c : Certificate) (shaped : HasShape size_limit (length net.products) (length net.legs) c) (lowest : IsLowest c) where
   both_lowest : gcd_all (nat_abs c.den) (c.value ∷ c.p) ≡ 1
   both_lowest = ap (gcd (nat_abs c.value)) lowest.prices ∙ dvd_antisymm (gcd-dvd_right (nat_abs c.value) 1) (one-dvd (gcd (nat_abs c.value) 1))
 
@@ -107,7 +107,7 @@ module _ (net : NetworkValue) (c : Certificate) (shaped : HasShape (2 ^ 48) (len
   fractions_back =
       ap₂ (λ a b. small_or_refusal a b (certificate_over (fractions (nat_abs c.q) c.x) (c.value over nat_abs c.den) (fractions (nat_abs c.den) c.p)))
       (row_small (nat_abs c.q) c.x shaped.some_q (below_limit c.q shaped.q_size) lowest.allocation shaped.x_sizes)
-      (row_small (nat_abs c.den) (c.value ∷ c.p) shaped.some_den (below_limit c.den shaped.den_size) both_lowest (All-cons (IsNumber (2 ^ 48)) c.value c.p shaped.value_size shaped.p_sizes))
+      (row_small (nat_abs c.den) (c.value ∷ c.p) shaped.some_den (below_limit c.den shaped.den_size) both_lowest (All-cons (IsNumber size_limit) c.value c.p shaped.value_size shaped.p_sizes))
       ∙ ap Ok over_back
 
   module _ (value : Written) (shares prices : ℕ → Written)

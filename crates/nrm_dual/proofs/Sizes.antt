@@ -1,6 +1,7 @@
 -- The sizes of numbers below a limit.
 use Rattle.std.proofs.Common.{ℕ, zero, suc, ◌<◌, ◌^◌, ℤ, nat_abs, lit<, sym, subst, List, [], ◌∷◌, get_or, All}
 use Rattle.std.proofs.lemmas.List.Elements.{All-head, All-tail}
+use Rattle.nrm_fraction.specs.Large.{size_limit}
 use Rattle.nrm_lp.specs.Shape.{IsNumber}
 use Rattle.nrm_lp.specs.Certified.{sizes}
 
@@ -13,8 +14,8 @@ sizes_below limit room (n ∷ ns) h zero = number_below limit n (All-head (IsNum
 sizes_below limit room (n ∷ ns) h (suc k) = sizes_below limit room ns (All-tail (IsNumber limit) n ns h) k
 
 -- below the limit of a certificate's numbers
-pub small_number : (n : ℤ) → IsNumber (2 ^ 48) n → nat_abs n < 2 ^ 48
-small_number n h = number_below (2 ^ 48) n h
+pub small_number : (n : ℤ) → IsNumber size_limit n → nat_abs n < 2 ^ 48
+small_number n h = number_below size_limit n h
 
-pub small_size : (ns : List ℤ) → All (IsNumber (2 ^ 48)) ns → (k : ℕ) → get_or (sizes ns) k 0 < 2 ^ 48
-small_size ns h k = sizes_below (2 ^ 48) (lit< tt) ns h k
+pub small_size : (ns : List ℤ) → All (IsNumber size_limit) ns → (k : ℕ) → get_or (sizes ns) k 0 < 2 ^ 48
+small_size ns h k = sizes_below size_limit (lit< tt) ns h k

@@ -6,6 +6,7 @@ use Rattle.std.specs.Option.{option_map}
 use Rattle.std.specs.Str.Lines.{strip_carriage_return}
 use Rattle.std.proofs.lemmas.Bool.{ne_eqb, le-leb, le-ltb}
 use Rattle.std.proofs.lemmas.List.Elements.{All-nil, All-cons, All-head, All-tail, All-append}
+use Rattle.nrm_fraction.specs.Large.{size_limit}
 use Rattle.nrm_fraction.specs.Fraction.{Fraction, ◌over◌}
 use Rattle.nrm_text.specs.Fractions.{sign_of, fraction_text}
 use Rattle.nrm_text.specs.ReadBack.{HasNone, IsOneWord, FractionParts, IsQuotient}
@@ -40,7 +41,7 @@ pub record GivesBack (n : ℤ) (d : ℕ) (w : Written) : Type 0 where
 no_sign : (n : ℤ) (k : ℕ) → n ≡ pos k → sign_of n ≡ []
 no_sign n k e = ap sign_of e
 
-pub fraction_back : (n : ℤ) (d : ℕ) → IsNumber (2 ^ 48) n → 0 < d → d < 2 ^ 63 → (w : Written) × GivesBack n d w
+pub fraction_back : (n : ℤ) (d : ℕ) → IsNumber size_limit n → 0 < d → d < 2 ^ 63 → (w : Written) × GivesBack n d w
 fraction_back n d number some few =
     let x : Fraction = n over d in
     let size : nat_abs n < 2 ^ 48 = below_limit n number in

@@ -6,6 +6,7 @@ use Rattle.std.proofs.Math.Nat.{mul-le-mul_left, mul-pos, mul-one}
 use Rattle.std.proofs.lemmas.Bool.{le-ltb}
 use Rattle.std.proofs.lemmas.List.Elements.{All-nil, All-cons, All-head, All-tail}
 use Rattle.std.proofs.lemmas.Option.{unwrap_or-slice_get}
+use Rattle.nrm_fraction.specs.Large.{size_limit}
 use Rattle.nrm_fraction.specs.Fraction.{◌over◌}
 use Rattle.nrm_text.specs.Names.{is_name}
 use Rattle.nrm_text.specs.Fractions.{fraction_text}
@@ -30,10 +31,10 @@ use Rattle.nrm_dual.proofs.Filling.{sheet_filled}
 use Rattle.nrm_dual.proofs.WrittenLines.{text_cut, text_short, length-two_words, length-three_words, name_short, word_value, word_product, word_leg, found_by_name}
 
 -- a number of the list, or 0 past its end
-number_at : (ns : List ℤ) → All (IsNumber (2 ^ 48)) ns → (j : ℕ) → IsNumber (2 ^ 48) (get_or ns j (pos 0))
+number_at : (ns : List ℤ) → All (IsNumber size_limit) ns → (j : ℕ) → IsNumber size_limit (get_or ns j (pos 0))
 number_at [] h j = (0, refl, omega arith)
-number_at (n ∷ ns) h zero = All-head (IsNumber (2 ^ 48)) n ns h
-number_at (n ∷ ns) h (suc j) = number_at ns (All-tail (IsNumber (2 ^ 48)) n ns h) j
+number_at (n ∷ ns) h zero = All-head (IsNumber size_limit) n ns h
+number_at (n ∷ ns) h (suc j) = number_at ns (All-tail (IsNumber size_limit) n ns h) j
 
 -- a denominator, times the histories
 record IsDenominator (d : ℕ) : Type 0 where
@@ -46,7 +47,7 @@ over_histories d h some few least most =
     record { some = mul-pos some (omega arith); small = omega (arith, up) }
 
 -- ---- the text of a number over a denominator
-module _ (n : ℤ) (d : ℕ) (number : IsNumber (2 ^ 48) n) (den : IsDenominator d) where
+module _ (n : ℤ) (d : ℕ) (number : IsNumber size_limit n) (den : IsDenominator d) where
   text_word : IsOneWord (fraction_text (n over d))
   text_word =
       let size : nat_abs n < 2 ^ 48 = below_limit n number in
@@ -104,7 +105,7 @@ module _ (net : NetworkValue) (is : IsNetwork net) where
       ∙ found_by_name (λ (product : Product). product.name) net.products no_product j 0 l is.product_names
       ∙ ap Some (omega arith)
 
-module _ (net : NetworkValue) (is : IsNetwork net) (c : Certificate) (shaped : HasShape (2 ^ 48) (length net.products) (length net.legs) c) where
+module _ (net : NetworkValue) (is : IsNetwork net) (c : Certificate) (shaped : HasShape size_limit (length net.products) (length net.legs) c) where
   value_den : IsDenominator (nat_abs c.den * net.histories)
   value_den = over_histories (nat_abs c.den) net.histories shaped.some_den (below_limit c.den shaped.den_size) is.histories.0 is.histories.1
 

@@ -1,6 +1,7 @@
 -- The conditions on a certificate, in order, and the verdict that names the first that fails. They ask for no solution of the
 -- program: they read and compare.
-use Rattle.std.specs.Prelude.{ℕ, zero, suc, ◌*◌, ◌^◌, ℤ, pos, negsuc, nat_abs, Bool, true, false, cond, eqb, ltb, ◌&&◌, List, [], ◌∷◌, length, get_or, Option, Some, None}
+use Rattle.std.specs.Prelude.{ℕ, zero, suc, ◌*◌, ℤ, pos, negsuc, nat_abs, Bool, true, false, cond, eqb, ltb, ◌&&◌, List, [], ◌∷◌, length, get_or, Option, Some, None}
+use Rattle.nrm_fraction.specs.Large.{size_limit}
 use Rattle.nrm_lp.specs.declared.certificate.Certificate.{Certificate}
 use Rattle.nrm_lp.specs.Program.{ProgramValue, load, price_sum, cost}
 use Rattle.nrm_lp.specs.Certified.{sizes}
@@ -38,34 +39,34 @@ or_leg (Some i) later = verdict.WrongLeg i
 or_leg None later = later
 
 -- ---- how a condition fails at product j or leg i
--- more than the bound
-abbrev pub is_over_bound : ProgramValue → ℕ → List ℕ → ℕ → Bool
-is_over_bound a q x j = ltb (q * get_or a.bounds j 0) (get_or x j 0)
+-- more seats than its demand
+abbrev pub is_above_demand : ProgramValue → ℕ → List ℕ → ℕ → Bool
+is_above_demand a q x j = ltb (q * get_or a.bounds j 0) (get_or x j 0)
 
--- more on the leg than its cap
-abbrev pub is_over_cap : ProgramValue → ℕ → List ℕ → ℕ → Bool
-is_over_cap a q x i = ltb (q * get_or a.caps i 0) (load i a.legs x)
+-- more seats on the leg than its capacity
+abbrev pub is_above_capacity : ProgramValue → ℕ → List ℕ → ℕ → Bool
+is_above_capacity a q x i = ltb (q * get_or a.caps i 0) (load i a.legs x)
 
--- a price above 0 on a leg that isn't full
-abbrev pub is_priced_short : ProgramValue → ℕ → List ℕ → List ℕ → ℕ → Bool
-is_priced_short a q x p i = ltb 0 (get_or p i 0) && ltb (load i a.legs x) (q * get_or a.caps i 0)
+-- a bid price above 0 on a leg with seats left
+abbrev pub is_priced_with_seats_left : ProgramValue → ℕ → List ℕ → List ℕ → ℕ → Bool
+is_priced_with_seats_left a q x p i = ltb 0 (get_or p i 0) && ltb (load i a.legs x) (q * get_or a.caps i 0)
 
--- below the bound, and the fare exceeds the price sum
-abbrev pub is_unmet_dear : ProgramValue → ℕ → List ℕ → ℕ → List ℕ → ℕ → Bool
-is_unmet_dear a q x d p j = ltb (get_or x j 0) (q * get_or a.bounds j 0) && ltb (price_sum p (get_or a.legs j [])) (d * get_or a.fares j 0)
+-- demand is turned away, and the fare is above the bid prices of the legs
+abbrev pub is_rejected_above_bid_price : ProgramValue → ℕ → List ℕ → ℕ → List ℕ → ℕ → Bool
+is_rejected_above_bid_price a q x d p j = ltb (get_or x j 0) (q * get_or a.bounds j 0) && ltb (price_sum p (get_or a.legs j [])) (d * get_or a.fares j 0)
 
--- sold, and the fare is below the price sum
-abbrev pub is_used_cheap : ProgramValue → List ℕ → ℕ → List ℕ → ℕ → Bool
-is_used_cheap a x d p j = ltb 0 (get_or x j 0) && ltb (d * get_or a.fares j 0) (price_sum p (get_or a.legs j []))
+-- seats are allotted, and the fare is below the bid prices of the legs
+abbrev pub is_accepted_below_bid_price : ProgramValue → List ℕ → ℕ → List ℕ → ℕ → Bool
+is_accepted_below_bid_price a x d p j = ltb 0 (get_or x j 0) && ltb (d * get_or a.fares j 0) (price_sum p (get_or a.legs j []))
 
 -- the conditions after the shape, on whole numbers that aren't negative
 abbrev pub first_wrong : ProgramValue → ℕ → List ℕ → ℕ → List ℕ → ℕ → Verdict
 first_wrong a q x d p value =
-    or_product (least (is_over_bound a q x) 0 (length a.bounds))
-    (or_leg (least (is_over_cap a q x) 0 (length a.caps))
-    (or_leg (least (is_priced_short a q x p) 0 (length a.caps))
-    (or_product (least (is_unmet_dear a q x d p) 0 (length a.bounds))
-    (or_product (least (is_used_cheap a x d p) 0 (length a.bounds))
+    or_product (least (is_above_demand a q x) 0 (length a.bounds))
+    (or_leg (least (is_above_capacity a q x) 0 (length a.caps))
+    (or_leg (least (is_priced_with_seats_left a q x p) 0 (length a.caps))
+    (or_product (least (is_rejected_above_bid_price a q x d p) 0 (length a.bounds))
+    (or_product (least (is_accepted_below_bid_price a x d p) 0 (length a.bounds))
     (cond (eqb value (cost a d p)) verdict.Optimal verdict.WrongValue)))))
 
 -- the first condition that fails, with numbers below this limit
@@ -74,4 +75,4 @@ first_failing limit a c = cond (has_shape limit a c) (first_wrong a (nat_abs c.q
 
 -- the same with the limit of the code's numbers
 abbrev pub verdict_on : ProgramValue → Certificate → Verdict
-verdict_on a c = first_failing (2 ^ 48) a c
+verdict_on a c = first_failing size_limit a c

@@ -1,5 +1,6 @@
 -- The laws of the conditions: what passes them shows what it should, whoever made it, and what shows that passes.
-use Rattle.std.specs.Prelude.{ℕ, ◌≡◌, ◌^◌, nat_abs, length}
+use Rattle.std.specs.Prelude.{ℕ, ◌≡◌, nat_abs, length}
+use Rattle.nrm_fraction.specs.Large.{size_limit}
 use Rattle.nrm_lp.specs.declared.certificate.Certificate.{Certificate}
 use Rattle.nrm_lp.specs.Program.{ProgramValue, IsProgram, IsOptimalAllocation, IsOptimalPrices, cost}
 use Rattle.nrm_lp.specs.Tableau.{Tableau}
@@ -20,7 +21,7 @@ CertifiedPass = (limit : ℕ) (a : ProgramValue) (c : Certificate) → Certifies
 
 -- so the certificate of a path that ends and isn't Large passes
 abbrev pub ClosingsPass : Type 0
-ClosingsPass = (a : ProgramValue) → IsProgram a → (n : ℕ) (t : Tableau) → Closes (2 ^ 48) a n t → verdict_on a (certificate a t) ≡ Optimal
+ClosingsPass = (a : ProgramValue) → IsProgram a → (n : ℕ) (t : Tableau) → Closes size_limit a n t → verdict_on a (certificate a t) ≡ Optimal
 
 -- and where some path closes, each certificate of the shape passes whose allocation and bid prices are optimal and whose value is
 -- the cost of its prices, whoever made it

@@ -6,4 +6,3 @@ pub mod Reading
 pub mod Refusals
 pub mod Inner
 pub mod Texts
-pub mod Sheets

@@ -5,7 +5,7 @@ use Rattle.std.specs.Option.{option_map}
 use Rattle.std.specs.List.{slice_split}
 use Rattle.std.specs.Str.Lines.{strip_carriage_return}
 use Rattle.nrm_fraction.specs.Fraction.{Fraction, ◌over◌}
-use Rattle.nrm_fraction.specs.Large.{common, numerators, large_number}
+use Rattle.nrm_fraction.specs.Large.{common, numerators, large_number, size_limit}
 use Rattle.nrm_text.specs.Numbers.{is_whole, value_of}
 use Rattle.nrm_model.specs.Network.{NetworkValue, leg_named, product_named}
 use Rattle.nrm_stream.specs.Lines.{lines_of}
@@ -144,7 +144,7 @@ small_or_refusal (Some number) found certificate = Err too_fine
 
 abbrev pub certificate_or_refusal : List Fraction → Fraction → List Fraction → Result Certificate CertRefusal
 certificate_or_refusal shares value prices =
-    small_or_refusal (large_number (2 ^ 48) shares) (large_number (2 ^ 48) (value ∷ prices)) (certificate_over shares value prices)
+    small_or_refusal (large_number size_limit shares) (large_number size_limit (value ∷ prices)) (certificate_over shares value prices)
 
 -- the certificate of a sheet, or what is missing on it: the value, the first product, the first leg
 abbrev pub whole_or_refusal : Option Written → Option ℕ → Option ℕ → Result Certificate CertRefusal → Result Certificate CertRefusal

@@ -1,5 +1,7 @@
 -- Why a file gives no certificate, and what a call's answer says of the file.
 use Rattle.std.specs.Prelude.{ℕ, ◌≡◌, ⊤, Option, Some, None, Result, Ok, Err}
+use Rattle.nrm_fraction.specs.declared.fault.RowFault.{RowFault}
+use Rattle.nrm_fraction.specs.declared.fault.RowFault.TheVariants as row
 use Rattle.nrm_lp.specs.declared.certificate.Certificate.{Certificate}
 use Rattle.nrm_dual.specs.declared.fault.CertFault.{CertFault}
 use Rattle.nrm_dual.specs.declared.fault.CertFault.TheVariants as fault
@@ -24,6 +26,11 @@ refusal_of (fault.NoProduct j) = Some (no_product j)
 refusal_of (fault.NoLeg i) = Some (no_leg i)
 refusal_of fault.TooFine = Some too_fine
 refusal_of fault.NoMemory = None
+
+-- why a file gives no certificate, where its fractions aren't brought over one denominator
+abbrev pub cause_of : RowFault → CertFault
+cause_of (row.Large number) = fault.TooFine
+cause_of row.NoMemory = fault.NoMemory
 
 -- the file is refused for this; where nothing was told it may be what it will
 abbrev pub IsRefusedFor : {A : Type 0} → Option CertRefusal → Result A CertRefusal → Type 0

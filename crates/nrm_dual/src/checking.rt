@@ -1,5 +1,6 @@
 //! The checker: it reads and compares, and never solves.
 ghost use Rattle.std.specs.Prelude.{◌≡◌, ◌≢◌, ◌^◌, length, nat_abs};
+ghost use Rattle.nrm_fraction.specs.Large.{size_limit};
 ghost use Rattle.nrm_lp.specs.Certified.{Certifies, sizes};
 ghost use Rattle.nrm_lp.specs.Shape.{HasShape};
 ghost use Rattle.nrm_dual.specs.Conditions.{first_wrong, verdict_on};
@@ -7,7 +8,10 @@ ghost use Rattle.nrm_dual.specs.declared.verdict.Verdict.TheVariants.{Optimal, W
 ghost use Rattle.nrm_dual.specs.Named.{IsOfProgram};
 ghost use Rattle.nrm_dual.specs.Inner.Shapes.{HasItsShape};
 
-use crate::conditions::{over_bound, over_cap, priced_short, unmet_dear, used_cheap};
+use crate::conditions::{
+    above_capacity, above_demand, accepted_below_bid_price, priced_with_seats_left,
+    rejected_above_bid_price,
+};
 use crate::shape::has_shape;
 use crate::sums::cost;
 use crate::verdict::Verdict;
@@ -28,9 +32,9 @@ use nrm_lp::{Certificate, Program};
 /// chapter 3 of Talluri and van Ryzin). It takes no memory.
 pub fn check(program: &Program, certificate: &Certificate) -> Verdict
     ensures verdict { result ≡ verdict_on program.now certificate.now }
-    ensures shape { HasShape (2 ^ 48) (length program.now.bounds) (length program.now.caps) certificate.now → result ≢ WrongShape }
+    ensures shape { HasShape size_limit (length program.now.bounds) (length program.now.caps) certificate.now → result ≢ WrongShape }
     ensures named { IsOfProgram program.now result }
-    ensures optimal { result ≡ Optimal → Certifies (2 ^ 48) program.now certificate.now }
+    ensures optimal { result ≡ Optimal → Certifies size_limit program.now certificate.now }
 {
     if has_shape(program, certificate) {
         first_wrong(program, certificate)
@@ -44,15 +48,15 @@ fn first_wrong(program: &Program, certificate: &Certificate) -> Verdict
     requires { HasItsShape program.now certificate.now }
     ensures { result ≡ first_wrong program.now (nat_abs certificate.now.q) (sizes certificate.now.x) (nat_abs certificate.now.den) (sizes certificate.now.p) (nat_abs certificate.now.value) }
 {
-    if let Some(product) = over_bound(program, certificate) {
+    if let Some(product) = above_demand(program, certificate) {
         Verdict::WrongProduct(product)
-    } else if let Some(leg) = over_cap(program, certificate) {
+    } else if let Some(leg) = above_capacity(program, certificate) {
         Verdict::WrongLeg(leg)
-    } else if let Some(leg) = priced_short(program, certificate) {
+    } else if let Some(leg) = priced_with_seats_left(program, certificate) {
         Verdict::WrongLeg(leg)
-    } else if let Some(product) = unmet_dear(program, certificate) {
+    } else if let Some(product) = rejected_above_bid_price(program, certificate) {
         Verdict::WrongProduct(product)
-    } else if let Some(product) = used_cheap(program, certificate) {
+    } else if let Some(product) = accepted_below_bid_price(program, certificate) {
         Verdict::WrongProduct(product)
     } else if u128::from(certificate.value.unsigned_abs()) == cost(program, certificate) {
         Verdict::Optimal

@@ -1,6 +1,6 @@
 //! Why a file gives no certificate.
 ghost use Rattle.std.specs.Prelude.{◌≡◌};
-ghost use Rattle.nrm_dual.specs.Sheets.{cause_of};
+ghost use Rattle.nrm_dual.specs.Refusals.{cause_of};
 ghost use Rattle.nrm_dual.specs.declared.fault.CertFault.TheVariants.{NoMemory};
 
 use nrm_fraction::RowFault;

@@ -3,7 +3,7 @@ ghost use Rattle.std.specs.Prelude.{◌≡◌, IfSome, MatchOption, None, Some, 
 ghost use Rattle.std.specs.Option.{option_map};
 ghost use Rattle.nrm_model.specs.Limits.{IsNetwork};
 ghost use Rattle.nrm_dual.specs.Reading.{entry_at, entry_of, named_place, written_in};
-ghost use Rattle.nrm_dual.specs.Sheets.{IsPlaceOf, meant};
+ghost use Rattle.nrm_dual.specs.Inner.Sheets.{IsPlaceOf, meant};
 
 use nrm_model::Network;
 use nrm_stream::{split_once, without_carriage_return};

@@ -1,13 +1,14 @@
 //! Certificates as they are read from a file: its lines fill a sheet with a fraction for the value, each product and each
 //! leg, and the whole sheet gives the certificate.
 ghost use Rattle.std.specs.Prelude.{◌≡◌, ◌≤◌, ◌^◌, IfErr, IfOk, MatchResult, Err, Ok, length};
+ghost use Rattle.nrm_fraction.specs.Large.{size_limit};
 ghost use Rattle.nrm_stream.specs.Lines.{lines_of};
 ghost use Rattle.nrm_lp.specs.Shape.{HasShape};
 ghost use Rattle.nrm_model.specs.Limits.{IsNetwork};
 ghost use Rattle.nrm_dual.specs.Reading.{after_line, after_lines, certificate_of, entry_of};
 ghost use Rattle.nrm_dual.specs.Refusals.{AnswersCertificate};
 ghost use Rattle.nrm_dual.specs.Named.{IsOfNetwork};
-ghost use Rattle.nrm_dual.specs.Sheets.{IsSheetOf, Refuses, certificate_in};
+ghost use Rattle.nrm_dual.specs.Inner.Sheets.{IsSheetOf, Refuses, certificate_in};
 
 use crate::amounts::certificate_over;
 use crate::fault::CertFault;
@@ -38,7 +39,7 @@ pub fn read_certificate(
     bytes: &[u8],
 ) -> Result<Certificate, CertFault>
     ensures file { AnswersCertificate result (certificate_of net.now bytes.now) }
-    ensures shaped { IfOk result (HasShape (2 ^ 48) (length net.now.products) (length net.now.legs)) }
+    ensures shaped { IfOk result (HasShape size_limit (length net.now.products) (length net.now.legs)) }
     ensures named { IfErr result (IsOfNetwork net.now) }
 {
     if bytes.len() > MOST_BYTES {

@@ -1,16 +1,16 @@
 //! The first condition: lengths, denominators and the sizes of the numbers. The others read sizes alone.
 ghost use Rattle.std.specs.Prelude.{◌≡◌, ◌&&◌, ◌<◌, ◌^◌, ltb, eqb, nat_abs, length};
+ghost use Rattle.nrm_fraction.specs.Large.{size_limit};
 ghost use Rattle.nrm_lp.specs.Limits.{IsLimited};
 ghost use Rattle.nrm_dual.specs.Conditions.{are_small, has_shape, is_small};
 
+use nrm_fraction::SIZE_LIMIT;
 use nrm_lp::{Certificate, Program};
-
-const LIMIT: i64 = 1 << 48;
 
 /// Whether the lists have the program's lengths, both denominators are at least 1, and no number is negative or
 /// reaches the limit.
 pub fn has_shape(program: &Program, certificate: &Certificate) -> bool
-    ensures shape { result ≡ has_shape (2 ^ 48) program.now certificate.now }
+    ensures shape { result ≡ has_shape size_limit program.now certificate.now }
     ensures limits { IsLimited program.now }
 {
     has_lengths(program, certificate)
@@ -33,7 +33,7 @@ fn has_denominators(certificate: &Certificate) -> bool
 }
 
 fn has_small_numbers(certificate: &Certificate) -> bool
-    ensures { result ≡ ((is_small (2 ^ 48) certificate.now.q && are_small (2 ^ 48) certificate.now.x) && (is_small (2 ^ 48) certificate.now.den && (are_small (2 ^ 48) certificate.now.p && is_small (2 ^ 48) certificate.now.value))) }
+    ensures { result ≡ ((is_small size_limit certificate.now.q && are_small size_limit certificate.now.x) && (is_small size_limit certificate.now.den && (are_small size_limit certificate.now.p && is_small size_limit certificate.now.value))) }
 {
     is_small(certificate.q)
         && are_small(certificate.x.as_slice())
@@ -43,7 +43,7 @@ fn has_small_numbers(certificate: &Certificate) -> bool
 }
 
 fn are_small(numbers: &[i64]) -> bool
-    ensures { result ≡ are_small (2 ^ 48) numbers.now }
+    ensures { result ≡ are_small size_limit numbers.now }
 {
     for number in numbers {
         if !is_small(*number) {
@@ -54,7 +54,7 @@ fn are_small(numbers: &[i64]) -> bool
 }
 
 fn is_small(number: i64) -> bool
-    ensures { result ≡ is_small (2 ^ 48) number }
+    ensures { result ≡ is_small size_limit number }
 {
-    0 <= number && number < LIMIT
+    0 <= number && number.unsigned_abs() < SIZE_LIMIT
 }

@@ -2,7 +2,7 @@
 ghost use Rattle.std.specs.Prelude.{◌≡◌, ◌<◌, IfOk, IfSome, is_some, length, map};
 ghost use Rattle.nrm_model.specs.Network.{NetworkValue};
 ghost use Rattle.nrm_dual.specs.Reading.{blank, first_missing, given, with_given};
-ghost use Rattle.nrm_dual.specs.Sheets.{IsPlaceOf, IsSheetOf, meant};
+ghost use Rattle.nrm_dual.specs.Inner.Sheets.{IsPlaceOf, IsSheetOf, meant};
 
 use crate::place::Place;
 use crate::written::Written;

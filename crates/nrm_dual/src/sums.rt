@@ -1,6 +1,7 @@
 //! What the conditions compare: seats over `q`, money over `den`. Numbers of a certificate that has its shape are
 //! below 2^48, so that seats fit 64 bits and money 128.
 ghost use Rattle.std.specs.Prelude.{◌≡◌, ◌<◌, ◌≤◌, ◌*◌, ◌-◌, ◌^◌, nat_abs, length, get_or, All, []};
+ghost use Rattle.nrm_fraction.specs.Large.{size_limit};
 ghost use Rattle.nrm_lp.specs.Program.{cost, dot, load, price_sum, surplus};
 ghost use Rattle.nrm_lp.specs.Shape.{IsNumber};
 ghost use Rattle.nrm_lp.specs.Certified.{sizes};
@@ -11,9 +12,9 @@ use nrm_lp::{Certificate, Program};
 /// What a product is allotted, over `q`.
 pub fn allotted(certificate: &Certificate, product: u16) -> u64
     requires within { product < length certificate.now.x }
-    requires numbers { All (IsNumber (2 ^ 48)) certificate.now.x }
+    requires numbers { All (IsNumber size_limit) certificate.now.x }
     ensures value { result ≡ get_or (sizes certificate.now.x) product 0 }
-    ensures limit { result < 2 ^ 48 }
+    ensures limit { result < size_limit }
 {
     certificate.x.as_slice()[usize::from(product)].unsigned_abs()
 }
@@ -21,9 +22,9 @@ pub fn allotted(certificate: &Certificate, product: u16) -> u64
 /// The bid price of a leg, over `den`.
 pub fn price(certificate: &Certificate, leg: u8) -> u64
     requires within { leg < length certificate.now.p }
-    requires numbers { All (IsNumber (2 ^ 48)) certificate.now.p }
+    requires numbers { All (IsNumber size_limit) certificate.now.p }
     ensures value { result ≡ get_or (sizes certificate.now.p) leg 0 }
-    ensures limit { result < 2 ^ 48 }
+    ensures limit { result < size_limit }
 {
     certificate.p.as_slice()[usize::from(leg)].unsigned_abs()
 }

@@ -2,7 +2,7 @@
 ghost use Rattle.std.specs.Prelude.{◌≡◌, ◌≤◌, ◌*◌, ◌∷◌, [], pos};
 ghost use Rattle.nrm_fraction.specs.Fraction.{◌over◌};
 ghost use Rattle.nrm_dual.specs.Reading.{times, written_by, written_in};
-ghost use Rattle.nrm_dual.specs.Sheets.{fitting};
+ghost use Rattle.nrm_dual.specs.Inner.Sheets.{fitting};
 
 use nrm_fraction::Fraction;
 use nrm_stream::split_once;

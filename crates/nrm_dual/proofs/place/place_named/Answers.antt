@@ -1,6 +1,6 @@
 use Rattle.std.proofs.Common.{◌∙◌, sym, ap}
 use Rattle.std.specs.Option.{option_map}
-use Rattle.nrm_dual.specs.Sheets.{meant}
+use Rattle.nrm_dual.specs.Inner.Sheets.{meant}
 use Rattle.nrm_dual.proofs.Words.{no-place}
 use Rattle.nrm_dual.proofs.place.place_named.Goals as goal
 

@@ -5,7 +5,7 @@ use Rattle.nrm_dual.specs.Reading.{after_lines, blank, certificate_of}
 use Rattle.nrm_dual.proofs.Naming.{answer_named}
 use Rattle.nrm_dual.proofs.ReadAnswers.{file_answer, answer_shaped, lines_refuse}
 use Rattle.nrm_dual.proofs.TooFine.{err_answer}
-use Rattle.nrm_dual.specs.Sheets.{Refuses}
+use Rattle.nrm_dual.specs.Inner.Sheets.{Refuses}
 use Rattle.nrm_dual.proofs.reading.read_certificate.Goals as goal
 
 pub returns-clause-file : goal.returns-clause-file

@@ -1,7 +1,7 @@
 use Rattle.std.proofs.Common.{◌≡◌, ◌≤◌, ◌+◌, length}
 use Rattle.nrm_stream.specs.Lines.{lines_of}
 use Rattle.nrm_dual.specs.Reading.{after_lines}
-use Rattle.nrm_dual.specs.Sheets.{IsSheetOf}
+use Rattle.nrm_dual.specs.Inner.Sheets.{IsSheetOf}
 use Rattle.nrm_dual.proofs.reading.read_lines.Given as goal
 
 abbrev pub invariant-loop-line : goal.invariant-loop-line

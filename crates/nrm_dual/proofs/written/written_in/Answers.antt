@@ -1,7 +1,7 @@
 use Rattle.std.proofs.Common.{◌==◌, ◌∷◌, ◌∙◌, sym, ap}
 use Rattle.std.specs.List.{slice_split}
 use Rattle.nrm_dual.specs.Reading.{written_by}
-use Rattle.nrm_dual.specs.Sheets.{fitting}
+use Rattle.nrm_dual.specs.Inner.Sheets.{fitting}
 use Rattle.nrm_stream.proofs.Cuts.{some-parts}
 use Rattle.nrm_dual.proofs.Words.{too-many-parts}
 use Rattle.nrm_dual.proofs.written.written_in.Goals as goal

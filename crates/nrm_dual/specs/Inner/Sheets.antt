@@ -3,12 +3,9 @@ use Rattle.std.specs.Prelude.{ℕ, ◌≡◌, ◌<◌, length, map, ⊤, Option,
 use Rattle.std.specs.Option.{option_map}
 use Rattle.nrm_text.specs.declared.number.NumberFault.{NumberFault}
 use Rattle.nrm_text.specs.declared.number.NumberFault.TheVariants.{Off, Over}
-use Rattle.nrm_fraction.specs.declared.fault.RowFault.{RowFault}
-use Rattle.nrm_fraction.specs.declared.fault.RowFault.TheVariants as row
 use Rattle.nrm_lp.specs.declared.certificate.Certificate.{Certificate}
 use Rattle.nrm_model.specs.Network.{NetworkValue}
 use Rattle.nrm_dual.specs.declared.fault.CertFault.{CertFault}
-use Rattle.nrm_dual.specs.declared.fault.CertFault.TheVariants as fault
 use Rattle.nrm_dual.specs.Refusals.{CertRefusal, refusal_of}
 use Rattle.nrm_dual.specs.Reading.{Place, the_value, of_product, of_leg, Sheet, Written, is_over, certificate_or_refusal, first_missing, prices_in, times, whole_or_refusal}
 use Rattle.nrm_dual.specs.declared.place.Place.{Place as Kept}
@@ -41,11 +38,6 @@ abbrev pub certificate_in : ℕ → Sheet → Result Certificate CertRefusal
 certificate_in histories sheet =
     whole_or_refusal sheet.value (first_missing 0 sheet.products) (first_missing 0 sheet.legs)
     (certificate_or_refusal (map (times histories) sheet.products) (times histories sheet.value) (prices_in sheet))
-
--- why a file gives no certificate, where its fractions aren't brought over one denominator
-abbrev pub cause_of : RowFault → CertFault
-cause_of (row.Large number) = fault.TooFine
-cause_of row.NoMemory = fault.NoMemory
 
 -- what lines are refused for is what a call's fault tells; such a call wants no memory
 abbrev pub Refuses : {A : Type 0} → CertFault → Result A CertRefusal → Type 0

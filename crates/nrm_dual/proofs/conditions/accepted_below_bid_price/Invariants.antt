@@ -1,0 +1,8 @@
+use Rattle.std.proofs.Common.{◌≡◌, nat_abs, length}
+use Rattle.nrm_lp.specs.Certified.{sizes}
+use Rattle.nrm_dual.specs.Conditions.{is_accepted_below_bid_price}
+use Rattle.nrm_dual.proofs.Searches.{rest}
+use Rattle.nrm_dual.proofs.conditions.accepted_below_bid_price.Given as goal
+
+abbrev pub invariant-loop-product : goal.invariant-loop-product
+invariant-loop-product l = let test = is_accepted_below_bid_price l.program (sizes l.certificate.x) (nat_abs l.certificate.den) (sizes l.certificate.p) in rest test (length l.program.bounds) l.product ≡ rest test (length l.program.bounds) 0

@@ -1,8 +1,0 @@
-use Rattle.std.proofs.Common.{◌≡◌, nat_abs, length}
-use Rattle.nrm_lp.specs.Certified.{sizes}
-use Rattle.nrm_dual.specs.Conditions.{is_over_cap}
-use Rattle.nrm_dual.proofs.Searches.{rest}
-use Rattle.nrm_dual.proofs.conditions.over_cap.Given as goal
-
-abbrev pub invariant-loop-leg : goal.invariant-loop-leg
-invariant-loop-leg l = let test = is_over_cap l.program (nat_abs l.certificate.q) (sizes l.certificate.x) in rest test (length l.program.caps) l.leg ≡ rest test (length l.program.caps) 0
