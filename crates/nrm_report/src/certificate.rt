@@ -8,6 +8,7 @@ ghost use Rattle.nrm_edge.specs.Pieces.{AppendsFront};
 ghost use Rattle.nrm_fraction.specs.Fraction.{◌over◌};
 ghost use Rattle.nrm_text.specs.Fractions.{fraction_text};
 ghost use Rattle.nrm_text.specs.Words.{text_line};
+ghost use Rattle.nrm_fraction.specs.Large.{size_limit};
 ghost use Rattle.nrm_lp.specs.Shape.{HasShape};
 ghost use Rattle.nrm_dual.specs.Texts.{certificate_text, leg_line, product_line, value_line};
 
@@ -74,7 +75,7 @@ fn over_histories(net: &Network, den: i64) -> u128
 
 // The line of the mean value.
 fn line_for_value(net: &Network, certificate: &Certificate) -> Line
-    requires { HasShape (2 ^ 48) (length net.now.products) (length net.now.legs) certificate.now }
+    requires { HasShape size_limit (length net.now.products) (length net.now.legs) certificate.now }
     ensures { result ≡ value_line net.now certificate.now }
 {
     line_of_value(certificate.value, over_histories(net, certificate.den))
@@ -82,7 +83,7 @@ fn line_for_value(net: &Network, certificate: &Certificate) -> Line
 
 // The line of a product.
 fn line_for_product(net: &Network, certificate: &Certificate, product: u16) -> Line
-    requires shape { HasShape (2 ^ 48) (length net.now.products) (length net.now.legs) certificate.now }
+    requires shape { HasShape size_limit (length net.now.products) (length net.now.legs) certificate.now }
     requires product { product < length net.now.products }
     ensures { result ≡ product_line net.now certificate.now product }
 {
@@ -96,7 +97,7 @@ fn line_for_product(net: &Network, certificate: &Certificate, product: u16) -> L
 
 // The line of a leg.
 fn line_for_leg(net: &Network, certificate: &Certificate, leg: u8) -> Line
-    requires shape { HasShape (2 ^ 48) (length net.now.products) (length net.now.legs) certificate.now }
+    requires shape { HasShape size_limit (length net.now.products) (length net.now.legs) certificate.now }
     requires leg { leg < length net.now.legs }
     ensures { result ≡ leg_line net.now certificate.now leg }
 {
@@ -114,7 +115,7 @@ fn put_allotted<K: Sink>(
     certificate: &Certificate,
     sink: &mut K,
 ) -> Result<(), Failed>
-    requires { HasShape (2 ^ 48) (length net.now.products) (length net.now.legs) certificate.now }
+    requires { HasShape size_limit (length net.now.products) (length net.now.legs) certificate.now }
     ensures whole { OnOk result (Appends (K.held sink.old) (K.held sink.new) (flat_map (product_line net.now certificate.now) (range_with_len 0 (length net.now.products)))) }
     ensures cut { OnErr result (AppendsFront (K.held sink.old) (K.held sink.new) (flat_map (product_line net.now certificate.now) (range_with_len 0 (length net.now.products)))) }
     ensures cause { HasCause (K.faults sink.old) (K.faults sink.new) result }
@@ -127,7 +128,7 @@ fn put_allotted<K: Sink>(
 
 // Puts the lines of the legs, in file order.
 fn put_prices<K: Sink>(net: &Network, certificate: &Certificate, sink: &mut K) -> Result<(), Failed>
-    requires { HasShape (2 ^ 48) (length net.now.products) (length net.now.legs) certificate.now }
+    requires { HasShape size_limit (length net.now.products) (length net.now.legs) certificate.now }
     ensures whole { OnOk result (Appends (K.held sink.old) (K.held sink.new) (flat_map (leg_line net.now certificate.now) (range_with_len 0 (length net.now.legs)))) }
     ensures cut { OnErr result (AppendsFront (K.held sink.old) (K.held sink.new) (flat_map (leg_line net.now certificate.now) (range_with_len 0 (length net.now.legs)))) }
     ensures cause { HasCause (K.faults sink.old) (K.faults sink.new) result }
@@ -149,7 +150,7 @@ pub fn certificate_text<K: Sink>(
     certificate: &Certificate,
     sink: &mut K,
 ) -> Result<(), Failed>
-    requires { HasShape (2 ^ 48) (length net.now.products) (length net.now.legs) certificate.now }
+    requires { HasShape size_limit (length net.now.products) (length net.now.legs) certificate.now }
     ensures whole { OnOk result (Appends (K.held sink.old) (K.held sink.new) (certificate_text net.now certificate.now)) }
     ensures cut { OnErr result (AppendsFront (K.held sink.old) (K.held sink.new) (certificate_text net.now certificate.now)) }
     ensures cause { HasCause (K.faults sink.old) (K.faults sink.new) result }

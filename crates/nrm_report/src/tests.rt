@@ -1,6 +1,7 @@
 //! The texts of a leg, AB with 4 seats, and of a certificate, worked by hand.
 ghost use Rattle.std.specs.Prelude.{◌≡◌, ◌^◌, [], ◌∷◌, codes, IfOk, length};
 ghost use Rattle.nrm_model.specs.Inventory.{inventory_of};
+ghost use Rattle.nrm_fraction.specs.Large.{size_limit};
 ghost use Rattle.nrm_lp.specs.Shape.{HasShape};
 
 use crate::{certificate_text, leg_text};
@@ -88,7 +89,7 @@ fn tells_by_hand(rt: HostRuntime) -> Result<(), Fail> {
 fn hand_certificate(alloc: Global, net: &Network) -> Result<Certificate, AllocError>
     requires legs { length net.now.legs ≡ 2 }
     requires products { length net.now.products ≡ 2 }
-    ensures { IfOk result (λ certificate. HasShape (2 ^ 48) (length net.now.products) (length net.now.legs) certificate) }
+    ensures { IfOk result (λ certificate. HasShape size_limit (length net.now.products) (length net.now.legs) certificate) }
 {
     Ok(Certificate {
         q: 2,
@@ -109,5 +110,24 @@ fn writes_a_certificate_by_hand(rt: HostRuntime) -> Result<(), Fail> {
         sink.held(),
         b"value 751/4\nproduct THRU 3/2\nproduct LOC 5/2\nleg AB 0/1\nleg BC 3/2\n".as_slice()
     );
+    Ok(())
+}
+
+#[test]
+fn a_certificate_is_put_line_by_line(rt: HostRuntime) -> Result<(), Fail> {
+    let net = small_network(rt.alloc(), &rt)?;
+    let certificate = hand_certificate(rt.alloc(), &net)?;
+    let lines = [
+        b"value 751/4\n".as_slice(),
+        b"value 751/4\nproduct THRU 3/2\n".as_slice(),
+        b"value 751/4\nproduct THRU 3/2\nproduct LOC 5/2\n".as_slice(),
+        b"value 751/4\nproduct THRU 3/2\nproduct LOC 5/2\nleg AB 0/1\n".as_slice(),
+    ];
+    for (whole, text) in lines.iter().enumerate() {
+        let failing = Vec::from_array(rt.alloc(), [whole as u64 + 2])?;
+        let mut sink = MemSink::new(rt.alloc(), 100, Vec::new(rt.alloc()), failing)?;
+        assert!(rt; certificate_text(&net, &certificate, &mut sink).is_err());
+        assert_eq!(rt; sink.held(), *text, "a put fails after {whole} more lines");
+    }
     Ok(())
 }
