@@ -85,6 +85,27 @@ fn tells_by_hand(rt: HostRuntime) -> Result<(), Fail> {
     Ok(())
 }
 
+#[test]
+fn each_line_of_a_leg_goes_out_in_one_put(rt: HostRuntime) -> Result<(), Fail> {
+    let net = small_network(rt.alloc(), &rt)?;
+    let mut book = Book::new(rt.alloc(), &net)?;
+    assert_eq!(rt; book.add(0, 2), 1);
+    assert_eq!(rt; book.add(1, 1), 2);
+    let failing = Vec::from_array(rt.alloc(), [2])?;
+    let mut sink = MemSink::new(rt.alloc(), 100, Vec::new(rt.alloc()), failing)?;
+    assert!(rt; leg_text(&net, &book, 0, &mut sink).is_err());
+    assert_eq!(rt; sink.held(), b"leg AB seats 4 sold 3 left 1\n".as_slice());
+
+    let failing = Vec::from_array(rt.alloc(), [3])?;
+    let mut sink = MemSink::new(rt.alloc(), 100, Vec::new(rt.alloc()), failing)?;
+    assert!(rt; leg_text(&net, &book, 0, &mut sink).is_err());
+    assert_eq!(rt;
+        sink.held(),
+        b"leg AB seats 4 sold 3 left 1\non AB THRU 2\n".as_slice()
+    );
+    Ok(())
+}
+
 // Over four histories, 12/2 and 20/2 seats at 3004/4, and bid prices of 0/4 and 6/4.
 fn hand_certificate(alloc: Global, net: &Network) -> Result<Certificate, AllocError>
     requires legs { length net.now.legs ≡ 2 }
