@@ -2,6 +2,7 @@
 use Rattle.std.specs.Prelude.{◌≡◌, ℕ, List, [], ◌∷◌, codes, refl, Some, None, Ok, Err}
 use Rattle.std.specs.Fmt.{digits}
 use Rattle.nrm_model.specs.Network.{NetworkValue}
+use Rattle.nrm_model.specs.declared.mode.Mode.TheVariants as modes
 use Rattle.nrm_network.specs.Canonical.{canonical_file}
 use Rattle.nrm_network.specs.declared.fault.Why.TheVariants as why
 use Rattle.nrm_network.proofs.OnLiterals.{network_on_literals}
@@ -36,7 +37,7 @@ abbrev requests : List ℕ
 requests = codes "book THRU 2\nbook THRU 1\nbook LOC 1\nbook LOC 1\nbook X 1\n"
 
 abbrev after_two_seats : SeatState
-after_two_seats = after_request two_legs opening 0 2
+after_two_seats = after_request two_legs (opening modes.FirstCome) 0 2
 
 abbrev after_refusal : SeatState
 after_refusal = after_request two_legs after_two_seats 0 1

@@ -4,6 +4,7 @@ use Rattle.std.specs.Io.KnownBytes.{Consumes, IsAtEnd}
 use Rattle.nrm_edge.specs.Causes.{Rose}
 use Rattle.nrm_edge.specs.Fetch.{Folder}
 use Rattle.nrm_model.specs.Network.{NetworkValue}
+use Rattle.nrm_model.specs.declared.mode.Mode.TheVariants as modes
 use Rattle.nrm_network.specs.Canonical.{canonical_file}
 use Rattle.nrm_control.specs.State.{SeatState, opening}
 use Rattle.nrm_stream.specs.Commands.{commands_of}
@@ -53,10 +54,10 @@ pub record TookTooMuch (before after : Outside) : Type 0 where
 
 -- the output of a run from the opening over the commands of the stream's lines, and of a run that was cut in a reply
 abbrev pub RunWrites : NetworkValue → List ℕ → List ℕ → Type 0
-RunWrites net stream output = (last : SeatState) × Writes net opening (commands_of stream) output last
+RunWrites net stream output = (last : SeatState) × Writes net (opening modes.FirstCome) (commands_of stream) output last
 
 abbrev pub RunWritesCut : NetworkValue → List ℕ → List ℕ → Type 0
-RunWritesCut net stream output = (last : SeatState) × WritesCut net opening (commands_of stream) output last
+RunWritesCut net stream output = (last : SeatState) × WritesCut net (opening modes.FirstCome) (commands_of stream) output last
 
 -- a stream was served: it was read to its end, and the replies to all its lines were written
 abbrev pub Served : Option Job → Outside → Outside → Type 0

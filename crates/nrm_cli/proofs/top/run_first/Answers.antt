@@ -31,7 +31,7 @@ returns-in-Done-clause-ends g c =
       output,
       (refl, c.in-Ok.ensures.opens),
       record { taken = taken; ended = ended; short = short },
-      run-writes c.in-Ok-start.controller c.serve_whole.new.controller c.in-Ok.net stream output c.in-Ok-start.ensures refines,
+      run-writes c.in-Ok-start.controller c.serve_whole.new.controller c.in-Ok.net stream output c.in-Ok-start.ensures.begins refines,
       wrote,
     )
 
@@ -48,7 +48,7 @@ returns-clause-ends g c =
         output,
         (refl, c.in-Ok.ensures.opens),
         record { taken = taken; ended = ended; short = short },
-        run-writes-cut c.in-Ok-start.controller c.serve_whole.new.controller c.in-Ok.net stream output c.in-Ok-start.ensures refines,
+        run-writes-cut c.in-Ok-start.controller c.serve_whole.new.controller c.in-Ok.net stream output c.in-Ok-start.ensures.begins refines,
         wrote,
       )))),
     )
