@@ -1,8 +1,9 @@
-//! Runs the pivots of a large program, for the clock: 64 legs of 100 seats, and 256 products, each over four legs and
+//! Solves a program whose path is long, for the clock: 64 legs of 100 seats, and 256 products, each over four legs and
 //! with at most 9 seats. Its tableaux have 320 rows of 577 columns.
 #![tactic(auto)]
 
-ghost use Rattle.std.specs.Prelude.{◌≡◌, ◌<◌, All, IfOk, length, map};
+ghost use Rattle.std.specs.Prelude.{◌≡◌, ◌+◌, ◌*◌, ◌<◌, All, IfOk, length, map};
+ghost use Rattle.std.specs.Int.{IsInRange};
 ghost use Rattle.nrm_pivots.specs.Parts.{AreFares, AreFourLegs};
 
 use nrm_lp::Program;
@@ -16,28 +17,35 @@ use std::process::ExitCode;
 // The pivots that are made at most.
 const MOST_PIVOTS: u32 = 20_000;
 
-// Fares that rise and fall over the products.
+// Fares that rise ever faster.
 fn fares(alloc: Global) -> Result<Vec<u32>, AllocError>
     ensures { IfOk result (λ fares. (length fares.items ≡ 256) × AreFares fares.items) }
 {
     let mut fares = Vec::new(alloc);
     for j in 0..256u32 {
-        fares.push(100 + j * 7919 % 1009)?;
+        fares.push(100 + j * j)?;
     }
     Ok(fares)
 }
 
-// The legs of a product: one out of each quarter of the legs.
+// A leg of one quarter of the legs.
+fn leg_in(quarter: u8, place: u32) -> u8
+    requires { quarter < 4 }
+    ensures { IsInRange (16 * quarter) (16 * quarter + 15) result }
+{
+    16 * quarter + (place % 16) as u8
+}
+
+// The legs of a product: one out of each quarter.
 fn legs_of(alloc: Global, j: u32) -> Result<Vec<u8>, AllocError>
     requires { j < 256 }
     ensures { IfOk result (λ legs. AreFourLegs legs.items) }
 {
-    let legs = vec![in alloc;
-        (j % 16) as u8,
-        (16 + j * 3 % 16) as u8,
-        (32 + j * 5 / 3 % 16) as u8,
-        (48 + j / 16) as u8,
-    ]?;
+    let first = leg_in(0, j);
+    let second = leg_in(1, 3 * j);
+    let third = leg_in(2, 5 * j / 3);
+    let fourth = leg_in(3, j / 16);
+    let legs = vec![in alloc; first, second, third, fourth]?;
     Ok(legs)
 }
 
