@@ -4,7 +4,7 @@ use Rattle.std.proofs.lemmas.List.{length-replicate}
 use Rattle.std.proofs.lemmas.List.Elements.{All-get_or, All-head, All-replicate, All-tail}
 use Rattle.nrm_lp.specs.Program.{AreProducts}
 use Rattle.nrm_lp.specs.Limits.{IsLimited}
-use Rattle.nrm_pivots.specs.Parts.{AreFares, AreFourLegs}
+use Rattle.nrm_pivots.specs.Inner.Parts.{AreFares, AreFourLegs}
 
 are-products : (us rs : List ℕ) (legs : List (List ℕ)) → length rs ≡ length us → length legs ≡ length us → All AreFourLegs legs → AreProducts 64 us rs legs
 are-products [] [] [] rs-many many four = tt

@@ -4,7 +4,7 @@
 
 ghost use Rattle.std.specs.Prelude.{◌≡◌, ◌+◌, ◌*◌, ◌<◌, All, IfOk, length, map};
 ghost use Rattle.std.specs.Int.{IsInRange};
-ghost use Rattle.nrm_pivots.specs.Parts.{AreFares, AreFourLegs};
+ghost use Rattle.nrm_pivots.specs.Inner.Parts.{AreFares, AreFourLegs};
 
 use nrm_lp::Program;
 use nrm_simplex::solve;

@@ -8,7 +8,7 @@ use mir.Val.{to_z, of_z, SFits}
 use Rattle.nrm_number.proofs.Integers.{ring_ℤ}
 use Rattle.nrm_number.proofs.Ring.{solve, v0, v1}
 use Rattle.nrm_number.proofs.Ring.Expr.{◌⊗◌}
-use Rattle.nrm_row.specs.Numbers.{IsShort}
+use Rattle.nrm_row.specs.Inner.Crossed.{IsShort}
 use Rattle.nrm_fraction.specs.Large.{size_limit, IsSmall}
 use Rattle.nrm_fraction.proofs.Sizes.{small_same}
 

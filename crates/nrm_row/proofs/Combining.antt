@@ -16,7 +16,7 @@ use Rattle.nrm_fraction.specs.Fraction.{◌over◌, ◌*ᶠ◌, ◌-ᶠ◌, nega
 use Rattle.nrm_fraction.specs.Large.{fractions, gcd_all, first_reaching, size_limit}
 use Rattle.nrm_fraction.specs.Rows.{minus_times, combine}
 use Rattle.nrm_fraction.proofs.Values.{IsValue_over, IsValue_sum, IsValue_product, IsValue_negative, same_value}
-use Rattle.nrm_row.specs.Numbers.{crossed, shrunk}
+use Rattle.nrm_row.specs.Inner.Crossed.{crossed, shrunk}
 use Rattle.nrm_row.proofs.Divisors.{divisor_done, shrink_back, shrink_one}
 use Rattle.nrm_fraction.proofs.CommonDivisors.{gcd_all-dvd}
 use Rattle.nrm_fraction.proofs.Reaching.{reaching_yes, reaching_no}

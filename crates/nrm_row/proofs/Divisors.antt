@@ -13,7 +13,7 @@ use Rattle.nrm_number.proofs.Ring.Expr.{◌⊗◌, minus}
 use Rattle.nrm_fraction.specs.Fraction.{◌over◌}
 use Rattle.nrm_fraction.specs.Large.{fractions, gcd_all}
 use Rattle.nrm_fraction.proofs.Values.{IsValue_over, same_value, shrink_worth}
-use Rattle.nrm_row.specs.Numbers.{shrunk}
+use Rattle.nrm_row.specs.Inner.Crossed.{shrunk}
 use Rattle.nrm_fraction.proofs.CommonDivisors.{gcd_all_pos, gcd_all-dvd, DividesAll, gcd_all-divides, gcd_one, gcd_nought}
 
 pub nought_more : (d g : ℕ) (ns : List ℤ) (i : ℕ) → 0 < i → i ≤ length ns → g ≡ gcd_all d (drop i ns) → get_or ns (i - 1) (pos 0) ≡ pos 0 → g ≡ gcd_all d (drop (i - 1) ns)

@@ -15,7 +15,8 @@ use Rattle.nrm_fraction.proofs.Lowest.{common_pos}
 use Rattle.nrm_fraction.proofs.Embed.{den-dvd-common}
 use native.Mathlib.Nat.{div-mul_cancel}
 use Rattle.nrm_fraction.proofs.Field.{IsValue_whole, below_to}
-use Rattle.nrm_row.specs.Numbers.{IsRow, shrunk, crossed_below}
+use Rattle.nrm_row.specs.Numbers.{IsRow}
+use Rattle.nrm_row.specs.Inner.Crossed.{shrunk, crossed_below}
 use Rattle.nrm_row.proofs.RatioLaws.{less_values, unit_is, crossed_below_is, ratio_columns_within}
 use Rattle.nrm_row.proofs.LowestTerms.{row_length, lowest_same, small_is_row, row_not_large}
 use Rattle.nrm_fraction.proofs.Sizes.{positive_abs}

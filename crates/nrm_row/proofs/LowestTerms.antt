@@ -12,7 +12,8 @@ use Rattle.nrm_number.proofs.GcdLaws.{nat_abs-shrink}
 use Rattle.nrm_fraction.specs.Fraction.{Fraction, ◌over◌}
 use Rattle.nrm_fraction.specs.Large.{fractions, gcd_all, first_reaching, common, numerators, large_number, size_limit, IsSmall}
 use Rattle.nrm_fraction.proofs.Lowest.{common_is, numerators_are}
-use Rattle.nrm_row.specs.Numbers.{shrunk, IsRow}
+use Rattle.nrm_row.specs.Numbers.{IsRow}
+use Rattle.nrm_row.specs.Inner.Crossed.{shrunk}
 use Rattle.nrm_row.proofs.Divisors.{shrunk_same, shrunk_lowest, reduced_below}
 use Rattle.nrm_fraction.proofs.CommonDivisors.{gcd_all_pos, gcd_all-dvd, gcd_all-divides}
 use Rattle.nrm_fraction.proofs.Reaching.{reaching_no}

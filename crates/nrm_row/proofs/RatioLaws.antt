@@ -11,7 +11,7 @@ use Rattle.nrm_fraction.specs.Fraction.{Fraction, ◌over◌, ◌*ᶠ◌, ◌/�
 use Rattle.nrm_fraction.specs.Large.{fractions}
 use Rattle.nrm_fraction.specs.Lex.{lex_below}
 use Rattle.nrm_fraction.specs.Rows.{at, unit_row, ratio_columns, ratios}
-use Rattle.nrm_row.specs.Numbers.{crossed_below}
+use Rattle.nrm_row.specs.Inner.Crossed.{crossed_below}
 use Rattle.nrm_fraction.proofs.Values.{IsValue, IsValue_over, IsValue_product, same_value}
 use Rattle.nrm_fraction.proofs.Field.{ring_F, *ᶠ-inverse, below_from, below_to, positive_value, num_not_nought}
 use Rattle.nrm_fraction.proofs.Tests.{less_if, less_unless}

@@ -5,7 +5,7 @@
 
 ghost use Rattle.std.specs.Prelude.{◌≡◌, ◌^◌, pos, ◌*ℤ◌, ◌<ℤ◌, unsigned_abs, length, All, IfNone, MatchResult, None};
 ghost use Rattle.nrm_fraction.specs.Large.{gcd_all, first_reaching, size_limit, IsSmall};
-ghost use Rattle.nrm_row.specs.Numbers.{IsShort, crossed, shrunk};
+ghost use Rattle.nrm_row.specs.Inner.Crossed.{IsShort, crossed, shrunk};
 ghost use Rattle.nrm_fraction.specs.Fault.{IsFault};
 
 use crate::numbers::{

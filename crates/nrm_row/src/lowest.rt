@@ -3,7 +3,7 @@
 
 ghost use Rattle.std.specs.Prelude.{◌≡◌, pos, ◌<ℤ◌, unsigned_abs, IfOk};
 ghost use Rattle.nrm_fraction.specs.Large.{gcd_all, IsSmall};
-ghost use Rattle.nrm_row.specs.Numbers.{shrunk};
+ghost use Rattle.nrm_row.specs.Inner.Crossed.{shrunk};
 
 use crate::numbers::quotient;
 use nrm_number::short_gcd;

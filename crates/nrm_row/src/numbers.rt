@@ -4,7 +4,7 @@
 
 ghost use Rattle.std.specs.Prelude.{◌≡◌, ◌<◌, ◌^◌, pos, ◌-ℤ◌, ◌*ℤ◌, ◌<ℤ◌, unsigned_abs, leb, nat_lt};
 ghost use Rattle.nrm_number.specs.Gcd.{gcd as gcd_of, shrink};
-ghost use Rattle.nrm_row.specs.Numbers.{IsShort};
+ghost use Rattle.nrm_row.specs.Inner.Crossed.{IsShort};
 ghost use Rattle.nrm_fraction.specs.Large.{size_limit, IsSmall};
 
 use nrm_fraction::SIZE_LIMIT;

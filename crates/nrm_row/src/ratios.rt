@@ -4,7 +4,7 @@
 
 ghost use Rattle.std.specs.Prelude.{◌≡◌, ◌<◌, ℕ, List, ◌∷◌, pos, length, get_or, unwrap_or, All};
 ghost use Rattle.nrm_fraction.specs.Rows.{ratio_columns};
-ghost use Rattle.nrm_row.specs.Numbers.{crossed_below};
+ghost use Rattle.nrm_row.specs.Inner.Crossed.{crossed_below};
 ghost use Rattle.nrm_fraction.specs.Large.{IsSmall};
 
 use crate::numbers::product;

@@ -8,7 +8,8 @@ ghost use Rattle.nrm_fraction.specs.Fraction.{Fraction, ◌<ᶠ◌, less, whole}
 ghost use Rattle.nrm_fraction.specs.Large.{fractions, common, numerators, large_number, size_limit, IsSmall};
 ghost use Rattle.nrm_fraction.specs.Lex.{lex_below};
 ghost use Rattle.nrm_fraction.specs.Rows.{at, number_at, row_of, unit_row, combine as combined, ratio_columns, ratios};
-ghost use Rattle.nrm_row.specs.Numbers.{AreEntries, IsRow, crossed};
+ghost use Rattle.nrm_row.specs.Numbers.{AreEntries, IsRow};
+ghost use Rattle.nrm_row.specs.Inner.Crossed.{crossed};
 ghost use Rattle.nrm_fraction.specs.Fault.{IsFault};
 
 use crate::crossed::{crossed_divisor, crossed_numbers};

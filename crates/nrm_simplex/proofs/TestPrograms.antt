@@ -1,5 +1,5 @@
 -- The programs of the tests are within the limits.
-use Rattle.std.proofs.Common.{◌≡◌, ℕ, List, replicate, sym, subst, true}
+use Rattle.std.proofs.Common.{◌≡◌, ℕ, List, sym, subst, true}
 use Rattle.nrm_lp.specs.Program.{ProgramValue}
 use Rattle.nrm_lp.specs.Limits.{IsLimited}
 use Rattle.nrm_lp.proofs.Fits.{IsLimited-from_test, program_fits}

@@ -1,10 +1,10 @@
 -- How far `solve` has walked on a program's path, and what each step of it and its end say.
-use Rattle.std.proofs.Common.{◌≡◌, ℕ, suc, ◌+◌, ◌-◌, ◌^◌, ◌<◌, inl, inr, ℤ, arith, refl, sym, ap, ◌∙◌, subst, List, Option, Some, None, Result, Ok, Err, MatchResult, IfOk, min}
+use Rattle.std.proofs.Common.{◌≡◌, ℕ, suc, ◌+◌, ◌-◌, ◌^◌, ◌<◌, inl, inr, arith, refl, sym, ap, ◌∙◌, subst, List, Option, Some, None, Result, Ok, Err, MatchResult, IfOk, min}
 use Rattle.std.specs.Option.{option_map}
 use Rattle.nrm_fraction.specs.Fraction.{Fraction}
 use Rattle.nrm_lp.specs.declared.certificate.Certificate.{Certificate}
 use Rattle.nrm_lp.specs.Program.{ProgramValue}
-use Rattle.nrm_lp.specs.Tableau.{Tableau, entering, first_tableau, leaving, pivot}
+use Rattle.nrm_lp.specs.Tableau.{entering, first_tableau, leaving, pivot}
 use Rattle.nrm_lp.specs.Path.{row_number}
 use Rattle.nrm_lp.specs.Closing.{certificate}
 use Rattle.nrm_lp.specs.Overflow.{Reaches, closing_large, pivot_large}
@@ -17,7 +17,7 @@ use Rattle.nrm_fraction.specs.declared.fault.RowFault.TheVariants as row
 use Rattle.nrm_fraction.specs.Fault.{IsFault}
 use Rattle.nrm_tableau.specs.Value.{TableauValue}
 use Rattle.nrm_simplex.specs.declared.fault.SolveFault.{SolveFault}
-use Rattle.nrm_simplex.specs.Faults.{fault_after}
+use Rattle.nrm_simplex.specs.Inner.Faults.{fault_after}
 use Rattle.nrm_simplex.specs.Solving.{IsClosing, IsSolveFault}
 use Rattle.nrm_fraction.specs.Large.{size_limit}
 

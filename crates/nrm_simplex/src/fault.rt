@@ -14,10 +14,10 @@ pub enum SolveFault {
 
 impl SolveFault {
     ghost use Rattle.std.specs.Prelude.{◌≡◌};
-    ghost use Rattle.nrm_simplex.specs.Faults.{fault_after};
+    ghost use Rattle.nrm_simplex.specs.Inner.Faults.{fault_after};
 
-    /// The fault of a row that was to be made after so many finished pivots.
-    pub fn after(pivots: u32, fault: RowFault) -> SolveFault
+    // The fault of a row that was to be made after so many finished pivots.
+    pub(crate) fn after(pivots: u32, fault: RowFault) -> SolveFault
         ensures { result ≡ fault_after pivots fault }
     {
         match fault {

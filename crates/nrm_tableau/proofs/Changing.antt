@@ -2,7 +2,7 @@
 use Rattle.std.proofs.Common.{◌≡◌, ℕ, zero, suc, ◌+◌, ◌<◌, ◌≤◌, arith, refl, sym, ap, ap₂, ◌∙◌, List, [], ◌∷◌, ◌++◌, map, set, take, drop, length, get_or, Option, Some, None, unwrap_or, append_assoc}
 use Rattle.std.proofs.lemmas.List.{map-append, take-append-drop, drop_more, take_more, take_all, drop_all, set_at, length-take-le, length-append, length-drop, append-nil}
 use Rattle.nrm_fraction.specs.Fraction.{Fraction}
-use Rattle.nrm_tableau.specs.Changes.{replaced}
+use Rattle.nrm_tableau.specs.Inner.Changes.{replaced}
 
 pub length-replaced : (made : List (Option (List Fraction))) (rows : List (List Fraction)) → length (replaced made rows) ≡ length rows
 length-replaced [] rows = refl

@@ -7,7 +7,7 @@ use Rattle.std.proofs.lemmas.List.Quantifiers.{all_pairs_push}
 use Rattle.std.proofs.lemmas.List.FromFn.{fill_by_all, length-map-range_with_len, get_or-map-range_with_len}
 use Rattle.nrm_fraction.specs.Fraction.{Fraction, whole}
 use Rattle.nrm_fraction.specs.Rows.{number_at, row_of}
-use Rattle.nrm_tableau.specs.Entries.{IsFilled}
+use Rattle.nrm_tableau.specs.Inner.Entries.{IsFilled}
 use Rattle.nrm_fraction.specs.Large.{IsSmall}
 
 number-absent : (es : List (ℕ × ℤ)) (c : ℕ) → All (λ (e : ℕ × ℤ). e.0 < c) es → number_at es c ≡ pos 0

@@ -1,6 +1,6 @@
 -- The entries that the first rows are made of.
-use Rattle.std.proofs.Common.{◌≡◌, ℕ, suc, ◌+◌, ◌-◌, ◌<◌, ◌≤◌, ◌^◌, ℤ, pos, neg_ℤ, arith, refl, sym, ap, ◌∙◌, subst, List, [], ◌∷◌, ◌++◌, map, length, get_or, true, false, eqb, ◌||◌, eq-eqb, ne_eqb, inl, inr, lit<, zero, Result, ap₂}
-use Rattle.std.specs.List.{range_with_len, list_any}
+use Rattle.std.proofs.Common.{◌≡◌, ℕ, suc, ◌+◌, ◌-◌, ◌<◌, ◌≤◌, ℤ, pos, neg_ℤ, arith, refl, sym, ap, ◌∙◌, subst, List, [], ◌∷◌, ◌++◌, map, length, get_or, true, false, eq-eqb, ne_eqb, inl, inr, lit<, zero, Result, ap₂}
+use Rattle.std.specs.List.{range_with_len}
 use Rattle.std.specs.Result.{IfOk}
 use Rattle.std.proofs.lemmas.Result.{IfOk-weaker}
 use Rattle.std.proofs.lemmas.Bool.{cases_lt}
@@ -11,7 +11,7 @@ use Rattle.nrm_lp.specs.Program.{ProgramValue, names}
 use Rattle.nrm_lp.specs.Limits.{IsLimited}
 use Rattle.nrm_lp.specs.Tableau.{product_count, right_side, row_bound, row_count, slack, first_entry, first_value, one_if}
 use Rattle.nrm_lp.proofs.Tables.{leg_entry, end_entry, slack_entry, fare_entry, nought_entry, row_bound-leg, row_bound-product}
-use Rattle.nrm_tableau.specs.Entries.{IsFilled}
+use Rattle.nrm_tableau.specs.Inner.Entries.{IsFilled}
 use Rattle.nrm_tableau.proofs.Filling.{filled_skip, filled_push, filled_until, filled_row}
 use Rattle.nrm_fraction.specs.Large.{size_limit, IsSmall}
 

@@ -1,5 +1,5 @@
 -- A table on its program's path: what is known of it, and the one after it.
-use Rattle.std.proofs.Common.{◌≡◌, ℕ, zero, suc, ◌+◌, ◌<◌, ◌^◌, ◌⊎◌, inl, inr, pos, arith, refl, sym, ap, ◌∙◌, subst, List, [], ◌∷◌, ◌++◌, map, set, length, get_or, All, Option, Some, None, IfSome, true}
+use Rattle.std.proofs.Common.{◌≡◌, ℕ, zero, suc, ◌+◌, ◌<◌, ◌⊎◌, inl, inr, pos, arith, refl, sym, ap, ◌∙◌, subst, List, [], ◌∷◌, ◌++◌, map, set, length, get_or, All, Option, Some, None, IfSome, true}
 use Rattle.std.specs.Option.{option_map, IsSome}
 use Rattle.std.proofs.lemmas.List.{get_or_default, length-map, length-set}
 use Rattle.nrm_fraction.specs.Fraction.{Fraction, ◌<ᶠ◌, ◌/ᶠ◌, less, whole}

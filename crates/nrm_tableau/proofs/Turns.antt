@@ -10,7 +10,7 @@ use Rattle.nrm_fraction.specs.Rows.{at, ratios, ratio_columns}
 use Rattle.nrm_fraction.proofs.Tests.{less_true}
 use Rattle.nrm_lp.specs.Program.{ProgramValue}
 use Rattle.nrm_lp.specs.Tableau.{better, entering_from, key_columns, leaving_from, product_count, right_side, row_count, slack}
-use Rattle.nrm_tableau.specs.Best.{IsCandidate, listed, wins_over}
+use Rattle.nrm_tableau.specs.Inner.Best.{IsCandidate, listed, wins_over}
 use Rattle.nrm_tableau.proofs.FirstEntries.{slacks_are}
 
 -- ---- the entering column

@@ -1,5 +1,3 @@
 pub mod Value
-pub mod Entries
-pub mod Best
 pub mod Laws
-pub mod Changes
+pub mod Inner

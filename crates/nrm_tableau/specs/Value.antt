@@ -1,5 +1,5 @@
 -- What contracts see of a tableau: its program and its table, which is on the program's path.
-use Rattle.std.specs.Prelude.{ℕ, ◌^◌}
+use Rattle.std.specs.Prelude.{ℕ}
 use Rattle.nrm_lp.specs.Program.{ProgramValue}
 use Rattle.nrm_lp.specs.Limits.{IsLimited}
 use Rattle.nrm_lp.specs.Tableau.{Tableau}

@@ -7,7 +7,7 @@ ghost use Rattle.std.specs.List.{range_with_len};
 ghost use Rattle.nrm_lp.specs.Limits.{IsLimited};
 ghost use Rattle.nrm_lp.specs.Program.{names};
 ghost use Rattle.nrm_lp.specs.Tableau.{first_entry, first_tableau, first_value, product_count, right_side, row_bound, row_count};
-ghost use Rattle.nrm_tableau.specs.Entries.{IsFilled};
+ghost use Rattle.nrm_tableau.specs.Inner.Entries.{IsFilled};
 
 use crate::columns::{right_side, row_count, slack};
 use nrm_lp::Program;

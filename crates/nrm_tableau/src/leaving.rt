@@ -6,7 +6,7 @@ ghost use Rattle.std.specs.Option.{option_map};
 ghost use Rattle.nrm_fraction.specs.Fraction.{◌<ᶠ◌, less, whole};
 ghost use Rattle.nrm_fraction.specs.Rows.{at, ratios};
 ghost use Rattle.nrm_lp.specs.Tableau.{better, entering_from, key_columns, leaving_from, right_side, row_count};
-ghost use Rattle.nrm_tableau.specs.Best.{IsCandidate, listed, wins_over};
+ghost use Rattle.nrm_tableau.specs.Inner.Best.{IsCandidate, listed, wins_over};
 
 use crate::columns::row_count;
 use nrm_lp::Program;

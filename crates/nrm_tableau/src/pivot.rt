@@ -7,7 +7,7 @@ ghost use Rattle.nrm_fraction.specs.Large.{first_large, large_number, size_limit
 ghost use Rattle.nrm_fraction.specs.Rows.{at, combine as combined, unit_row};
 ghost use Rattle.nrm_lp.specs.Overflow.{rows_but};
 ghost use Rattle.nrm_fraction.specs.Fault.{IsFault};
-ghost use Rattle.nrm_tableau.specs.Changes.{replaced};
+ghost use Rattle.nrm_tableau.specs.Inner.Changes.{replaced};
 
 use nrm_row::{Row, RowFault};
 use std::alloc::Global;

@@ -1,5 +1,5 @@
 use Rattle.std.proofs.Common.{◌≡◌, length}
-use Rattle.nrm_pivots.specs.Parts.{AreFares}
+use Rattle.nrm_pivots.specs.Inner.Parts.{AreFares}
 use Rattle.nrm_pivots.proofs.fares.Given as goal
 
 abbrev pub invariant-loop-j : goal.invariant-loop-j

@@ -1,5 +1,5 @@
 use Rattle.std.proofs.Common.{◌≡◌, All, length, map}
-use Rattle.nrm_pivots.specs.Parts.{AreFourLegs}
+use Rattle.nrm_pivots.specs.Inner.Parts.{AreFourLegs}
 use Rattle.nrm_pivots.proofs.legs.Given as goal
 
 abbrev pub invariant-loop-j : goal.invariant-loop-j

@@ -3,7 +3,7 @@ use mir.Syntax.{w128}
 use mir.Val.{SFits}
 use Rattle.std.proofs.lemmas.Int.{ints}
 use Rattle.nrm_fraction.specs.Large.{gcd_all}
-use Rattle.nrm_row.specs.Numbers.{crossed}
+use Rattle.nrm_row.specs.Inner.Crossed.{crossed}
 use Rattle.nrm_row.proofs.Combining.{product_positive, gcd_all_small}
 use Rattle.nrm_row.proofs.Bits.{cast_small}
 use Rattle.nrm_row.proofs.crossed.crossed_divisor.Goals as goal

@@ -1,6 +1,6 @@
 use Rattle.std.proofs.Common.{arith, ◌≡◌, sym, ap, ◌∙◌, length, unsigned_abs, to_z-of_z}
 use Rattle.nrm_fraction.specs.Large.{first_reaching, size_limit}
-use Rattle.nrm_row.specs.Numbers.{crossed, shrunk}
+use Rattle.nrm_row.specs.Inner.Crossed.{crossed, shrunk}
 use Rattle.nrm_row.proofs.Combining.{written_over}
 use Rattle.nrm_row.proofs.crossed.crossed_numbers.Goals as goal
 

@@ -1,5 +1,5 @@
 use Rattle.std.proofs.Common.{unsigned_abs}
-use Rattle.nrm_row.specs.Numbers.{crossed, shrunk}
+use Rattle.nrm_row.specs.Inner.Crossed.{crossed, shrunk}
 use Rattle.nrm_row.proofs.Combining.{IsPutTo}
 use Rattle.nrm_row.proofs.crossed.short_cross_in_place.Given as goal
 

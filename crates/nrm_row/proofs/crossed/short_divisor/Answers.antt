@@ -1,7 +1,7 @@
 use Rattle.std.proofs.Common.{◌≡◌, sym, get_or, arith, rules, unsigned_abs, ap, ap₂, ◌∙◌, pos, ◌-ℤ◌, ◌*ℤ◌, ◌-◌, to_z-of_z, to_z, of_z, w64}
 use mir.Val.{SFits}
 use Rattle.nrm_fraction.specs.Large.{gcd_all}
-use Rattle.nrm_row.specs.Numbers.{crossed}
+use Rattle.nrm_row.specs.Inner.Crossed.{crossed}
 use Rattle.nrm_row.proofs.Bits.{zero_from_bits}
 use Rattle.nrm_row.proofs.Combining.{divisor_more, crossed_one}
 use Rattle.nrm_fraction.proofs.CommonDivisors.{gcd_nought}

@@ -1,6 +1,6 @@
 use Rattle.std.proofs.Common.{◌≡◌, ◌≤◌, length, drop}
 use Rattle.nrm_fraction.specs.Large.{gcd_all}
-use Rattle.nrm_row.specs.Numbers.{crossed}
+use Rattle.nrm_row.specs.Inner.Crossed.{crossed}
 use Rattle.nrm_row.proofs.crossed.short_divisor.Given as goal
 
 abbrev pub invariant-loop-i : goal.invariant-loop-i

@@ -2,7 +2,7 @@ use Rattle.std.proofs.Common.{rules, refl, ◌<◌, length, arith, ◌≡◌, �
 use mir.Syntax.{w128}
 use mir.Val.{SFits}
 use Rattle.nrm_fraction.specs.Large.{first_reaching, size_limit}
-use Rattle.nrm_row.specs.Numbers.{crossed, shrunk}
+use Rattle.nrm_row.specs.Inner.Crossed.{crossed, shrunk}
 use Rattle.nrm_row.proofs.Divisors.{shrink_one}
 use Rattle.nrm_row.proofs.Bits.{zero_from_bits}
 use Rattle.nrm_row.proofs.Combining.{nought_taken, not_large, put_same, made_at, IsPutTo, short_number_at_place, length-made, put_large, put_more, put_all}

@@ -2,7 +2,7 @@ use Rattle.std.proofs.Common.{rules, arith, ◌≡◌, ◌+◌, ap, sym, subst, 
 use mir.Syntax.{w128}
 use mir.Val.{SFits}
 use Rattle.nrm_fraction.specs.Large.{first_reaching, size_limit}
-use Rattle.nrm_row.specs.Numbers.{crossed, shrunk}
+use Rattle.nrm_row.specs.Inner.Crossed.{crossed, shrunk}
 use Rattle.nrm_row.proofs.Combining.{IsPutTo, number_at_place, length-made, put_large, put_more, put_all}
 use Rattle.nrm_fraction.proofs.Sizes.{small_fits}
 use Rattle.nrm_row.proofs.crossed.wide_cross_in_place.Goals as goal

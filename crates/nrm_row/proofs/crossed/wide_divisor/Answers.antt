@@ -2,7 +2,7 @@ use Rattle.std.proofs.Common.{◌≡◌, sym, get_or, arith, rules, unsigned_abs
 use mir.Syntax.{w128}
 use mir.Val.{SFits}
 use Rattle.nrm_fraction.specs.Large.{gcd_all}
-use Rattle.nrm_row.specs.Numbers.{crossed}
+use Rattle.nrm_row.specs.Inner.Crossed.{crossed}
 use Rattle.nrm_row.proofs.Bits.{wide_zero_from_bits}
 use Rattle.nrm_row.proofs.Combining.{divisor_more, crossed_one}
 use Rattle.nrm_fraction.proofs.CommonDivisors.{gcd_nought}

@@ -3,7 +3,7 @@ use Rattle.std.proofs.lemmas.List.{get_or_default}
 use Rattle.std.proofs.lemmas.List.Edits.{map_over_more}
 use mir.Val.{SFits}
 use Rattle.nrm_number.specs.Gcd.{shrink}
-use Rattle.nrm_row.specs.Numbers.{shrunk}
+use Rattle.nrm_row.specs.Inner.Crossed.{shrunk}
 use Rattle.nrm_row.proofs.Divisors.{shrunk_one}
 use Rattle.nrm_row.proofs.Bits.{one_from_bits}
 use Rattle.nrm_row.proofs.lowest.divide_in_place.Goals as goal

@@ -2,7 +2,7 @@ use Rattle.std.proofs.Common.{rules, ◌≡◌, ap, ap₂, sym, ◌∙◌, get_o
 use mir.Syntax.{w128}
 use mir.Val.{SFits}
 use Rattle.std.specs.Int.RustNames.{int_lt}
-use Rattle.nrm_row.specs.Numbers.{crossed_below}
+use Rattle.nrm_row.specs.Inner.Crossed.{crossed_below}
 use Rattle.nrm_row.proofs.RatioLaws.{first_differs}
 use Rattle.nrm_row.proofs.ratios.ratio_below.Goals as goal
 

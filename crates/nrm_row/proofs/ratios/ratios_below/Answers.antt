@@ -1,7 +1,7 @@
 use Rattle.std.proofs.Common.{rules, ◌-◌, ◌+◌, ◌∷◌, ap, sym, ◌∙◌, length, get_or, pos, to_z-of_z, w64}
 use Rattle.std.specs.List.{range_with_len}
 use mir.Val.{SFits}
-use Rattle.nrm_row.specs.Numbers.{crossed_below}
+use Rattle.nrm_row.specs.Inner.Crossed.{crossed_below}
 use Rattle.nrm_row.proofs.RatioLaws.{range_more}
 use Rattle.nrm_row.proofs.ratios.ratios_below.Goals as goal
 

@@ -1,7 +1,7 @@
 use Rattle.std.proofs.Common.{◌≡◌, ◌-◌, length, get_or, pos}
 use Rattle.std.specs.List.{range_with_len}
 use Rattle.nrm_fraction.specs.Rows.{ratio_columns}
-use Rattle.nrm_row.specs.Numbers.{crossed_below}
+use Rattle.nrm_row.specs.Inner.Crossed.{crossed_below}
 use Rattle.nrm_row.proofs.ratios.ratios_below.Given as goal
 
 abbrev pub invariant-loop-i : goal.invariant-loop-i

@@ -3,7 +3,7 @@ use mir.Val.{SFits}
 use Rattle.nrm_number.specs.Gcd.{gcd, shrink}
 use Rattle.nrm_fraction.specs.Large.{fractions, large_number, size_limit}
 use Rattle.nrm_fraction.specs.Fault.{IsFault}
-use Rattle.nrm_row.specs.Numbers.{crossed}
+use Rattle.nrm_row.specs.Inner.Crossed.{crossed}
 use Rattle.nrm_row.proofs.Bits.{zero_from_bits}
 use Rattle.nrm_row.proofs.LowestTerms.{row_not_large}
 use Rattle.nrm_row.proofs.Combining.{combined_is, uncombined_is, reduced_positive, shared_read, shared_positive, quotient_read}

@@ -7,7 +7,8 @@ use Rattle.nrm_number.specs.Gcd.{shrink}
 use Rattle.nrm_number.proofs.Integers.{positive_product}
 use Rattle.nrm_fraction.specs.Large.{gcd_all, first_reaching, fractions, size_limit}
 use Rattle.nrm_fraction.specs.Fault.{IsFault}
-use Rattle.nrm_row.specs.Numbers.{crossed, shrunk, IsRow}
+use Rattle.nrm_row.specs.Numbers.{IsRow}
+use Rattle.nrm_row.specs.Inner.Crossed.{crossed, shrunk}
 use Rattle.nrm_row.proofs.Combining.{common_read, wide_read, length-crossed}
 use Rattle.nrm_row.proofs.LowestTerms.{divisor_positive, made_is_row, lowest_same, large_is}
 use Rattle.nrm_fraction.proofs.Sizes.{small_fits}

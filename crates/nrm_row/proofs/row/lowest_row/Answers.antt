@@ -2,7 +2,8 @@ use Rattle.std.proofs.Common.{rules, ◌≡◌, ap, ap₂, sym, subst, subst₂,
 use mir.Val.{SFits}
 use Rattle.nrm_number.specs.Gcd.{shrink}
 use Rattle.nrm_fraction.specs.Large.{gcd_all, fractions}
-use Rattle.nrm_row.specs.Numbers.{IsRow, shrunk}
+use Rattle.nrm_row.specs.Numbers.{IsRow}
+use Rattle.nrm_row.specs.Inner.Crossed.{shrunk}
 use Rattle.nrm_row.proofs.LowestTerms.{divisor_positive, small_is_row, lowest_same}
 use Rattle.nrm_row.proofs.row.lowest_row.Goals as goal
 

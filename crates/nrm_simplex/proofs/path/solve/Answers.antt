@@ -1,4 +1,4 @@
-use Rattle.std.proofs.Common.{◌≡◌, ◌∙◌, sym, subst, rules, MatchResult}
+use Rattle.std.proofs.Common.{◌∙◌, sym, subst, rules, MatchResult}
 use Rattle.nrm_lp.specs.Limits.{IsLimited}
 use Rattle.nrm_simplex.specs.Solving.{IsClosing, IsSolveFault}
 use Rattle.nrm_simplex.proofs.Walk.{walk_on, walk_falls, certified}

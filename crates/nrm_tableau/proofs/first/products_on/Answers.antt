@@ -1,7 +1,7 @@
 -- Each product is put where it uses the leg.
 use Rattle.std.proofs.Common.{◌≡◌, ◌∙◌, ap, sym, subst, arith, length}
 use Rattle.nrm_lp.specs.Tableau.{first_entry}
-use Rattle.nrm_tableau.specs.Entries.{IsFilled}
+use Rattle.nrm_tableau.specs.Inner.Entries.{IsFilled}
 use Rattle.nrm_tableau.proofs.Filling.{filled_none}
 use Rattle.nrm_tableau.proofs.FirstEntries.{leg_taken, leg_left}
 use Rattle.nrm_tableau.proofs.first.products_on.Goals as goal

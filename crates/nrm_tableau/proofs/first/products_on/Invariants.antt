@@ -1,5 +1,5 @@
 use Rattle.nrm_lp.specs.Tableau.{first_entry}
-use Rattle.nrm_tableau.specs.Entries.{IsFilled}
+use Rattle.nrm_tableau.specs.Inner.Entries.{IsFilled}
 use Rattle.nrm_tableau.proofs.first.products_on.Given as goal
 
 abbrev pub invariant-loop-product : goal.invariant-loop-product

@@ -1,5 +1,5 @@
 use Rattle.nrm_lp.specs.Tableau.{first_value}
-use Rattle.nrm_tableau.specs.Entries.{IsFilled}
+use Rattle.nrm_tableau.specs.Inner.Entries.{IsFilled}
 use Rattle.nrm_tableau.proofs.first.turned_fares.Given as goal
 
 abbrev pub invariant-loop-product : goal.invariant-loop-product

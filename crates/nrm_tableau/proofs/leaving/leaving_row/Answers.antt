@@ -1,7 +1,7 @@
 -- The walk goes back to the first row.
 use Rattle.std.proofs.Common.{◌≡◌, subst, arith, drop}
 use Rattle.nrm_lp.specs.Tableau.{key_columns, leaving_from}
-use Rattle.nrm_tableau.specs.Best.{listed}
+use Rattle.nrm_tableau.specs.Inner.Best.{listed}
 use Rattle.nrm_tableau.proofs.Turns.{walk_none, walk_back, walked}
 use Rattle.nrm_tableau.proofs.leaving.leaving_row.Goals as goal
 

@@ -1,6 +1,6 @@
 use Rattle.std.proofs.Common.{◌≡◌, drop}
 use Rattle.nrm_lp.specs.Tableau.{leaving_from, key_columns}
-use Rattle.nrm_tableau.specs.Best.{IsCandidate, listed}
+use Rattle.nrm_tableau.specs.Inner.Best.{IsCandidate, listed}
 use Rattle.nrm_tableau.proofs.leaving.leaving_row.Given as goal
 
 abbrev pub invariant-loop-row : goal.invariant-loop-row

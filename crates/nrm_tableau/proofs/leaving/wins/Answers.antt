@@ -4,7 +4,7 @@ use Rattle.std.proofs.lemmas.List.{get_or_read}
 use Rattle.nrm_fraction.specs.Fraction.{Fraction, ◌<ᶠ◌, whole}
 use Rattle.nrm_fraction.specs.Rows.{at}
 use Rattle.nrm_lp.specs.Tableau.{right_side}
-use Rattle.nrm_tableau.specs.Best.{IsCandidate, wins_over}
+use Rattle.nrm_tableau.specs.Inner.Best.{IsCandidate, wins_over}
 use Rattle.nrm_tableau.proofs.Turns.{less_told}
 use Rattle.nrm_tableau.proofs.leaving.wins.Goals as goal
 

@@ -1,12 +1,12 @@
 -- Each row is made, or left out, behind those before it.
-use Rattle.std.proofs.Common.{◌≡◌, ◌∙◌, ◌^◌, ap, subst, sym, arith, List, [], ◌∷◌, get_or, length, take, ◌+◌, None, unwrap_or}
+use Rattle.std.proofs.Common.{◌≡◌, ◌∙◌, ap, subst, sym, arith, List, [], ◌∷◌, get_or, length, take, ◌+◌, None, unwrap_or}
 use Rattle.std.proofs.lemmas.List.{get_or_read, length-append}
 use Rattle.std.proofs.lemmas.Result.{err_from_is_err_and}
 use Rattle.nrm_fraction.specs.Fraction.{Fraction}
 use Rattle.nrm_fraction.specs.Large.{large_number, size_limit}
 use Rattle.nrm_fraction.specs.Rows.{combine}
 use Rattle.nrm_fraction.specs.Fault.{IsFault}
-use Rattle.nrm_tableau.specs.Changes.{replaced}
+use Rattle.nrm_tableau.specs.Inner.Changes.{replaced}
 use Rattle.nrm_tableau.proofs.Faults.{fault_at, small_more}
 use Rattle.nrm_tableau.proofs.Changing.{replaced_more}
 use Rattle.nrm_tableau.proofs.pivot.changes.Goals as goal

@@ -1,7 +1,7 @@
-use Rattle.std.proofs.Common.{◌≡◌, ◌^◌, map, take, length, None}
+use Rattle.std.proofs.Common.{◌≡◌, map, take, length, None}
 use Rattle.nrm_fraction.specs.Large.{first_large, size_limit}
 use Rattle.nrm_fraction.specs.Rows.{combine}
-use Rattle.nrm_tableau.specs.Changes.{replaced}
+use Rattle.nrm_tableau.specs.Inner.Changes.{replaced}
 use Rattle.nrm_tableau.proofs.pivot.changes.Given as goal
 
 abbrev pub invariant-loop-row : goal.invariant-loop-row

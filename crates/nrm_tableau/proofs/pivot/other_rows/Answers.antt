@@ -1,12 +1,12 @@
 -- The rows before the pivot row, and those behind it.
-use Rattle.std.proofs.Common.{◌∙◌, ◌≡◌, ◌^◌, ◌+◌, ◌-◌, ap, sym, subst, arith, List, [], ◌∷◌, ◌++◌, map, take, drop, length, None}
+use Rattle.std.proofs.Common.{◌∙◌, ◌≡◌, ◌+◌, ◌-◌, ap, sym, subst, arith, List, [], ◌∷◌, ◌++◌, map, take, drop, length, None}
 use Rattle.std.proofs.lemmas.Result.{err_from_is_err_and}
 use Rattle.nrm_fraction.specs.Fraction.{Fraction}
 use Rattle.nrm_fraction.specs.Large.{first_large, size_limit}
 use Rattle.nrm_fraction.specs.Rows.{combine}
 use Rattle.nrm_fraction.specs.Fault.{IsFault}
 use Rattle.std.proofs.lemmas.List.{length-take-le}
-use Rattle.nrm_tableau.specs.Changes.{replaced}
+use Rattle.nrm_tableau.specs.Inner.Changes.{replaced}
 use Rattle.nrm_tableau.proofs.Changing.{replaced_parts, length_parts}
 use Rattle.nrm_tableau.proofs.Faults.{fault_front, fault_back, small_both, others_are, behind_is}
 use Rattle.nrm_tableau.proofs.pivot.other_rows.Goals as goal

@@ -1,6 +1,6 @@
 use Rattle.std.proofs.Common.{◌≡◌, length, get_or, pos, arith, ◌∙◌}
 use Rattle.nrm_fraction.specs.Rows.{ratio_columns}
-use Rattle.nrm_row.specs.Numbers.{crossed_below}
+use Rattle.nrm_row.specs.Inner.Crossed.{crossed_below}
 use Rattle.nrm_row.proofs.LowestTerms.{row_length}
 use Rattle.nrm_row.proofs.Entries.{ratios_below_is}
 use Rattle.nrm_row.proofs.row.Row.less_ratio.Goals as goal

@@ -1,5 +1,5 @@
 -- The parts that are read make the certificate.
-use Rattle.std.proofs.Common.{rules, ◌≡◌, ◌∙◌, ◌^◌, ap, sym, subst, arith, suc, pos, List, length, All, None, to_z, of_z, to_z-of_z, w64}
+use Rattle.std.proofs.Common.{rules, ◌≡◌, ◌∙◌, ap, sym, subst, arith, suc, pos, List, length, All, None, to_z, of_z, to_z-of_z, w64}
 use mir.Val.{SFits}
 use Rattle.std.proofs.lemmas.Result.{err_from_is_err_and}
 use Rattle.nrm_fraction.specs.Large.{first_too_large, size_limit, common, numerators}

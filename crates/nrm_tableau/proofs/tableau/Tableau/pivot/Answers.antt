@@ -1,5 +1,5 @@
 -- The new rows and value row are those of the pivot, or the first that is too large is theirs.
-use Rattle.std.proofs.Common.{◌≡◌, ◌∙◌, ◌^◌, ap, sym, subst, arith, List, [], ◌++◌, map, set, take, drop, get_or, length, Some, None}
+use Rattle.std.proofs.Common.{◌≡◌, ◌∙◌, ap, sym, subst, arith, List, [], ◌++◌, map, set, take, drop, get_or, length, Some, None}
 use Rattle.std.specs.Option.{option_map}
 use Rattle.std.proofs.lemmas.List.{length-map, length-set}
 use Rattle.std.proofs.lemmas.Result.{err_from_is_err_and}
@@ -9,7 +9,7 @@ use Rattle.nrm_fraction.specs.Rows.{combine, unit_row}
 use Rattle.nrm_lp.specs.Overflow.{pivot_large, rows_but}
 use Rattle.nrm_lp.specs.Tableau.{entering, leaving, pivot}
 use Rattle.nrm_fraction.specs.Fault.{IsFault}
-use Rattle.nrm_tableau.specs.Changes.{replaced}
+use Rattle.nrm_tableau.specs.Inner.Changes.{replaced}
 use Rattle.nrm_tableau.specs.Value.{TableauValue}
 use Rattle.nrm_tableau.proofs.Changing.{set_again, written_whole}
 use Rattle.nrm_tableau.proofs.Paths.{within, widths, width_unit, entering_before, read_before, read_positive, value_width, value_before, basis_within, fault_others, fault_value, small_all, next_on_path, same_parts, tableau_of}

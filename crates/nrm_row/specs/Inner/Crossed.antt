@@ -1,0 +1,25 @@
+-- The whole numbers of two rows that are combined or compared.
+use Rattle.std.specs.Prelude.{ℕ, ◌<◌, ◌^◌, ℤ, pos, ◌-ℤ◌, ◌*ℤ◌, unsigned_abs, int_lt, Bool, true, false, cond, get_or, List, [], ◌∷◌, map}
+use Rattle.nrm_number.specs.Gcd.{shrink}
+
+-- the numbers x e - a u, of a row's numbers x and another's numbers u
+abbrev pub crossed : ℤ → ℤ → List ℤ → List ℤ → List ℤ
+crossed a e [] xs = []
+crossed a e (u ∷ us) [] = []
+crossed a e (u ∷ us) (x ∷ xs) = (x *ℤ e -ℤ a *ℤ u) ∷ crossed a e us xs
+
+-- each number divided by g
+abbrev pub shrunk : ℕ → List ℤ → List ℤ
+shrunk g ns = map (λ n. shrink n g) ns
+
+-- whether the numbers x q at these columns come before the numbers y p in the order of a dictionary
+abbrev pub crossed_below : ℤ → ℤ → List ℤ → List ℤ → List ℕ → Bool
+crossed_below p q xs ys [] = false
+crossed_below p q xs ys (c ∷ cs) =
+    let x = get_or xs c (pos 0) *ℤ q in
+    let y = get_or ys c (pos 0) *ℤ p in
+    cond (int_lt x y) true (cond (int_lt y x) false (crossed_below p q xs ys cs))
+
+-- below 2^14 in size: a product with a small number fits 64 bits
+abbrev pub IsShort : ℤ → Type 0
+IsShort n = unsigned_abs n < 2 ^ 14
