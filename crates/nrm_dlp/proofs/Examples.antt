@@ -1,6 +1,7 @@
 -- The programs of two networks, which a reader can check by hand.
 use Rattle.std.specs.Prelude.{◌≡◌, [], ◌∷◌, refl}
 use Rattle.nrm_samples.specs.Networks.{two_legs_five_products, two_legs_last_first}
+use Rattle.nrm_samples.specs.Programs.{two_legs_five_products_program}
 use Rattle.nrm_dlp.specs.Programs.{opening_program, program_at, program_of}
 
 -- at opening: 3 and 2 seats in two histories, and the demand of both periods in both
@@ -19,8 +20,7 @@ alone : program_of two_legs_last_first (3 ∷ 2 ∷ []) (3 ∷ 6 ∷ [])
 alone = refl
 
 -- ---- two legs of 10 seats, five products, and four histories of one period
-ten_seats_each : opening_program two_legs_five_products
-    ≡ record { caps = 40 ∷ 40 ∷ []; bounds = 12 ∷ 28 ∷ 16 ∷ 32 ∷ 0 ∷ []; fares = 400 ∷ 150 ∷ 500 ∷ 80 ∷ 229 ∷ []; legs = (0 ∷ []) ∷ (0 ∷ []) ∷ (0 ∷ 1 ∷ []) ∷ (1 ∷ []) ∷ (0 ∷ 1 ∷ []) ∷ [] }
+ten_seats_each : opening_program two_legs_five_products ≡ two_legs_five_products_program
 ten_seats_each = refl
 
 -- with 7 and 9 seats left; behind its one period there is no demand

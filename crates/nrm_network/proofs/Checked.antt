@@ -8,7 +8,8 @@ use Rattle.std.proofs.lemmas.List.Folds.{list_all-map}
 use Rattle.std.proofs.lemmas.Slice.Eq.{bytes_eq-Decides}
 use Rattle.nrm_text.specs.Names.{is_name}
 use Rattle.nrm_text.specs.Numbers.{value_of}
-use Rattle.nrm_model.specs.Limits.{leg_fits, falls, differ}
+use Rattle.nrm_model.specs.Limits.{falls, differ}
+use Rattle.nrm_model.proofs.Fits.{leg_fits}
 use Rattle.nrm_network.specs.Rows.{field, begins, kind_of, leg_rows, product_rows, periods_in, is_named, further, further_numbers}
 use Rattle.nrm_network.specs.Checks.{NumberField, why_refused, is_within, no_such_kind, is_periods}
 use Rattle.nrm_network.specs.File.{leg_in}

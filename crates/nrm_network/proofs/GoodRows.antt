@@ -5,7 +5,8 @@ use Rattle.std.proofs.lemmas.Bool.{and_parts, and_from, or_parts, or_from, or_le
 use Rattle.std.proofs.lemmas.List.{append-nil, map-append}
 use Rattle.std.proofs.lemmas.List.Elements.{All-nil, All-push, All-weaker, filter-append}
 use Rattle.std.proofs.lemmas.List.Folds.{list_any-append}
-use Rattle.nrm_model.specs.Limits.{leg_fits, differ}
+use Rattle.nrm_model.specs.Limits.{differ}
+use Rattle.nrm_model.proofs.Fits.{leg_fits}
 use Rattle.nrm_network.specs.Rows.{Row, field, begins, leg_rows, product_rows, demand_rows, periods_in, is_named, further, further_numbers}
 use Rattle.nrm_network.specs.Checks.{why_refused}
 use Rattle.nrm_network.specs.File.{leg_in}

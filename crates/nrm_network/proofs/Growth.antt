@@ -9,7 +9,6 @@ use Rattle.std.proofs.lemmas.Slice.Eq.{bytes_eq-Decides}
 use Rattle.std.proofs.lemmas.List.Concat.{flat_map-append}
 use Rattle.std.proofs.lemmas.List.Elements.{All-head, All-tail, All-weaker}
 use Rattle.std.proofs.lemmas.List.Folds.{list_any-append, list_any_none}
-use Rattle.nrm_text.specs.Names.{is_name, name_in}
 use Rattle.nrm_text.specs.Numbers.{value_of}
 use Rattle.nrm_model.specs.declared.leg.Leg.{Leg}
 use Rattle.nrm_model.specs.declared.product.Product.{Product}

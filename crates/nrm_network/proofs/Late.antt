@@ -1,5 +1,5 @@
 -- What a row's shape says of each kind, and what the checks after it decide.
-use Rattle.std.proofs.Common.{ℕ, ◌≡◌, ◌∙◌, ◌+◌, ◌≤◌, Bool, true, false, not, ◌&&◌, ◌==◌, List, [], ◌∷◌, length, map, sum, bytes_eq, codes, refl, sym, ap, subst, arith, inl, inr, nat_lt, Option, Some, None, All}
+use Rattle.std.proofs.Common.{ℕ, ◌≡◌, ◌∙◌, ◌+◌, ◌≤◌, Bool, true, false, not, ◌==◌, List, [], ◌∷◌, length, map, sum, bytes_eq, codes, refl, sym, ap, subst, arith, inl, inr, nat_lt, Option, Some, None, All}
 use Rattle.std.specs.Prelude.{⊤, find, option_map}
 use Rattle.std.specs.Int.{is_in_range}
 use Rattle.std.specs.List.{list_all, list_any}

@@ -1,11 +1,13 @@
-//! Small networks for the tests of the crates above, each worked by hand. The value of each stands in specs/Networks
-//! under the same name.
+//! Small networks, and a linear program, for the tests of the crates above, each worked by hand. The value of each stands
+//! in specs/Networks or specs/Programs under the same name.
 #![tactic(auto)]
 
 mod networks;
 mod parts;
+mod programs;
 #[cfg(test)]
 mod tests;
 
 pub use networks::{two_legs, two_legs_five_products, two_legs_last_first};
 pub use parts::{leg, name, product};
+pub use programs::two_legs_five_products_program;

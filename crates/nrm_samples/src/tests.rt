@@ -1,5 +1,7 @@
 //! What the calls of a network answer of the samples, worked by hand.
-use crate::{name, two_legs, two_legs_five_products, two_legs_last_first};
+use crate::{
+    name, two_legs, two_legs_five_products, two_legs_five_products_program, two_legs_last_first,
+};
 use std::test::Fail;
 
 #[test]
@@ -49,5 +51,14 @@ fn thresholds_are_kept(rt: HostRuntime) -> Result<(), Fail> {
     let net = two_legs_five_products(rt.alloc())?;
     assert_eq!(rt; (net.leg_count(), net.product_count()), (2, 5));
     assert_eq!(rt; net.leg_at(0).cuts.as_slice(), [300, 100].as_slice());
+    Ok(())
+}
+
+#[test]
+fn a_program_of_five_products(rt: HostRuntime) -> Result<(), Fail> {
+    let program = two_legs_five_products_program(rt.alloc())?;
+    assert_eq!(rt; program.caps(), [40, 40].as_slice());
+    assert_eq!(rt; program.bounds(), [12, 28, 16, 32, 0].as_slice());
+    assert!(rt; program.uses_leg(2, 1) && !program.uses_leg(1, 1));
     Ok(())
 }
