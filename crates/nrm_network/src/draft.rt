@@ -273,16 +273,13 @@ impl Draft {
                 why: Why::Empty,
             });
         }
-        match Network::new(
+        Ok(Network::new(
             alloc,
             self.histories,
             self.periods,
             self.legs,
             self.products,
             self.demand,
-        ) {
-            Ok(net) => Ok(net),
-            Err(_) => Err(NetFault::NoMemory),
-        }
+        )?)
     }
 }

@@ -91,6 +91,29 @@ impl RowFault {
     }
 }
 
+impl From<AllocError> for NetFault {
+    ghost use Rattle.std.specs.Prelude.{◌≡◌};
+    ghost use Rattle.nrm_network.specs.declared.fault.NetFault.TheVariants.{NoMemory};
+
+    ghost from_gives = { λ _ fault. fault ≡ NoMemory };
+
+    fn from(_: AllocError) -> NetFault {
+        NetFault::NoMemory
+    }
+}
+
+impl From<csv::Error> for NetFault {
+    ghost use Rattle.std.specs.Prelude.{◌≡◌};
+    ghost use Rattle.nrm_network.specs.declared.fault.NetFault.TheVariants.{NoMemory};
+
+    ghost from_gives = { λ _ fault. fault ≡ NoMemory };
+
+    // A reader of bytes that takes records of any length fails only for want of memory.
+    fn from(_: csv::Error) -> NetFault {
+        NetFault::NoMemory
+    }
+}
+
 impl From<AllocError> for RowFault {
     ghost use Rattle.std.specs.Prelude.{◌≡◌};
     ghost use Rattle.nrm_network.specs.declared.fault.RowFault.TheVariants.{NoMemory};

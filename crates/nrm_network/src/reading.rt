@@ -8,32 +8,30 @@ ghost use Rattle.nrm_network.specs.declared.fault.Why.TheVariants as why;
 
 use crate::draft::Draft;
 use crate::fault::{NetFault, Why};
-use csv::ReaderBuilder;
+use csv::{ByteRecord, ReaderBuilder};
 use nrm_model::Network;
 use std::alloc::Global;
 
 // How many bytes a file may have.
 const MOST_BYTES: usize = 4_194_304;
 
-// The network that the rows of a file give.
+// The network that the rows of a file give. One record is read into again for each row.
 fn read_rows(alloc: Global, bytes: &[u8]) -> Result<Network, NetFault>
     requires { length bytes.now ≤ 4194304 }
     ensures { AnswersFile result (network_or_refusal why_refused why.Empty (rows_of bytes.now)) }
 {
-    let rdr = ReaderBuilder::new()
+    let mut rdr = ReaderBuilder::new()
         .has_headers(false)
         .flexible(true)
         .from_reader(alloc, bytes);
     let mut draft = Draft::new(alloc);
+    let mut row = ByteRecord::new(alloc);
     let mut taken = 0;
-    for row in rdr.into_byte_records() {
-        let Ok(row) = row else {
-            return Err(NetFault::NoMemory);
-        };
-        if let Err(fault) = draft.take(alloc, &row) {
-            return Err(fault.at(taken + 1));
-        }
+    while rdr.read_byte_record(&mut row)? {
         taken += 1;
+        if let Err(fault) = draft.take(alloc, &row) {
+            return Err(fault.at(taken));
+        }
     }
     draft.finish(alloc, taken)
 }

@@ -1,8 +1,9 @@
 //! Whole numbers, as they are read.
-ghost use Rattle.std.specs.Prelude.{◌≡◌, Some, None, nat_lt, if◌then◌else◌};
+ghost use Rattle.std.specs.Prelude.{◌≡◌, nat_lt, if◌then◌else◌};
 ghost use Rattle.std.specs.List.{list_all};
 ghost use Rattle.std.specs.Char.{is_ascii_digit};
-ghost use Rattle.nrm_text.specs.Numbers.{is_whole, value_of, whole_up_to};
+ghost use Rattle.nrm_text.specs.Numbers.{value_of, whole_up_to};
+ghost use Rattle.nrm_text.specs.declared.number.NumberFault.TheVariants.{Off, Over};
 
 /// Why bytes give no number: they are no whole number, or it is above the greatest.
 #[derive(Clone, Copy, Debug, PartialEq, Eq)]
@@ -20,30 +21,34 @@ fn are_digits(bytes: &[u8]) -> bool
     bytes.iter().all(|c| c.is_ascii_digit())
 }
 
-// Whether the bytes are `0`, or a digit 1 to 9 and further digits.
-fn is_whole_number(bytes: &[u8]) -> bool
-    ensures { result ≡ is_whole bytes.now }
+// What these bytes are whose first digits write more than the greatest number.
+fn over_or_off(bytes: &[u8]) -> NumberFault
+    ensures { result ≡ (if list_all is_ascii_digit bytes.now then Over else Off) }
 {
-    match bytes {
-        [] => false,
-        [only] => only.is_ascii_digit(),
-        [first, ..] => *first != b'0' && are_digits(bytes),
+    if are_digits(bytes) {
+        NumberFault::Over
+    } else {
+        NumberFault::Off
     }
 }
 
-// The number that these digits write, unless it is above the greatest.
-fn value_up_to(digits: &[u8], max: u64) -> Option<u64>
-    ensures { result ≡ (if nat_lt max (value_of digits.now) then None else Some (value_of digits.now)) }
+// The number that these bytes write where each is a digit, in one pass.
+fn value_up_to(bytes: &[u8], max: u64) -> Result<u64, NumberFault>
+    ensures { result ≡ (if list_all is_ascii_digit bytes.now then (if nat_lt max (value_of bytes.now) then Err Over else Ok (value_of bytes.now)) else Err Off) }
 {
+    let most = max / 10;
     let mut value: u64 = 0;
-    for digit in digits {
-        let next = u128::from(value) * 10 + u128::from(digit.saturating_sub(b'0'));
-        if next > u128::from(max) {
-            return None;
+    for c in bytes {
+        if !c.is_ascii_digit() {
+            return Err(NumberFault::Off);
         }
-        value = next as u64;
+        let digit = u64::from(*c - b'0');
+        if value > most || digit > max - value * 10 {
+            return Err(over_or_off(bytes));
+        }
+        value = value * 10 + digit;
     }
-    Some(value)
+    Ok(value)
 }
 
 /// Reads a whole number up to the greatest: `0`, or a digit 1 to 9 and further digits.
@@ -53,8 +58,9 @@ fn value_up_to(digits: &[u8], max: u64) -> Option<u64>
 pub fn read_whole(bytes: &[u8], max: u64) -> Result<u64, NumberFault>
     ensures { result ≡ whole_up_to max bytes.now }
 {
-    if !is_whole_number(bytes) {
-        return Err(NumberFault::Off);
+    match bytes {
+        [] => Err(NumberFault::Off),
+        [first, _, ..] if *first == b'0' => Err(NumberFault::Off),
+        _ => value_up_to(bytes, max),
     }
-    value_up_to(bytes, max).ok_or(NumberFault::Over)
 }

@@ -1,4 +1,4 @@
-use Rattle.std.proofs.Common.{◌≡◌, ◌<◌, ℕ, List, Some, length}
+use Rattle.std.proofs.Common.{◌≡◌, ◌-◌, ℕ, List, Some, length}
 use Rattle.csv.specs.Reading.{Reached, Ready, default_config, source_of, strip_bom}
 use Rattle.csv.specs.declared.parser.State.TheVariants as st
 use Rattle.csv.specs.declared.reader.Trim.TheVariants as trim
@@ -6,7 +6,11 @@ use Rattle.nrm_network.specs.Draft.{Stands}
 use Rattle.nrm_network.proofs.reading.read_rows.Given as goal
 
 abbrev pub invariant-loop-row : goal.invariant-loop-row
-invariant-loop-row l = (l.row-iterator.rdr.trim ≡ trim.None) × Ready l.row-iterator.rdr × (0 < l.row-iterator.left) × (l.row-iterator.rdr.config ≡ default_config)
-    × (y : List ℕ) × (rows : List (List (List ℕ))) × (source_of (λ s. Some s.now) l.row-iterator.rdr ≡ Some y)
-    × Reached default_config st.StartRecord (strip_bom l.fn.bytes) rows l.row-iterator.rdr.state y
+invariant-loop-row l = (l.rdr.trim ≡ trim.None) × Ready l.rdr × (l.rdr.config ≡ default_config)
+    × (y : List ℕ) × (rows : List (List (List ℕ))) × (source_of (λ s. Some s.now) l.rdr ≡ Some y)
+    × Reached default_config st.StartRecord (strip_bom l.fn.bytes) rows l.rdr.state y
     × Stands l.draft rows × (l.taken ≡ length rows)
+
+-- a file of so many bytes has no more rows
+abbrev pub decreases-loop-row : goal.decreases-loop-row
+decreases-loop-row l = 4194305 - l.taken

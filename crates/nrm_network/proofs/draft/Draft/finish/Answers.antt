@@ -30,7 +30,7 @@ new-requires c =
     let lacks = sym (c.lacks_a_kind.ensures taken is) ∙ c.if-lacks_a_kind.false in
     subst IsNetwork (sym (network-is c.args.self taken is)) (rows-network taken is.accepted lacks)
 
-pub returns-in-Ok : goal.returns-in-Ok
-returns-in-Ok c = λ taken is rows.
+pub returns : goal.returns
+returns c = λ taken is rows.
     let lacks = sym (c.lacks_a_kind.ensures taken is) ∙ c.if-lacks_a_kind.false in
-    answers taken None (refusal_after-none why_refused why.Empty [] taken is.accepted lacks) ∙ ap (λ (n : NetworkValue). Ok n) (sym (c.in-Ok.ensures ∙ network-is c.args.self taken is))
+    answers taken None (refusal_after-none why_refused why.Empty [] taken is.accepted lacks) ∙ ap (λ (n : NetworkValue). Ok n) (sym (c.in_ok-new.ensures ∙ network-is c.args.self taken is))
