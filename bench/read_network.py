@@ -5,17 +5,18 @@
 
 The file has 64 legs, 256 products on 4 legs each, and 32 histories of 16 periods: 8,192 demand rows of two-figure
 demands. The program reads it and writes its canonical file; an empty stream on it shows the reading
-alone. Of each, the least and the middle of nine runs, and the most memory that a run held.
+alone. Of each, the least and the middle of 15 runs. Several builds of the program are run in turn, so that what else
+the machine does falls on each of them.
 """
 import os
 import random
-import resource
 import subprocess
 import sys
 import tempfile
 import time
 
 TOP = os.path.dirname(os.path.dirname(os.path.abspath(__file__)))
+RUNS = 15
 
 
 def network(path):
@@ -36,22 +37,21 @@ def network(path):
 
 def timed(program, words, folder):
     begun = time.perf_counter()
-    subprocess.run(program + words, cwd=folder, stdin=subprocess.DEVNULL, stdout=subprocess.DEVNULL, check=True)
+    subprocess.run([program] + words, cwd=folder, stdin=subprocess.DEVNULL, stdout=subprocess.DEVNULL, check=True)
     return time.perf_counter() - begun
 
 
 def main():
-    program = sys.argv[1:] or [os.path.join(TOP, "crates", "nrm", "out", "nrm")]
-    program[0] = os.path.abspath(program[0])
+    programs = [os.path.abspath(p) for p in sys.argv[1:]] or [os.path.join(TOP, "crates", "nrm", "out", "nrm")]
     with tempfile.TemporaryDirectory() as folder:
         path = os.path.join(folder, "NETWORK")
         network(path)
         print(f"file: {os.path.getsize(path):,} bytes")
         for words in (["run", "first", "NETWORK"], ["print", "NETWORK"]):
-            times = sorted(timed(program, words, folder) for _ in range(9))
-            print(f"{' '.join(words)}: least {times[0] * 1000:.0f} ms, middle {times[4] * 1000:.0f} ms")
-        held = resource.getrusage(resource.RUSAGE_CHILDREN).ru_maxrss
-        print(f"memory: at most {held / 1024:.1f} MiB")
+            rounds = [[timed(program, words, folder) for program in programs] for _ in range(RUNS)]
+            for program, times in zip(programs, zip(*rounds)):
+                least, middle = min(times) * 1000, sorted(times)[RUNS // 2] * 1000
+                print(f"{program} {' '.join(words)}: least {least:.1f} ms, middle {middle:.1f} ms")
 
 
 main()

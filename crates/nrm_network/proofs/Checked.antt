@@ -13,7 +13,7 @@ use Rattle.nrm_model.proofs.Fits.{leg_fits}
 use Rattle.nrm_network.specs.Rows.{field, begins, kind_of, leg_rows, product_rows, periods_in, is_named, further, further_numbers}
 use Rattle.nrm_network.specs.Checks.{NumberField, why_refused, is_within, no_such_kind, is_periods}
 use Rattle.nrm_network.specs.File.{leg_in}
-use Rattle.nrm_network.specs.Entries.{kind_by}
+use Rattle.nrm_network.specs.Inner.Entries.{kind_by}
 use Rattle.nrm_network.proofs.Passes.{PassesAs, passes}
 
 pub word-is : (word : List ℕ) (row : List (List ℕ)) → begins word row ≡ true → field row 0 ≡ word

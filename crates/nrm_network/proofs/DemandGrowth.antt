@@ -13,8 +13,8 @@ use Rattle.std.proofs.lemmas.Slice.Eq.{bytes_eq-Decides}
 use Rattle.nrm_text.specs.Numbers.{value_of}
 use Rattle.nrm_network.specs.Rows.{Row, demand_kind, field, begins, leg_rows, product_rows, demand_rows, histories_in, periods_in, is_named, further, further_numbers, gives_demand}
 use Rattle.nrm_network.specs.Checks.{why_refused}
-use Rattle.nrm_network.specs.Draft.{Accepts, SetsDemand, Stands, names_of, demand_by, given_by}
-use Rattle.nrm_network.specs.Entries.{HasShape}
+use Rattle.nrm_network.specs.Inner.Draft.{Accepts, SetsDemand, Stands, names_of, demand_by, given_by}
+use Rattle.nrm_network.specs.Inner.Entries.{HasShape}
 use Rattle.nrm_network.specs.declared.draft.Draft.{Draft}
 use Rattle.nrm_network.proofs.Fields.{bytes-same, bytes-apart}
 use Rattle.nrm_network.proofs.Checked.{begins-as, first-checked}

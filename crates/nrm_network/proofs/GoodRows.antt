@@ -10,7 +10,7 @@ use Rattle.nrm_model.proofs.Fits.{leg_fits}
 use Rattle.nrm_network.specs.Rows.{Row, field, begins, leg_rows, product_rows, demand_rows, periods_in, is_named, further, further_numbers}
 use Rattle.nrm_network.specs.Checks.{why_refused}
 use Rattle.nrm_network.specs.File.{leg_in}
-use Rattle.nrm_network.specs.Draft.{Accepts, names_of}
+use Rattle.nrm_network.specs.Inner.Draft.{Accepts, names_of}
 use Rattle.nrm_network.proofs.Checked.{FirstChecked, ProductFits, begins-as, leg-checked, product-checked, demand-checked, later-kinds}
 
 -- a product row whose legs are all there

@@ -15,8 +15,8 @@ use Rattle.nrm_model.specs.declared.product.Product.{Product}
 use Rattle.nrm_network.specs.Rows.{Row, Kind, periods_kind, leg_kind, product_kind, field, begins, leg_rows, product_rows, demand_rows, histories_in, periods_in, is_named, further, further_numbers, gives_demand}
 use Rattle.nrm_network.specs.Checks.{why_refused, out_of_order, is_periods}
 use Rattle.nrm_network.specs.File.{leg_in, product_in, number_of_leg}
-use Rattle.nrm_network.specs.Draft.{Accepts, AddsLeg, AddsProduct, Stands, NameProducts, names_of, demand_by, given_by}
-use Rattle.nrm_network.specs.Entries.{HasShape}
+use Rattle.nrm_network.specs.Inner.Draft.{Accepts, AddsLeg, AddsProduct, Stands, NameProducts, names_of, demand_by, given_by}
+use Rattle.nrm_network.specs.Inner.Entries.{HasShape}
 use Rattle.nrm_network.specs.declared.draft.Draft.{Draft}
 use Rattle.nrm_network.proofs.Taken.{Accepts-append}
 use Rattle.nrm_network.proofs.Checked.{begins-as, first-checked, product-checked}

@@ -11,7 +11,7 @@ use Rattle.nrm_text.specs.Numbers.{is_whole, value_of}
 use Rattle.nrm_model.specs.Limits.{falls, differ}
 use Rattle.nrm_network.specs.Rows.{Row, Kind, periods_kind, leg_kind, product_kind, demand_kind, no_kind, field, begins, kind_of, leg_rows, product_rows, demand_rows, histories_in, periods_in, is_named, further, further_numbers, gives_demand}
 use Rattle.nrm_network.specs.Checks.{NumberField, why_refused, is_within, no_such_kind, out_of_order, miscounted, too_many, name_fields, number_fields, given_twice, missing, unordered, too_much}
-use Rattle.nrm_network.specs.Entries.{HasShape}
+use Rattle.nrm_network.specs.Inner.Entries.{HasShape}
 use Rattle.nrm_network.specs.declared.fault.Why.{Why}
 use Rattle.nrm_network.specs.declared.fault.Why.TheVariants as why
 use Rattle.nrm_network.proofs.Checked.{word-is, in-range, further-within}

@@ -27,7 +27,7 @@ use Rattle.nrm_network.proofs.Accepted.{periods-accepted}
 use Rattle.nrm_network.proofs.LegNames.{leg-place}
 use Rattle.nrm_network.proofs.DemandRows.{demands, demands-leg_rows, demands-product_rows, demands-demand_rows}
 use Rattle.nrm_network.proofs.DemandBack.{given-back, products-flat}
-use Rattle.nrm_network.specs.Draft.{Accepts}
+use Rattle.nrm_network.specs.Inner.Draft.{Accepts}
 use Rattle.nrm_network.proofs.Taken.{Accepts-append, refusal_after-none, legs-taken, products-taken, demands-taken}
 
 -- the rows of each kind among the legs' and the products' rows

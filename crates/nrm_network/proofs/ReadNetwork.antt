@@ -20,7 +20,7 @@ use Rattle.nrm_model.specs.Limits.{IsNetwork, IsLeg, IsProduct, differ}
 use Rattle.nrm_model.proofs.Fits.{IsLeg-from_test}
 use Rattle.nrm_network.specs.Rows.{Row, field, rows_of, leg_rows, product_rows, demand_rows, histories_in, periods_in, is_named, further, further_numbers, gives_demand}
 use Rattle.nrm_network.specs.Checks.{why_refused}
-use Rattle.nrm_network.specs.Draft.{Accepts, names_of}
+use Rattle.nrm_network.specs.Inner.Draft.{Accepts, names_of}
 use Rattle.nrm_network.specs.File.{Refusal, network_of, refusal_after, lacks_a_kind, leg_in, product_in, number_of_leg, demand_given}
 use Rattle.nrm_network.specs.Valid.{ReadIsNetwork}
 use Rattle.nrm_network.specs.declared.fault.Why.{Why}

@@ -8,7 +8,7 @@ use Rattle.nrm_text.specs.Numbers.{is_whole, value_of}
 use Rattle.nrm_model.specs.Limits.{differ}
 use Rattle.nrm_network.specs.Rows.{field, further, further_numbers}
 use Rattle.nrm_network.specs.Checks.{NumberField, is_within}
-use Rattle.nrm_network.specs.Fields.{NumberIn, are_whole, bounded}
+use Rattle.nrm_network.specs.Inner.Fields.{NumberIn, are_whole, bounded}
 
 and-false : (b : Bool) → b && false ≡ false
 and-false true = refl

@@ -11,7 +11,7 @@ use Rattle.nrm_model.specs.declared.product.Product.{Product}
 use Rattle.nrm_model.specs.Network.{NetworkValue, product_of}
 use Rattle.nrm_model.specs.Demand.{demand_row}
 use Rattle.nrm_network.specs.Canonical.{canonical_file, demand_fields, leg_fields, periods_fields, product_fields}
-use Rattle.nrm_network.specs.RowText.{after_commas, history_fields, history_text, row_text}
+use Rattle.nrm_network.specs.Inner.RowText.{after_commas, history_fields, history_text, row_text}
 
 -- a row is its first field, the others after commas, and the end of the line
 joined : (word : List ℕ) (fields : List (List ℕ)) → join_with_byte 44 (word ∷ fields) ≡ word ++ after_commas fields

@@ -13,7 +13,7 @@ use Rattle.nrm_model.specs.Demand.{demand_row}
 use Rattle.nrm_model.specs.Limits.{IsNetwork, IsLeg, IsProduct}
 use Rattle.nrm_network.specs.Rows.{field, begins, leg_rows, product_rows, demand_rows, is_named, gives_demand}
 use Rattle.nrm_network.specs.Checks.{why_refused}
-use Rattle.nrm_network.specs.Draft.{Accepts}
+use Rattle.nrm_network.specs.Inner.Draft.{Accepts}
 use Rattle.nrm_network.specs.File.{refusal_after, lacks_a_kind}
 use Rattle.nrm_network.specs.Canonical.{periods_fields, leg_fields, product_fields}
 use Rattle.nrm_network.specs.declared.fault.Why.{Why}

@@ -2,11 +2,7 @@ pub mod Answer
 pub mod Canonical
 pub mod Causes
 pub mod Checks
-pub mod Draft
-pub mod Entries
-pub mod Faults
-pub mod Fields
 pub mod File
-pub mod RowText
+pub mod Inner
 pub mod Rows
 pub mod Valid

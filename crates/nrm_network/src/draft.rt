@@ -10,8 +10,8 @@ ghost use Rattle.nrm_network.specs.Answer.{AnswersFile};
 ghost use Rattle.nrm_network.specs.Checks.{why_refused};
 ghost use Rattle.nrm_network.specs.File.{lacks_a_kind, network_or_refusal, number_of_leg};
 ghost use Rattle.nrm_network.specs.declared.fault.Why.TheVariants as why;
-ghost use Rattle.nrm_network.specs.Draft.{AddsLeg, AddsProduct, Awaits, SetsDemand, Stands, Takes, TakesSaid, names_of};
-ghost use Rattle.nrm_network.specs.Entries.{Counted};
+ghost use Rattle.nrm_network.specs.Inner.Draft.{AddsLeg, AddsProduct, Awaits, SetsDemand, Stands, Takes, TakesSaid, names_of};
+ghost use Rattle.nrm_network.specs.Inner.Entries.{Counted};
 ghost use Rattle.nrm_network.specs.declared.entry.Entry.TheVariants as says;
 
 use crate::entry::{Counts, DemandEntry, Entry, ProductEntry, read_row};

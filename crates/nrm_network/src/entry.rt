@@ -3,7 +3,7 @@
 ghost use Rattle.std.specs.Prelude.{◌≡◌, List, ℕ, MatchResult, false};
 ghost use Rattle.csv.specs.Records.{fields_of};
 ghost use Rattle.nrm_network.specs.Rows.{kind_of, periods_kind, leg_kind, product_kind, demand_kind};
-ghost use Rattle.nrm_network.specs.Entries.{Counted, ReadsAs, ReadsRow, first_refusal, kind_by, kind_seen};
+ghost use Rattle.nrm_network.specs.Inner.Entries.{Counted, ReadsAs, ReadsRow, first_refusal, kind_by, kind_seen};
 
 use crate::fault::{RowFault, Why};
 use crate::row::{field, name_in, names_in, number_in, numbers_in};

@@ -78,7 +78,7 @@ pub enum RowFault {
 
 impl RowFault {
     ghost use Rattle.std.specs.Prelude.{◌≡◌};
-    ghost use Rattle.nrm_network.specs.Faults.{fault_at};
+    ghost use Rattle.nrm_network.specs.Inner.Faults.{fault_at};
 
     /// The fault of a file whose row of this number isn't taken.
     pub fn at(self, row: u32) -> NetFault

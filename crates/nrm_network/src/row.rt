@@ -2,7 +2,7 @@
 ghost use Rattle.std.specs.Prelude.{◌≡◌};
 ghost use Rattle.csv.specs.Records.{fields_of};
 ghost use Rattle.nrm_network.specs.Rows.{field};
-ghost use Rattle.nrm_network.specs.Fields.{NameIn, NamesIn, NumberIn, NumbersIn};
+ghost use Rattle.nrm_network.specs.Inner.Fields.{NameIn, NamesIn, NumberIn, NumbersIn};
 
 use crate::fault::{RowFault, Why};
 use csv::ByteRecord;

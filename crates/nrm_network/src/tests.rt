@@ -35,6 +35,7 @@ fn each_cause_is_told_at_its_row(rt: HostRuntime) {
         ("periods,1,1\nleg,ab,010\n", 2, Why::Name),
         ("periods,1,1\nleg,AB,010\n", 2, Why::Number),
         ("periods,1,1\nleg,AB,1000\n", 2, Why::Range),
+        ("periods,1,1\nleg,AB,1000,x\n", 2, Why::Number),
         ("periods,1,1\nleg,AB,9\nleg,AB,9\n", 3, Why::Twice),
         ("periods,1,1\nleg,AB,9\nproduct,P,5,AB,AB\n", 3, Why::Twice),
         ("periods,1,1\nleg,AB,9\nproduct,P,5,BC\n", 3, Why::Missing),
@@ -69,5 +70,35 @@ fn files_are_bounded(rt: HostRuntime) -> Result<(), Fail> {
     assert_eq!(rt; refusal(rt.alloc(), file.as_bytes()), Some((66, Why::Many)));
     let file = vec![in rt.alloc(); b'\n'; 4_194_305]?;
     assert_eq!(rt; refusal(rt.alloc(), file.as_slice()), Some((0, Why::Size)));
+    Ok(())
+}
+
+// The rows of a product's demand, one in each of 32 histories.
+fn push_demand(file: &mut String, product: u16) -> Result<(), AllocError> {
+    for history in 1..=32 {
+        write!(file, "demand,P{product:03},{history},1\n")?;
+    }
+    Ok(())
+}
+
+// A canonical file with as many products, histories and demand rows as there may be.
+fn full_file(alloc: Global) -> Result<String, AllocError> {
+    let mut file = String::from_str(alloc, "periods,32,1\nleg,L,1\n")?;
+    for product in 0..256 {
+        write!(file, "product,P{product:03},1,L\n")?;
+    }
+    for product in 0..256 {
+        push_demand(&mut file, product)?;
+    }
+    Ok(file)
+}
+
+#[test]
+fn a_full_file_is_read_whole(rt: HostRuntime) -> Result<(), Fail> {
+    let file = full_file(rt.alloc())?;
+    let net = parse(rt.alloc(), file.as_bytes())?;
+    let printed = print(rt.alloc(), &net)?;
+    assert_eq!(rt; printed.len(), file.len());
+    assert_eq!(rt; printed.as_slice() == file.as_bytes(), true);
     Ok(())
 }

@@ -7,7 +7,7 @@ ghost use Rattle.nrm_model.specs.Limits.{IsNetwork};
 ghost use Rattle.nrm_model.specs.Network.{leg_of};
 ghost use Rattle.nrm_network.specs.Canonical.{canonical_file, leg_fields, periods_fields, product_fields};
 ghost use Rattle.nrm_network.specs.File.{file_of};
-ghost use Rattle.nrm_network.specs.RowText.{after_commas, history_fields, history_text, row_text};
+ghost use Rattle.nrm_network.specs.Inner.RowText.{after_commas, history_fields, history_text, row_text};
 
 use itoa::Buffer;
 use nrm_model::{Leg, Network, Product};

@@ -8,8 +8,8 @@ use Rattle.csv.specs.declared.parser.State.TheVariants as st
 use Rattle.csv.proofs.ReadFacts.{rows-end, rows-more}
 use Rattle.nrm_network.specs.Answer.{AnswersFile}
 use Rattle.nrm_network.specs.Checks.{why_refused}
-use Rattle.nrm_network.specs.Draft.{Accepts, TakesRow}
-use Rattle.nrm_network.specs.Faults.{fault_at}
+use Rattle.nrm_network.specs.Inner.Draft.{Accepts, TakesRow}
+use Rattle.nrm_network.specs.Inner.Faults.{fault_at}
 use Rattle.nrm_network.specs.File.{Refusal, network_of, network_or_refusal}
 use Rattle.nrm_network.specs.Rows.{rows_of}
 use Rattle.nrm_network.specs.declared.draft.Draft.{Draft}

@@ -1,6 +1,6 @@
 use Rattle.std.proofs.Common.{ℕ, ◌∙◌, ◌++◌, List, flat_map, ap}
 use Rattle.std.specs.List.{range_with_len}
-use Rattle.nrm_network.specs.RowText.{history_text}
+use Rattle.nrm_network.specs.Inner.RowText.{history_text}
 use Rattle.nrm_network.proofs.RowTexts.{range_more}
 use Rattle.nrm_network.proofs.writing.push_demands.Goals as goal
 

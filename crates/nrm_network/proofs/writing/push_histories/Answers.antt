@@ -1,5 +1,5 @@
 use Rattle.std.proofs.Common.{ℕ, ◌∙◌, ◌++◌, List, ap}
-use Rattle.nrm_network.specs.RowText.{history_text}
+use Rattle.nrm_network.specs.Inner.RowText.{history_text}
 use Rattle.nrm_network.proofs.RowTexts.{range_more}
 use Rattle.nrm_network.proofs.writing.push_histories.Goals as goal
 

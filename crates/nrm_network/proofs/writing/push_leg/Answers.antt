@@ -1,6 +1,6 @@
 use Rattle.std.proofs.Common.{ℕ, ◌≡◌, ◌∙◌, ◌++◌, ◌∷◌, List, true, is_ok, map, ap, rules, codes}
 use Rattle.std.specs.Prelude.{decimal}
-use Rattle.nrm_network.specs.RowText.{after_commas}
+use Rattle.nrm_network.specs.Inner.RowText.{after_commas}
 use Rattle.nrm_network.proofs.RowTexts.{row_written}
 use Rattle.nrm_network.proofs.writing.push_leg.Goals as goal
 

@@ -1,6 +1,6 @@
 use Rattle.std.proofs.Common.{◌≡◌, ◌++◌, map, take}
 use Rattle.nrm_model.specs.Network.{leg_of}
-use Rattle.nrm_network.specs.RowText.{after_commas}
+use Rattle.nrm_network.specs.Inner.RowText.{after_commas}
 use Rattle.nrm_network.proofs.writing.push_leg_names.Given as goal
 
 abbrev pub invariant-loop-i : goal.invariant-loop-i

@@ -1,6 +1,6 @@
 use Rattle.std.proofs.Common.{ℕ, ◌∙◌, ◌++◌, List, ap}
 use Rattle.nrm_model.specs.declared.leg.Leg.{Leg}
-use Rattle.nrm_network.specs.RowText.{row_text}
+use Rattle.nrm_network.specs.Inner.RowText.{row_text}
 use Rattle.nrm_network.specs.Canonical.{leg_fields}
 use Rattle.nrm_network.proofs.RowTexts.{element_more}
 use Rattle.nrm_network.proofs.writing.push_legs.Goals as goal

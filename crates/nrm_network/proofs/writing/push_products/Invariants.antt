@@ -1,6 +1,6 @@
 use Rattle.std.proofs.Common.{◌≡◌, ◌++◌, take, flat_map}
 use Rattle.nrm_network.specs.Canonical.{product_fields}
-use Rattle.nrm_network.specs.RowText.{row_text}
+use Rattle.nrm_network.specs.Inner.RowText.{row_text}
 use Rattle.nrm_network.proofs.writing.push_products.Given as goal
 
 abbrev pub invariant-loop-j : goal.invariant-loop-j

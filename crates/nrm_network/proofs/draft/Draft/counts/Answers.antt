@@ -4,7 +4,7 @@ use Rattle.std.proofs.lemmas.Bool.{cases_Bool, eqb-true}
 use Rattle.nrm_network.specs.Rows.{Row, leg_rows, product_rows, histories_in}
 use Rattle.nrm_network.specs.Checks.{why_refused}
 use Rattle.nrm_network.specs.File.{leg_in, product_in}
-use Rattle.nrm_network.specs.Draft.{Accepts}
+use Rattle.nrm_network.specs.Inner.Draft.{Accepts}
 use Rattle.nrm_network.proofs.Checked.{first-checked}
 use Rattle.nrm_network.proofs.draft.Draft.counts.Goals as goal
 

@@ -3,7 +3,7 @@ use Rattle.std.specs.Option.{option_map_or}
 use Rattle.nrm_model.specs.Network.{NetworkValue}
 use Rattle.nrm_model.specs.Limits.{IsNetwork}
 use Rattle.nrm_network.specs.Checks.{why_refused}
-use Rattle.nrm_network.specs.Draft.{Stands}
+use Rattle.nrm_network.specs.Inner.Draft.{Stands}
 use Rattle.nrm_network.specs.File.{Refusal, network_of, network_or_refusal, refusal_after}
 use Rattle.nrm_network.specs.declared.draft.Draft.{Draft}
 use Rattle.nrm_network.specs.declared.fault.Why.TheVariants as why

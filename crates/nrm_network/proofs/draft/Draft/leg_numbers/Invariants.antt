@@ -2,7 +2,7 @@ use Rattle.std.proofs.Common.{ℕ, ◌≡◌, ◌++◌, List, drop, map}
 use Rattle.std.specs.List.{list_all}
 use Rattle.nrm_network.specs.Rows.{is_named}
 use Rattle.nrm_network.specs.File.{number_of_leg}
-use Rattle.nrm_network.specs.Draft.{names_of}
+use Rattle.nrm_network.specs.Inner.Draft.{names_of}
 use Rattle.nrm_network.proofs.draft.Draft.leg_numbers.Given as goal
 
 abbrev pub invariant-loop-name : goal.invariant-loop-name

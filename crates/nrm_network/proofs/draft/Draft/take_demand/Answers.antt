@@ -2,8 +2,8 @@ use Rattle.std.proofs.Common.{ℕ, ◌≡◌, ◌∙◌, ◌≤◌, ◌+◌, ◌
 use Rattle.std.proofs.lemmas.Bool.{lt-ltb, le-ltb}
 use Rattle.nrm_text.specs.Numbers.{value_of}
 use Rattle.nrm_network.specs.Rows.{field, demand_rows, product_rows, is_named, further_numbers}
-use Rattle.nrm_network.specs.Draft.{SetsDemand, Stands}
-use Rattle.nrm_network.specs.Entries.{IsRead}
+use Rattle.nrm_network.specs.Inner.Draft.{SetsDemand, Stands}
+use Rattle.nrm_network.specs.Inner.Entries.{IsRead}
 use Rattle.nrm_network.specs.declared.entry.Entry.TheVariants as says
 use Rattle.nrm_network.proofs.Late.{demand-twice, demand-missing, demand-over, demand-free}
 use Rattle.nrm_network.proofs.Growth.{look-up, fresh-of, gives-none}

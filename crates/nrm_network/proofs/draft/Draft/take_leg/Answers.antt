@@ -3,7 +3,7 @@ use Rattle.std.specs.Prelude.{is_some}
 use Rattle.nrm_model.specs.Limits.{falls}
 use Rattle.nrm_model.specs.declared.leg.Leg.{Leg}
 use Rattle.nrm_network.specs.Rows.{field, leg_rows, further_numbers}
-use Rattle.nrm_network.specs.Draft.{AddsLeg}
+use Rattle.nrm_network.specs.Inner.Draft.{AddsLeg}
 use Rattle.nrm_network.proofs.Late.{leg-twice, leg-unordered, leg-free}
 use Rattle.nrm_network.proofs.Growth.{leg-grows, named-by, place-any}
 use Rattle.nrm_network.proofs.draft.Draft.take_leg.Goals as goal

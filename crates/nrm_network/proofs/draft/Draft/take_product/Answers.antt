@@ -6,7 +6,7 @@ use Rattle.nrm_model.specs.Limits.{differ}
 use Rattle.nrm_model.specs.declared.product.Product.{Product}
 use Rattle.nrm_network.specs.Rows.{product_kind, field, leg_rows, product_rows, further, is_named}
 use Rattle.nrm_network.specs.File.{number_of_leg}
-use Rattle.nrm_network.specs.Draft.{AddsProduct}
+use Rattle.nrm_network.specs.Inner.Draft.{AddsProduct}
 use Rattle.nrm_network.proofs.Late.{product-twice, product-repeats, product-missing, product-free}
 use Rattle.nrm_network.proofs.Growth.{product-grows, product-same, few-legs, named-by, place-any}
 use Rattle.nrm_network.proofs.draft.Draft.take_product.Goals as goal

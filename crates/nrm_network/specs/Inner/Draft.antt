@@ -4,8 +4,8 @@ use Rattle.std.specs.List.{list_any, range_with_len}
 use Rattle.std.specs.Option.{option_map_or}
 use Rattle.nrm_network.specs.Rows.{field, leg_rows, product_rows, demand_rows, histories_in, periods_in, is_named, further_numbers, gives_demand}
 use Rattle.nrm_network.specs.Checks.{why_refused}
-use Rattle.nrm_network.specs.Entries.{IsRead}
-use Rattle.nrm_network.specs.Faults.{Refuses}
+use Rattle.nrm_network.specs.Inner.Entries.{IsRead}
+use Rattle.nrm_network.specs.Inner.Faults.{Refuses}
 use Rattle.nrm_network.specs.File.{leg_in, product_in}
 use Rattle.nrm_network.specs.declared.fault.Why.{Why}
 use Rattle.nrm_network.specs.declared.fault.RowFault.{RowFault}

@@ -1,0 +1,5 @@
+pub mod Draft
+pub mod Entries
+pub mod Faults
+pub mod Fields
+pub mod RowText
