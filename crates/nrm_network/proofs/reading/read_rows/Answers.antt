@@ -1,4 +1,4 @@
-use Rattle.std.proofs.Common.{Bor, List, ℕ, ◌≡◌, ◌∙◌, ◌+◌, ◌<◌, ◌++◌, ◌∷◌, [], ◌≤◌, sym, refl, ap, subst, arith, inl, inr, Some, Err, length, append_assoc, length-append}
+use Rattle.std.proofs.Common.{Bor, List, ℕ, ◌≡◌, ◌∙◌, ◌+◌, ◌++◌, ◌∷◌, [], ◌≤◌, sym, refl, ap, subst, arith, inl, inr, Some, Err, length, append_assoc, length-append}
 use Rattle.std.specs.Prelude.{Option, Ok}
 use Rattle.std.specs.Option.{option_map_or}
 use Rattle.csv.specs.Reading.{Reached, default_config, strip_bom}
