@@ -8,7 +8,7 @@ ghost use Rattle.nrm_model.specs.Limits.{IsNetwork};
 ghost use Rattle.nrm_dual.specs.Reading.{after_line, after_lines, certificate_of, entry_of};
 ghost use Rattle.nrm_dual.specs.Refusals.{AnswersCertificate};
 ghost use Rattle.nrm_dual.specs.Named.{IsOfNetwork};
-ghost use Rattle.nrm_dual.specs.Inner.Sheets.{IsSheetOf, Refuses, certificate_in};
+ghost use Rattle.nrm_dual.specs.Inner.Sheets.{IsSheetOf, Refuses, certificate_in, fault_at};
 
 use crate::amounts::certificate_over;
 use crate::fault::CertFault;
@@ -79,15 +79,21 @@ fn read_line(sheet: &mut Sheet, net: &Network, line: &[u8], number: u32) -> Resu
     let Some((place, word)) = place_in(net, line) else {
         return Err(CertFault::Line(number));
     };
-    let given = sheet.has(net, place);
-    match written_in(word) {
-        Err(NumberFault::Off) => Err(CertFault::Line(number)),
-        _ if given => Err(CertFault::Line(number)),
-        Err(NumberFault::Over) => Err(CertFault::Large(number)),
-        Ok(fraction) => {
-            sheet.put(net, place, fraction);
-            Ok(())
-        }
+    if sheet.has(net, place) {
+        return Err(CertFault::Line(number));
+    }
+    let fraction = written_in(word).map_err(|fault| fault_at(number, fault))?;
+    sheet.put(net, place, fraction);
+    Ok(())
+}
+
+// The fault of the line of this number, by that of its fraction.
+fn fault_at(number: u32, fault: NumberFault) -> CertFault
+    ensures { result ≡ fault_at number fault }
+{
+    match fault {
+        NumberFault::Off => CertFault::Line(number),
+        NumberFault::Over => CertFault::Large(number),
     }
 }
 

@@ -6,6 +6,7 @@ use Rattle.nrm_text.specs.declared.number.NumberFault.TheVariants.{Off, Over}
 use Rattle.nrm_lp.specs.declared.certificate.Certificate.{Certificate}
 use Rattle.nrm_model.specs.Network.{NetworkValue}
 use Rattle.nrm_dual.specs.declared.fault.CertFault.{CertFault}
+use Rattle.nrm_dual.specs.declared.fault.CertFault.TheVariants as fault
 use Rattle.nrm_dual.specs.Refusals.{CertRefusal, refusal_of}
 use Rattle.nrm_dual.specs.Reading.{Place, the_value, of_product, of_leg, Sheet, Written, is_over, certificate_or_refusal, first_missing, prices_in, times, whole_or_refusal}
 use Rattle.nrm_dual.specs.declared.place.Place.{Place as Kept}
@@ -42,3 +43,8 @@ certificate_in histories sheet =
 -- what lines are refused for is what a call's fault tells; such a call wants no memory
 abbrev pub Refuses : {A : Type 0} → CertFault → Result A CertRefusal → Type 0
 Refuses cause read = Some read ≡ option_map Err (refusal_of cause)
+
+-- the fault of a line of this number, by that of its fraction
+abbrev pub fault_at : ℕ → NumberFault → CertFault
+fault_at number Off = fault.Line number
+fault_at number Over = fault.Large number
