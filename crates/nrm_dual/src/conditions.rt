@@ -1,4 +1,6 @@
 //! The conditions behind the shape: for each of them how it fails at a product or a leg, and the least at which it does.
+#![tactic(auto, using(crate::proofs::Searches::found, crate::proofs::Searches::passed, crate::proofs::Searches::none_left))]
+
 ghost use Rattle.std.specs.Prelude.{◌≡◌, ◌<◌, nat_abs, length};
 ghost use Rattle.nrm_lp.specs.Certified.{sizes};
 ghost use Rattle.nrm_dual.specs.Conditions.{is_above_demand, is_above_capacity, is_priced_with_seats_left, is_rejected_above_bid_price, is_accepted_below_bid_price, least};

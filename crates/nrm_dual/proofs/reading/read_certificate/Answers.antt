@@ -1,4 +1,4 @@
-use Rattle.std.proofs.Common.{◌≡◌, Ok}
+use Rattle.std.proofs.Common.{◌≡◌, arith, Ok}
 use Rattle.nrm_stream.specs.Lines.{lines_of}
 use Rattle.nrm_dual.specs.Refusals.{AnswersCertificate}
 use Rattle.nrm_dual.specs.Reading.{after_lines, blank, certificate_of}
@@ -11,12 +11,12 @@ use Rattle.nrm_dual.proofs.reading.read_certificate.Goals as goal
 pub returns-clause-file : goal.returns-clause-file
 returns-clause-file c =
     let lines : after_lines c.args.net.now (blank c.args.net.now) 1 (lines_of c.args.bytes.now) ≡ Ok c.read_lines.new.sheet = rw c.in_ok-sheet.ensures at c.in_ok-read_lines.ensures.lines in
-    file_answer c.args.net.now c.args.bytes.now c.read_lines.new.sheet c.n-histories.result c.certificate_on.result c.if-bytes-gt-MOST_BYTES.false c.n-histories.ensures.histories lines c.certificate_on.ensures
+    file_answer c.args.net.now c.args.bytes.now c.read_lines.new.sheet c.n-histories.result c.certificate_on.result (omega arith) c.n-histories.ensures.histories lines c.certificate_on.ensures
 
 pub returns-clause-shaped : goal.returns-clause-shaped
 returns-clause-shaped c =
     let lines : after_lines c.args.net.now (blank c.args.net.now) 1 (lines_of c.args.bytes.now) ≡ Ok c.read_lines.new.sheet = rw c.in_ok-sheet.ensures at c.in_ok-read_lines.ensures.lines in
-    let file = file_answer c.args.net.now c.args.bytes.now c.read_lines.new.sheet c.n-histories.result c.certificate_on.result c.if-bytes-gt-MOST_BYTES.false c.n-histories.ensures.histories lines c.certificate_on.ensures in
+    let file = file_answer c.args.net.now c.args.bytes.now c.read_lines.new.sheet c.n-histories.result c.certificate_on.result (omega arith) c.n-histories.ensures.histories lines c.certificate_on.ensures in
     answer_shaped c.args.net.now c.args.bytes.now c.certificate_on.result file
 
 -- the lines refuse the file
@@ -24,7 +24,7 @@ refused : (c : goal.After-drop-sheet-inside-in_err-read_lines) → AnswersCertif
 refused c =
     let lines : Refuses c.in_err-read_lines.field-0.0 (after_lines c.args.net.now (blank c.args.net.now) 1 (lines_of c.args.bytes.now)) = rw c.in_ok-sheet.ensures at c.in_err-read_lines.ensures.lines in
     err_answer c.from_residual-in_err-read_lines.result c.in_err-read_lines.field-0.0 (certificate_of c.args.net.now c.args.bytes.now) c.from_residual-in_err-read_lines.ensures.1
-    (lines_refuse c.args.net.now c.args.bytes.now c.in_err-read_lines.field-0.0 c.if-bytes-gt-MOST_BYTES.false lines)
+    (lines_refuse c.args.net.now c.args.bytes.now c.in_err-read_lines.field-0.0 (omega arith) lines)
 
 pub returns-in_err-read_lines-clause-file : goal.returns-in_err-read_lines-clause-file
 returns-in_err-read_lines-clause-file c = refused c
@@ -35,5 +35,5 @@ returns-in_err-read_lines-clause-named c = answer_named c.args.net.now c.args.by
 pub returns-clause-named : goal.returns-clause-named
 returns-clause-named c =
     let lines : after_lines c.args.net.now (blank c.args.net.now) 1 (lines_of c.args.bytes.now) ≡ Ok c.read_lines.new.sheet = rw c.in_ok-sheet.ensures at c.in_ok-read_lines.ensures.lines in
-    let file = file_answer c.args.net.now c.args.bytes.now c.read_lines.new.sheet c.n-histories.result c.certificate_on.result c.if-bytes-gt-MOST_BYTES.false c.n-histories.ensures.histories lines c.certificate_on.ensures in
+    let file = file_answer c.args.net.now c.args.bytes.now c.read_lines.new.sheet c.n-histories.result c.certificate_on.result (omega arith) c.n-histories.ensures.histories lines c.certificate_on.ensures in
     answer_named c.args.net.now c.args.bytes.now c.certificate_on.result file
