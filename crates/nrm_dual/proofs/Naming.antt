@@ -14,7 +14,8 @@ use Rattle.nrm_dual.specs.declared.fault.CertFault.{CertFault}
 use Rattle.nrm_dual.specs.declared.fault.CertFault.TheVariants as fault
 use Rattle.nrm_dual.specs.declared.verdict.Verdict.{Verdict}
 use Rattle.nrm_dual.specs.declared.verdict.Verdict.TheVariants as verdict
-use Rattle.nrm_dual.proofs.ReadShape.{HasPlaces, blank_places, line_places}
+use Rattle.nrm_dual.specs.Inner.Sheets.{IsSheetOf}
+use Rattle.nrm_dual.proofs.ReadShape.{blank_places, line_places}
 
 none_some : (n : ℕ) → None ≡ Some n → ⊥
 none_some n e = cc
@@ -88,7 +89,7 @@ line_named net sheet number (Some entry) f e = go (given sheet entry.place) e
     go (Some before) e = subst (IsNamed net) (err_same {A = Sheet} (bad_line number) f e) tt
     go None e = by (is_over entry.fraction) e
 
-sheet_named : (net : NetworkValue) (sheet : Sheet) → HasPlaces net sheet → (f : CertRefusal) → certificate_on net sheet ≡ Err f → IsNamed net f
+sheet_named : (net : NetworkValue) (sheet : Sheet) → IsSheetOf net sheet → (f : CertRefusal) → certificate_on net sheet ≡ Err f → IsNamed net f
 sheet_named net sheet h f e =
     on sheet.value (first_missing 0 sheet.products) (first_missing 0 sheet.legs)
     (λ j e. omega (arith, missing_within 0 sheet.products j e, h.products)) (λ i e. omega (arith, missing_within 0 sheet.legs i e, h.legs)) e
@@ -108,11 +109,11 @@ sheet_named net sheet h f e =
     on (Some value) None (Some i) j_within i_within e = subst (IsNamed net) (err_same {A = Certificate} (no_leg i) f e) (i_within i refl)
     on (Some value) None None j_within i_within e = small (large_number size_limit (allocation_in net sheet)) (large_number size_limit (value_in net sheet ∷ prices_in sheet)) e
 
-lines_named : (net : NetworkValue) (sheet : Sheet) (number : ℕ) (lines : List (List ℕ)) → HasPlaces net sheet → (f : CertRefusal) → or_refusal (after_lines net sheet number lines) (certificate_on net) ≡ Err f → IsNamed net f
+lines_named : (net : NetworkValue) (sheet : Sheet) (number : ℕ) (lines : List (List ℕ)) → IsSheetOf net sheet → (f : CertRefusal) → or_refusal (after_lines net sheet number lines) (certificate_on net) ≡ Err f → IsNamed net f
 lines_named net sheet number [] h f e = sheet_named net sheet h f e
 lines_named net sheet number (line ∷ more) h f e = go (after_line sheet number (entry_of net line)) refl (λ next places rest. lines_named net next (suc number) more places f rest) e
   where
-    go : (r : Result Sheet CertRefusal) → after_line sheet number (entry_of net line) ≡ r → ((next : Sheet) → HasPlaces net next → or_refusal (after_lines net next (suc number) more) (certificate_on net) ≡ Err f → IsNamed net f)
+    go : (r : Result Sheet CertRefusal) → after_line sheet number (entry_of net line) ≡ r → ((next : Sheet) → IsSheetOf net next → or_refusal (after_lines net next (suc number) more) (certificate_on net) ≡ Err f → IsNamed net f)
         → or_refusal (or_refusal r (λ next. after_lines net next (suc number) more)) (certificate_on net) ≡ Err f → IsNamed net f
     go (Ok next) s later e = later next (line_places net sheet number (entry_of net line) h next s) e
     go (Err cause) s later e = line_named net sheet number (entry_of net line) f (s ∙ ap Err (err_same {A = Certificate} cause f e))

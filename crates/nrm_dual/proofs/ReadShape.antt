@@ -12,6 +12,7 @@ use Rattle.nrm_stream.specs.Lines.{lines_of}
 use Rattle.nrm_lp.specs.declared.certificate.Certificate.{Certificate}
 use Rattle.nrm_lp.specs.Shape.{HasShape, IsNumber}
 use Rattle.nrm_lp.proofs.Small.{reach_first}
+use Rattle.nrm_dual.specs.Inner.Sheets.{IsSheetOf}
 use Rattle.nrm_dual.specs.Refusals.{CertRefusal, too_long, bad_line, large_line, no_value, no_product, no_leg, too_fine}
 use Rattle.nrm_dual.specs.Reading.{Written, Place, the_value, of_product, of_leg, Entry, entry_of, Sheet, blank, given, with_given, is_over, after_entry, after_line, after_lines, or_refusal, first_missing, times, certificate_over, certificate_or_refusal, small_or_refusal, whole_or_refusal, certificate_on, certificate_of, allocation_in, value_in, prices_in}
 
@@ -21,37 +22,32 @@ fault_ok cause x e = cc
 same_ok : {A : Type 0} (x y : A) → ◌≡◌ {A = Result A CertRefusal} (Ok x) (Ok y) → x ≡ y
 same_ok x y e = cc
 
--- a sheet with a place for each product and each leg
-pub record HasPlaces (net : NetworkValue) (sheet : Sheet) : Type 0 where
-  pub products : length sheet.products ≡ length net.products
-  pub legs : length sheet.legs ≡ length net.legs
-
-pub blank_places : (net : NetworkValue) → HasPlaces net (blank net)
+pub blank_places : (net : NetworkValue) → IsSheetOf net (blank net)
 blank_places net = record { products = length-replicate (length net.products) None; legs = length-replicate (length net.legs) None }
 
-with_places : (net : NetworkValue) (sheet : Sheet) (place : Place) (fraction : Written) → HasPlaces net sheet → HasPlaces net (with_given sheet place fraction)
+with_places : (net : NetworkValue) (sheet : Sheet) (place : Place) (fraction : Written) → IsSheetOf net sheet → IsSheetOf net (with_given sheet place fraction)
 with_places net sheet the_value fraction h = record { products = h.products; legs = h.legs }
 with_places net sheet (of_product j) fraction h = record { products = length-set sheet.products j (Some fraction) ∙ h.products; legs = h.legs }
 with_places net sheet (of_leg i) fraction h = record { products = h.products; legs = length-set sheet.legs i (Some fraction) ∙ h.legs }
 
-pub line_places : (net : NetworkValue) (sheet : Sheet) (number : ℕ) (entry : Option Entry) → HasPlaces net sheet → (next : Sheet) → after_line sheet number entry ≡ Ok next → HasPlaces net next
+pub line_places : (net : NetworkValue) (sheet : Sheet) (number : ℕ) (entry : Option Entry) → IsSheetOf net sheet → (next : Sheet) → after_line sheet number entry ≡ Ok next → IsSheetOf net next
 line_places net sheet number None h next e = absurd (fault_ok (bad_line number) next e)
 line_places net sheet number (Some entry) h next e = go (given sheet entry.place) e
   where
-    by : (large : Bool) → (if large then Err (large_line number) else Ok (with_given sheet entry.place entry.fraction)) ≡ Ok next → HasPlaces net next
+    by : (large : Bool) → (if large then Err (large_line number) else Ok (with_given sheet entry.place entry.fraction)) ≡ Ok next → IsSheetOf net next
     by true e = absurd (fault_ok (large_line number) next e)
-    by false e = subst (HasPlaces net) (same_ok (with_given sheet entry.place entry.fraction) next e) (with_places net sheet entry.place entry.fraction h)
+    by false e = subst (IsSheetOf net) (same_ok (with_given sheet entry.place entry.fraction) next e) (with_places net sheet entry.place entry.fraction h)
 
-    go : (before : Option Written) → after_entry sheet number entry before ≡ Ok next → HasPlaces net next
+    go : (before : Option Written) → after_entry sheet number entry before ≡ Ok next → IsSheetOf net next
     go (Some before) e = absurd (fault_ok (bad_line number) next e)
     go None e = by (is_over entry.fraction) e
 
-lines_places : (net : NetworkValue) (sheet : Sheet) (number : ℕ) (lines : List (List ℕ)) → HasPlaces net sheet → (last : Sheet) → after_lines net sheet number lines ≡ Ok last → HasPlaces net last
-lines_places net sheet number [] h last e = subst (HasPlaces net) (same_ok sheet last e) h
+lines_places : (net : NetworkValue) (sheet : Sheet) (number : ℕ) (lines : List (List ℕ)) → IsSheetOf net sheet → (last : Sheet) → after_lines net sheet number lines ≡ Ok last → IsSheetOf net last
+lines_places net sheet number [] h last e = subst (IsSheetOf net) (same_ok sheet last e) h
 lines_places net sheet number (line ∷ more) h last e = go (after_line sheet number (entry_of net line)) refl (λ next places rest. lines_places net next (suc number) more places last rest) e
   where
-    go : (r : Result Sheet CertRefusal) → after_line sheet number (entry_of net line) ≡ r → ((next : Sheet) → HasPlaces net next → after_lines net next (suc number) more ≡ Ok last → HasPlaces net last)
-        → or_refusal r (λ next. after_lines net next (suc number) more) ≡ Ok last → HasPlaces net last
+    go : (r : Result Sheet CertRefusal) → after_line sheet number (entry_of net line) ≡ r → ((next : Sheet) → IsSheetOf net next → after_lines net next (suc number) more ≡ Ok last → IsSheetOf net last)
+        → or_refusal r (λ next. after_lines net next (suc number) more) ≡ Ok last → IsSheetOf net last
     go (Ok next) s later e = later next (line_places net sheet number (entry_of net line) h next s) e
     go (Err cause) s later e = absurd (fault_ok cause last e)
 
@@ -93,7 +89,7 @@ small_out None None made c e = (refl, refl, same_ok made c e)
 small_out None (Some number) made c e = absurd (fault_ok too_fine c e)
 small_out (Some number) found made c e = absurd (fault_ok too_fine c e)
 
-module _ (net : NetworkValue) (sheet : Sheet) (h : HasPlaces net sheet) where
+module _ (net : NetworkValue) (sheet : Sheet) (h : IsSheetOf net sheet) where
   shaped_over : large_number size_limit (allocation_in net sheet) ≡ None → large_number size_limit (value_in net sheet ∷ prices_in sheet) ≡ None
       → HasShape size_limit (length net.products) (length net.legs) (certificate_over (allocation_in net sheet) (value_in net sheet) (prices_in sheet))
   shaped_over few_shares few_prices =

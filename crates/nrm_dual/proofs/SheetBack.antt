@@ -1,5 +1,5 @@
 -- The certificate of a full sheet, where the sheet has the shares and bid prices of a certificate in lowest terms, is that certificate.
-use Rattle.std.proofs.Common.{◌≡◌, ℕ, suc, ◌*◌, ◌<◌, ◌^◌, ℤ, pos, ◌*ℤ◌, nat_abs, arith, refl, sym, ap, ap₂, ◌∙◌, subst, List, [], ◌∷◌, map, length, get_or, All, cond, Option, Some, None, Ok}
+use Rattle.std.proofs.Common.{◌≡◌, ℕ, suc, ◌*◌, ◌<◌, ◌^◌, ℤ, pos, ◌*ℤ◌, nat_abs, arith, refl, sym, ap, ap₂, ◌∙◌, List, [], ◌∷◌, map, length, get_or, All, cond, Option, Some, None, Ok}
 use Rattle.std.specs.List.{range_with_len}
 use Rattle.std.proofs.lemmas.Bool.{lt-leb}
 use Rattle.std.proofs.lemmas.List.{length-map, get_or-map, same_lists}
@@ -16,6 +16,7 @@ use Rattle.nrm_fraction.proofs.Lowest.{common_is, numerators_are}
 use Rattle.nrm_model.specs.Network.{NetworkValue}
 use Rattle.nrm_lp.specs.declared.certificate.Certificate.{Certificate}
 use Rattle.nrm_lp.specs.Shape.{HasShape, IsNumber}
+use Rattle.nrm_dual.proofs.Sizes.{below_limit}
 use Rattle.nrm_dual.specs.Reading.{Written, Sheet, first_missing, times, certificate_over, certificate_or_refusal, small_or_refusal, whole_or_refusal, certificate_on, allocation_in, value_in, prices_in}
 use Rattle.nrm_dual.specs.ReadBack.{IsLowest}
 
@@ -60,9 +61,6 @@ none_missing w k [] = refl
 none_missing w k (j ∷ js) = none_missing w (suc k) js
 
 -- numbers below the limit don't reach it
-pub below_limit : (n : ℤ) → IsNumber size_limit n → nat_abs n < 2 ^ 48
-below_limit n h = subst (λ z. nat_abs z < 2 ^ 48) (sym h.1) h.2
-
 one_below : (n : ℤ) (ns : List ℤ) → nat_abs n < 2 ^ 48 → first_reaching size_limit ns ≡ None → first_reaching size_limit (n ∷ ns) ≡ None
 one_below n ns l e = ap (λ b. cond b (Some n) (first_reaching size_limit ns)) (lt-leb size_limit (nat_abs n) l) ∙ e
 

@@ -14,8 +14,8 @@ sizes_below limit room (n ∷ ns) h zero = number_below limit n (All-head (IsNum
 sizes_below limit room (n ∷ ns) h (suc k) = sizes_below limit room ns (All-tail (IsNumber limit) n ns h) k
 
 -- below the limit of a certificate's numbers
-pub small_number : (n : ℤ) → IsNumber size_limit n → nat_abs n < 2 ^ 48
-small_number n h = number_below size_limit n h
+pub below_limit : (n : ℤ) → IsNumber size_limit n → nat_abs n < 2 ^ 48
+below_limit n h = number_below size_limit n h
 
 pub small_size : (ns : List ℤ) → All (IsNumber size_limit) ns → (k : ℕ) → get_or (sizes ns) k 0 < 2 ^ 48
 small_size ns h k = sizes_below size_limit (lit< tt) ns h k

@@ -25,7 +25,8 @@ use Rattle.nrm_dual.specs.Refusals.{too_long}
 use Rattle.nrm_dual.specs.Reading.{Written, blank, after_lines, or_refusal, certificate_on, certificate_of}
 use Rattle.nrm_dual.specs.Texts.{value_line, product_line, leg_line, certificate_text}
 use Rattle.nrm_dual.specs.ReadBack.{IsLowest, WrittenIsRead}
-use Rattle.nrm_dual.proofs.SheetBack.{IsWritten, below_limit, full_sheet, sheet_back}
+use Rattle.nrm_dual.proofs.Sizes.{below_limit}
+use Rattle.nrm_dual.proofs.SheetBack.{IsWritten, full_sheet, sheet_back}
 use Rattle.nrm_dual.proofs.WrittenFractions.{GivesBack, fraction_back, joined_none, line_back, value_entry, product_entry, leg_entry}
 use Rattle.nrm_dual.proofs.Filling.{sheet_filled}
 use Rattle.nrm_dual.proofs.WrittenLines.{text_cut, text_short, length-two_words, length-three_words, name_short, word_value, word_product, word_leg, found_by_name}
