@@ -135,7 +135,7 @@ fn writes_a_certificate_by_hand(rt: HostRuntime) -> Result<(), Fail> {
 }
 
 #[test]
-fn a_certificate_is_put_line_by_line(rt: HostRuntime) -> Result<(), Fail> {
+fn each_line_of_a_certificate_goes_out_in_one_put(rt: HostRuntime) -> Result<(), Fail> {
     let net = small_network(rt.alloc(), &rt)?;
     let certificate = hand_certificate(rt.alloc(), &net)?;
     let lines = [
@@ -144,11 +144,11 @@ fn a_certificate_is_put_line_by_line(rt: HostRuntime) -> Result<(), Fail> {
         b"value 751/4\nproduct THRU 3/2\nproduct LOC 5/2\n".as_slice(),
         b"value 751/4\nproduct THRU 3/2\nproduct LOC 5/2\nleg AB 0/1\n".as_slice(),
     ];
-    for (whole, text) in lines.iter().enumerate() {
-        let failing = Vec::from_array(rt.alloc(), [whole as u64 + 2])?;
+    for (k, text) in lines.iter().enumerate() {
+        let failing = Vec::from_array(rt.alloc(), [k as u64 + 2])?;
         let mut sink = MemSink::new(rt.alloc(), 100, Vec::new(rt.alloc()), failing)?;
         assert!(rt; certificate_text(&net, &certificate, &mut sink).is_err());
-        assert_eq!(rt; sink.held(), *text, "a put fails after {whole} more lines");
+        assert_eq!(rt; sink.held(), *text, "the put of line {} fails", k + 2);
     }
     Ok(())
 }
