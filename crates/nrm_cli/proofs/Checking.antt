@@ -1,99 +1,116 @@
 -- How a check ends, out of what its parts say.
-use Rattle.std.proofs.Common.{◌≡◌, ◌≤◌, ℕ, ◌^◌, arith, Some, None, Ok, Err, inl, inr, refl, sym, ap, subst, List, Option, Result, true, nat_lt, length, ◌<◌, Vec, Global}
+use Rattle.std.proofs.Common.{◌≡◌, ◌≢◌, ◌≤◌, ℕ, arith, Some, None, Ok, Err, MatchResult, IfSome, option_map, inl, inr, refl, sym, ap, subst, List, Option, Result}
 use Rattle.nrm_edge.specs.Causes.{Rose}
-use Rattle.nrm_edge.specs.Fetch.{Folder, AnswersFetch}
-use Rattle.nrm_edge.specs.declared.files.Fetched.TheVariants.{Whole, Longer, Absent}
 use Rattle.nrm_model.specs.Network.{NetworkValue}
+use Rattle.nrm_fraction.specs.Large.{size_limit}
 use Rattle.nrm_lp.specs.declared.certificate.Certificate.{Certificate}
 use Rattle.nrm_lp.specs.Certified.{Certifies}
-use Rattle.nrm_dual.specs.Reading.{AnswersCertificate, certificate_of}
-use Rattle.nrm_dual.specs.declared.fault.CertFault.{CertFault}
-use Rattle.nrm_dual.specs.declared.fault.CertFault.TheVariants as fault
+use Rattle.nrm_dlp.specs.Programs.{opening_program}
+use Rattle.nrm_dual.specs.Conditions.{verdict_on}
+use Rattle.nrm_dual.specs.Refusals.{CertRefusal, refusal_of}
 use Rattle.nrm_dual.specs.declared.verdict.Verdict.{Verdict}
 use Rattle.nrm_dual.specs.declared.verdict.Verdict.TheVariants as verdict
-use Rattle.nrm_cli.specs.Certificates.{CertRefusal, cert_refusal_line, certificate_under, for_fault, no_certificate, opening_program, or_refusal, verdict_line}
-use Rattle.nrm_cli.specs.Ends.{Checks, Ends, Opens, RefusesCertificate, status_of}
+use Rattle.nrm_opening.specs.Outside.{LeftStream, OnFile, Outside}
+use Rattle.nrm_opening.specs.Refusals.{file_fault_line}
+use Rattle.nrm_cli.specs.Certificates.{LacksCertificate, certificate_under, lacking_line, no_certificate, refused_for, verdict_line}
+use Rattle.nrm_cli.specs.Ends.{Ends, Failures, status_of}
 use Rattle.nrm_cli.specs.Jobs.{check_file}
-use Rattle.nrm_cli.specs.Outside.{LeftStream, OnFile, Outside, Wrote}
-use Rattle.nrm_cli.specs.Parts.{ChecksFile, PutsLine}
-use Rattle.nrm_cli.specs.declared.certificate.NoCertificate.TheVariants as lacking
+use Rattle.nrm_cli.specs.Inner.Parts.{ChecksFile, CountsCertificate, OpensCertificate, PutsFound, PutsIfSome, PutsLine, PutsVerdict, lack_line, lack_status}
+use Rattle.nrm_cli.specs.Tells.{Gives, Lacks, Opens, Tells, lacking, optimal, wrong, file_fault}
+use Rattle.nrm_cli.specs.declared.certificate.NoCertificate.{NoCertificate}
+use Rattle.nrm_cli.specs.declared.certificate.NoCertificate.TheVariants as lacks
 use Rattle.nrm_cli.specs.declared.status.Status.{Status}
 use Rattle.nrm_cli.specs.declared.status.Status.TheVariants as status
-
--- ---- what a fetch and a reading say together of the certificate file
-pub OnFile-no-certificate : (net : NetworkValue) (files : Option Folder) (name : List ℕ) → AnswersFetch files name 65536 (Ok Absent)
-    → OnFile files name (λ file. certificate_under net file ≡ Err no_certificate)
-OnFile-no-certificate net None name answer = tt
-OnFile-no-certificate net (Some files) name answer = rw answer refl
-
-long-refused : (net : NetworkValue) (bytes : List ℕ) → 65536 < length bytes → certificate_of net bytes ≡ Err fault.Long
-long-refused net bytes longer = let e : nat_lt 65536 (length bytes) ≡ true = grind arith in rw e refl
-
-pub OnFile-long : (net : NetworkValue) (files : Option Folder) (name : List ℕ) → AnswersFetch files name 65536 (Ok Longer)
-    → OnFile files name (λ file. certificate_under net file ≡ Err (for_fault fault.Long))
-OnFile-long net None name answer = tt
-OnFile-long net (Some files) name (bytes, file_is, longer) = rw file_is (ap or_refusal (long-refused net bytes longer))
-
-pub OnFile-fault : (net : NetworkValue) (files : Option Folder) (name : List ℕ) (bytes : Vec ℕ Global) (cause : CertFault) → AnswersFetch files name 65536 (Ok (Whole bytes))
-    → certificate_of net bytes.items ≡ Err cause → OnFile files name (λ file. certificate_under net file ≡ Err (for_fault cause))
-OnFile-fault net None name bytes cause answer refused = tt
-OnFile-fault net (Some files) name bytes cause (file_is, fits) refused = rw file_is (ap or_refusal refused)
-
-pub OnFile-certificate : (net : NetworkValue) (files : Option Folder) (name : List ℕ) (bytes : Vec ℕ Global) (given : Certificate) → AnswersFetch files name 65536 (Ok (Whole bytes))
-    → certificate_of net bytes.items ≡ Ok given → OnFile files name (λ file. certificate_under net file ≡ Ok given)
-OnFile-certificate net None name bytes given answer read = tt
-OnFile-certificate net (Some files) name bytes given (file_is, fits) read = rw file_is (ap or_refusal read)
-
--- an answer that isn't want of memory is what the file gives
-pub refused-so : (cause : CertFault) (file : Result Certificate CertFault) → (cause ≡ fault.NoMemory → ⊥) → AnswersCertificate (Err cause) file → file ≡ Err cause
-refused-so fault.NoMemory file other answer = absurd (other refl)
-refused-so fault.Long file other answer = answer
-refused-so (fault.Line number) file other answer = answer
-refused-so (fault.Large number) file other answer = answer
-refused-so fault.NoValue file other answer = answer
-refused-so (fault.NoProduct j) file other answer = answer
-refused-so (fault.NoLeg i) file other answer = answer
-refused-so fault.TooFine file other answer = answer
-
--- a count that rose in a later call rose in all
-pub rose-since : (before between now : ℕ) → before ≤ between → Rose between now → Rose before now
-rose-since before between now later rose = grind (arith, later, rose)
+use Rattle.nrm_cli.proofs.Telling.{told-ends}
 
 -- ---- the end of a check whose first file gave a network
 module _ (file certificate : List ℕ) (before after : Outside) (net : NetworkValue) (opens : Opens (Some (check_file file certificate)) (check_file file certificate) before net) (left : LeftStream before after) where
   abbrev IsEnd : Status → Type 0
   IsEnd s = Ends (Some (check_file file certificate)) before after s
 
-  -- the line of a verdict was written whole
-  wrote-verdict : (given : Certificate) (found : Verdict) → Checks (Some (check_file file certificate)) before net given found → (found ≡ verdict.Optimal → Certifies (2 ^ 48) (opening_program net) given)
-      → Wrote before after (verdict_line net found) → IsEnd (status_of found)
-  wrote-verdict given verdict.Optimal c optimal wrote = inr (inr (net, given, c, optimal refl, wrote, left))
-  wrote-verdict given verdict.WrongShape c optimal wrote = (net, given, verdict.WrongShape, c, (λ e. cc), wrote, left)
-  wrote-verdict given (verdict.WrongProduct j) c optimal wrote = (net, given, verdict.WrongProduct j, c, (λ e. cc), wrote, left)
-  wrote-verdict given (verdict.WrongLeg i) c optimal wrote = (net, given, verdict.WrongLeg i, c, (λ e. cc), wrote, left)
-  wrote-verdict given verdict.WrongValue c optimal wrote = (net, given, verdict.WrongValue, c, (λ e. cc), wrote, left)
+  abbrev IsTold : Status → List ℕ → Type 0
+  IsTold s text = Tells (Some (check_file file certificate)) before after s text
 
-  found-ends : (given : Certificate) (found : Verdict) (s : Status) → Checks (Some (check_file file certificate)) before net given found → (found ≡ verdict.Optimal → Certifies (2 ^ 48) (opening_program net) given)
-      → PutsLine (verdict_line net found) (status_of found) before.held after.held before.sink_faults after.sink_faults s → IsEnd s
-  found-ends given found s c optimal (inl (told, wrote)) = subst IsEnd (sym told) (wrote-verdict given found c optimal wrote)
-  found-ends given found s c optimal (inr (told, rose, front)) = rw told (rose, inr (inr (inr (inr (inr (inr (net, given, found, c, front, left)))))))
+  abbrev Puts : List ℕ → Status → Status → Type 0
+  Puts text goes s = PutsLine text goes before.held after.held before.sink_faults after.sink_faults s
 
-  refused : (refusal : CertRefusal) → OnFile before.files certificate (λ contents. certificate_under net contents ≡ Err refusal) → RefusesCertificate (Some (check_file file certificate)) before net refusal
-  refused refusal on = record { file = file; certificate = certificate; opens = opens; refused = on }
+  gives : (given : Certificate) → OnFile before.files certificate (λ contents. certificate_under net contents ≡ Ok given) → Gives (Some (check_file file certificate)) before net given
+  gives given on = record { file = file; certificate = certificate; opens = opens; answered = on }
 
-  refused-ends : (refusal : CertRefusal) (s : Status) → OnFile before.files certificate (λ contents. certificate_under net contents ≡ Err refusal)
-      → PutsLine (cert_refusal_line net refusal) status.Refused before.held after.held before.sink_faults after.sink_faults s → IsEnd s
-  refused-ends refusal s on (inl (told, wrote)) = rw told (inr (net, refusal, refused refusal on, wrote, left))
-  refused-ends refusal s on (inr (told, rose, front)) = rw told (rose, inr (inr (inr (inr (inr (inl (net, refusal, refused refusal on, front, left)))))))
+  lacks-so : (reason : LacksCertificate) → OnFile before.files certificate (λ contents. certificate_under net contents ≡ Err reason) → Lacks (Some (check_file file certificate)) before net reason
+  lacks-so reason on = record { file = file; certificate = certificate; opens = opens; answered = on }
 
-  pub checked-ends : (between : ℕ) (s : Status) → before.file_faults ≤ between → ChecksFile net before.files certificate between after.file_faults before.held after.held before.sink_faults after.sink_faults s → IsEnd s
-  checked-ends between s later (inl (given, on, inl (told, kept))) = rw told (kept, left)
-  checked-ends between s later (inl (given, on, inr v)) =
-      found-ends given v.found s (record { file = file; certificate = certificate; opens = opens; gives = on; verdict_is = v.verdict_is }) v.optimal v.puts
-  checked-ends between s later (inr (lacking.Absent, on, puts)) = refused-ends no_certificate s on puts
-  checked-ends between s later (inr (lacking.Refused cause, on, puts)) = refused-ends (for_fault cause) s on puts
-  checked-ends between s later (inr (lacking.Fault, rose, inl (told, wrote))) =
-      rw told (check_file file certificate, refl, rose-since before.file_faults between after.file_faults later rose, wrote, left)
-  checked-ends between s later (inr (lacking.Fault, failed, inr (told, rose, front))) =
-      rw told (rose, inr (inr (inl (check_file file certificate, refl, rose-since before.file_faults between after.file_faults later failed, front, left))))
-  checked-ends between s later (inr (lacking.NoMemory, on, (told, kept))) = rw told (kept, left)
+  -- a verdict is told with its status
+  verdict-told : (given : Certificate) (found : Verdict) → Gives (Some (check_file file certificate)) before net given → verdict_on (opening_program net) given ≡ found
+      → found ≢ verdict.WrongShape → (found ≡ verdict.Optimal → Certifies size_limit (opening_program net) given) → IsTold (status_of found) (verdict_line net found)
+  verdict-told given verdict.Optimal g is shaped shows = optimal net given g is (shows refl)
+  verdict-told given verdict.WrongShape g is shaped shows = absurd (shaped refl)
+  verdict-told given (verdict.WrongProduct j) g is shaped shows = wrong net given (verdict.WrongProduct j) g is (λ e. cc) (λ e. cc)
+  verdict-told given (verdict.WrongLeg i) g is shaped shows = wrong net given (verdict.WrongLeg i) g is (λ e. cc) (λ e. cc)
+  verdict-told given verdict.WrongValue g is shaped shows = wrong net given verdict.WrongValue g is (λ e. cc) (λ e. cc)
+
+  found-ends : (given : Certificate) (s : Status) → OnFile before.files certificate (λ contents. certificate_under net contents ≡ Ok given)
+      → PutsVerdict net given before.held after.held before.sink_faults after.sink_faults s → IsEnd s
+  found-ends given s on (inl (is, kept, same)) = rw is (kept, left)
+  found-ends given s on (inr v) =
+      told-ends (Some (check_file file certificate)) before after (status_of v.found) s (verdict_line net v.found) (verdict-told given v.found (gives given on) v.verdict_is v.shaped v.optimal) v.puts left
+
+  unread-ends : (o : Option CertRefusal) (s : Status) → OnFile before.files certificate (λ contents. IfSome o (λ cause. certificate_under net contents ≡ Err (refused_for cause)))
+      → PutsIfSome (option_map (λ cause. lacking_line net (refused_for cause)) o) status.Refused before.held after.held before.sink_faults after.sink_faults s → IsEnd s
+  unread-ends None s on (is, kept, same) = rw is (kept, left)
+  unread-ends (Some cause) s on puts =
+      told-ends (Some (check_file file certificate)) before after status.Refused s (lacking_line net (refused_for cause)) (lacking net (refused_for cause) (lacks-so (refused_for cause) on)) puts left
+
+  lacks-ends : (reason : NoCertificate) (s : Status) → OpensCertificate net before.files certificate (Err reason) → CountsCertificate {C = Certificate} before.file_faults after.file_faults (Err reason)
+      → PutsIfSome (lack_line net reason) (lack_status reason) before.held after.held before.sink_faults after.sink_faults s → IsEnd s
+  lacks-ends lacks.Absent s on counts puts =
+      told-ends (Some (check_file file certificate)) before after status.Refused s (lacking_line net no_certificate) (lacking net no_certificate (lacks-so no_certificate on)) puts left
+  lacks-ends (lacks.Unread fault) s on counts puts = unread-ends (refusal_of fault) s on puts
+  lacks-ends lacks.Fault s on counts puts =
+      told-ends (Some (check_file file certificate)) before after status.FileFault s file_fault_line (file_fault (check_file file certificate) refl counts.1) puts left
+
+  by-opened : (opened : Result Certificate NoCertificate) (s : Status) → OpensCertificate net before.files certificate opened → CountsCertificate before.file_faults after.file_faults opened
+      → MatchResult opened (λ given. PutsVerdict net given before.held after.held before.sink_faults after.sink_faults s)
+        (λ reason. PutsIfSome (lack_line net reason) (lack_status reason) before.held after.held before.sink_faults after.sink_faults s) → IsEnd s
+  by-opened (Ok given) s on counts puts = found-ends given s on puts
+  by-opened (Err reason) s on counts puts = lacks-ends reason s on counts puts
+
+  pub checked-ends : (s : Status) → ChecksFile net before.files certificate before.held after.held before.file_faults after.file_faults before.sink_faults after.sink_faults s → IsEnd s
+  checked-ends s checks = by-opened checks.opened s checks.opens checks.counts checks.puts
+
+-- ---- and which counts stay
+module _ (before after : Outside) (net : NetworkValue) (source : after.source_faults ≡ before.source_faults) where
+  line-failures : (text : List ℕ) (goes s : Status) → PutsLine text goes before.held after.held before.sink_faults after.sink_faults s
+      → (after.sink_faults ≡ before.sink_faults → Failures goes before after) → Failures s before after
+  line-failures text goes s (inl (is, wrote, same)) whole = rw is (whole same)
+  line-failures text goes s (inr (is, front, rose)) whole = rw is source
+
+  quiet : (found : Verdict) → after.file_faults ≡ before.file_faults → after.sink_faults ≡ before.sink_faults → Failures (status_of found) before after
+  quiet verdict.Optimal files sink = record { files = files; source = source; sink = sink }
+  quiet verdict.WrongShape files sink = record { files = files; source = source; sink = sink }
+  quiet (verdict.WrongProduct j) files sink = record { files = files; source = source; sink = sink }
+  quiet (verdict.WrongLeg i) files sink = record { files = files; source = source; sink = sink }
+  quiet verdict.WrongValue files sink = record { files = files; source = source; sink = sink }
+
+  if-some-failures : (o : Option (List ℕ)) (goes s : Status) → PutsIfSome o goes before.held after.held before.sink_faults after.sink_faults s
+      → (after.sink_faults ≡ before.sink_faults → Failures goes before after) → (after.sink_faults ≡ before.sink_faults → Failures status.NoMemory before after) → Failures s before after
+  if-some-failures None goes s (is, kept, same) whole none = rw is (none same)
+  if-some-failures (Some text) goes s puts whole none = line-failures text goes s puts whole
+
+  lacks-failures : (reason : NoCertificate) (s : Status) → CountsCertificate {C = Certificate} before.file_faults after.file_faults (Err reason)
+      → PutsIfSome (lack_line net reason) (lack_status reason) before.held after.held before.sink_faults after.sink_faults s → Failures s before after
+  lacks-failures lacks.Absent s counts puts =
+      if-some-failures (lack_line net lacks.Absent) status.Refused s puts (λ sink. record { files = counts; source = source; sink = sink }) (λ sink. record { files = counts; source = source; sink = sink })
+  lacks-failures (lacks.Unread fault) s counts puts =
+      if-some-failures (lack_line net (lacks.Unread fault)) status.Refused s puts (λ sink. record { files = counts; source = source; sink = sink }) (λ sink. record { files = counts; source = source; sink = sink })
+  lacks-failures lacks.Fault s counts puts = line-failures file_fault_line status.FileFault s puts (λ sink. (source, sink))
+
+  by-opened-failures : (opened : Result Certificate NoCertificate) (s : Status) → CountsCertificate before.file_faults after.file_faults opened
+      → MatchResult opened (λ given. PutsVerdict net given before.held after.held before.sink_faults after.sink_faults s)
+        (λ reason. PutsIfSome (lack_line net reason) (lack_status reason) before.held after.held before.sink_faults after.sink_faults s) → Failures s before after
+  by-opened-failures (Ok given) s counts (inl (is, kept, same)) = rw is (record { files = counts; source = source; sink = same })
+  by-opened-failures (Ok given) s counts (inr v) = line-failures (verdict_line net v.found) (status_of v.found) s v.puts (λ sink. quiet v.found counts sink)
+  by-opened-failures (Err reason) s counts puts = lacks-failures reason s counts puts
+
+  pub checked-failures : (certificate : List ℕ) (s : Status) → ChecksFile net before.files certificate before.held after.held before.file_faults after.file_faults before.sink_faults after.sink_faults s → Failures s before after
+  checked-failures certificate s checks = by-opened-failures checks.opened s checks.counts checks.puts

@@ -1,19 +1,25 @@
--- Where the words are good, the files are told and the file is valid, and no count rose, the job is done.
+-- Where the words are good, the files are told and the file is valid, and nothing failed, the job is done.
 use Rattle.std.proofs.Common.{ℕ, ◌≡◌, ◌≤◌, ◌++◌, List, length, Option, Some, None, Result, Ok, Err, ◌≢◌, refl, ap, sym, ◌∙◌, inl, inr, arith, append-nil, length-append, subst}
 use Rattle.std.specs.Io.KnownBytes.{Consumes, IsAtEnd}
-use Rattle.nrm_edge.specs.Causes.{Rose}
 use Rattle.nrm_edge.specs.Fetch.{Folder}
+use Rattle.nrm_model.specs.declared.mode.Mode.{Mode}
 use Rattle.nrm_model.specs.Network.{NetworkValue}
 use Rattle.nrm_lp.specs.declared.certificate.Certificate.{Certificate}
+use Rattle.nrm_dlp.specs.Programs.{opening_program}
 use Rattle.nrm_dual.specs.Conditions.{verdict_on}
 use Rattle.nrm_dual.specs.declared.verdict.Verdict.{Verdict}
 use Rattle.nrm_dual.specs.declared.verdict.Verdict.TheVariants as verdict
-use Rattle.nrm_cli.specs.Certificates.{CertRefusal, certificate_under, opening_program, verdict_line}
-use Rattle.nrm_cli.specs.Jobs.{Job, run_first, check_file, print_file, file_of_job}
-use Rattle.nrm_cli.specs.Refusals.{Refusal, network_under}
-use Rattle.nrm_cli.specs.Ends.{Checks, Completes, CompletesJob, Ends, Opens, RanOut, Refuses, RefusesCertificate, RunWrites, status_of}
-use Rattle.nrm_cli.specs.Outside.{Outside, OnFile, Wrote}
 use Rattle.nrm_network.specs.Canonical.{canonical_file}
+use Rattle.nrm_opening.specs.Outside.{Outside, OnFile, FilesFailed, SourceFailed, SinkFailed, Wrote}
+use Rattle.nrm_opening.specs.Refusals.{Refusal, network_under}
+use Rattle.nrm_control.specs.State.{SeatState, opening}
+use Rattle.nrm_stream.specs.Commands.{commands_of}
+use Rattle.nrm_session.specs.Run.{Run, Writes, output_of}
+use Rattle.nrm_session.proofs.Runs.{runs}
+use Rattle.nrm_cli.specs.Certificates.{LacksCertificate, certificate_under, verdict_line}
+use Rattle.nrm_cli.specs.Jobs.{Job, run_file, check_file, print_file, file_of_job}
+use Rattle.nrm_cli.specs.Ends.{Completes, CompletesJob, Ends, OrRanOut, RanOut, RunWrites, status_of}
+use Rattle.nrm_cli.specs.Tells.{Gives, Lacks, Opens, Reads, Refuses, Tells, usage, refused, lacking, optimal, wrong, printed, file_fault}
 use Rattle.nrm_cli.specs.declared.status.Status.{Status}
 use Rattle.nrm_cli.specs.declared.status.Status.TheVariants as status
 
@@ -34,16 +40,23 @@ on-told told files name P is on = rw is at on
 folder-same : (x y : Folder) → Some x ≡ Some y → x ≡ y
 folder-same x y e = cc
 
+-- a run over the lines of a stream is there, so its output is
+some-run : (net : NetworkValue) (mode : Mode) (stream : List ℕ) → (output : List ℕ) × RunWrites net mode stream output
+some-run net mode stream =
+    let (replies, last, run) = runs net (opening mode) (commands_of stream) in
+    (output_of replies, (last, record { replies = replies; run = run; output = refl }))
+
 -- want of memory is one of the ends that a good job may have
 ran-complete : (job : Job) (net : NetworkValue) (before after : Outside) → RanOut (Some job) before after → CompletesJob job net before after status.NoMemory
-ran-complete (run_first file) net before after kept = λ stream coming short. inr (refl, kept)
+ran-complete (run_file mode file) net before after kept = λ stream coming short.
+    let (output, writes) = some-run net mode stream in
+    (output, writes, inr (refl, kept))
 ran-complete (check_file file certificate) net before after (kept, left) = λ files given told valid. inr (refl, kept)
 ran-complete (print_file file) net before after (kept, left) = inr (refl, kept)
 
 module _ (asked : Option Job) (before after : Outside) (job : Job) (files : Folder) (net : NetworkValue)
     (asks : asked ≡ Some job) (told : before.files ≡ Some files) (valid : network_under (files (file_of_job job)) ≡ Ok net)
-    (no_file_fault : Rose before.file_faults after.file_faults → ⊥) (no_source_fault : Rose before.source_faults after.source_faults → ⊥)
-    (no_sink_fault : Rose before.sink_faults after.sink_faults → ⊥) where
+    (no_file_fault : FilesFailed before after → ⊥) (no_source_fault : SourceFailed before after → ⊥) (no_sink_fault : SinkFailed before after → ⊥) where
   -- a job that opens its file is the one that the words ask for, and its network the file's
   same-job : (other : Job) → asked ≡ Some other → other ≡ job
   same-job other is = let e = sym is ∙ asks in cc
@@ -54,87 +67,88 @@ module _ (asked : Option Job) (before after : Outside) (job : Job) (files : Fold
       let same : Ok given ≡ Ok net = sym gives ∙ ap (λ j. network_under (files (file_of_job j))) (same-job other is) ∙ valid in cc
 
   not-refused : (refusal : Refusal) → Refuses asked before refusal → ⊥
-  not-refused refusal (other, is, file) =
-      let gives : network_under (files (file_of_job other)) ≡ Err refusal = on-told before.files files (file_of_job other) (λ f. network_under f ≡ Err refusal) told file in
-      let same : Err refusal ≡ Ok net = sym gives ∙ ap (λ j. network_under (files (file_of_job j))) (same-job other is) ∙ valid in cc
+  not-refused refusal r =
+      let gives : network_under (files (file_of_job r.job)) ≡ Err refusal = on-told before.files files (file_of_job r.job) (λ f. network_under f ≡ Err refusal) told r.refused in
+      let same : Err refusal ≡ Ok net = sym gives ∙ ap (λ j. network_under (files (file_of_job j))) (same-job r.job r.asks) ∙ valid in cc
 
-  -- a certificate that was checked is the second file's
-  found-status : (found : Verdict) → (found ≢ verdict.Optimal) → status.Wrong ≡ status_of found
-  found-status verdict.Optimal other = absurd (other refl)
-  found-status verdict.WrongShape other = refl
-  found-status (verdict.WrongProduct j) other = refl
-  found-status (verdict.WrongLeg i) other = refl
-  found-status verdict.WrongValue other = refl
-
+  -- ---- the words ask for a certificate to be checked, which the second file gives
   module _ (file certificate : List ℕ) (shown : Certificate) (known : job ≡ check_file file certificate) (reads : certificate_under net (files certificate) ≡ Ok shown) where
     other-words : (file' certificate' : List ℕ) → asked ≡ Some (check_file file' certificate') → certificate' ≡ certificate
     other-words file' certificate' is = let e : check_file file' certificate' ≡ check_file file certificate = same-job (check_file file' certificate') is ∙ known in cc
 
-    same-shown : (given-net : NetworkValue) (given : Certificate) (found : Verdict) → Checks asked before given-net given found → (given-net ≡ net) × (given ≡ shown)
-    same-shown given-net given found c =
-        let of_net : given-net ≡ net = same-net (check_file c.file c.certificate) given-net c.opens in
-        let gives : certificate_under given-net (files c.certificate) ≡ Ok given = on-told before.files files c.certificate (λ contents. certificate_under given-net contents ≡ Ok given) told c.gives in
-        let same : Ok given ≡ Ok shown = sym gives ∙ ap (λ n. certificate_under n (files c.certificate)) of_net ∙ ap (λ name. certificate_under net (files name)) (other-words c.file c.certificate c.opens.0) ∙ reads in
-        (of_net, ok-same given shown same)
-      where
-        ok-same : (x y : Certificate) → ◌≡◌ {A = Result Certificate CertRefusal} (Ok x) (Ok y) → x ≡ y
-        ok-same x y e = cc
-
-    verdict-on-shown : (given-net : NetworkValue) (given : Certificate) (found : Verdict) → Checks asked before given-net given found → found ≡ verdict_on (opening_program net) shown
-    verdict-on-shown given-net given found c =
-        let s = same-shown given-net given found c in
-        sym c.verdict_is ∙ ap (λ n. verdict_on (opening_program n) given) s.0 ∙ ap (λ k. verdict_on (opening_program net) k) s.1
-
-    written : (given-net : NetworkValue) (given : Certificate) (found : Verdict) (s : Status) → Checks asked before given-net given found → s ≡ status_of found → Wrote before after (verdict_line given-net found)
-        → (s ≡ status_of (verdict_on (opening_program net) shown)) × Wrote before after (verdict_line net (verdict_on (opening_program net) shown))
-    written given-net given found s c goes wrote =
-        let v = verdict-on-shown given-net given found c in
-        (goes ∙ ap status_of v, subst (λ k. Wrote before after (verdict_line net k)) v (subst (λ n. Wrote before after (verdict_line n found)) (same-shown given-net given found c).0 wrote))
-
-    not-refused-so : (given-net : NetworkValue) (refusal : CertRefusal) → RefusesCertificate asked before given-net refusal → ⊥
-    not-refused-so given-net refusal r =
+    under : (answer : Result Certificate LacksCertificate) (given-net : NetworkValue) → Reads asked before given-net (λ contents. certificate_under given-net contents ≡ answer) → (given-net ≡ net) × (answer ≡ Ok shown)
+    under answer given-net r =
         let of_net : given-net ≡ net = same-net (check_file r.file r.certificate) given-net r.opens in
-        let gives : certificate_under given-net (files r.certificate) ≡ Err refusal = on-told before.files files r.certificate (λ contents. certificate_under given-net contents ≡ Err refusal) told r.refused in
-        let same : Err refusal ≡ Ok shown = sym gives ∙ ap (λ n. certificate_under n (files r.certificate)) of_net ∙ ap (λ name. certificate_under net (files name)) (other-words r.file r.certificate r.opens.0) ∙ reads in
-        err-ok refusal shown same
+        let gives : certificate_under given-net (files r.certificate) ≡ answer = on-told before.files files r.certificate (λ contents. certificate_under given-net contents ≡ answer) told r.answered in
+        (of_net, sym gives ∙ ap (λ n. certificate_under n (files r.certificate)) of_net ∙ ap (λ name. certificate_under net (files name)) (other-words r.file r.certificate r.opens.0) ∙ reads)
+
+    not-lacking : (given-net : NetworkValue) (reason : LacksCertificate) → Lacks asked before given-net reason → ⊥
+    not-lacking given-net reason r = err-ok reason shown (under (Err reason) given-net r).1
       where
-        err-ok : (x : CertRefusal) (y : Certificate) → ◌≡◌ {A = Result Certificate CertRefusal} (Err x) (Ok y) → ⊥
+        err-ok : (x : LacksCertificate) (y : Certificate) → ◌≡◌ {A = Result Certificate LacksCertificate} (Err x) (Ok y) → ⊥
         err-ok x y e = cc
+
+    ok-same : (x y : Certificate) → ◌≡◌ {A = Result Certificate LacksCertificate} (Ok x) (Ok y) → x ≡ y
+    ok-same x y e = cc
+
+    written : (given-net : NetworkValue) (given : Certificate) (found : Verdict) (s : Status) → Gives asked before given-net given → verdict_on (opening_program given-net) given ≡ found → s ≡ status_of found
+        → Wrote before after (verdict_line given-net found)
+        → OrRanOut before after s (status_of (verdict_on (opening_program net) shown)) (verdict_line net (verdict_on (opening_program net) shown))
+    written given-net given found s gives is goes wrote =
+        let u = under (Ok given) given-net gives in
+        let v : found ≡ verdict_on (opening_program net) shown = sym is ∙ ap (λ n. verdict_on (opening_program n) given) u.0 ∙ ap (λ k. verdict_on (opening_program net) k) (ok-same given shown u.1) in
+        inl (goes ∙ ap status_of v, subst (λ k. Wrote before after (verdict_line net k)) v (subst (λ n. Wrote before after (verdict_line n found)) u.0 wrote))
 
   abbrev Complete : Status → Job → Type 0
   Complete s other = CompletesJob other net before after s
 
-  pub complete : (s : Status) → Ends asked before after s → CompletesJob job net before after s
-  complete status.Done (inl (file, given, taken, output, opens, read, writes, wrote)) =
-      subst (Complete status.Done) (same-job (run_first file) opens.0) (λ stream coming short.
-      let all : taken ≡ stream = all-taken stream taken after.coming (rw coming at read.taken) read.ended in
-      let of_net = subst (λ (n : NetworkValue). RunWrites n taken output) (same-net (run_first file) given opens) writes in
-      inl (refl, (output, subst (λ (t : List ℕ). RunWrites net t output) all of_net, wrote)))
-  complete status.Done (inr (inl (file, given, opens, wrote, left))) =
+  wrong-status : (found : Verdict) → found ≢ verdict.Optimal → status.Wrong ≡ status_of found
+  wrong-status verdict.Optimal other = absurd (other refl)
+  wrong-status verdict.WrongShape other = refl
+  wrong-status (verdict.WrongProduct j) other = refl
+  wrong-status (verdict.WrongLeg i) other = refl
+  wrong-status verdict.WrongValue other = refl
+
+  -- a certificate that is the second file's was judged
+  judged : (s : Status) (given-net : NetworkValue) (given : Certificate) (found : Verdict) → Gives asked before given-net given → verdict_on (opening_program given-net) given ≡ found → s ≡ status_of found
+      → Wrote before after (verdict_line given-net found) → CompletesJob job net before after s
+  judged s given-net given found gives is goes wrote =
+      subst (Complete s) (same-job (check_file gives.file gives.certificate) gives.opens.0) (λ other shown is-told valid-too.
+      let same : other ≡ files = folder-same other files (sym is-told ∙ told) in
+      written gives.file gives.certificate shown (sym (same-job (check_file gives.file gives.certificate) gives.opens.0)) (subst (λ (f : Folder). certificate_under net (f gives.certificate) ≡ Ok shown) same valid-too) given-net given found s gives is goes wrote)
+
+  complete-told : (s : Status) (text : List ℕ) → Tells asked before after s text → Wrote before after text → CompletesJob job net before after s
+  complete-told s text (usage none) wrote = let no : None ≡ Some job = sym none ∙ asks in cc
+  complete-told s text (refused refusal why) wrote = absurd (not-refused refusal why)
+  complete-told s text (lacking given-net reason r) wrote =
+      subst (Complete status.Refused) (same-job (check_file r.file r.certificate) r.opens.0) (λ other shown is-told valid-too.
+      let same : other ≡ files = folder-same other files (sym is-told ∙ told) in
+      absurd (not-lacking r.file r.certificate shown (sym (same-job (check_file r.file r.certificate) r.opens.0)) (subst (λ (f : Folder). certificate_under net (f r.certificate) ≡ Ok shown) same valid-too) given-net reason r))
+  complete-told s text (optimal given-net given gives is shows) wrote = judged status.Done given-net given verdict.Optimal gives is refl wrote
+  complete-told s text (wrong given-net given found gives is other shaped) wrote = judged status.Wrong given-net given found gives is (wrong-status found other) wrote
+  complete-told s text (printed file given-net opens) wrote =
       subst (Complete status.Done) (same-job (print_file file) opens.0)
-      (inl (refl, subst (λ (n : NetworkValue). Wrote before after (canonical_file n)) (same-net (print_file file) given opens) wrote))
-  complete status.Done (inr (inr (given-net, given, checks, certifies, wrote, left))) =
-      subst (Complete status.Done) (same-job (check_file checks.file checks.certificate) checks.opens.0) (λ other shown is-told valid-too.
-      let same : other ≡ files = folder-same other files (sym is-told ∙ told) in
-      inl (written checks.file checks.certificate shown (sym (same-job (check_file checks.file checks.certificate) checks.opens.0)) (subst (λ (f : Folder). certificate_under net (f checks.certificate) ≡ Ok shown) same valid-too) given-net given verdict.Optimal status.Done checks refl wrote))
-  complete status.Wrong (given-net, given, found, checks, other-than, wrote, left) =
-      subst (Complete status.Wrong) (same-job (check_file checks.file checks.certificate) checks.opens.0) (λ other shown is-told valid-too.
-      let same : other ≡ files = folder-same other files (sym is-told ∙ told) in
-      inl (written checks.file checks.certificate shown (sym (same-job (check_file checks.file checks.certificate) checks.opens.0)) (subst (λ (f : Folder). certificate_under net (f checks.certificate) ≡ Ok shown) same valid-too) given-net given found status.Wrong checks (found-status found other-than) wrote))
-  complete status.Usage ends = let none : None ≡ Some job = sym ends.0 ∙ asks in cc
-  complete status.Refused (inl (refusal, refuses, wrote, left)) = absurd (not-refused refusal refuses)
-  complete status.Refused (inr (given-net, refusal, refuses, wrote, left)) =
-      subst (Complete status.Refused) (same-job (check_file refuses.file refuses.certificate) refuses.opens.0) (λ other shown is-told valid-too.
-      let same : other ≡ files = folder-same other files (sym is-told ∙ told) in
-      absurd (not-refused-so refuses.file refuses.certificate shown (sym (same-job (check_file refuses.file refuses.certificate) refuses.opens.0)) (subst (λ (f : Folder). certificate_under net (f refuses.certificate) ≡ Ok shown) same valid-too) given-net refusal refuses))
-  complete status.ReadFault (file, given, opens, rose, few, wrote) = absurd (no_source_fault rose)
-  complete status.WriteFault (rose, cut) = absurd (no_sink_fault rose)
+      (inl (refl, subst (λ (n : NetworkValue). Wrote before after (canonical_file n)) (same-net (print_file file) given-net opens) wrote))
+  complete-told s text (file_fault other is rose) wrote = absurd (no_file_fault rose)
+
+  pub complete : (s : Status) → Ends asked before after s → CompletesJob job net before after s
+  complete status.Done (inl served) =
+      subst (Complete status.Done) (same-job (run_file served.mode served.file) served.opens.0) (λ stream coming short.
+      let all : served.stream ≡ stream = all-taken stream served.stream after.coming (rw coming at served.read.taken) served.read.ended in
+      let of_net = subst (λ (n : NetworkValue). RunWrites n served.mode served.stream served.output) (same-net (run_file served.mode served.file) served.net served.opens) served.writes_it in
+      (served.output, subst (λ (t : List ℕ). RunWrites net served.mode t served.output) all of_net, inl (refl, served.wrote)))
+  complete status.Done (inr t) = complete-told status.Done t.text t.tells t.wrote
+  complete status.Wrong t = complete-told status.Wrong t.text t.tells t.wrote
+  complete status.Usage t = complete-told status.Usage t.text t.tells t.wrote
+  complete status.Refused t = complete-told status.Refused t.text t.tells t.wrote
+  complete status.FileFault t = complete-told status.FileFault t.text t.tells t.wrote
+  complete status.ReadFault ends = absurd (no_source_fault ends.0)
+  complete status.WriteFault ends = absurd (no_sink_fault ends.0)
   complete status.NoMemory ends = ran-complete job net before after (rw asks at ends)
-  complete status.TooLong (file, given, opens, too_much, wrote) =
-      subst (Complete status.TooLong) (same-job (run_first file) opens.0) (λ stream coming short.
-      let few = no-more stream too_much.stream after.coming (rw coming at too_much.taken) in
-      absurd (omega (arith, few, too_much.long, short)))
-  complete status.FileFault (other, is, rose, wrote, left) = absurd (no_file_fault rose)
+  complete status.TooLong (taken, long, stopped) =
+      subst (Complete status.TooLong) (same-job (run_file stopped.mode stopped.file) stopped.opens.0) (λ stream coming short.
+      let few = no-more stream taken after.coming (rw coming at stopped.took) in
+      absurd (omega (arith, few, long, short)))
   complete status.Overflow ends = absurd ends
 
 -- what holds of a job holds of the words that ask for it

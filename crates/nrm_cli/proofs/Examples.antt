@@ -2,15 +2,15 @@
 use Rattle.std.specs.Prelude.{◌≡◌, ℕ, List, [], ◌∷◌, codes, refl, Some, None, Ok, Err}
 use Rattle.std.specs.Fmt.{digits}
 use Rattle.nrm_model.specs.Network.{NetworkValue}
-use Rattle.nrm_model.specs.declared.mode.Mode.TheVariants as modes
+use Rattle.nrm_model.specs.declared.mode.Mode.TheVariants as mode
 use Rattle.nrm_network.specs.Canonical.{canonical_file}
 use Rattle.nrm_network.specs.declared.fault.Why.TheVariants as why
 use Rattle.nrm_network.proofs.OnLiterals.{network_on_literals}
 use Rattle.nrm_control.specs.State.{SeatState, opening, after_request, after_cancellation}
 use Rattle.nrm_session.specs.Replies.{bad, unknown, sold, no_leg, cancelled, leg_told}
 use Rattle.nrm_cli.specs.Ends.{RunWrites}
-use Rattle.nrm_cli.specs.Jobs.{job_of, run_first, print_file}
-use Rattle.nrm_cli.specs.Refusals.{network_under, refusal_line, no_file, at_row, file_fault_line}
+use Rattle.nrm_cli.specs.Jobs.{job_of, run_file, print_file}
+use Rattle.nrm_opening.specs.Refusals.{network_under, refusal_line, no_file, at_row, file_fault_line}
 
 abbrev pub two_legs : NetworkValue
 two_legs = record {
@@ -37,7 +37,7 @@ abbrev requests : List ℕ
 requests = codes "book THRU 2\nbook THRU 1\nbook LOC 1\nbook LOC 1\nbook X 1\n"
 
 abbrev after_two_seats : SeatState
-after_two_seats = after_request two_legs (opening modes.FirstCome) 0 2
+after_two_seats = after_request two_legs (opening mode.FirstCome) 0 2
 
 abbrev after_refusal : SeatState
 after_refusal = after_request two_legs after_two_seats 0 1
@@ -48,7 +48,7 @@ after_three_seats = after_request two_legs after_refusal 1 1
 abbrev after_requests : SeatState
 after_requests = after_request two_legs after_three_seats 1 1
 
-answered : RunWrites two_legs requests (codes "ok 1\nno BC\nok 2\nno AB\nunknown\n")
+answered : RunWrites two_legs mode.FirstCome requests (codes "ok 1\nno BC\nok 2\nno AB\nunknown\n")
 unfolding digits
 answered = (
   after_requests,
@@ -69,7 +69,7 @@ after_cancel = after_cancellation after_two_seats 1
 abbrev after_mixed : SeatState
 after_mixed = after_request two_legs after_cancel 1 1
 
-answered_mixed : RunWrites two_legs mixed (codes "ok 1\ncancelled 1 1000\nunknown\nleg AB seats 3 sold 0 left 3\nbad\nbad\nbad\nok 2\n")
+answered_mixed : RunWrites two_legs mode.FirstCome mixed (codes "ok 1\ncancelled 1 1000\nunknown\nleg AB seats 3 sold 0 left 3\nbad\nbad\nbad\nok 2\n")
 unfolding digits
 answered_mixed = (
   after_mixed,
@@ -98,7 +98,7 @@ line_of_a_size = refl
 line_of_a_fault : file_fault_line ≡ codes "file fault\n"
 line_of_a_fault = refl
 
-words_of_a_run : job_of (codes "run" ∷ codes "first" ∷ codes "F" ∷ []) ≡ Some (run_first (codes "F"))
+words_of_a_run : job_of (codes "run" ∷ codes "first" ∷ codes "F" ∷ []) ≡ Some (run_file mode.FirstCome (codes "F"))
 words_of_a_run = refl
 
 words_of_a_print : job_of (codes "print" ∷ codes "F" ∷ []) ≡ Some (print_file (codes "F"))

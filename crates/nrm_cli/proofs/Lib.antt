@@ -1,8 +1,9 @@
+pub mod Checking
 pub mod Complete
 pub mod Examples
-pub mod Fetched
-pub mod Replies
-pub mod Without
-pub mod Checking
-pub mod Places
 pub mod OwnPasses
+pub mod Places
+pub mod Replies
+pub mod Serving
+pub mod Telling
+pub mod Without

@@ -1,27 +1,42 @@
 -- How a job ends where its file gives no network.
-use Rattle.std.proofs.Common.{Some, Err, inl, inr, refl}
-use Rattle.nrm_cli.specs.Ends.{Ends}
-use Rattle.nrm_cli.specs.Jobs.{Job, run_first, check_file, print_file, file_of_job}
-use Rattle.nrm_cli.specs.Outside.{Outside, LeftStream}
-use Rattle.nrm_cli.specs.Parts.{OpensFile, PutsReason}
-use Rattle.nrm_cli.specs.Refusals.{no_file, at_row}
-use Rattle.nrm_cli.specs.declared.opening.NoNetwork.{NoNetwork}
-use Rattle.nrm_cli.specs.declared.opening.NoNetwork.TheVariants as none
+use Rattle.std.proofs.Common.{ℕ, ◌≡◌, Some, Err, inl, inr, refl}
+use Rattle.nrm_opening.specs.Opening.{CountsOpening, OpensFile}
+use Rattle.nrm_opening.specs.Outside.{Outside, LeftStream}
+use Rattle.nrm_opening.specs.Refusals.{no_file, at_row, refusal_line, file_fault_line}
+use Rattle.nrm_opening.specs.declared.opening.NoNetwork.{NoNetwork}
+use Rattle.nrm_opening.specs.declared.opening.NoNetwork.TheVariants as none
+use Rattle.nrm_cli.specs.Ends.{Ends, Failures}
+use Rattle.nrm_cli.specs.Jobs.{Job, run_file, check_file, print_file, file_of_job}
+use Rattle.nrm_cli.specs.Inner.Parts.{PutsReason}
+use Rattle.nrm_cli.specs.Tells.{refused, file_fault}
 use Rattle.nrm_cli.specs.declared.status.Status.{Status}
+use Rattle.nrm_cli.specs.declared.status.Status.TheVariants as status
+use Rattle.nrm_cli.proofs.Telling.{told-ends}
 
 -- nothing was written and the stream was left
 ran-out : (job : Job) (before after : Outside) (s : Status) → PutsReason none.NoMemory before.held after.held before.sink_faults after.sink_faults s → LeftStream before after → Ends (Some job) before after s
-ran-out (run_first file) before after s (told, kept) left = rw told kept
-ran-out (check_file file certificate) before after s (told, kept) left = rw told (kept, left)
-ran-out (print_file file) before after s (told, kept) left = rw told (kept, left)
+ran-out (run_file mode file) before after s (told, kept, same) left = rw told kept
+ran-out (check_file file certificate) before after s (told, kept, same) left = rw told (kept, left)
+ran-out (print_file file) before after s (told, kept, same) left = rw told (kept, left)
 
 pub without-network : (job : Job) (before after : Outside) (reason : NoNetwork) (s : Status)
-    → OpensFile before.files (file_of_job job) before.file_faults after.file_faults (Err reason)
+    → OpensFile before.files (file_of_job job) (Err reason) → CountsOpening before.file_faults after.file_faults (Err reason)
     → PutsReason reason before.held after.held before.sink_faults after.sink_faults s → LeftStream before after → Ends (Some job) before after s
-without-network job before after none.Absent s file (inl (told, wrote)) left = rw told (inl (no_file, (job, refl, file), wrote, left))
-without-network job before after none.Absent s file (inr (told, rose, front)) left = rw told (rose, inr (inl (no_file, (job, refl, file), front, left)))
-without-network job before after (none.Refused row cause) s file (inl (told, wrote)) left = rw told (inl (at_row row cause, (job, refl, file), wrote, left))
-without-network job before after (none.Refused row cause) s file (inr (told, rose, front)) left = rw told (rose, inr (inl (at_row row cause, (job, refl, file), front, left)))
-without-network job before after none.Fault s failed (inl (told, wrote)) left = rw told (job, refl, failed, wrote, left)
-without-network job before after none.Fault s failed (inr (told, rose, front)) left = rw told (rose, inr (inr (inl (job, refl, failed, front, left))))
-without-network job before after none.NoMemory s file puts left = ran-out job before after s puts left
+without-network job before after none.Absent s file counts puts left =
+    told-ends (Some job) before after status.Refused s (refusal_line no_file) (refused no_file (record { job = job; asks = refl; refused = file })) puts left
+without-network job before after (none.Refused row cause) s file counts puts left =
+    told-ends (Some job) before after status.Refused s (refusal_line (at_row row cause)) (refused (at_row row cause) (record { job = job; asks = refl; refused = file })) puts left
+without-network job before after none.Fault s file counts puts left =
+    told-ends (Some job) before after status.FileFault s file_fault_line (file_fault job refl counts.1) puts left
+without-network job before after none.NoMemory s file counts puts left = ran-out job before after s puts left
+
+-- and which counts stay
+pub without-failures : (before after : Outside) (reason : NoNetwork) (s : Status) → CountsOpening before.file_faults after.file_faults (Err reason)
+    → PutsReason reason before.held after.held before.sink_faults after.sink_faults s → after.source_faults ≡ before.source_faults → Failures s before after
+without-failures before after none.Absent s counts (inl (is, wrote, same)) source = rw is (record { files = counts; source = source; sink = same })
+without-failures before after none.Absent s counts (inr (is, front, rose)) source = rw is source
+without-failures before after (none.Refused row cause) s counts (inl (is, wrote, same)) source = rw is (record { files = counts; source = source; sink = same })
+without-failures before after (none.Refused row cause) s counts (inr (is, front, rose)) source = rw is source
+without-failures before after none.Fault s counts (inl (is, wrote, same)) source = rw is (source, same)
+without-failures before after none.Fault s counts (inr (is, front, rose)) source = rw is source
+without-failures before after none.NoMemory s counts (is, kept, same) source = rw is (record { files = counts; source = source; sink = same })

@@ -1,26 +1,31 @@
 -- What the words of the command line ask for.
-use Rattle.std.specs.Prelude.{ℕ, ◌&&◌, List, [], ◌∷◌, bytes_eq, codes, Option, Some, None, if◌then◌else◌}
+use Rattle.std.specs.Prelude.{ℕ, List, [], ◌∷◌, bytes_eq, codes, Option, Some, None, option_map, if◌then◌else◌}
+use Rattle.nrm_model.specs.declared.mode.Mode.{Mode}
+use Rattle.nrm_model.specs.declared.mode.Mode.TheVariants as mode
 
--- to run the controller on a network file, first come first served, to check a certificate against a network file, and to print a
--- network file
+-- to run the controller on a network file in a mode, to check a certificate against a network file, and to print a network file
 pub data Job : Type 0 where
-  run_first : List ℕ → Job
+  run_file : Mode → List ℕ → Job
   check_file : List ℕ → List ℕ → Job
   print_file : List ℕ → Job
 
 -- the network file of a job
 abbrev pub file_of_job : Job → List ℕ
-file_of_job (run_first file) = file
+file_of_job (run_file m file) = file
 file_of_job (check_file file certificate) = file
 file_of_job (print_file file) = file
 
--- `print FILE`, `run first FILE` and `check FILE CERT`; all other words ask for nothing that is built
+-- the mode of a word, of those that are built
+abbrev pub mode_of : List ℕ → Option Mode
+mode_of word = if bytes_eq word (codes "first") then Some mode.FirstCome else None
+
+-- `run MODE FILE`, `check FILE CERT` and `print FILE`; all other words ask for nothing that is built
 abbrev pub job_of : List (List ℕ) → Option Job
 job_of [] = None
 job_of (verb ∷ []) = None
 job_of (verb ∷ file ∷ []) = if bytes_eq verb (codes "print") then Some (print_file file) else None
 job_of (verb ∷ second ∷ third ∷ []) =
-    if bytes_eq verb (codes "run") && bytes_eq second (codes "first") then Some (run_first third)
+    if bytes_eq verb (codes "run") then option_map (λ m. run_file m third) (mode_of second)
     else if bytes_eq verb (codes "check") then Some (check_file second third)
     else None
 job_of (verb ∷ second ∷ third ∷ fourth ∷ more) = None

@@ -1,8 +1,7 @@
 pub mod Certificates
 pub mod Ends
+pub mod Inner
 pub mod Jobs
 pub mod Numbers
-pub mod Outside
 pub mod Own
-pub mod Parts
-pub mod Refusals
+pub mod Tells

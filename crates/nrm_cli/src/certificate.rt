@@ -1,16 +1,20 @@
 //! From a file's name to the certificate that it gives for a network, and the lines about certificates.
-ghost use Rattle.std.specs.Prelude.{◌≡◌, ◌≤◌, ◌++◌, ◌∷◌, [], decimal, IfErr, IfOk, length};
+ghost use Rattle.std.specs.Prelude.{◌≡◌, ◌≤◌, ◌≢◌, ◌++◌, ◌∷◌, [], decimal, IfErr, IfOk, length, option_map};
+ghost use Rattle.nrm_fraction.specs.Large.{size_limit};
+ghost use Rattle.nrm_lp.specs.Shape.{HasShape};
+ghost use Rattle.nrm_dlp.specs.Programs.{opening_program};
 ghost use Rattle.nrm_dual.specs.Named.{IsOfNetwork, IsOfProgram};
-ghost use Rattle.nrm_cli.specs.Certificates.{cert_refusal_line, for_fault, opening_program, verdict_line};
-ghost use Rattle.nrm_cli.specs.Parts.{IsRefusedOf, OpensCertificate};
+ghost use Rattle.nrm_dual.specs.Refusals.{refusal_of};
+ghost use Rattle.nrm_cli.specs.Certificates.{lacking_line, refused_for, verdict_line};
+ghost use Rattle.nrm_cli.specs.Inner.Parts.{CountsCertificate, IsLackOf, OpensCertificate, lack_line, lack_status};
 
-use nrm_dlp::{full_seats, program_at};
+use crate::Status;
 use nrm_dual::{CertFault, Verdict, read_certificate};
 use nrm_edge::{Fetched, FileFault, Files};
-use nrm_lp::{Certificate, Program};
+use nrm_lp::Certificate;
 use nrm_model::Network;
 use nrm_text::{Line, Name};
-use std::alloc::{AllocError, Global};
+use std::alloc::Global;
 
 // The most bytes of a certificate file.
 const CERTIFICATE_LIMIT: usize = 65_536;
@@ -18,10 +22,37 @@ const CERTIFICATE_LIMIT: usize = 65_536;
 /// Why there is no certificate.
 #[derive(Clone, Copy, Debug, PartialEq, Eq)]
 pub(crate) enum NoCertificate {
+    /// No file has the name.
     Absent,
-    Refused(CertFault),
+    /// The file is refused, or memory ran out.
+    Unread(CertFault),
+    /// The files failed.
     Fault,
-    NoMemory,
+}
+
+impl From<FileFault> for NoCertificate {
+    ghost use Rattle.std.specs.Prelude.{◌≡◌};
+    ghost use Rattle.nrm_cli.specs.Inner.Lacks.{lack_of_files};
+
+    ghost from_gives = { λ fault reason. reason ≡ lack_of_files fault };
+
+    fn from(fault: FileFault) -> NoCertificate {
+        match fault {
+            FileFault::Failed => NoCertificate::Fault,
+            FileFault::NoMemory => NoCertificate::Unread(CertFault::NoMemory),
+        }
+    }
+}
+
+impl From<CertFault> for NoCertificate {
+    ghost use Rattle.std.specs.Prelude.{◌≡◌};
+    ghost use Rattle.nrm_cli.specs.declared.certificate.NoCertificate.TheVariants.{Unread};
+
+    ghost from_gives = { λ fault reason. reason ≡ Unread fault };
+
+    fn from(fault: CertFault) -> NoCertificate {
+        NoCertificate::Unread(fault)
+    }
 }
 
 /// The certificate that the file of this name gives for a network.
@@ -31,30 +62,17 @@ pub(crate) fn open_certificate<F: Files>(
     name: &str,
     net: &Network,
 ) -> Result<Certificate, NoCertificate>
-    ensures opens { OpensCertificate net.now (F.contents files.old) name.now (F.faults files.old) (F.faults files.new) result }
-    ensures named { IfErr result (IsRefusedOf net.now) }
+    ensures opens { OpensCertificate net.now (F.contents files.old) name.now result }
+    ensures shaped { IfOk result (HasShape size_limit (length net.now.products) (length net.now.legs)) }
+    ensures named { IfErr result (IsLackOf net.now) }
+    ensures counts { CountsCertificate (F.faults files.old) (F.faults files.new) result }
     ensures stays { F.contents files.new ≡ F.contents files.old }
-    ensures later { F.faults files.old ≤ F.faults files.new }
 {
-    match files.fetch(alloc, name, CERTIFICATE_LIMIT) {
-        Ok(Fetched::Whole(bytes)) => match read_certificate(alloc, net, &bytes) {
-            Ok(certificate) => Ok(certificate),
-            Err(CertFault::NoMemory) => Err(NoCertificate::NoMemory),
-            Err(fault) => Err(NoCertificate::Refused(fault)),
-        },
-        Ok(Fetched::Longer) => Err(NoCertificate::Refused(CertFault::Long)),
-        Ok(Fetched::Absent) => Err(NoCertificate::Absent),
-        Err(FileFault::Failed) => Err(NoCertificate::Fault),
-        Err(FileFault::NoMemory) => Err(NoCertificate::NoMemory),
+    match files.fetch(alloc, name, CERTIFICATE_LIMIT)? {
+        Fetched::Whole(bytes) => Ok(read_certificate(alloc, net, &bytes)?),
+        Fetched::Longer => Err(NoCertificate::Unread(CertFault::Long)),
+        Fetched::Absent => Err(NoCertificate::Absent),
     }
-}
-
-/// The program of period 1 with every seat left.
-pub(crate) fn program_of(alloc: Global, net: &Network) -> Result<Program, AllocError>
-    ensures { IfOk result (λ program. program ≡ opening_program net.now) }
-{
-    let left = full_seats(alloc, net)?;
-    program_at(alloc, net, &left, 1)
 }
 
 // A line of this text.
@@ -93,12 +111,12 @@ fn line_numbering(text: &[u8], number: u32, end: &[u8]) -> Line
     line
 }
 
-/// The line that says why a certificate is refused.
-pub(crate) fn line_of_fault(net: &Network, fault: CertFault) -> Line
+// The line that says why a certificate is refused. `None` exactly for want of memory.
+fn line_of_fault(net: &Network, fault: CertFault) -> Option<Line>
     requires { IsOfNetwork net.now fault }
-    ensures { result ≡ cert_refusal_line net.now (for_fault fault) }
+    ensures { result ≡ option_map (λ cause. lacking_line net.now (refused_for cause)) (refusal_of fault) }
 {
-    match fault {
+    let line = match fault {
         CertFault::Long => line_of(b"refused certificate long\n"),
         CertFault::Line(number) => line_numbering(b"refused certificate line ", number, b"\n"),
         CertFault::Large(number) => {
@@ -113,7 +131,32 @@ pub(crate) fn line_of_fault(net: &Network, fault: CertFault) -> Line
         }
         CertFault::NoLeg(leg) => line_naming(b"refused certificate no leg ", &net.leg_at(leg).name),
         CertFault::TooFine => line_of(b"refused certificate too fine\n"),
-        CertFault::NoMemory => line_of(b"refused certificate\n"),
+        CertFault::NoMemory => return None,
+    };
+    Some(line)
+}
+
+impl NoCertificate {
+    /// The line that says why there is no certificate. `None` exactly for want of memory.
+    pub(crate) fn line(self, net: &Network) -> Option<Line>
+        requires { IsLackOf net.now self }
+        ensures { result ≡ lack_line net.now self }
+    {
+        match self {
+            NoCertificate::Absent => Some(line_of(b"refused certificate no file\n")),
+            NoCertificate::Unread(fault) => line_of_fault(net, fault),
+            NoCertificate::Fault => Some(line_of(b"file fault\n")),
+        }
+    }
+
+    /// The status that goes with that line.
+    pub(crate) fn status(self) -> Status
+        ensures { result ≡ lack_status self }
+    {
+        match self {
+            NoCertificate::Absent | NoCertificate::Unread(_) => Status::Refused,
+            NoCertificate::Fault => Status::FileFault,
+        }
     }
 }
 

@@ -1,40 +1,22 @@
 //! Checks the certificate of one file against the network of another.
-ghost use Rattle.std.specs.Prelude.{ℕ, List, Option, Some, ◌≡◌, ◌≤◌};
-ghost use Rattle.nrm_dual.specs.Named.{IsOfProgram};
-ghost use Rattle.nrm_cli.specs.Certificates.{opening_program, verdict_line};
-ghost use Rattle.nrm_cli.specs.Ends.{Ends, status_of};
+ghost use Rattle.std.specs.Prelude.{ℕ, List, Option, Some, ◌≡◌, ◌≢◌, ◌≤◌, length};
+ghost use Rattle.nrm_fraction.specs.Large.{size_limit};
+ghost use Rattle.nrm_lp.specs.Shape.{HasShape};
+ghost use Rattle.nrm_opening.specs.Outside.{Goes, outside};
+ghost use Rattle.nrm_cli.specs.Ends.{Ends, Failures, status_of};
 ghost use Rattle.nrm_cli.specs.Jobs.{check_file as check_job};
-ghost use Rattle.nrm_cli.specs.Parts.{ChecksFile, IsRefusedOf, PutsCertReason, PutsLine, PutsVerdict};
+ghost use Rattle.nrm_cli.specs.Inner.Parts.{ChecksFile, PutsVerdict};
 
 use crate::Status;
-use crate::certificate::{
-    NoCertificate, line_of_fault, line_of_verdict, open_certificate, program_of,
-};
-use crate::opening::open_network;
-use crate::top::{put_line, put_reason};
+use crate::certificate::{line_of_verdict, open_certificate};
+use crate::put::{put_line, put_reason};
+use nrm_dlp::opening_program;
 use nrm_dual::{Verdict, check};
 use nrm_edge::{Files, Sink};
 use nrm_lp::Certificate;
 use nrm_model::Network;
+use nrm_opening::open_network;
 use std::alloc::Global;
-
-// Puts the line that says why there is no certificate, if one goes with it.
-fn put_cert_reason<K: Sink>(sink: &mut K, net: &Network, reason: NoCertificate) -> Status
-    requires { IsRefusedOf net.now reason }
-    ensures puts { PutsCertReason net.now reason (K.held sink.old) (K.held sink.new) (K.faults sink.old) (K.faults sink.new) result }
-    ensures later { K.faults sink.old ≤ K.faults sink.new }
-{
-    match reason {
-        NoCertificate::Absent => {
-            put_line(sink, b"refused certificate no file\n", Status::Refused)
-        }
-        NoCertificate::Refused(fault) => {
-            put_line(sink, line_of_fault(net, fault).bytes(), Status::Refused)
-        }
-        NoCertificate::Fault => put_line(sink, b"file fault\n", Status::FileFault),
-        NoCertificate::NoMemory => Status::NoMemory,
-    }
-}
 
 // The status that goes with a verdict.
 fn status_with(verdict: Verdict) -> Status
@@ -49,19 +31,6 @@ fn status_with(verdict: Verdict) -> Status
     }
 }
 
-// Puts the line of a verdict.
-fn put_verdict<K: Sink>(sink: &mut K, net: &Network, verdict: Verdict) -> Status
-    requires { IsOfProgram (opening_program net.now) verdict }
-    ensures puts { PutsLine (verdict_line net.now verdict) (status_of verdict) (K.held sink.old) (K.held sink.new) (K.faults sink.old) (K.faults sink.new) result }
-    ensures later { K.faults sink.old ≤ K.faults sink.new }
-{
-    put_line(
-        sink,
-        line_of_verdict(net, verdict).bytes(),
-        status_with(verdict),
-    )
-}
-
 // Checks a certificate and puts the verdict.
 fn put_checked<K: Sink>(
     alloc: Global,
@@ -69,13 +38,16 @@ fn put_checked<K: Sink>(
     certificate: &Certificate,
     sink: &mut K,
 ) -> Status
+    requires { HasShape size_limit (length net.now.products) (length net.now.legs) certificate.now }
     ensures puts { PutsVerdict net.now certificate.now (K.held sink.old) (K.held sink.new) (K.faults sink.old) (K.faults sink.new) result }
     ensures later { K.faults sink.old ≤ K.faults sink.new }
 {
-    match program_of(alloc, net) {
-        Ok(program) => put_verdict(sink, net, check(&program, certificate)),
-        Err(_) => Status::NoMemory,
-    }
+    let Ok(program) = opening_program(alloc, net) else {
+        return Status::NoMemory;
+    };
+    let verdict = check(&program, certificate);
+    let line = line_of_verdict(net, verdict);
+    put_line(sink, line.bytes(), status_with(verdict))
 }
 
 // Opens the certificate for a network and checks it.
@@ -86,14 +58,16 @@ fn check_certificate<F: Files, K: Sink>(
     files: &mut F,
     sink: &mut K,
 ) -> Status
-    ensures checks { ChecksFile net.now (F.contents files.old) name.now (F.faults files.old) (F.faults files.new) (K.held sink.old) (K.held sink.new) (K.faults sink.old) (K.faults sink.new) result }
+    ensures checks { ChecksFile net.now (F.contents files.old) name.now (K.held sink.old) (K.held sink.new) (F.faults files.old) (F.faults files.new) (K.faults sink.old) (K.faults sink.new) result }
     ensures files { F.contents files.new ≡ F.contents files.old }
-    ensures files_later { F.faults files.old ≤ F.faults files.new }
-    ensures sink_later { K.faults sink.old ≤ K.faults sink.new }
+    ensures later { K.faults sink.old ≤ K.faults sink.new }
 {
     match open_certificate(alloc, files, name, net) {
         Ok(certificate) => put_checked(alloc, net, &certificate, sink),
-        Err(reason) => put_cert_reason(sink, net, reason),
+        Err(reason) => match reason.line(net) {
+            Some(line) => put_line(sink, line.bytes(), reason.status()),
+            None => Status::NoMemory,
+        },
     }
 }
 
@@ -105,13 +79,12 @@ pub(crate) fn check_file<F: Files, K: Sink>(
     files: &mut F,
     sink: &mut K,
 ) -> Status
-    ensures ends { (coming : Option (List ℕ)) (faults : ℕ) → Ends (Some (check_job name.now certificate.now))
-        (record { files = F.contents files.old; coming = coming; held = K.held sink.old; file_faults = F.faults files.old; source_faults = faults; sink_faults = K.faults sink.old })
-        (record { files = F.contents files.new; coming = coming; held = K.held sink.new; file_faults = F.faults files.new; source_faults = faults; sink_faults = K.faults sink.new })
-        result }
-    ensures files { F.contents files.new ≡ F.contents files.old }
-    ensures files_later { F.faults files.old ≤ F.faults files.new }
-    ensures sink_later { K.faults sink.old ≤ K.faults sink.new }
+    ensures ends { (coming : Option (List ℕ)) (faults : ℕ) → let at = outside {S = ℕ} F.contents F.faults (λ _. coming) (λ _. faults) K.held K.faults in
+        Ends (Some (check_job name.now certificate.now)) (at files.old 0 sink.old) (at files.new 0 sink.new) result }
+    ensures failures { (coming : Option (List ℕ)) (faults : ℕ) → let at = outside {S = ℕ} F.contents F.faults (λ _. coming) (λ _. faults) K.held K.faults in
+        Failures result (at files.old 0 sink.old) (at files.new 0 sink.new) }
+    ensures goes { (coming : Option (List ℕ)) (faults : ℕ) → let at = outside {S = ℕ} F.contents F.faults (λ _. coming) (λ _. faults) K.held K.faults in
+        Goes (at files.old 0 sink.old) (at files.new 0 sink.new) }
 {
     match open_network(alloc, files, name) {
         Ok(net) => check_certificate(alloc, &net, certificate, files, sink),

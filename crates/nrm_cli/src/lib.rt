@@ -3,8 +3,9 @@
 
 mod certificate;
 mod checked;
-mod line;
-mod opening;
+mod printed;
+mod put;
+mod served;
 mod status;
 mod stream;
 #[cfg(test)]

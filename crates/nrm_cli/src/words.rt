@@ -1,12 +1,15 @@
 //! The words of the command line.
-ghost use Rattle.std.specs.Prelude.{◌≡◌, bytes_eq, map, option_map, string_bytes};
-ghost use Rattle.nrm_cli.specs.Jobs.{job_of};
-ghost use Rattle.nrm_cli.specs.Parts.{job_in};
+ghost use Rattle.std.specs.Prelude.{◌≡◌, bytes_eq, IfSome, map, option_map, string_bytes};
+ghost use Rattle.nrm_cli.specs.Inner.Parts.{IsBuilt, job_in};
+ghost use Rattle.nrm_model.specs.declared.mode.Mode.TheVariants as modes;
+ghost use Rattle.nrm_cli.specs.Jobs.{job_of, mode_of};
+
+use nrm_model::Mode;
 
 /// What the words ask for.
 #[derive(Clone, Copy)]
 pub(crate) enum Asked<'a> {
-    RunFirst(&'a str),
+    Run(Mode, &'a str),
     Check(&'a str, &'a str),
     Print(&'a str),
 }
@@ -18,15 +21,29 @@ fn is_word(word: &String, wanted: &str) -> bool
     word.as_str() == wanted
 }
 
+// The mode of a word, of those that are built.
+fn mode_in(word: &String) -> Option<Mode>
+    ensures mode { result ≡ mode_of (string_bytes word.now) }
+    ensures built { IfSome result (λ mode. mode ≡ modes.FirstCome) }
+{
+    if is_word(word, "first") {
+        Some(Mode::FirstCome)
+    } else {
+        None
+    }
+}
+
 /// The job that the words ask for, if they ask for one.
 pub(crate) fn asked_in(words: &[String]) -> Option<Asked<'_>>
-    ensures { option_map job_in result ≡ job_of (map string_bytes words.now) }
+    ensures job { option_map job_in result ≡ job_of (map string_bytes words.now) }
+    ensures built { IfSome result IsBuilt }
 {
     match words {
         [verb, file] if is_word(verb, "print") => Some(Asked::Print(file.as_str())),
-        [verb, mode, file] if is_word(verb, "run") && is_word(mode, "first") => {
-            Some(Asked::RunFirst(file.as_str()))
-        }
+        [verb, mode, file] if is_word(verb, "run") => match mode_in(mode) {
+            Some(mode) => Some(Asked::Run(mode, file.as_str())),
+            None => None,
+        },
         [verb, file, certificate] if is_word(verb, "check") => {
             Some(Asked::Check(file.as_str(), certificate.as_str()))
         }

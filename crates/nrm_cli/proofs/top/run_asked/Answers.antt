@@ -1,9 +1,13 @@
-use Rattle.std.proofs.Common.{◌≡◌, Option, Some, ap, option_map, subst, sym}
+use Rattle.std.proofs.Common.{◌≡◌, Option, Some, None, ap, option_map, refl, subst, sym}
+use Rattle.nrm_opening.specs.Outside.{Outside}
 use Rattle.nrm_cli.specs.Ends.{Ends}
-use Rattle.nrm_cli.specs.Outside.{Outside}
-use Rattle.nrm_cli.specs.Parts.{job_in}
+use Rattle.nrm_cli.specs.Inner.Parts.{job_in}
+use Rattle.nrm_cli.specs.Jobs.{usage_line}
+use Rattle.nrm_cli.specs.Tells.{usage}
 use Rattle.nrm_cli.specs.declared.status.Status.{Status}
+use Rattle.nrm_cli.specs.declared.status.Status.TheVariants as status
 use Rattle.nrm_cli.specs.declared.words.Asked.{Asked}
+use Rattle.nrm_cli.proofs.Telling.{told-ends}
 use Rattle.nrm_cli.proofs.top.run_asked.Goals as goal
 
 -- what holds of a job holds of the words that ask for it
@@ -17,9 +21,25 @@ returns-in-Some-Print-clause-ends g c =
     of-words c.args.asked (Some printed) _ _ c.print_file.result c.in-Some-Print.is
     (of-words (Some printed) _ _ _ c.print_file.result (ap Some is) (c.print_file.ensures.ends (g.S.Source.coming c.args.source.now) (g.S.Source.faults c.args.source.now)))
 
+pub returns-in-Some-Print-clause-goes : goal.returns-in-Some-Print-clause-goes
+returns-in-Some-Print-clause-goes g c = c.print_file.ensures.goes (g.S.Source.coming c.args.source.now) (g.S.Source.faults c.args.source.now)
+
+pub returns-in-Some-Print-clause-failures : goal.returns-in-Some-Print-clause-failures
+returns-in-Some-Print-clause-failures g c = c.print_file.ensures.failures (g.S.Source.coming c.args.source.now) (g.S.Source.faults c.args.source.now)
+
 pub returns-in-Some-Check-clause-ends : goal.returns-in-Some-Check-clause-ends
 returns-in-Some-Check-clause-ends g c =
     let checked = c.in-Some-Check.field-0 in
     let is = rw c.in-Some-Check.is at c.in-Some-Check.field-0-is in
     of-words c.args.asked (Some checked) _ _ c.check_file.result c.in-Some-Check.is
     (of-words (Some checked) _ _ _ c.check_file.result (ap Some is) (c.check_file.ensures.ends (g.S.Source.coming c.args.source.now) (g.S.Source.faults c.args.source.now)))
+
+pub returns-in-Some-Check-clause-goes : goal.returns-in-Some-Check-clause-goes
+returns-in-Some-Check-clause-goes g c = c.check_file.ensures.goes (g.S.Source.coming c.args.source.now) (g.S.Source.faults c.args.source.now)
+
+pub returns-in-Some-Check-clause-failures : goal.returns-in-Some-Check-clause-failures
+returns-in-Some-Check-clause-failures g c = c.check_file.ensures.failures (g.S.Source.coming c.args.source.now) (g.S.Source.faults c.args.source.now)
+
+pub returns-in-None-clause-ends : goal.returns-in-None-clause-ends
+returns-in-None-clause-ends g c =
+    of-words c.args.asked None _ _ c.put_line.result c.in-None.is (told-ends None _ _ status.Usage c.put_line.result usage_line (usage refl) c.put_line.ensures.puts refl)

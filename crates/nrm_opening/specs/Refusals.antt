@@ -2,9 +2,9 @@
 use Rattle.std.specs.Prelude.{ℕ, List, [], ◌∷◌, decimal, codes, Option, Some, None, Result, Ok, Err}
 use Rattle.nrm_text.specs.Words.{text_line}
 use Rattle.nrm_model.specs.Network.{NetworkValue}
+use Rattle.nrm_network.specs.Causes.{why_text}
 use Rattle.nrm_network.specs.File.{file_of}
 use Rattle.nrm_network.specs.declared.fault.Why.{Why}
-use Rattle.nrm_network.specs.declared.fault.Why.TheVariants as why
 
 -- no file of the name, or a row that is refused and why
 pub data Refusal : Type 0 where
@@ -19,22 +19,6 @@ network_in (Err (row, cause)) = Err (at_row row cause)
 abbrev pub network_under : Option (List ℕ) → Result NetworkValue Refusal
 network_under None = Err no_file
 network_under (Some bytes) = network_in (file_of bytes)
-
--- the number and the word of a cause
-abbrev pub why_text : Why → List ℕ
-why_text why.Kind = codes "1 kind"
-why_text why.Order = codes "2 order"
-why_text why.Fields = codes "3 fields"
-why_text why.Many = codes "4 many"
-why_text why.Name = codes "5 name"
-why_text why.Number = codes "6 number"
-why_text why.Range = codes "7 range"
-why_text why.Twice = codes "8 twice"
-why_text why.Missing = codes "9 missing"
-why_text why.Thresholds = codes "10 thresholds"
-why_text why.Sum = codes "11 sum"
-why_text why.Empty = codes "12 empty"
-why_text why.Size = codes "13 size"
 
 -- the line of a refusal, and that of a fault of the files
 abbrev pub refusal_line : Refusal → List ℕ

@@ -6,8 +6,8 @@ use Rattle.nrm_model.specs.Network.{NetworkValue}
 use Rattle.nrm_network.specs.File.{file_of}
 use Rattle.nrm_network.specs.declared.fault.Why.{Why}
 use Rattle.nrm_network.specs.declared.fault.Why.TheVariants as why
-use Rattle.nrm_cli.specs.Refusals.{no_file, at_row, network_in, network_under}
-use Rattle.nrm_cli.specs.Outside.{OnFile}
+use Rattle.nrm_opening.specs.Refusals.{no_file, at_row, network_in, network_under}
+use Rattle.nrm_opening.specs.Outside.{OnFile}
 
 -- a file that is longer than may be read is refused before all else
 longer-refused : (bytes : List ℕ) → 4194304 < length bytes → file_of bytes ≡ Err (0, why.Size)

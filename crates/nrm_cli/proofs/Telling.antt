@@ -1,0 +1,26 @@
+-- A text that is told ends the call as it is defined, whole or cut.
+use Rattle.std.proofs.Common.{ℕ, ◌≡◌, List, Option, inl, inr}
+use Rattle.nrm_opening.specs.Outside.{Outside, SinkFailed, Wrote, WroteFront, LeftStream}
+use Rattle.nrm_cli.specs.Ends.{Ends}
+use Rattle.nrm_cli.specs.Jobs.{Job}
+use Rattle.nrm_cli.specs.Inner.Parts.{PutsLine}
+use Rattle.nrm_cli.specs.Tells.{Tells, Told, usage, refused, lacking, optimal, wrong, printed, file_fault}
+use Rattle.nrm_cli.specs.declared.status.Status.{Status}
+
+module _ (asked : Option Job) (before after : Outside) where
+  told : (s : Status) (text : List ℕ) → Tells asked before after s text → Wrote before after text → LeftStream before after → Told asked before after s
+  told s text tells wrote left = record { text = text; tells = tells; wrote = wrote; left = left }
+
+  whole : (s : Status) (text : List ℕ) → Tells asked before after s text → Wrote before after text → LeftStream before after → Ends asked before after s
+  whole s text (usage none) wrote left = told s text (usage none) wrote left
+  whole s text (refused refusal why) wrote left = told s text (refused refusal why) wrote left
+  whole s text (lacking net reason why) wrote left = told s text (lacking net reason why) wrote left
+  whole s text (optimal net given gives is shows) wrote left = inr (told s text (optimal net given gives is shows) wrote left)
+  whole s text (wrong net given found gives is other shaped) wrote left = told s text (wrong net given found gives is other shaped) wrote left
+  whole s text (printed file net opens) wrote left = inr (told s text (printed file net opens) wrote left)
+  whole s text (file_fault job is rose) wrote left = told s text (file_fault job is rose) wrote left
+
+  pub told-ends : (goes s : Status) (text : List ℕ) → Tells asked before after goes text
+      → PutsLine text goes before.held after.held before.sink_faults after.sink_faults s → LeftStream before after → Ends asked before after s
+  told-ends goes s text tells (inl (is, wrote, same)) left = rw is (whole goes text tells wrote left)
+  told-ends goes s text tells (inr (is, front, rose)) left = rw is (rose, inr (record { status = goes; text = text; tells = tells; wrote = front; left = left }))

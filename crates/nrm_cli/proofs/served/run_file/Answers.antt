@@ -1,0 +1,20 @@
+use Rattle.std.proofs.Common.{refl}
+use Rattle.nrm_cli.specs.Jobs.{run_file as run_job}
+use Rattle.nrm_cli.proofs.Serving.{served-ends, served-failures}
+use Rattle.nrm_cli.proofs.Without.{without-failures, without-network}
+use Rattle.nrm_cli.proofs.served.run_file.Goals as goal
+
+pub returns-in-Err-clause-ends : goal.returns-in-Err-clause-ends
+returns-in-Err-clause-ends g c =
+    without-network (run_job c.args.mode c.args.name.now) _ _ c.in-Err.reason c.put_reason.result c.in-Err.ensures.opens c.in-Err.ensures.counts c.put_reason.ensures.puts refl
+
+pub returns-in-Err-clause-failures : goal.returns-in-Err-clause-failures
+returns-in-Err-clause-failures g c = without-failures _ _ c.in-Err.reason c.put_reason.result c.in-Err.ensures.counts c.put_reason.ensures.puts refl
+
+pub returns-in-Ok-start-clause-ends : goal.returns-in-Ok-start-clause-ends
+returns-in-Ok-start-clause-ends g c =
+    served-ends c.args.mode c.args.name.now c.in-Ok.net c.in-Ok-start.controller c.answer_stream.new.controller _ _ c.in-Ok-start.ensures.begins (refl, c.in-Ok.ensures.opens) c.answer_stream.result c.answer_stream.ensures.answers
+
+pub returns-in-Ok-start-clause-failures : goal.returns-in-Ok-start-clause-failures
+returns-in-Ok-start-clause-failures g c =
+    served-failures c.args.mode c.args.name.now c.in-Ok.net c.in-Ok-start.controller c.answer_stream.new.controller _ _ c.in-Ok.ensures.counts c.answer_stream.result c.answer_stream.ensures.answers

@@ -1,0 +1,163 @@
+-- What the parts of the top call promise one another.
+use Rattle.std.specs.Prelude.{ℕ, ◌≡◌, ◌≢◌, ◌<◌, ◌≤◌, ◌⊎◌, List, length, Option, Some, None, Result, Ok, Err, MatchResult, IfSome, option_map, ⊤}
+use Rattle.std.specs.Io.KnownBytes.{Appends, Consumes, IsAtEnd, Keeps}
+use Rattle.nrm_edge.specs.Causes.{Rose}
+use Rattle.nrm_edge.specs.Fetch.{Folder}
+use Rattle.nrm_edge.specs.Pieces.{AppendsFront}
+use Rattle.nrm_model.specs.Network.{NetworkValue}
+use Rattle.nrm_model.specs.declared.mode.Mode.TheVariants as modes
+use Rattle.nrm_fraction.specs.Large.{size_limit}
+use Rattle.nrm_lp.specs.declared.certificate.Certificate.{Certificate}
+use Rattle.nrm_lp.specs.Certified.{Certifies}
+use Rattle.nrm_dlp.specs.Programs.{opening_program}
+use Rattle.nrm_dual.specs.Conditions.{verdict_on}
+use Rattle.nrm_dual.specs.Named.{IsOfNetwork}
+use Rattle.nrm_dual.specs.Refusals.{refusal_of}
+use Rattle.nrm_dual.specs.declared.verdict.Verdict.{Verdict}
+use Rattle.nrm_dual.specs.declared.verdict.Verdict.TheVariants as verdict
+use Rattle.nrm_opening.specs.Opening.{reason_line}
+use Rattle.nrm_opening.specs.Outside.{OnFile}
+use Rattle.nrm_opening.specs.Refusals.{file_fault_line}
+use Rattle.nrm_opening.specs.declared.opening.NoNetwork.{NoNetwork}
+use Rattle.nrm_opening.specs.declared.opening.NoNetwork.TheVariants as none
+use Rattle.nrm_cli.specs.Certificates.{certificate_under, lacking_line, no_certificate, refused_for, verdict_line}
+use Rattle.nrm_control.specs.Standing.{ControlValue}
+use Rattle.nrm_stream.specs.Commands.{commands_of}
+use Rattle.nrm_session.specs.Serving.{Refines, RefinesCut}
+use Rattle.nrm_cli.specs.Ends.{status_of, stream_limit}
+use Rattle.nrm_cli.specs.Jobs.{Job, run_file, check_file, print_file}
+use Rattle.nrm_cli.specs.declared.status.Status.{Status}
+use Rattle.nrm_cli.specs.declared.status.Status.TheVariants as status
+use Rattle.nrm_cli.specs.declared.words.Asked.{Asked}
+use Rattle.nrm_cli.specs.declared.words.Asked.TheVariants as asked
+use Rattle.nrm_cli.specs.declared.certificate.NoCertificate.{NoCertificate}
+use Rattle.nrm_cli.specs.declared.certificate.NoCertificate.TheVariants as lacking
+use Rattle.nrm_cli.specs.declared.stream.StreamFault.{StreamFault}
+use Rattle.nrm_cli.specs.declared.stream.StreamFault.TheVariants as stream
+
+-- a job as the code holds it
+abbrev pub job_in : Asked → Job
+job_in (asked.Run mode file) = run_file mode file.now
+job_in (asked.Check file certificate) = check_file file.now certificate.now
+job_in (asked.Print file) = print_file file.now
+
+-- a stream that was read to its end, at most so many bytes, or in which more came, or a take failed, or memory ran out
+abbrev pub ReadsWhole : {V : Type 0} → (V → List ℕ) → Option (List ℕ) → Option (List ℕ) → ℕ → Result V StreamFault → Type 0
+ReadsWhole items coming after limit (Ok v) = Consumes coming after (items v) × IsAtEnd after × (length (items v) ≤ limit)
+ReadsWhole items coming after limit (Err stream.TooLong) = (taken : List ℕ) × Consumes coming after taken × (limit < length taken)
+ReadsWhole items coming after limit (Err stream.Failed) = (taken : List ℕ) × Consumes coming after taken × (length taken ≤ limit)
+ReadsWhole items coming after limit (Err stream.NoMemory) = ⊤
+
+-- the source's count rose with a failed take, and else it stays
+abbrev pub CountsReading : {V : Type 0} → ℕ → ℕ → Result V StreamFault → Type 0
+CountsReading before now (Ok v) = now ≡ before
+CountsReading before now (Err stream.TooLong) = now ≡ before
+CountsReading before now (Err stream.Failed) = (before ≤ now) × Rose before now
+CountsReading before now (Err stream.NoMemory) = now ≡ before
+
+-- a line was put and its status answered, or the put failed and a front of the line went out
+abbrev pub PutsLine : List ℕ → Status → Option (List ℕ) → Option (List ℕ) → ℕ → ℕ → Status → Type 0
+PutsLine line told held held' before now result =
+    ((result ≡ told) × Appends held held' line × (now ≡ before)) ⊎ ((result ≡ status.WriteFault) × AppendsFront held held' line × Rose before now)
+
+-- the line of a reason is put with a status, or there is none for want of memory
+abbrev pub PutsIfSome : Option (List ℕ) → Status → Option (List ℕ) → Option (List ℕ) → ℕ → ℕ → Status → Type 0
+PutsIfSome (Some line) told held held' before now result = PutsLine line told held held' before now result
+PutsIfSome None told held held' before now result = (result ≡ status.NoMemory) × Keeps held held' × (now ≡ before)
+
+-- the status that goes with the line of a reason
+abbrev pub status_for : NoNetwork → Status
+status_for none.Absent = status.Refused
+status_for (none.Refused row cause) = status.Refused
+status_for none.Fault = status.FileFault
+status_for none.NoMemory = status.NoMemory
+
+-- what is put and answered where there is no network
+abbrev pub PutsReason : NoNetwork → Option (List ℕ) → Option (List ℕ) → ℕ → ℕ → Status → Type 0
+PutsReason reason held held' before now result = PutsIfSome (reason_line reason) (status_for reason) held held' before now result
+
+-- the certificate of the file of this name for a network, where the files are told, or why there is none; a fault of the files
+-- tells nothing of them, and want of memory is free
+abbrev pub OpensCertificate : NetworkValue → Option Folder → List ℕ → Result Certificate NoCertificate → Type 0
+OpensCertificate net files name (Ok given) = OnFile files name (λ file. certificate_under net file ≡ Ok given)
+OpensCertificate net files name (Err lacking.Absent) = OnFile files name (λ file. certificate_under net file ≡ Err no_certificate)
+OpensCertificate net files name (Err (lacking.Unread fault)) = OnFile files name (λ file. IfSome (refusal_of fault) (λ cause. certificate_under net file ≡ Err (refused_for cause)))
+OpensCertificate net files name (Err lacking.Fault) = ⊤
+
+-- the files' count rose with a fault of the files, and else it stays
+abbrev pub CountsCertificate : {C : Type 0} → ℕ → ℕ → Result C NoCertificate → Type 0
+CountsCertificate before now (Ok given) = now ≡ before
+CountsCertificate before now (Err lacking.Absent) = now ≡ before
+CountsCertificate before now (Err (lacking.Unread fault)) = now ≡ before
+CountsCertificate before now (Err lacking.Fault) = (before ≤ now) × Rose before now
+
+-- a refusal names a product or a leg of the network
+abbrev pub IsLackOf : NetworkValue → NoCertificate → Type 0
+IsLackOf net lacking.Absent = ⊤
+IsLackOf net (lacking.Unread fault) = IsOfNetwork net fault
+IsLackOf net lacking.Fault = ⊤
+
+-- what is written where there is no certificate, and nothing for want of memory
+abbrev pub lack_line : NetworkValue → NoCertificate → Option (List ℕ)
+lack_line net lacking.Absent = Some (lacking_line net no_certificate)
+lack_line net (lacking.Unread fault) = option_map (λ cause. lacking_line net (refused_for cause)) (refusal_of fault)
+lack_line net lacking.Fault = Some file_fault_line
+
+-- the status that goes with it
+abbrev pub lack_status : NoCertificate → Status
+lack_status lacking.Absent = status.Refused
+lack_status (lacking.Unread fault) = status.Refused
+lack_status lacking.Fault = status.FileFault
+
+-- what is put and answered where there is a certificate: the verdict on it, which is optimal only where the certificate shows that it
+-- is, and is never that it has another shape; or memory ran out
+pub record PutsFound (net : NetworkValue) (given : Certificate) (held held' : Option (List ℕ)) (before now : ℕ) (result : Status) : Type 0 where
+  pub found : Verdict
+  pub verdict_is : verdict_on (opening_program net) given ≡ found
+  pub shaped : found ≢ verdict.WrongShape
+  pub optimal : found ≡ verdict.Optimal → Certifies size_limit (opening_program net) given
+  pub puts : PutsLine (verdict_line net found) (status_of found) held held' before now result
+
+abbrev pub PutsVerdict : NetworkValue → Certificate → Option (List ℕ) → Option (List ℕ) → ℕ → ℕ → Status → Type 0
+PutsVerdict net given held held' before now result = ((result ≡ status.NoMemory) × Keeps held held' × (now ≡ before)) ⊎ PutsFound net given held held' before now result
+
+-- a certificate was opened for a network, and the verdict on it was put, or it was told why there is none
+pub record ChecksFile (net : NetworkValue) (files : Option Folder) (name : List ℕ) (held held' : Option (List ℕ)) (before now sunk sunk' : ℕ) (result : Status) : Type 0 where
+  pub opened : Result Certificate NoCertificate
+  pub opens : OpensCertificate net files name opened
+  pub counts : CountsCertificate before now opened
+  pub puts : MatchResult opened (λ given. PutsVerdict net given held held' sunk sunk' result) (λ reason. PutsIfSome (lack_line net reason) (lack_status reason) held held' sunk sunk' result)
+
+-- a job in a mode that is built
+abbrev pub IsBuilt : Asked → Type 0
+IsBuilt (asked.Run mode file) = mode ≡ modes.FirstCome
+IsBuilt (asked.Check file certificate) = ⊤
+IsBuilt (asked.Print file) = ⊤
+
+-- a stream was read to its end, and such output was written
+pub record AnswersAll (coming after : Option (List ℕ)) (held held' : Option (List ℕ)) (refines : List ℕ → List ℕ → Type 0) : Type 0 where
+  pub stream : List ℕ
+  pub output : List ℕ
+  pub taken : Consumes coming after stream
+  pub ended : IsAtEnd after
+  pub short : length stream ≤ stream_limit
+  pub refines_it : refines stream output
+  pub wrote : Appends held held' output
+
+-- how a controller's serving of a stream ends: the replies to all lines of the stream were written, or those before a put that failed
+-- and a front of one more; or a take failed, or it was too long, or memory ran out, and nothing was written
+abbrev pub AnswersStream : ControlValue → ControlValue → Option (List ℕ) → Option (List ℕ) → ℕ → ℕ → Option (List ℕ) → Option (List ℕ) → ℕ → ℕ → Status → Type 0
+AnswersStream old new coming after took took' held held' sunk sunk' status.Done =
+    AnswersAll coming after held held' (λ stream output. Refines old new (commands_of stream) output) × (took' ≡ took) × (sunk' ≡ sunk)
+AnswersStream old new coming after took took' held held' sunk sunk' status.WriteFault =
+    AnswersAll coming after held held' (λ stream output. RefinesCut old new (commands_of stream) output) × (took' ≡ took) × Rose sunk sunk'
+AnswersStream old new coming after took took' held held' sunk sunk' status.ReadFault =
+    (taken : List ℕ) × Consumes coming after taken × (length taken ≤ stream_limit) × Rose took took' × Keeps held held' × (sunk' ≡ sunk)
+AnswersStream old new coming after took took' held held' sunk sunk' status.TooLong =
+    (taken : List ℕ) × Consumes coming after taken × (stream_limit < length taken) × (took' ≡ took) × Keeps held held' × (sunk' ≡ sunk)
+AnswersStream old new coming after took took' held held' sunk sunk' status.NoMemory = (took' ≡ took) × Keeps held held' × (sunk' ≡ sunk)
+AnswersStream old new coming after took took' held held' sunk sunk' status.Wrong = ⊥
+AnswersStream old new coming after took took' held held' sunk sunk' status.Usage = ⊥
+AnswersStream old new coming after took took' held held' sunk sunk' status.Refused = ⊥
+AnswersStream old new coming after took took' held held' sunk sunk' status.Overflow = ⊥
+AnswersStream old new coming after took took' held held' sunk sunk' status.FileFault = ⊥

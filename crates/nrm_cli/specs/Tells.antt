@@ -1,0 +1,70 @@
+-- The texts that the program tells, each with its status and its cause.
+use Rattle.std.specs.Prelude.{ℕ, ◌≡◌, ◌≢◌, List, Option, Some, None, Ok, Err}
+use Rattle.nrm_model.specs.Network.{NetworkValue}
+use Rattle.nrm_network.specs.Canonical.{canonical_file}
+use Rattle.nrm_fraction.specs.Large.{size_limit}
+use Rattle.nrm_lp.specs.declared.certificate.Certificate.{Certificate}
+use Rattle.nrm_lp.specs.Certified.{Certifies}
+use Rattle.nrm_dlp.specs.Programs.{opening_program}
+use Rattle.nrm_dual.specs.Conditions.{verdict_on}
+use Rattle.nrm_dual.specs.declared.verdict.Verdict.{Verdict}
+use Rattle.nrm_dual.specs.declared.verdict.Verdict.TheVariants as verdict
+use Rattle.nrm_opening.specs.Outside.{Outside, OnFile, FilesFailed, Wrote, WroteFront, LeftStream}
+use Rattle.nrm_opening.specs.Refusals.{Refusal, network_under, refusal_line, file_fault_line}
+use Rattle.nrm_cli.specs.Certificates.{LacksCertificate, certificate_under, lacking_line, verdict_line}
+use Rattle.nrm_cli.specs.Jobs.{Job, check_file, print_file, file_of_job, usage_line}
+use Rattle.nrm_cli.specs.declared.status.Status.{Status}
+use Rattle.nrm_cli.specs.declared.status.Status.TheVariants as status
+
+-- the words ask for a job, and where the files are told, its file gives this network
+abbrev pub Opens : Option Job → Job → Outside → NetworkValue → Type 0
+Opens asked job before net = (asked ≡ Some job) × OnFile before.files (file_of_job job) (λ file. network_under file ≡ Ok net)
+
+-- the words ask for a job, and where the files are told, its file is refused so
+pub record Refuses (asked : Option Job) (before : Outside) (refusal : Refusal) : Type 0 where
+  pub job : Job
+  pub asks : asked ≡ Some job
+  pub refused : OnFile before.files (file_of_job job) (λ file. network_under file ≡ Err refusal)
+
+-- the words ask for a certificate to be checked, the network file gives this network, and where the files are told, the second one
+-- answers so
+pub record Reads (asked : Option Job) (before : Outside) (net : NetworkValue) (answers : Option (List ℕ) → Type 0) : Type 0 where
+  pub file : List ℕ
+  pub certificate : List ℕ
+  pub opens : Opens asked (check_file file certificate) before net
+  pub answered : OnFile before.files certificate answers
+
+-- it gives this certificate
+abbrev pub Gives : Option Job → Outside → NetworkValue → Certificate → Type 0
+Gives asked before net given = Reads asked before net (λ contents. certificate_under net contents ≡ Ok given)
+
+-- or there is none, and why
+abbrev pub Lacks : Option Job → Outside → NetworkValue → LacksCertificate → Type 0
+Lacks asked before net reason = Reads asked before net (λ contents. certificate_under net contents ≡ Err reason)
+
+-- a text, the status that goes with it, and why it is told. A verdict is that on the certificate for the program of period 1 with
+-- every seat left: `optimal` where allocation and bid prices are optimal, whoever made them, and else the first condition that fails
+pub data Tells (asked : Option Job) (before after : Outside) : Status → List ℕ → Type 0 where
+  usage : asked ≡ None → Tells asked before after status.Usage usage_line
+  refused : (refusal : Refusal) → Refuses asked before refusal → Tells asked before after status.Refused (refusal_line refusal)
+  lacking : (net : NetworkValue) (reason : LacksCertificate) → Lacks asked before net reason → Tells asked before after status.Refused (lacking_line net reason)
+  optimal : (net : NetworkValue) (given : Certificate) → Gives asked before net given → verdict_on (opening_program net) given ≡ verdict.Optimal
+      → Certifies size_limit (opening_program net) given → Tells asked before after status.Done (verdict_line net verdict.Optimal)
+  wrong : (net : NetworkValue) (given : Certificate) (found : Verdict) → Gives asked before net given → verdict_on (opening_program net) given ≡ found
+      → found ≢ verdict.Optimal → found ≢ verdict.WrongShape → Tells asked before after status.Wrong (verdict_line net found)
+  printed : (file : List ℕ) (net : NetworkValue) → Opens asked (print_file file) before net → Tells asked before after status.Done (canonical_file net)
+  file_fault : (job : Job) → asked ≡ Some job → FilesFailed before after → Tells asked before after status.FileFault file_fault_line
+
+-- it was written whole, or a front of it; the stream was not touched
+pub record Told (asked : Option Job) (before after : Outside) (s : Status) : Type 0 where
+  pub text : List ℕ
+  pub tells : Tells asked before after s text
+  pub wrote : Wrote before after text
+  pub left : LeftStream before after
+
+pub record ToldCut (asked : Option Job) (before after : Outside) : Type 0 where
+  pub status : Status
+  pub text : List ℕ
+  pub tells : Tells asked before after status text
+  pub wrote : WroteFront before after text
+  pub left : LeftStream before after

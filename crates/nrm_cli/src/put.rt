@@ -1,0 +1,40 @@
+//! One line, put with the status that goes with it.
+ghost use Rattle.std.specs.Prelude.{◌≡◌, ◌≤◌};
+ghost use Rattle.nrm_cli.specs.Inner.Parts.{PutsLine, PutsReason, status_for};
+
+use crate::Status;
+use nrm_edge::{Sink, put_all};
+use nrm_opening::NoNetwork;
+
+/// Puts a line that goes with a status.
+pub(crate) fn put_line<K: Sink>(sink: &mut K, line: &[u8], told: Status) -> Status
+    ensures puts { PutsLine line.now told (K.held sink.old) (K.held sink.new) (K.faults sink.old) (K.faults sink.new) result }
+    ensures later { K.faults sink.old ≤ K.faults sink.new }
+{
+    match put_all(sink, line) {
+        Ok(()) => told,
+        Err(_) => Status::WriteFault,
+    }
+}
+
+// The status that goes with the line of a reason.
+fn status_for(reason: NoNetwork) -> Status
+    ensures { result ≡ status_for reason }
+{
+    match reason {
+        NoNetwork::Absent | NoNetwork::Refused { .. } => Status::Refused,
+        NoNetwork::Fault => Status::FileFault,
+        NoNetwork::NoMemory => Status::NoMemory,
+    }
+}
+
+/// Puts the line that says why there is no network, if one goes with it.
+pub(crate) fn put_reason<K: Sink>(sink: &mut K, reason: NoNetwork) -> Status
+    ensures puts { PutsReason reason (K.held sink.old) (K.held sink.new) (K.faults sink.old) (K.faults sink.new) result }
+    ensures later { K.faults sink.old ≤ K.faults sink.new }
+{
+    match reason.line() {
+        Some(line) => put_line(sink, line.bytes(), status_for(reason)),
+        None => Status::NoMemory,
+    }
+}

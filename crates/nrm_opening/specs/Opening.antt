@@ -1,0 +1,33 @@
+-- What the opening of a network file answers.
+use Rattle.std.specs.Prelude.{ℕ, ◌≡◌, ◌≤◌, List, Option, Some, None, Result, Ok, Err, ⊤}
+use Rattle.nrm_edge.specs.Causes.{Rose}
+use Rattle.nrm_edge.specs.Fetch.{Folder}
+use Rattle.nrm_model.specs.Network.{NetworkValue}
+use Rattle.nrm_opening.specs.Outside.{OnFile}
+use Rattle.nrm_opening.specs.Refusals.{no_file, at_row, network_under, refusal_line, file_fault_line}
+use Rattle.nrm_opening.specs.declared.opening.NoNetwork.{NoNetwork}
+use Rattle.nrm_opening.specs.declared.opening.NoNetwork.TheVariants as none
+
+-- the network of the file of this name, where the files are told, or why there is none; a fault of the files tells nothing of
+-- them, and want of memory is free
+abbrev pub OpensFile : Option Folder → List ℕ → Result NetworkValue NoNetwork → Type 0
+OpensFile files name (Ok net) = OnFile files name (λ file. network_under file ≡ Ok net)
+OpensFile files name (Err none.Absent) = OnFile files name (λ file. network_under file ≡ Err no_file)
+OpensFile files name (Err (none.Refused row cause)) = OnFile files name (λ file. network_under file ≡ Err (at_row row cause))
+OpensFile files name (Err none.Fault) = ⊤
+OpensFile files name (Err none.NoMemory) = ⊤
+
+-- the count of faults rose with a fault of the files, and else it stays
+abbrev pub CountsOpening : ℕ → ℕ → Result NetworkValue NoNetwork → Type 0
+CountsOpening before now (Ok net) = now ≡ before
+CountsOpening before now (Err none.Absent) = now ≡ before
+CountsOpening before now (Err (none.Refused row cause)) = now ≡ before
+CountsOpening before now (Err none.Fault) = (before ≤ now) × Rose before now
+CountsOpening before now (Err none.NoMemory) = now ≡ before
+
+-- what is written of a reason: the line of a refusal or of a fault of the files, and nothing for want of memory
+abbrev pub reason_line : NoNetwork → Option (List ℕ)
+reason_line none.Absent = Some (refusal_line no_file)
+reason_line (none.Refused row cause) = Some (refusal_line (at_row row cause))
+reason_line none.Fault = Some file_fault_line
+reason_line none.NoMemory = None
