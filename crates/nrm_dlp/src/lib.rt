@@ -8,4 +8,4 @@ mod programs;
 mod tests;
 
 pub use laws::programs_are_limited;
-pub use programs::{full_seats, opening_program, program_at, program_of};
+pub use programs::{opening_program, program_at, program_of};

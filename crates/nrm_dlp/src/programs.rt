@@ -68,11 +68,8 @@ pub fn opening_program(alloc: Global, net: &Network) -> Result<Program, AllocErr
     program_at(alloc, net, &left, 1)
 }
 
-/// The seats of each leg, in file order: what is left before anything is sold.
-///
-/// # Errors
-/// Want of memory.
-pub fn full_seats(alloc: Global, net: &Network) -> Result<Vec<u16>, AllocError>
+// The seats of each leg, in file order: what is left before anything is sold.
+fn full_seats(alloc: Global, net: &Network) -> Result<Vec<u16>, AllocError>
     ensures seats { IfOk result (λ left. left.items ≡ (inventory_of net.now).seats) }
     ensures limits { IsNetwork net.now }
 {

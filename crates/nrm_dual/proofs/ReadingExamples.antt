@@ -3,7 +3,7 @@ use Rattle.std.proofs.Common.{◌≡◌, pos, refl, [], ◌∷◌, codes, replic
 use Rattle.std.specs.Fmt.{digits}
 use Rattle.nrm_number.specs.Gcd.{gcd, lcm, in_lowest_terms}
 use Rattle.nrm_fraction.specs.Fraction.{◌over◌}
-use Rattle.nrm_model.proofs.Examples.{two_legs_five_products}
+use Rattle.nrm_samples.specs.Networks.{two_legs_five_products}
 use Rattle.nrm_lp.specs.declared.certificate.Certificate.{Certificate}
 use Rattle.nrm_dual.specs.Reading.{certificate_of}
 use Rattle.nrm_dual.specs.Texts.{certificate_text}
