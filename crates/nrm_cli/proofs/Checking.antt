@@ -71,7 +71,7 @@ module _ (file certificate : List ℕ) (before after : Outside) (net : NetworkVa
 
   by-opened : (opened : Result Certificate NoCertificate) (s : Status) → OpensCertificate net before.files certificate opened → CountsCertificate before.file_faults after.file_faults opened
       → MatchResult opened (λ given. PutsVerdict net given before.held after.held before.sink_faults after.sink_faults s)
-        (λ reason. PutsIfSome (lack_line net reason) (lack_status reason) before.held after.held before.sink_faults after.sink_faults s) → IsEnd s
+      (λ reason. PutsIfSome (lack_line net reason) (lack_status reason) before.held after.held before.sink_faults after.sink_faults s) → IsEnd s
   by-opened (Ok given) s on counts puts = found-ends given s on puts
   by-opened (Err reason) s on counts puts = lacks-ends reason s on counts puts
 
@@ -107,7 +107,7 @@ module _ (before after : Outside) (net : NetworkValue) (source : after.source_fa
 
   by-opened-failures : (opened : Result Certificate NoCertificate) (s : Status) → CountsCertificate before.file_faults after.file_faults opened
       → MatchResult opened (λ given. PutsVerdict net given before.held after.held before.sink_faults after.sink_faults s)
-        (λ reason. PutsIfSome (lack_line net reason) (lack_status reason) before.held after.held before.sink_faults after.sink_faults s) → Failures s before after
+      (λ reason. PutsIfSome (lack_line net reason) (lack_status reason) before.held after.held before.sink_faults after.sink_faults s) → Failures s before after
   by-opened-failures (Ok given) s counts (inl (is, kept, same)) = rw is (record { files = counts; source = source; sink = same })
   by-opened-failures (Ok given) s counts (inr v) = line-failures (verdict_line net v.found) (status_of v.found) s v.puts (λ sink. quiet v.found counts sink)
   by-opened-failures (Err reason) s counts puts = lacks-failures reason s counts puts

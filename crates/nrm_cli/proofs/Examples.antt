@@ -1,5 +1,6 @@
 -- Sessions and refusals written down, from the bytes of the file and of the stream to the bytes that are written.
-use Rattle.std.specs.Prelude.{◌≡◌, ℕ, List, [], ◌∷◌, codes, refl, Some, None, Ok, Err}
+use Rattle.std.specs.Prelude.{◌≡◌, ℕ, List, [], ◌∷◌, map, codes, refl, Option, Some, None, Ok, Err}
+use Rattle.std.proofs.Common.{arith}
 use Rattle.std.specs.Fmt.{digits}
 use Rattle.nrm_model.specs.Network.{NetworkValue}
 use Rattle.nrm_model.specs.declared.mode.Mode.TheVariants as mode
@@ -8,8 +9,15 @@ use Rattle.nrm_network.specs.declared.fault.Why.TheVariants as why
 use Rattle.nrm_network.proofs.OnLiterals.{network_on_literals}
 use Rattle.nrm_control.specs.State.{SeatState, opening, after_request, after_cancellation}
 use Rattle.nrm_session.specs.Replies.{bad, unknown, sold, no_leg, cancelled, leg_told}
-use Rattle.nrm_cli.specs.Ends.{RunWrites}
-use Rattle.nrm_cli.specs.Jobs.{job_of, run_file, print_file}
+use Rattle.nrm_dual.specs.Refusals.{too_long, bad_line, large_line, no_value, no_product, no_leg, too_fine}
+use Rattle.nrm_dual.specs.declared.verdict.Verdict.TheVariants as verdict
+use Rattle.nrm_opening.specs.Outside.{Outside, FilesFailed, SourceFailed, SinkFailed}
+use Rattle.nrm_cli.specs.Certificates.{lacking_line, no_certificate, refused_for, verdict_line}
+use Rattle.nrm_cli.specs.Ends.{Completes, OrRanOut, RunWrites, status_of, stream_limit}
+use Rattle.nrm_cli.specs.Jobs.{job_of, run_file, check_file, print_file, usage_line}
+use Rattle.nrm_cli.specs.Numbers.{number_of}
+use Rattle.nrm_cli.specs.declared.status.Status.{Status}
+use Rattle.nrm_cli.specs.declared.status.Status.TheVariants as status
 use Rattle.nrm_opening.specs.Refusals.{network_under, refusal_line, no_file, at_row, file_fault_line}
 
 abbrev pub two_legs : NetworkValue
@@ -112,3 +120,44 @@ other_mode = refl
 
 one_word_more : job_of (codes "print" ∷ codes "F" ∷ codes "G" ∷ []) ≡ None
 one_word_more = refl
+
+-- ---- each status by its number
+numbers : map number_of (status.Done ∷ status.Wrong ∷ status.Usage ∷ status.Refused ∷ status.ReadFault ∷ status.WriteFault ∷ status.NoMemory ∷ status.Overflow ∷ status.TooLong ∷ status.FileFault ∷ [])
+    ≡ 0 ∷ 1 ∷ 2 ∷ 3 ∷ 4 ∷ 5 ∷ 6 ∷ 7 ∷ 8 ∷ 9 ∷ []
+numbers = refl
+
+-- each verdict by its status and its line
+statuses : map status_of (verdict.Optimal ∷ verdict.WrongShape ∷ verdict.WrongProduct 0 ∷ verdict.WrongLeg 0 ∷ verdict.WrongValue ∷ [])
+    ≡ status.Done ∷ status.Wrong ∷ status.Wrong ∷ status.Wrong ∷ status.Wrong ∷ []
+statuses = refl
+
+verdicts : map (verdict_line two_legs) (verdict.Optimal ∷ verdict.WrongShape ∷ verdict.WrongProduct 1 ∷ verdict.WrongLeg 1 ∷ verdict.WrongValue ∷ [])
+    ≡ codes "optimal\n" ∷ codes "wrong shape\n" ∷ codes "wrong product LOC\n" ∷ codes "wrong leg BC\n" ∷ codes "wrong value\n" ∷ []
+verdicts = refl
+
+-- each refusal of a certificate by its line
+lackings : map (lacking_line two_legs) (no_certificate ∷ refused_for too_long ∷ refused_for (bad_line 9) ∷ refused_for (large_line 1) ∷ refused_for no_value ∷ refused_for (no_product 0) ∷ refused_for (no_leg 1) ∷ refused_for too_fine ∷ [])
+    ≡ codes "refused certificate no file\n" ∷ codes "refused certificate long\n" ∷ codes "refused certificate line 9\n" ∷ codes "refused certificate line 1 large\n"
+    ∷ codes "refused certificate no value\n" ∷ codes "refused certificate no product THRU\n" ∷ codes "refused certificate no leg BC\n" ∷ codes "refused certificate too fine\n" ∷ []
+unfolding digits
+lackings = refl
+
+usage : usage_line ≡ codes "usage: nrm run MODE FILE, plan MODE FILE, check FILE CERT, print FILE, gen MODE NUMBER\n"
+usage = refl
+
+words_of_a_check : job_of (codes "check" ∷ codes "F" ∷ codes "C" ∷ []) ≡ Some (check_file (codes "F") (codes "C"))
+words_of_a_check = refl
+
+-- 16 MiB
+limit : stream_limit ≡ 16777216
+limit = refl
+
+-- ---- a stream of 21 bytes is short enough, so its replies are written, or memory ran out
+abbrev over : Option (List ℕ) → Option (List ℕ) → Outside
+over coming held = record { files = Some (λ name. Some two_legs_file); coming = coming; held = held; file_faults = 0; source_faults = 0; sink_faults = 0 }
+
+completed : (s : Status) (after : Outside) → Completes (Some (run_file mode.FirstCome (codes "F"))) (over (Some (codes "book LOC 1\nbook X 1\n")) (Some [])) after s
+    → (FilesFailed (over (Some (codes "book LOC 1\nbook X 1\n")) (Some [])) after → ⊥) → (SourceFailed (over (Some (codes "book LOC 1\nbook X 1\n")) (Some [])) after → ⊥) → (SinkFailed (over (Some (codes "book LOC 1\nbook X 1\n")) (Some [])) after → ⊥)
+    → (output : List ℕ) × RunWrites two_legs mode.FirstCome (codes "book LOC 1\nbook X 1\n") output × OrRanOut (over (Some (codes "book LOC 1\nbook X 1\n")) (Some [])) after s status.Done output
+completed s after completes files source sink =
+    completes (run_file mode.FirstCome (codes "F")) (λ name. Some two_legs_file) two_legs refl refl opened files source sink (codes "book LOC 1\nbook X 1\n") refl (omega arith)

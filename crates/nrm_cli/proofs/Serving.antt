@@ -19,17 +19,30 @@ module _ (mode : Mode) (file : List ℕ) (net : NetworkValue) (start new : Contr
   pub served-ends : start ≡ record { net = net; mode = mode; bookings = []; next = 1 } → Opens (Some (run_file mode file)) (run_file mode file) before net
       → (s : Status) → Answers s → Ends (Some (run_file mode file)) before after s
   served-ends begun opens status.Done (all, took, sank) = inl (record {
-    mode = mode; file = file; net = net; stream = all.stream; output = all.output; opens = opens;
+    mode = mode;
+    file = file;
+    net = net;
+    stream = all.stream;
+    output = all.output;
+    opens = opens;
     read = record { taken = all.taken; ended = all.ended; short = all.short };
     writes_it = run-writes start new net mode all.stream all.output begun all.refines_it;
     wrote = all.wrote;
   })
-  served-ends begun opens status.WriteFault (all, took, rose) = (rose, inl (record {
-    mode = mode; file = file; net = net; stream = all.stream; output = all.output; opens = opens;
-    read = record { taken = all.taken; ended = all.ended; short = all.short };
-    writes_it = run-writes-cut start new net mode all.stream all.output begun all.refines_it;
-    wrote = all.wrote;
-  }))
+  served-ends begun opens status.WriteFault (all, took, rose) = (
+    rose,
+    inl (record {
+      mode = mode;
+      file = file;
+      net = net;
+      stream = all.stream;
+      output = all.output;
+      opens = opens;
+      read = record { taken = all.taken; ended = all.ended; short = all.short };
+      writes_it = run-writes-cut start new net mode all.stream all.output begun all.refines_it;
+      wrote = all.wrote;
+    }),
+  )
   served-ends begun opens status.ReadFault (taken, took, short, rose, kept, sank) =
       (rose, taken, short, record { mode = mode; file = file; net = net; opens = opens; took = took; wrote = kept })
   served-ends begun opens status.TooLong (taken, took, long, same, kept, sank) =

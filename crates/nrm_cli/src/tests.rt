@@ -22,14 +22,20 @@ const REPEATED: &[u8] = b"value 4130/1\nproduct ABH 3/1\nproduct ABH 3/1\n";
 
 const STREAM: &[u8] = b"book THRU 2\nbook THRU 1\nbook LOC 1\nbook LOC 1\nbook X 1\n";
 
-fn files(alloc: Global) -> Result<MemFiles, AllocError> {
+// A price so fine that its denominator is the limit.
+const FINE: &[u8] =
+    b"value 4130/1\nproduct ABH 3/1\nproduct ABL 3/1\nproduct ACH 4/1\nproduct BCL 6/1\nproduct ACL 0/1\nleg AB 150/1\nleg BC 1/281474976710656\n";
+
+// The files, of which the fetches with these numbers fail.
+fn files(alloc: Global, failing: &[u64]) -> Result<MemFiles, AllocError> {
     let mut list = Vec::new(alloc);
     list.push((b"F".to_vec(alloc)?, NETWORK.to_vec(alloc)?))?;
     list.push((b"DEMANDED".to_vec(alloc)?, DEMANDED.to_vec(alloc)?))?;
     list.push((b"OPTIMAL".to_vec(alloc)?, OPTIMAL.to_vec(alloc)?))?;
     list.push((b"CHEAP".to_vec(alloc)?, CHEAP.to_vec(alloc)?))?;
     list.push((b"REPEATED".to_vec(alloc)?, REPEATED.to_vec(alloc)?))?;
-    Ok(MemFiles::new(list, Vec::new(alloc)))
+    list.push((b"FINE".to_vec(alloc)?, FINE.to_vec(alloc)?))?;
+    Ok(MemFiles::new(list, failing.to_vec(alloc)?))
 }
 
 fn source(alloc: Global) -> Result<MemSource, AllocError> {
@@ -39,6 +45,15 @@ fn source(alloc: Global) -> Result<MemSource, AllocError> {
 
 // How the program ends that is called with these words, and the sink that it wrote to.
 fn outcome(alloc: Global, words: &[&str]) -> Result<(Status, MemSink), AllocError> {
+    outcome_over(alloc, words, &[])
+}
+
+// The same, where the fetches with these numbers fail.
+fn outcome_over(
+    alloc: Global,
+    words: &[&str],
+    failing: &[u64],
+) -> Result<(Status, MemSink), AllocError> {
     let mut given = Vec::new(alloc);
     for word in words {
         given.push(String::from_str(alloc, word)?)?;
@@ -47,7 +62,7 @@ fn outcome(alloc: Global, words: &[&str]) -> Result<(Status, MemSink), AllocErro
     let status = run(
         alloc,
         &given,
-        &mut files(alloc)?,
+        &mut files(alloc, failing)?,
         &mut source(alloc)?,
         &mut sink,
     );
@@ -95,9 +110,30 @@ fn a_certificate_is_refused(rt: HostRuntime) -> Result<(), Fail> {
     assert_eq!(rt; status, Status::Refused);
     assert_eq!(rt; sink.held(), b"refused certificate no file\n".as_slice());
 
+    let (status, sink) = outcome(rt.alloc(), &["check", "DEMANDED", "FINE"])?;
+    assert_eq!(rt; status, Status::Refused);
+    assert_eq!(rt; sink.held(), b"refused certificate too fine\n".as_slice());
+
     let (status, sink) = outcome(rt.alloc(), &["check", "OPTIMAL", "OPTIMAL"])?;
     assert_eq!(rt; status, Status::Refused);
     assert_eq!(rt; sink.held(), b"refused row 1 why 1 kind\n".as_slice());
+    Ok(())
+}
+
+// The second file is not looked for where the first is refused, so its fault tells nothing then.
+#[test]
+fn a_fault_of_the_files_is_told_where_it_comes(rt: HostRuntime) -> Result<(), Fail> {
+    let (status, sink) = outcome_over(rt.alloc(), &["check", "OPTIMAL", "OPTIMAL"], &[2])?;
+    assert_eq!(rt; status, Status::Refused);
+    assert_eq!(rt; sink.held(), b"refused row 1 why 1 kind\n".as_slice());
+
+    let (status, sink) = outcome_over(rt.alloc(), &["check", "DEMANDED", "OPTIMAL"], &[2])?;
+    assert_eq!(rt; status, Status::FileFault);
+    assert_eq!(rt; sink.held(), b"file fault\n".as_slice());
+
+    let (status, sink) = outcome_over(rt.alloc(), &["print", "F"], &[1])?;
+    assert_eq!(rt; status, Status::FileFault);
+    assert_eq!(rt; sink.held(), b"file fault\n".as_slice());
     Ok(())
 }
 

@@ -9,7 +9,10 @@ fn files(alloc: Global) -> Result<MemFiles, AllocError> {
     let mut list = Vec::new(alloc);
     let good = b"periods,1,1\nleg,AB,3\nproduct,LOC,200,AB\n".to_vec(alloc)?;
     list.push((b"GOOD".to_vec(alloc)?, good))?;
-    list.push((b"BAD".to_vec(alloc)?, b"periods,1,1\nfare,AB\n".to_vec(alloc)?))?;
+    list.push((
+        b"BAD".to_vec(alloc)?,
+        b"periods,1,1\nfare,AB\n".to_vec(alloc)?,
+    ))?;
     Ok(MemFiles::new(list, vec![in alloc; 4]?))
 }
 
