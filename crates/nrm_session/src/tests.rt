@@ -5,18 +5,14 @@ use crate::{WholeEnd, serve_whole};
 use nrm_control::Controller;
 use nrm_edge::MemSink;
 use nrm_model::Mode;
-use nrm_network::parse;
-use std::alloc::Global;
+use nrm_samples::two_legs;
+use std::alloc::{AllocError, Global};
 use std::test::Fail;
 
-fn begin(alloc: Global) -> Result<Controller, Fail>
+fn begin(alloc: Global) -> Result<Controller, AllocError>
     ensures { IfOk result (λ controller. controller.next ≡ 1) }
 {
-    let net = parse(
-        alloc,
-        b"periods,1,1\nleg,AB,3\nleg,BC,2\nproduct,THRU,500,AB,BC\nproduct,LOC,200,AB\n",
-    )?;
-    Ok(Controller::start(alloc, net, Mode::FirstCome)?)
+    Controller::start(alloc, two_legs(alloc)?, Mode::FirstCome)
 }
 
 #[test]
