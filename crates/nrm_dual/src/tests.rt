@@ -1,22 +1,10 @@
-//! A program of two legs and its certificate, worked by hand, then changed in one place at a time.
+//! The sample program of two legs of 40 seats and five products at 400, 150, 500, 80 and 229, and its certificate, worked by
+//! hand, then changed in one place at a time.
 use crate::{Verdict, check};
 use nrm_lp::{Certificate, Numbers, Program};
+use nrm_samples::two_legs_five_products_program;
 use std::alloc::{AllocError, Global};
 use std::test::Fail;
-
-// Two legs of 40 seats, and five products at 400, 150, 500, 80 and 229.
-fn two_legs(alloc: Global) -> Result<Program, AllocError> {
-    let caps = vec![in alloc; 40, 40]?;
-    let bounds = vec![in alloc; 12, 28, 16, 32, 0]?;
-    let fares = vec![in alloc; 400, 150, 500, 80, 229]?;
-    let first = vec![in alloc; 0]?;
-    let first_again = vec![in alloc; 0]?;
-    let both = vec![in alloc; 0, 1]?;
-    let second = vec![in alloc; 1]?;
-    let both_again = vec![in alloc; 0, 1]?;
-    let legs = vec![in alloc; first, first_again, both, second, both_again]?;
-    Ok(Program::new(caps, bounds, fares, legs))
-}
 
 // One leg of no seats, and one product at 100.
 fn no_seats(alloc: Global) -> Result<Program, AllocError> {
@@ -47,7 +35,7 @@ fn certificate(
 
 #[test]
 fn passes_in_any_terms(rt: HostRuntime) -> Result<(), Fail> {
-    let program = two_legs(rt.alloc())?;
+    let program = two_legs_five_products_program(rt.alloc())?;
     let own = certificate(
         rt.alloc(),
         (1, &[12, 12, 16, 24, 0]),
@@ -86,7 +74,7 @@ fn passes_at_either_price(rt: HostRuntime) -> Result<(), Fail> {
 
 #[test]
 fn single_numbers_are_checked(rt: HostRuntime) -> Result<(), Fail> {
-    let program = two_legs(rt.alloc())?;
+    let program = two_legs_five_products_program(rt.alloc())?;
     for (q, den, value, verdict) in [
         (0, 1, 16_520, Verdict::WrongShape),
         (-1, 1, 16_520, Verdict::WrongShape),
@@ -119,7 +107,7 @@ fn single_numbers_are_checked(rt: HostRuntime) -> Result<(), Fail> {
 
 #[test]
 fn lists_have_the_programs_lengths(rt: HostRuntime) -> Result<(), Fail> {
-    let program = two_legs(rt.alloc())?;
+    let program = two_legs_five_products_program(rt.alloc())?;
     let short_x = certificate(rt.alloc(), (1, &[12, 12, 16, 24]), (1, &[150, 80]), 16_520)?;
     assert_eq!(rt; check(&program, &short_x), Verdict::WrongShape);
     let long_x = certificate(
@@ -143,7 +131,7 @@ fn lists_have_the_programs_lengths(rt: HostRuntime) -> Result<(), Fail> {
 
 #[test]
 fn allotments_are_checked(rt: HostRuntime) -> Result<(), Fail> {
-    let program = two_legs(rt.alloc())?;
+    let program = two_legs_five_products_program(rt.alloc())?;
     for (x, verdict) in [
         ([-1, 12, 16, 24, 0].as_slice(), Verdict::WrongShape),
         ([12, 12, 16, 24, -1].as_slice(), Verdict::WrongShape),
@@ -173,7 +161,7 @@ fn allotments_are_checked(rt: HostRuntime) -> Result<(), Fail> {
 
 #[test]
 fn prices_are_checked(rt: HostRuntime) -> Result<(), Fail> {
-    let program = two_legs(rt.alloc())?;
+    let program = two_legs_five_products_program(rt.alloc())?;
     for (p, verdict) in [
         ([-150, 80].as_slice(), Verdict::WrongShape),
         ([150, -80].as_slice(), Verdict::WrongShape),

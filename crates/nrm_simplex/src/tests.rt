@@ -4,23 +4,9 @@ ghost use Rattle.std.specs.List.{range_with_len};
 
 use crate::{SolveFault, solve};
 use nrm_lp::Program;
+use nrm_samples::two_legs_five_products_program;
 use std::alloc::{AllocError, Global};
 use std::test::Fail;
-
-// Two legs of 10 seats over four histories, and five products.
-fn two_legs(alloc: Global) -> Result<Program, AllocError> {
-    let caps = vec![in alloc; 40, 40]?;
-    let bounds = vec![in alloc; 12, 28, 16, 32, 0]?;
-    let fares = vec![in alloc; 400, 150, 500, 80, 229]?;
-    let legs = vec![in alloc;
-        vec![in alloc; 0]?,
-        vec![in alloc; 0]?,
-        vec![in alloc; 0, 1]?,
-        vec![in alloc; 1]?,
-        vec![in alloc; 0, 1]?,
-    ]?;
-    Ok(Program::new(caps, bounds, fares, legs))
-}
 
 // Three legs of one seat, and three products on two of them each.
 fn triangle(alloc: Global) -> Result<Program, AllocError> {
@@ -80,7 +66,7 @@ fn dear_singles(alloc: Global) -> Result<Program, AllocError> {
 
 #[test]
 fn solves_two_legs(rt: HostRuntime) -> Result<(), Fail> {
-    let program = two_legs(rt.alloc())?;
+    let program = two_legs_five_products_program(rt.alloc())?;
     let certificate = solve(rt.alloc(), &program).ok().expect(&rt, "two legs");
     assert_eq!(rt; certificate.q, 1);
     assert_eq!(rt; certificate.x.as_slice(), [12, 12, 16, 24, 0].as_slice());

@@ -1,26 +1,14 @@
 //! Programs of few legs, from the first tableau to the closing.
 use crate::Tableau;
 use nrm_lp::{Certificate, Program};
+use nrm_samples::two_legs_five_products_program;
 use std::alloc::Global;
 use std::test::Fail;
 
-// Two legs of 40 seats, and five products at 400, 150, 500, 80 and 229.
 #[test]
 fn takes_the_pivots_of_two_legs(rt: HostRuntime) -> Result<(), Fail> {
     let alloc = rt.alloc();
-    let caps = vec![in alloc; 40, 40]?;
-    let bounds = vec![in alloc; 12, 28, 16, 32, 0]?;
-    let fares = vec![in alloc; 400, 150, 500, 80, 229]?;
-    let both = vec![in alloc; 0, 1]?;
-    let both_again = vec![in alloc; 0, 1]?;
-    let legs = vec![in alloc;
-        vec![in alloc; 0]?,
-        vec![in alloc; 0]?,
-        both,
-        vec![in alloc; 1]?,
-        both_again,
-    ]?;
-    let program = Program::new(caps, bounds, fares, legs);
+    let program = two_legs_five_products_program(alloc)?;
     let mut tableau = Tableau::first(alloc, &program)?;
     for (col, row) in [(0, 2), (1, 3), (2, 0), (3, 5), (7, 1), (8, 1), (10, 4)] {
         let Some(enters) = tableau.entering() else {
