@@ -1,0 +1,3 @@
+pub mod Adjusted
+pub mod Buckets
+pub mod Table
