@@ -1,0 +1,6 @@
+pub mod Nests
+pub mod Sides
+pub mod Least
+pub mod Crossing
+pub mod Examples
+pub mod Hub

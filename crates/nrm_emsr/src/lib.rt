@@ -1,0 +1,11 @@
+//! EMSR-b protection levels (chapter 2 of Talluri and van Ryzin) on the empirical demand: how many seats of a leg are
+//! kept for its higher buckets.
+#![tactic(auto)]
+
+mod compared;
+mod levels;
+mod nest;
+#[cfg(test)]
+mod tests;
+
+pub use levels::protections;

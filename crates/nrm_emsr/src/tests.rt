@@ -1,0 +1,111 @@
+//! Protections of small networks, worked by hand.
+ghost use Rattle.std.specs.Prelude.{IfOk, ◌<◌, length};
+ghost use Rattle.nrm_fraction.specs.Large.{size_limit};
+ghost use Rattle.nrm_virtual.specs.Adjusted.{HasPrices};
+
+use crate::protections;
+use nrm_lp::{Certificate, Numbers};
+use nrm_model::Network;
+use nrm_network::parse;
+use nrm_virtual::BucketTable;
+use std::alloc::{AllocError, Global};
+use std::test::Fail;
+
+// A certificate with these whole bid prices. Nothing else of it counts here.
+fn priced(alloc: Global, prices: &[u32]) -> Result<Certificate, AllocError>
+    ensures { IfOk result (HasPrices size_limit (length prices.now)) }
+{
+    let mut p = Vec::new(alloc);
+    for price in prices {
+        p.push(i64::from(*price))?;
+    }
+    Ok(Certificate {
+        q: 1,
+        x: Numbers::new(Vec::new(alloc)),
+        den: 1,
+        p: Numbers::new(p),
+        value: 0,
+    })
+}
+
+// The protections of a leg at these prices: a number that no leg has where there is no such leg, no such period, or
+// another number of prices.
+fn levels(
+    alloc: Global,
+    net: &Network,
+    prices: &[u32],
+    leg: u8,
+    period: u8,
+) -> Result<Vec<u16>, AllocError> {
+    let cert = priced(alloc, prices)?;
+    let known = (leg as usize) < net.leg_count();
+    if !known || prices.len() != net.leg_count() || period == 0 || period > net.t() {
+        return Ok(vec![in alloc; 1000]?);
+    }
+    let table = BucketTable::build(alloc, net, &cert)?;
+    protections(alloc, net, &cert, &table, leg, period)
+}
+
+#[test]
+fn two_legs_and_five_products(rt: HostRuntime) -> Result<(), Fail> {
+    let file =
+        b"periods,4,1\nleg,AB,10,300,100\nleg,BC,10,300,100\nproduct,ABH,400,AB\nproduct,ABL,150,AB\nproduct,ACH,500,AB,BC\nproduct,BCL,80,BC\nproduct,ACL,229,AB,BC\ndemand,ABH,1,2\ndemand,ABH,2,4\ndemand,ABH,3,3\ndemand,ABH,4,3\ndemand,ABL,1,6\ndemand,ABL,2,8\ndemand,ABL,3,5\ndemand,ABL,4,9\ndemand,ACH,1,4\ndemand,ACH,2,2\ndemand,ACH,3,6\ndemand,ACH,4,4\ndemand,BCL,1,7\ndemand,BCL,2,9\ndemand,BCL,3,8\ndemand,BCL,4,8\n";
+    let net = parse(rt.alloc(), file).expect(&rt, "a network");
+    let found = levels(rt.alloc(), &net, &[150, 80], 0, 1)?;
+    assert_eq!(rt; found.as_slice(), [7, 10].as_slice());
+    let found = levels(rt.alloc(), &net, &[150, 80], 1, 1)?;
+    assert_eq!(rt; found.as_slice(), [4, 6].as_slice());
+    Ok(())
+}
+
+#[test]
+fn a_through_product_worth_less_than_its_second_leg(rt: HostRuntime) -> Result<(), Fail> {
+    let file =
+        b"periods,2,1\nleg,PQ,5,40\nleg,QR,2,200\nproduct,QRH,300,QR\nproduct,PQL,50,PQ\nproduct,PRL,120,PQ,QR\ndemand,QRH,1,3\ndemand,QRH,2,3\ndemand,PQL,1,2\ndemand,PQL,2,1\ndemand,PRL,1,1\ndemand,PRL,2,1\n";
+    let net = parse(rt.alloc(), file).expect(&rt, "a network");
+    let found = levels(rt.alloc(), &net, &[0, 300], 0, 1)?;
+    assert_eq!(rt; found.as_slice(), [2].as_slice());
+    let found = levels(rt.alloc(), &net, &[0, 300], 1, 1)?;
+    assert_eq!(rt; found.as_slice(), [2].as_slice());
+    Ok(())
+}
+
+#[test]
+fn a_hub_at_opening_and_later(rt: HostRuntime) -> Result<(), Fail> {
+    let file =
+        b"periods,2,2\nleg,NYC-CHI,130,400,150\nleg,BOS-CHI,70,400,150\nleg,CHI-LAX,120,400,150\nleg,CHI-SEA,60,400,150\nproduct,NC-Y,320,NYC-CHI\nproduct,NC-Q,110,NYC-CHI\nproduct,BC-Y,300,BOS-CHI\nproduct,BC-Q,95,BOS-CHI\nproduct,CL-Y,520,CHI-LAX\nproduct,CL-Q,180,CHI-LAX\nproduct,NL-Y,700,NYC-CHI,CHI-LAX\nproduct,NL-Q,260,NYC-CHI,CHI-LAX\nproduct,BL-Q,240,BOS-CHI,CHI-LAX\nproduct,CS-Y,450,CHI-SEA\nproduct,NS-Q,230,NYC-CHI,CHI-SEA\ndemand,NC-Y,1,10,10\ndemand,NC-Y,2,12,8\ndemand,NC-Q,1,20,10\ndemand,NC-Q,2,24,6\ndemand,BC-Y,1,8,8\ndemand,BC-Y,2,6,10\ndemand,BC-Q,1,15,5\ndemand,BC-Q,2,18,2\ndemand,CL-Y,1,15,20\ndemand,CL-Y,2,10,15\ndemand,CL-Q,1,40,10\ndemand,CL-Q,2,45,5\ndemand,NL-Y,1,10,10\ndemand,NL-Y,2,8,12\ndemand,NL-Q,1,25,5\ndemand,NL-Q,2,30,4\ndemand,BL-Q,1,20,5\ndemand,BL-Q,2,22,3\ndemand,CS-Y,1,12,12\ndemand,CS-Y,2,10,16\ndemand,NS-Q,1,15,5\ndemand,NS-Q,2,12,8\n";
+    let net = parse(rt.alloc(), file).expect(&rt, "a network");
+    let found = levels(rt.alloc(), &net, &[0, 0, 180, 0], 0, 1)?;
+    assert_eq!(rt; found.as_slice(), [20, 60].as_slice());
+    let found = levels(rt.alloc(), &net, &[0, 0, 180, 0], 1, 1)?;
+    assert_eq!(rt; found.as_slice(), [0, 16].as_slice());
+    let found = levels(rt.alloc(), &net, &[0, 0, 180, 0], 2, 1)?;
+    assert_eq!(rt; found.as_slice(), [55, 120].as_slice());
+    let found = levels(rt.alloc(), &net, &[0, 0, 180, 0], 3, 1)?;
+    assert_eq!(rt; found.as_slice(), [24, 46].as_slice());
+    let found = levels(rt.alloc(), &net, &[0, 0, 240, 0], 2, 2)?;
+    assert_eq!(rt; found.as_slice(), [30, 50].as_slice());
+    Ok(())
+}
+
+// On AB a fare equal to a threshold, two empty buckets in the middle, where no number below the 4 seats passes from the
+// second on, and a negative fare in the last. BC has no thresholds and CD no products. On GH fewer seats would do for
+// the second bucket than for the first, and a mean without weights would ask for all demand. On IJ two sides are equal,
+// and the last bucket is empty.
+#[test]
+fn at_the_edges(rt: HostRuntime) -> Result<(), Fail> {
+    let file =
+        b"periods,2,1\nleg,AB,4,300,200,100\nleg,BC,5\nleg,CD,5,50\nleg,GH,600,1000,300\nleg,IJ,9,200,100\nproduct,TOP,300,AB\nproduct,LOW,90,AB\nproduct,BOTH,120,AB,BC\nproduct,G1,1000,GH\nproduct,G2,300,GH\nproduct,G3,299,GH\nproduct,IH,200,IJ\ndemand,TOP,1,2\ndemand,TOP,2,6\ndemand,LOW,1,3\ndemand,LOW,2,3\ndemand,BOTH,1,1\ndemand,BOTH,2,1\ndemand,G1,1,10\ndemand,G1,2,0\ndemand,G2,1,500\ndemand,G2,2,5\ndemand,G3,1,1\ndemand,G3,2,1\ndemand,IH,1,3\ndemand,IH,2,5\n";
+    let net = parse(rt.alloc(), file).expect(&rt, "a network");
+    let found = levels(rt.alloc(), &net, &[0, 200, 0, 0, 0], 0, 1)?;
+    assert_eq!(rt; found.as_slice(), [2, 4, 4].as_slice());
+    let found = levels(rt.alloc(), &net, &[0, 200, 0, 0, 0], 1, 1)?;
+    assert!(rt; found.is_empty());
+    let found = levels(rt.alloc(), &net, &[0, 200, 0, 0, 0], 2, 1)?;
+    assert_eq!(rt; found.as_slice(), [0].as_slice());
+    let found = levels(rt.alloc(), &net, &[0, 200, 0, 0, 0], 3, 1)?;
+    assert_eq!(rt; found.as_slice(), [10, 10].as_slice());
+    let found = levels(rt.alloc(), &net, &[0, 200, 0, 0, 0], 4, 1)?;
+    assert_eq!(rt; found.as_slice(), [3, 5].as_slice());
+    Ok(())
+}
