@@ -1,5 +1,5 @@
 -- Bucket fares and protections that a reader can check by hand.
-use Rattle.std.specs.Prelude.{ℕ, ◌≡◌, ◌==◌, Bool, true, false, not, pos, negsuc, [], ◌∷◌, codes, refl, map}
+use Rattle.std.specs.Prelude.{ℕ, ◌≡◌, ◌==◌, true, false, pos, [], ◌∷◌, codes, refl, map}
 use Rattle.nrm_number.specs.Gcd.{gcd, in_lowest_terms}
 use Rattle.nrm_fraction.specs.Fraction.{◌over◌, ◌*ᶠ◌, less, whole}
 use Rattle.nrm_model.specs.Network.{NetworkValue}

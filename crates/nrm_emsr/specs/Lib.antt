@@ -1,3 +1,4 @@
 pub mod Fares
 pub mod Protections
+pub mod Laws
 pub mod Inner

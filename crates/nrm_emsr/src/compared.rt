@@ -1,6 +1,5 @@
 //! The comparison of two mean fares, in whole numbers that fit in 128 bits, and the least number of seats that passes.
 ghost use Rattle.std.specs.Prelude.{◌≡◌, ◌+◌, ◌*◌, ◌^◌, ◌<◌, ◌≤◌, ◌*ℤ◌, All, int_lt, length, nat_lt, not, pos, unsigned_abs};
-ghost use Rattle.std.specs.Int.{IsInRange};
 ghost use Rattle.std.specs.List.{count_by};
 ghost use Rattle.nrm_fraction.specs.Large.{size_limit};
 ghost use Rattle.nrm_emsr.specs.Protections.{least_from};

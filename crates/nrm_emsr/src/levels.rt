@@ -9,7 +9,6 @@ ghost use Rattle.nrm_model.specs.Network.{leg_of};
 ghost use Rattle.nrm_virtual.specs.Adjusted.{HasPrices};
 ghost use Rattle.nrm_virtual.specs.Buckets.{bucket_count};
 ghost use Rattle.nrm_virtual.specs.Table.{IsTableOf};
-ghost use Rattle.nrm_emsr.specs.Fares.{weight_of};
 ghost use Rattle.nrm_emsr.specs.Protections.{protections_of, seats_enough};
 ghost use Rattle.nrm_emsr.specs.Inner.Nest.{IsOf, IsSmall, in_buckets, nested_of};
 
@@ -81,15 +80,22 @@ fn enough_for(
     if above.seats == 0 {
         return Ok(0);
     }
-    let flown = net.leg_at(leg);
     let next = fare_of(
         nest,
-        flown.cuts.as_slice(),
+        net.leg_at(leg).cuts.as_slice(),
         cert.den.unsigned_abs(),
         last + 1,
     );
     let demands = demands_of(alloc, net, nest, last, period)?;
-    Ok(least_that_passes(&demands, above, next, flown.seats))
+    Ok(least_that_passes(&demands, above, next, cap_of(net, leg)))
+}
+
+// The seats of a leg, which no protection exceeds.
+fn cap_of(net: &Network, leg: u8) -> u16
+    requires { leg < length net.now.legs }
+    ensures { result ≡ (leg_of net.now leg).seats }
+{
+    net.leg_at(leg).seats
 }
 
 // The demand to come of buckets 1 to `last` in each history.

@@ -3,9 +3,11 @@
 #![tactic(auto)]
 
 mod compared;
+mod laws;
 mod levels;
 mod nest;
 #[cfg(test)]
 mod tests;
 
+pub use laws::enough_is_least;
 pub use levels::protections;

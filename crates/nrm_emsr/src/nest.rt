@@ -2,7 +2,6 @@
 //! them.
 ghost use Rattle.std.specs.Prelude.{◌≡◌, ◌+◌, ◌*◌, ◌^◌, ◌<◌, ◌≤◌, ◌+ℤ◌, ◌*ℤ◌, All, IfOk, length, map, pos, sum_by, true, unsigned_abs};
 ghost use Rattle.std.specs.Int.{IsInRange, is_in_range};
-ghost use Rattle.std.specs.List.{range_with_len};
 ghost use Rattle.nrm_fraction.specs.Large.{size_limit};
 ghost use Rattle.nrm_model.specs.Demand.{demand_to_come, total_to_come};
 ghost use Rattle.nrm_model.specs.Inventory.{inventory_of, products_on, uses_leg};

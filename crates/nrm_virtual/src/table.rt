@@ -1,9 +1,7 @@
 //! The buckets of a network, found once and looked up after: for each leg its products in file order, each with its
 //! bucket. The table holds neither the network nor the certificate.
-ghost use Rattle.std.specs.Prelude.{◌≡◌, ◌<◌, IfOk, Some, length, map, true};
-ghost use Rattle.std.specs.List.{range_with_len};
+ghost use Rattle.std.specs.Prelude.{◌≡◌, ◌<◌, IfOk, Some, length, map};
 ghost use Rattle.nrm_fraction.specs.Large.{size_limit};
-ghost use Rattle.nrm_model.specs.Inventory.{inventory_of, uses_leg};
 ghost use Rattle.nrm_model.specs.Network.{NetworkValue};
 ghost use Rattle.nrm_lp.specs.declared.certificate.Certificate.{Certificate as Cert};
 ghost use Rattle.nrm_virtual.specs.Adjusted.{HasPrices};

@@ -1,7 +1,6 @@
 use Rattle.std.proofs.Common.{ℕ, ◌≡◌, ◌∙◌, ◌+◌, ◌-◌, Bool, true, false, length, nat_lt, sym, ap, arith}
 use Rattle.std.specs.List.{count_by}
 use Rattle.nrm_emsr.specs.Inner.Nest.{crosses}
-use Rattle.nrm_emsr.specs.Protections.{least_from}
 use Rattle.nrm_emsr.proofs.Least.{least-no, least-yes}
 use Rattle.nrm_emsr.proofs.compared.least_that_passes.Goals as goal
 

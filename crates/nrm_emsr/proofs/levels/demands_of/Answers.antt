@@ -1,4 +1,4 @@
-use Rattle.std.proofs.Common.{ℕ, ◌∙◌, ◌+◌, List, [], ◌∷◌, ◌++◌, length, map, sum_by, sym, ap, arith}
+use Rattle.std.proofs.Common.{ℕ, ◌∙◌, List, [], ◌∷◌, ◌++◌, length, map, sum_by, sym, ap, arith}
 use Rattle.std.specs.List.{range_with_len}
 use Rattle.std.proofs.lemmas.List.FromFn.{length-map-range_with_len, map-range_with_len_more}
 use Rattle.nrm_model.specs.Demand.{demand_to_come}

@@ -21,9 +21,8 @@ returns-then-above-eq0 c =
 
 pub returns : goal.returns
 returns c =
-    let found : leg_of c.args.net.now c.args.leg ≡ c.leg_at-flown.result.now = leg_of-found c.args.net.now c.args.leg c.leg_at-flown.result.now c.leg_at-flown.ensures.leg in
+    let found : leg_of c.args.net.now c.args.leg ≡ c.leg_at.result.now = leg_of-found c.args.net.now c.args.leg c.leg_at.result.now c.leg_at.ensures.leg in
     let cuts : c.as_slice.result.now ≡ (leg_of c.args.net.now c.args.leg).cuts = c.as_slice.ensures ∙ sym (ap (λ (leg : Leg). leg.cuts) found) in
-    let seats : c.leg_at-flown.result.now.seats ≡ (leg_of c.args.net.now c.args.leg).seats = sym (ap (λ (leg : Leg). leg.seats) found) in
     let above : pos 0 ≤ℤ c.args.cert.now.den = omega (arith, ints, c.requires.prices.some_den) in
     let small : IsSmall c.args.cert.now.den = (natural c.args.cert.now.den size_limit above c.requires.prices.den).1 in
     let den : c.unsigned_abs.result ≡ nat_abs c.args.cert.now.den = c.unsigned_abs.ensures.value ∙ ap nat_abs (small_same c.args.cert.now.den small) in
@@ -38,5 +37,5 @@ returns c =
     let next = c.fare_of-next.ensures.fares ∙ (λ s. (nest_fare (c.requires.nest s) (cuts s) (den s) (last + 1)).0) in
     let next-seats = c.fare_of-next.ensures.seats ∙ (λ s. (nest_fare (c.requires.nest s) (cuts s) (den s) (last + 1)).1) in
     c.least_that_passes.ensures
-    ∙ ap (λ (n : ℕ). least_from (λ y. crosses (count_by (nat_lt y) demands) c.mean_of-above.result.fares c.mean_of-above.result.seats (length demands) c.fare_of-next.result.fares c.fare_of-next.result.seats) n 0) seats
+    ∙ ap (λ (n : ℕ). least_from (λ y. crosses (count_by (nat_lt y) demands) c.mean_of-above.result.fares c.mean_of-above.result.seats (length demands) c.fare_of-next.result.fares c.fare_of-next.result.seats) n 0) c.cap_of.ensures
     ∙ enough-is c.args.net.now c.args.cert.now c.args.leg c.args.period some last demands c.mean_of-above.result.fares c.fare_of-next.result.fares c.mean_of-above.result.seats c.fare_of-next.result.seats demands-are weight fares positive next next-seats

@@ -1,5 +1,4 @@
-use Rattle.std.proofs.Common.{ℕ, ◌∙◌, ◌+◌, List, [], ◌∷◌, ◌++◌, map, max, sym, ap, ap₂, arith}
-use Rattle.std.specs.List.{range_with_len}
+use Rattle.std.proofs.Common.{ℕ, ◌∙◌, ◌+◌, List, [], ◌∷◌, ◌++◌, max, sym, ap₂, arith}
 use Rattle.std.proofs.lemmas.List.FromFn.{map-range_with_len_more}
 use Rattle.nrm_emsr.specs.Protections.{protection_of}
 use Rattle.nrm_emsr.proofs.Least.{protection-more}

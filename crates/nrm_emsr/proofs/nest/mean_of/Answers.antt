@@ -1,8 +1,7 @@
-use Rattle.std.proofs.Common.{ℕ, ℤ, List, get_or, map, sum_by, ◌∙◌, pos, ◌+ℤ◌, ◌*ℤ◌, sym, ap, arith, take, unsigned_abs, ◌*◌, ◌^◌}
+use Rattle.std.proofs.Common.{ℕ, ℤ, List, get_or, map, sum_by, ◌∙◌, pos, ◌+ℤ◌, ◌*ℤ◌, sym, ap, arith, unsigned_abs}
 use Rattle.nrm_emsr.specs.declared.nest.Nested.{Nested}
 use Rattle.nrm_emsr.specs.declared.nest.Mean.{Mean}
 use Rattle.nrm_emsr.specs.Fares.{sum_of}
-use Rattle.nrm_emsr.specs.Inner.Nest.{in_buckets, nest_fares, nest_weight}
 use Rattle.nrm_emsr.proofs.Nests.{fares-yes, in-no, sum-yes}
 use Rattle.nrm_emsr.proofs.nest.mean_of.Goals as goal
 use Rattle.nrm_emsr.proofs.nest.mean_of.Goals.{then-is_between, else-is_between}

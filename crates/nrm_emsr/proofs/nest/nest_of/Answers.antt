@@ -1,4 +1,4 @@
-use Rattle.std.proofs.Common.{ℕ, Bool, ◌≡◌, ◌∙◌, ◌+◌, ◌<◌, ◌≤◌, List, [], ◌∷◌, ◌++◌, filter, length, map, sym, ap, subst, arith, All, length-append}
+use Rattle.std.proofs.Common.{ℕ, Bool, ◌≡◌, ◌∙◌, ◌<◌, [], ◌∷◌, ◌++◌, length, sym, ap, subst, arith, All, length-append}
 use Rattle.std.proofs.lemmas.List.Elements.{All-push}
 use Rattle.nrm_model.specs.Inventory.{inventory_of, uses_leg}
 use Rattle.nrm_emsr.specs.declared.nest.Nested.{Nested}

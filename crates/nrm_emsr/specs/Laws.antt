@@ -1,0 +1,17 @@
+-- What the number of seats that is enough means.
+use Rattle.std.specs.Prelude.{ℕ, ◌≡◌, ◌<◌, true, false, min}
+use Rattle.nrm_model.specs.Network.{NetworkValue, leg_of}
+use Rattle.nrm_lp.specs.declared.certificate.Certificate.{Certificate}
+use Rattle.nrm_emsr.specs.Fares.{weight_of}
+use Rattle.nrm_emsr.specs.Protections.{seats_enough, suffices}
+
+-- where c seats suffice for buckets 1 to b and no lower number does, the number that is enough is c, or the leg's seats
+-- where they are fewer
+abbrev pub EnoughIsLeast : Type 0
+EnoughIsLeast = (net : NetworkValue) (cert : Certificate) (i k b c : ℕ) → 0 < weight_of net cert i k 1 b
+    → suffices net cert i k b c ≡ true → ((y : ℕ) → y < c → suffices net cert i k b y ≡ false)
+    → seats_enough net cert i k b ≡ min (leg_of net i).seats c
+
+-- and some number suffices: as many seats as there is demand for those buckets in all histories together
+abbrev pub WholeDemandSuffices : Type 0
+WholeDemandSuffices = (net : NetworkValue) (cert : Certificate) (i k b : ℕ) → suffices net cert i k b (weight_of net cert i k 1 b) ≡ true
