@@ -35,8 +35,8 @@ pub(crate) fn fare_of(nest: &[Nested], cuts: &[u32], den: u64, bucket: u8) -> Me
     }
 }
 
-/// The least number of seats that passes, and `seats` where no lower number does: a number passes where the share of the
-/// histories with a greater demand, times the fare above, is at most the next fare.
+/// The least number of seats that passes, and `seats` where no lower number does. A number passes where the share of
+/// the histories with a greater demand, times the fare above, is at most the next fare.
 pub(crate) fn least_that_passes(demands: &[u32], above: Mean, next: Mean, seats: u16) -> u16
     requires few { length demands.now ≤ 32 }
     requires weight { above.seats < 2 ^ 23 }

@@ -7,6 +7,7 @@ use crate::protections;
 use nrm_lp::{Certificate, Numbers};
 use nrm_model::Network;
 use nrm_network::parse;
+use nrm_samples::two_legs_five_products;
 use nrm_virtual::BucketTable;
 use std::alloc::{AllocError, Global};
 use std::test::Fail;
@@ -48,9 +49,7 @@ fn levels(
 
 #[test]
 fn two_legs_and_five_products(rt: HostRuntime) -> Result<(), Fail> {
-    let file =
-        b"periods,4,1\nleg,AB,10,300,100\nleg,BC,10,300,100\nproduct,ABH,400,AB\nproduct,ABL,150,AB\nproduct,ACH,500,AB,BC\nproduct,BCL,80,BC\nproduct,ACL,229,AB,BC\ndemand,ABH,1,2\ndemand,ABH,2,4\ndemand,ABH,3,3\ndemand,ABH,4,3\ndemand,ABL,1,6\ndemand,ABL,2,8\ndemand,ABL,3,5\ndemand,ABL,4,9\ndemand,ACH,1,4\ndemand,ACH,2,2\ndemand,ACH,3,6\ndemand,ACH,4,4\ndemand,BCL,1,7\ndemand,BCL,2,9\ndemand,BCL,3,8\ndemand,BCL,4,8\n";
-    let net = parse(rt.alloc(), file).expect(&rt, "a network");
+    let net = two_legs_five_products(rt.alloc())?;
     let found = levels(rt.alloc(), &net, &[150, 80], 0, 1)?;
     assert_eq!(rt; found.as_slice(), [7, 10].as_slice());
     let found = levels(rt.alloc(), &net, &[150, 80], 1, 1)?;
