@@ -1,49 +1,83 @@
 //! The texts of a leg, AB with 10 seats, and of a certificate, worked by hand.
-ghost use Rattle.std.specs.Prelude.{IfOk};
+ghost use Rattle.std.specs.Prelude.{◌≡◌, IfOk, length};
 ghost use Rattle.nrm_fraction.specs.Large.{size_limit};
 ghost use Rattle.nrm_lp.specs.Shape.{HasShape};
+ghost use Rattle.nrm_model.specs.Inventory.{inventory_of};
+ghost use Rattle.nrm_samples.specs.Networks.{two_legs_five_products};
 
 use crate::{certificate_text, leg_text};
 use nrm_book::Book;
 use nrm_edge::MemSink;
 use nrm_lp::{Certificate, Numbers};
+use nrm_model::Network;
 use nrm_samples::two_legs_five_products;
 use std::alloc::{AllocError, Global};
+use std::process::Abort;
 use std::test::Fail;
+
+// The book of the network, where two seats of ACH are sold and one of ABL.
+fn book_by_hand(rt: &impl Abort, alloc: Global, net: &Network) -> Result<Book, AllocError>
+    requires { net.now ≡ two_legs_five_products }
+    ensures { IfOk result (λ book. book.inventory ≡ inventory_of net.now) }
+{
+    let mut book = Book::new(alloc, net)?;
+    assert_eq!(rt; book.add(2, 2), 1);
+    assert_eq!(rt; book.add(1, 1), 2);
+    Ok(book)
+}
+
+// A sink with room for each of the texts, of which the puts of these numbers fail.
+fn failing_sink(alloc: Global, failing: &[u64]) -> Result<MemSink, AllocError> {
+    MemSink::new(alloc, 200, Vec::new(alloc), failing.to_vec(alloc)?)
+}
+
+// A text of which so much went out, and whether that is all of it, where the puts of the numbers `failing` fail.
+fn assert_out(rt: &impl Abort, failing: &[u64], out: (bool, &[u8]), wanted: (bool, &[u8])) {
+    assert_eq!(rt; out, wanted, "where the puts {failing:?} fail");
+}
+
+// The text of the first leg, where the puts of the numbers `failing` fail: whether it goes out whole, and what does.
+fn leg_goes_out(
+    rt: &impl Abort,
+    alloc: Global,
+    failing: &[u64],
+    whole: bool,
+    text: &[u8],
+) -> Result<(), AllocError> {
+    let net = two_legs_five_products(alloc)?;
+    leg_of_network_goes_out(rt, alloc, &net, failing, (whole, text))
+}
+
+// The same, of the network by hand.
+fn leg_of_network_goes_out(
+    rt: &impl Abort,
+    alloc: Global,
+    net: &Network,
+    failing: &[u64],
+    wanted: (bool, &[u8]),
+) -> Result<(), AllocError>
+    requires { net.now ≡ two_legs_five_products }
+{
+    let mut sink = failing_sink(alloc, failing)?;
+    let book = book_by_hand(rt, alloc, net)?;
+    let whole = leg_text(net, &book, 0, &mut sink).is_ok();
+    assert_out(rt, failing, (whole, sink.held()), wanted);
+    Ok(())
+}
 
 #[test]
 fn tells_by_hand(rt: HostRuntime) -> Result<(), Fail> {
-    let net = two_legs_five_products(rt.alloc())?;
-    let mut book = Book::new(rt.alloc(), &net)?;
-    assert_eq!(rt; book.add(2, 2), 1);
-    assert_eq!(rt; book.add(1, 1), 2);
-    let mut sink = MemSink::new(rt.alloc(), 100, Vec::new(rt.alloc()), Vec::new(rt.alloc()))?;
-    assert!(rt; leg_text(&net, &book, 0, &mut sink).is_ok());
-    assert_eq!(rt;
-        sink.held(),
-        b"leg AB seats 10 sold 3 left 7\non AB ABL 1\non AB ACH 2\n".as_slice()
-    );
+    let text = b"leg AB seats 10 sold 3 left 7\non AB ABL 1\non AB ACH 2\n";
+    leg_goes_out(&rt, rt.alloc(), &[], true, text)?;
     Ok(())
 }
 
 #[test]
 fn each_line_of_a_leg_goes_out_in_one_put(rt: HostRuntime) -> Result<(), Fail> {
-    let net = two_legs_five_products(rt.alloc())?;
-    let mut book = Book::new(rt.alloc(), &net)?;
-    assert_eq!(rt; book.add(2, 2), 1);
-    assert_eq!(rt; book.add(1, 1), 2);
-    let failing = Vec::from_array(rt.alloc(), [2])?;
-    let mut sink = MemSink::new(rt.alloc(), 100, Vec::new(rt.alloc()), failing)?;
-    assert!(rt; leg_text(&net, &book, 0, &mut sink).is_err());
-    assert_eq!(rt; sink.held(), b"leg AB seats 10 sold 3 left 7\n".as_slice());
-
-    let failing = Vec::from_array(rt.alloc(), [3])?;
-    let mut sink = MemSink::new(rt.alloc(), 100, Vec::new(rt.alloc()), failing)?;
-    assert!(rt; leg_text(&net, &book, 0, &mut sink).is_err());
-    assert_eq!(rt;
-        sink.held(),
-        b"leg AB seats 10 sold 3 left 7\non AB ABL 1\n".as_slice()
-    );
+    let text = b"leg AB seats 10 sold 3 left 7\n";
+    leg_goes_out(&rt, rt.alloc(), &[2], false, text)?;
+    let text = b"leg AB seats 10 sold 3 left 7\non AB ABL 1\n";
+    leg_goes_out(&rt, rt.alloc(), &[3], false, text)?;
     Ok(())
 }
 
@@ -60,23 +94,46 @@ fn hand_certificate(alloc: Global) -> Result<Certificate, AllocError>
     })
 }
 
+// The text of the certificate, where the puts of the numbers `failing` fail: whether it goes out whole, and what does.
+fn certificate_goes_out(
+    rt: &impl Abort,
+    alloc: Global,
+    failing: &[u64],
+    whole: bool,
+    text: &[u8],
+) -> Result<(), AllocError> {
+    let net = two_legs_five_products(alloc)?;
+    certificate_of_network_goes_out(rt, alloc, &net, failing, (whole, text))
+}
+
+// The same, of a network with two legs and five products.
+fn certificate_of_network_goes_out(
+    rt: &impl Abort,
+    alloc: Global,
+    net: &Network,
+    failing: &[u64],
+    wanted: (bool, &[u8]),
+) -> Result<(), AllocError>
+    requires legs { length net.now.legs ≡ 2 }
+    requires products { length net.now.products ≡ 5 }
+{
+    let mut sink = failing_sink(alloc, failing)?;
+    let certificate = hand_certificate(alloc)?;
+    let whole = certificate_text(net, &certificate, &mut sink).is_ok();
+    assert_out(rt, failing, (whole, sink.held()), wanted);
+    Ok(())
+}
+
 #[test]
 fn writes_a_certificate_by_hand(rt: HostRuntime) -> Result<(), Fail> {
-    let net = two_legs_five_products(rt.alloc())?;
-    let certificate = hand_certificate(rt.alloc())?;
-    let mut sink = MemSink::new(rt.alloc(), 200, Vec::new(rt.alloc()), Vec::new(rt.alloc()))?;
-    assert!(rt; certificate_text(&net, &certificate, &mut sink).is_ok());
-    assert_eq!(rt;
-        sink.held(),
-        b"value 751/4\nproduct ABH 3/2\nproduct ABL 5/2\nproduct ACH 0/1\nproduct BCL 1/8\nproduct ACL 1/4\nleg AB 0/1\nleg BC 3/2\n".as_slice()
-    );
+    let text =
+        b"value 751/4\nproduct ABH 3/2\nproduct ABL 5/2\nproduct ACH 0/1\nproduct BCL 1/8\nproduct ACL 1/4\nleg AB 0/1\nleg BC 3/2\n";
+    certificate_goes_out(&rt, rt.alloc(), &[], true, text)?;
     Ok(())
 }
 
 #[test]
 fn each_line_of_a_certificate_goes_out_in_one_put(rt: HostRuntime) -> Result<(), Fail> {
-    let net = two_legs_five_products(rt.alloc())?;
-    let certificate = hand_certificate(rt.alloc())?;
     let lines = [
         b"value 751/4\n".as_slice(),
         b"value 751/4\nproduct ABH 3/2\n".as_slice(),
@@ -84,19 +141,12 @@ fn each_line_of_a_certificate_goes_out_in_one_put(rt: HostRuntime) -> Result<(),
         b"value 751/4\nproduct ABH 3/2\nproduct ABL 5/2\nproduct ACH 0/1\n".as_slice(),
     ];
     for (k, text) in lines.iter().enumerate() {
-        let failing = Vec::from_array(rt.alloc(), [k as u64 + 2])?;
-        let mut sink = MemSink::new(rt.alloc(), 200, Vec::new(rt.alloc()), failing)?;
-        assert!(rt; certificate_text(&net, &certificate, &mut sink).is_err());
-        assert_eq!(rt; sink.held(), *text, "the put of line {} fails", k + 2);
+        certificate_goes_out(&rt, rt.alloc(), &[k as u64 + 2], false, text)?;
     }
 
     // The put of the last line fails, behind one of a leg.
-    let failing = Vec::from_array(rt.alloc(), [8])?;
-    let mut sink = MemSink::new(rt.alloc(), 200, Vec::new(rt.alloc()), failing)?;
-    assert!(rt; certificate_text(&net, &certificate, &mut sink).is_err());
-    assert_eq!(rt;
-        sink.held(),
-        b"value 751/4\nproduct ABH 3/2\nproduct ABL 5/2\nproduct ACH 0/1\nproduct BCL 1/8\nproduct ACL 1/4\nleg AB 0/1\n".as_slice()
-    );
+    let text =
+        b"value 751/4\nproduct ABH 3/2\nproduct ABL 5/2\nproduct ACH 0/1\nproduct BCL 1/8\nproduct ACL 1/4\nleg AB 0/1\n";
+    certificate_goes_out(&rt, rt.alloc(), &[8], false, text)?;
     Ok(())
 }
