@@ -10,6 +10,7 @@ use nrm_network::parse;
 use nrm_samples::two_legs_five_products;
 use nrm_virtual::BucketTable;
 use std::alloc::{AllocError, Global};
+use std::process::Abort;
 use std::test::Fail;
 
 // A certificate with these whole bid prices. Nothing else of it counts here.
@@ -38,22 +39,61 @@ fn levels(
     leg: u8,
     period: u8,
 ) -> Result<Vec<u16>, AllocError> {
-    let cert = priced(alloc, prices)?;
     let known = (leg as usize) < net.leg_count();
     if !known || prices.len() != net.leg_count() || period == 0 || period > net.t() {
-        return Ok(vec![in alloc; 1000]?);
+        return [1000].to_vec(alloc);
     }
+    let cert = priced(alloc, prices)?;
     let table = BucketTable::build(alloc, net, &cert)?;
     protections(alloc, net, &cert, &table, leg, period)
 }
 
+// Of each case the prices, a leg, a period and the protections that are wanted there.
+fn assert_levels(
+    rt: &impl Abort,
+    alloc: Global,
+    net: &Network,
+    cases: &[(&[u32], u8, u8, &[u16])],
+) -> Result<(), AllocError> {
+    for (prices, leg, period, wanted) in cases {
+        let found = levels(alloc, net, prices, *leg, *period)?;
+        assert_eq!(rt;
+            found.as_slice(),
+            *wanted,
+            "on leg {leg} in period {period}"
+        );
+    }
+    Ok(())
+}
+
+// The same on the network of a file.
+fn assert_levels_of(
+    rt: &impl Abort,
+    alloc: Global,
+    file: &[u8],
+    cases: &[(&[u32], u8, u8, &[u16])],
+) -> Result<(), AllocError> {
+    let net = parse(alloc, file).expect(rt, "a network");
+    assert_levels(rt, alloc, &net, cases)
+}
+
+// The same on the network of two legs and five products.
+fn assert_sample_levels(
+    rt: &impl Abort,
+    alloc: Global,
+    cases: &[(&[u32], u8, u8, &[u16])],
+) -> Result<(), AllocError> {
+    let net = two_legs_five_products(alloc)?;
+    assert_levels(rt, alloc, &net, cases)
+}
+
 #[test]
 fn two_legs_and_five_products(rt: HostRuntime) -> Result<(), Fail> {
-    let net = two_legs_five_products(rt.alloc())?;
-    let found = levels(rt.alloc(), &net, &[150, 80], 0, 1)?;
-    assert_eq!(rt; found.as_slice(), [7, 10].as_slice());
-    let found = levels(rt.alloc(), &net, &[150, 80], 1, 1)?;
-    assert_eq!(rt; found.as_slice(), [4, 6].as_slice());
+    let cases: [(&[u32], u8, u8, &[u16]); 2] = [
+        (&[150, 80], 0, 1, &[7, 10]),
+        (&[150, 80], 1, 1, &[4, 6]),
+    ];
+    assert_sample_levels(&rt, rt.alloc(), &cases)?;
     Ok(())
 }
 
@@ -61,11 +101,8 @@ fn two_legs_and_five_products(rt: HostRuntime) -> Result<(), Fail> {
 fn a_through_product_worth_less_than_its_second_leg(rt: HostRuntime) -> Result<(), Fail> {
     let file =
         b"periods,2,1\nleg,PQ,5,40\nleg,QR,2,200\nproduct,QRH,300,QR\nproduct,PQL,50,PQ\nproduct,PRL,120,PQ,QR\ndemand,QRH,1,3\ndemand,QRH,2,3\ndemand,PQL,1,2\ndemand,PQL,2,1\ndemand,PRL,1,1\ndemand,PRL,2,1\n";
-    let net = parse(rt.alloc(), file).expect(&rt, "a network");
-    let found = levels(rt.alloc(), &net, &[0, 300], 0, 1)?;
-    assert_eq!(rt; found.as_slice(), [2].as_slice());
-    let found = levels(rt.alloc(), &net, &[0, 300], 1, 1)?;
-    assert_eq!(rt; found.as_slice(), [2].as_slice());
+    let cases: [(&[u32], u8, u8, &[u16]); 2] = [(&[0, 300], 0, 1, &[2]), (&[0, 300], 1, 1, &[2])];
+    assert_levels_of(&rt, rt.alloc(), file, &cases)?;
     Ok(())
 }
 
@@ -73,17 +110,14 @@ fn a_through_product_worth_less_than_its_second_leg(rt: HostRuntime) -> Result<(
 fn a_hub_at_opening_and_later(rt: HostRuntime) -> Result<(), Fail> {
     let file =
         b"periods,2,2\nleg,NYC-CHI,130,400,150\nleg,BOS-CHI,70,400,150\nleg,CHI-LAX,120,400,150\nleg,CHI-SEA,60,400,150\nproduct,NC-Y,320,NYC-CHI\nproduct,NC-Q,110,NYC-CHI\nproduct,BC-Y,300,BOS-CHI\nproduct,BC-Q,95,BOS-CHI\nproduct,CL-Y,520,CHI-LAX\nproduct,CL-Q,180,CHI-LAX\nproduct,NL-Y,700,NYC-CHI,CHI-LAX\nproduct,NL-Q,260,NYC-CHI,CHI-LAX\nproduct,BL-Q,240,BOS-CHI,CHI-LAX\nproduct,CS-Y,450,CHI-SEA\nproduct,NS-Q,230,NYC-CHI,CHI-SEA\ndemand,NC-Y,1,10,10\ndemand,NC-Y,2,12,8\ndemand,NC-Q,1,20,10\ndemand,NC-Q,2,24,6\ndemand,BC-Y,1,8,8\ndemand,BC-Y,2,6,10\ndemand,BC-Q,1,15,5\ndemand,BC-Q,2,18,2\ndemand,CL-Y,1,15,20\ndemand,CL-Y,2,10,15\ndemand,CL-Q,1,40,10\ndemand,CL-Q,2,45,5\ndemand,NL-Y,1,10,10\ndemand,NL-Y,2,8,12\ndemand,NL-Q,1,25,5\ndemand,NL-Q,2,30,4\ndemand,BL-Q,1,20,5\ndemand,BL-Q,2,22,3\ndemand,CS-Y,1,12,12\ndemand,CS-Y,2,10,16\ndemand,NS-Q,1,15,5\ndemand,NS-Q,2,12,8\n";
-    let net = parse(rt.alloc(), file).expect(&rt, "a network");
-    let found = levels(rt.alloc(), &net, &[0, 0, 180, 0], 0, 1)?;
-    assert_eq!(rt; found.as_slice(), [20, 60].as_slice());
-    let found = levels(rt.alloc(), &net, &[0, 0, 180, 0], 1, 1)?;
-    assert_eq!(rt; found.as_slice(), [0, 16].as_slice());
-    let found = levels(rt.alloc(), &net, &[0, 0, 180, 0], 2, 1)?;
-    assert_eq!(rt; found.as_slice(), [55, 120].as_slice());
-    let found = levels(rt.alloc(), &net, &[0, 0, 180, 0], 3, 1)?;
-    assert_eq!(rt; found.as_slice(), [24, 46].as_slice());
-    let found = levels(rt.alloc(), &net, &[0, 0, 240, 0], 2, 2)?;
-    assert_eq!(rt; found.as_slice(), [30, 50].as_slice());
+    let cases: [(&[u32], u8, u8, &[u16]); 5] = [
+        (&[0, 0, 180, 0], 0, 1, &[20, 60]),
+        (&[0, 0, 180, 0], 1, 1, &[0, 16]),
+        (&[0, 0, 180, 0], 2, 1, &[55, 120]),
+        (&[0, 0, 180, 0], 3, 1, &[24, 46]),
+        (&[0, 0, 240, 0], 2, 2, &[30, 50]),
+    ];
+    assert_levels_of(&rt, rt.alloc(), file, &cases)?;
     Ok(())
 }
 
@@ -95,16 +129,13 @@ fn a_hub_at_opening_and_later(rt: HostRuntime) -> Result<(), Fail> {
 fn at_the_edges(rt: HostRuntime) -> Result<(), Fail> {
     let file =
         b"periods,2,1\nleg,AB,4,300,200,100\nleg,BC,5\nleg,CD,5,50\nleg,GH,600,1000,300\nleg,IJ,9,200,100\nproduct,TOP,300,AB\nproduct,LOW,90,AB\nproduct,BOTH,120,AB,BC\nproduct,G1,1000,GH\nproduct,G2,300,GH\nproduct,G3,299,GH\nproduct,IH,200,IJ\ndemand,TOP,1,2\ndemand,TOP,2,6\ndemand,LOW,1,3\ndemand,LOW,2,3\ndemand,BOTH,1,1\ndemand,BOTH,2,1\ndemand,G1,1,10\ndemand,G1,2,0\ndemand,G2,1,500\ndemand,G2,2,5\ndemand,G3,1,1\ndemand,G3,2,1\ndemand,IH,1,3\ndemand,IH,2,5\n";
-    let net = parse(rt.alloc(), file).expect(&rt, "a network");
-    let found = levels(rt.alloc(), &net, &[0, 200, 0, 0, 0], 0, 1)?;
-    assert_eq!(rt; found.as_slice(), [2, 4, 4].as_slice());
-    let found = levels(rt.alloc(), &net, &[0, 200, 0, 0, 0], 1, 1)?;
-    assert!(rt; found.is_empty());
-    let found = levels(rt.alloc(), &net, &[0, 200, 0, 0, 0], 2, 1)?;
-    assert_eq!(rt; found.as_slice(), [0].as_slice());
-    let found = levels(rt.alloc(), &net, &[0, 200, 0, 0, 0], 3, 1)?;
-    assert_eq!(rt; found.as_slice(), [10, 10].as_slice());
-    let found = levels(rt.alloc(), &net, &[0, 200, 0, 0, 0], 4, 1)?;
-    assert_eq!(rt; found.as_slice(), [3, 5].as_slice());
+    let cases: [(&[u32], u8, u8, &[u16]); 5] = [
+        (&[0, 200, 0, 0, 0], 0, 1, &[2, 4, 4]),
+        (&[0, 200, 0, 0, 0], 1, 1, &[]),
+        (&[0, 200, 0, 0, 0], 2, 1, &[0]),
+        (&[0, 200, 0, 0, 0], 3, 1, &[10, 10]),
+        (&[0, 200, 0, 0, 0], 4, 1, &[3, 5]),
+    ];
+    assert_levels_of(&rt, rt.alloc(), file, &cases)?;
     Ok(())
 }
