@@ -9,6 +9,7 @@ use nrm_model::Network;
 use nrm_network::parse;
 use nrm_samples::two_legs_five_products;
 use std::alloc::{AllocError, Global};
+use std::process::Abort;
 use std::test::Fail;
 
 // A certificate with these bid prices over a denominator. Nothing else of it counts here.
@@ -56,31 +57,66 @@ fn nest(
     Ok(nest)
 }
 
+// Of each case a denominator, the prices over it, a leg, and the products that are wanted there.
+fn assert_nests(
+    rt: &impl Abort,
+    alloc: Global,
+    net: &Network,
+    cases: &[(u32, &[u32], u8, &[(u16, i128, u8)])],
+) -> Result<(), AllocError> {
+    for (den, prices, leg, wanted) in cases {
+        let found = nest(alloc, net, *den, prices, *leg)?;
+        assert_eq!(rt; found.as_slice(), *wanted, "on leg {leg}");
+    }
+    Ok(())
+}
+
+// The same on the network of a file.
+fn assert_nests_of(
+    rt: &impl Abort,
+    alloc: Global,
+    file: &[u8],
+    cases: &[(u32, &[u32], u8, &[(u16, i128, u8)])],
+) -> Result<(), AllocError> {
+    let net = parse(alloc, file).expect(rt, "a network");
+    assert_nests(rt, alloc, &net, cases)
+}
+
+// The same on the network of two legs and five products.
+fn assert_sample_nests(
+    rt: &impl Abort,
+    alloc: Global,
+    cases: &[(u32, &[u32], u8, &[(u16, i128, u8)])],
+) -> Result<(), AllocError> {
+    let net = two_legs_five_products(alloc)?;
+    assert_nests(rt, alloc, &net, cases)
+}
+
 #[test]
 fn two_legs_at_prices_of_150_and_80(rt: HostRuntime) -> Result<(), Fail> {
-    let net = two_legs_five_products(rt.alloc())?;
-    let first = nest(rt.alloc(), &net, 1, &[150, 80], 0)?;
-    assert_eq!(rt;
-        first.as_slice(),
-        [(0, 400, 1), (1, 150, 2), (2, 420, 1), (4, 149, 2)].as_slice()
-    );
-    let second = nest(rt.alloc(), &net, 1, &[150, 80], 1)?;
-    assert_eq!(rt;
-        second.as_slice(),
-        [(2, 350, 1), (3, 80, 3), (4, 79, 3)].as_slice()
-    );
+    let cases: [(u32, &[u32], u8, &[(u16, i128, u8)]); 2] = [
+        (
+            1,
+            &[150, 80],
+            0,
+            &[(0, 400, 1), (1, 150, 2), (2, 420, 1), (4, 149, 2)],
+        ),
+        (1, &[150, 80], 1, &[(2, 350, 1), (3, 80, 3), (4, 79, 3)]),
+    ];
+    assert_sample_nests(&rt, rt.alloc(), &cases)?;
     Ok(())
 }
 
 // The same prices, told in halves.
 #[test]
 fn two_legs_over_a_denominator(rt: HostRuntime) -> Result<(), Fail> {
-    let net = two_legs_five_products(rt.alloc())?;
-    let first = nest(rt.alloc(), &net, 2, &[300, 160], 0)?;
-    assert_eq!(rt;
-        first.as_slice(),
-        [(0, 800, 1), (1, 300, 2), (2, 840, 1), (4, 298, 2)].as_slice()
-    );
+    let cases: [(u32, &[u32], u8, &[(u16, i128, u8)]); 1] = [(
+        2,
+        &[300, 160],
+        0,
+        &[(0, 800, 1), (1, 300, 2), (2, 840, 1), (4, 298, 2)],
+    )];
+    assert_sample_nests(&rt, rt.alloc(), &cases)?;
     Ok(())
 }
 
@@ -88,11 +124,11 @@ fn two_legs_over_a_denominator(rt: HostRuntime) -> Result<(), Fail> {
 fn a_negative_fare_falls_in_the_last_bucket(rt: HostRuntime) -> Result<(), Fail> {
     let file =
         b"periods,2,1\nleg,PQ,5,40\nleg,QR,2,200\nproduct,QRH,300,QR\nproduct,PQL,50,PQ\nproduct,PRL,120,PQ,QR\ndemand,QRH,1,3\ndemand,QRH,2,3\ndemand,PQL,1,2\ndemand,PQL,2,1\ndemand,PRL,1,1\ndemand,PRL,2,1\n";
-    let net = parse(rt.alloc(), file).expect(&rt, "a network");
-    let first = nest(rt.alloc(), &net, 1, &[0, 300], 0)?;
-    assert_eq!(rt; first.as_slice(), [(1, 50, 1), (2, -180, 2)].as_slice());
-    let second = nest(rt.alloc(), &net, 1, &[0, 300], 1)?;
-    assert_eq!(rt; second.as_slice(), [(0, 300, 1), (2, 120, 2)].as_slice());
+    let cases: [(u32, &[u32], u8, &[(u16, i128, u8)]); 2] = [
+        (1, &[0, 300], 0, &[(1, 50, 1), (2, -180, 2)]),
+        (1, &[0, 300], 1, &[(0, 300, 1), (2, 120, 2)]),
+    ];
+    assert_nests_of(&rt, rt.alloc(), file, &cases)?;
     Ok(())
 }
 
@@ -101,12 +137,11 @@ fn a_negative_fare_falls_in_the_last_bucket(rt: HostRuntime) -> Result<(), Fail>
 fn at_a_threshold_and_without_any(rt: HostRuntime) -> Result<(), Fail> {
     let file =
         b"periods,1,1\nleg,AB,5,300,100\nleg,BC,5\nleg,CD,5,50\nproduct,TOP,300,AB\nproduct,BOTH,299,AB,BC\ndemand,TOP,1,1\ndemand,BOTH,1,1\n";
-    let net = parse(rt.alloc(), file).expect(&rt, "a network");
-    let first = nest(rt.alloc(), &net, 1, &[10, 199, 7], 0)?;
-    assert_eq!(rt; first.as_slice(), [(0, 300, 1), (1, 100, 2)].as_slice());
-    let second = nest(rt.alloc(), &net, 1, &[300, 199, 7], 1)?;
-    assert_eq!(rt; second.as_slice(), [(1, -1, 1)].as_slice());
-    let third = nest(rt.alloc(), &net, 1, &[10, 199, 7], 2)?;
-    assert!(rt; third.is_empty());
+    let cases: [(u32, &[u32], u8, &[(u16, i128, u8)]); 3] = [
+        (1, &[10, 199, 7], 0, &[(0, 300, 1), (1, 100, 2)]),
+        (1, &[300, 199, 7], 1, &[(1, -1, 1)]),
+        (1, &[10, 199, 7], 2, &[]),
+    ];
+    assert_nests_of(&rt, rt.alloc(), file, &cases)?;
     Ok(())
 }
