@@ -1,12 +1,24 @@
 //! The book of a network of two legs, AB with 3 seats and BC with 2, worked by hand.
+ghost use Rattle.std.specs.Prelude.{◌≡◌, [], IfOk};
+ghost use Rattle.nrm_model.specs.Inventory.{inventory_of};
+ghost use Rattle.nrm_samples.specs.Networks.{two_legs};
+
 use crate::{Book, Booking};
 use nrm_samples::two_legs;
+use std::alloc::{AllocError, Global};
 use std::test::Fail;
+
+// The empty book of the network.
+fn empty_book(alloc: Global) -> Result<Book, AllocError>
+    ensures { IfOk result (λ book. book ≡ record { inventory = inventory_of two_legs; bookings = []; next = 1 }) }
+{
+    let net = two_legs(alloc)?;
+    Book::new(alloc, &net)
+}
 
 #[test]
 fn sells_by_hand(rt: HostRuntime) -> Result<(), Fail> {
-    let net = two_legs(rt.alloc())?;
-    let mut book = Book::new(rt.alloc(), &net)?;
+    let mut book = empty_book(rt.alloc())?;
     assert_eq!(rt; book.add(0, 2), 1);
     assert_eq!(rt; book.left(0), 1);
     assert_eq!(rt; book.left(1), 0);
@@ -26,8 +38,7 @@ fn sells_by_hand(rt: HostRuntime) -> Result<(), Fail> {
 
 #[test]
 fn cancels_by_hand(rt: HostRuntime) -> Result<(), Fail> {
-    let net = two_legs(rt.alloc())?;
-    let mut book = Book::new(rt.alloc(), &net)?;
+    let mut book = empty_book(rt.alloc())?;
     assert_eq!(rt; book.add(0, 2), 1);
     assert_eq!(rt; book.add(1, 1), 2);
     assert_eq!(rt;
