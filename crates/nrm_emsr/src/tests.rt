@@ -49,7 +49,7 @@ fn levels(
 }
 
 // Of each case the prices, a leg, a period and the protections that are wanted there.
-fn assert_levels(
+fn assert_each(
     rt: &impl Abort,
     alloc: Global,
     net: &Network,
@@ -66,34 +66,24 @@ fn assert_levels(
     Ok(())
 }
 
-// The same on the network of a file.
-fn assert_levels_of(
+// The same, of a network that is used no further.
+fn assert_levels(
     rt: &impl Abort,
     alloc: Global,
-    file: &[u8],
+    net: Network,
     cases: &[(&[u32], u8, u8, &[u16])],
 ) -> Result<(), AllocError> {
-    let net = parse(alloc, file).expect(rt, "a network");
-    assert_levels(rt, alloc, &net, cases)
-}
-
-// The same on the network of two legs and five products.
-fn assert_sample_levels(
-    rt: &impl Abort,
-    alloc: Global,
-    cases: &[(&[u32], u8, u8, &[u16])],
-) -> Result<(), AllocError> {
-    let net = two_legs_five_products(alloc)?;
-    assert_levels(rt, alloc, &net, cases)
+    assert_each(rt, alloc, &net, cases)
 }
 
 #[test]
 fn two_legs_and_five_products(rt: HostRuntime) -> Result<(), Fail> {
+    let net = two_legs_five_products(rt.alloc())?;
     let cases: [(&[u32], u8, u8, &[u16]); 2] = [
         (&[150, 80], 0, 1, &[7, 10]),
         (&[150, 80], 1, 1, &[4, 6]),
     ];
-    assert_sample_levels(&rt, rt.alloc(), &cases)?;
+    assert_levels(&rt, rt.alloc(), net, &cases)?;
     Ok(())
 }
 
@@ -102,7 +92,8 @@ fn a_through_product_worth_less_than_its_second_leg(rt: HostRuntime) -> Result<(
     let file =
         b"periods,2,1\nleg,PQ,5,40\nleg,QR,2,200\nproduct,QRH,300,QR\nproduct,PQL,50,PQ\nproduct,PRL,120,PQ,QR\ndemand,QRH,1,3\ndemand,QRH,2,3\ndemand,PQL,1,2\ndemand,PQL,2,1\ndemand,PRL,1,1\ndemand,PRL,2,1\n";
     let cases: [(&[u32], u8, u8, &[u16]); 2] = [(&[0, 300], 0, 1, &[2]), (&[0, 300], 1, 1, &[2])];
-    assert_levels_of(&rt, rt.alloc(), file, &cases)?;
+    let net = parse(rt.alloc(), file).expect(&rt, "a network");
+    assert_levels(&rt, rt.alloc(), net, &cases)?;
     Ok(())
 }
 
@@ -117,7 +108,8 @@ fn a_hub_at_opening_and_later(rt: HostRuntime) -> Result<(), Fail> {
         (&[0, 0, 180, 0], 3, 1, &[24, 46]),
         (&[0, 0, 240, 0], 2, 2, &[30, 50]),
     ];
-    assert_levels_of(&rt, rt.alloc(), file, &cases)?;
+    let net = parse(rt.alloc(), file).expect(&rt, "a network");
+    assert_levels(&rt, rt.alloc(), net, &cases)?;
     Ok(())
 }
 
@@ -136,6 +128,7 @@ fn at_the_edges(rt: HostRuntime) -> Result<(), Fail> {
         (&[0, 200, 0, 0, 0], 3, 1, &[10, 10]),
         (&[0, 200, 0, 0, 0], 4, 1, &[3, 5]),
     ];
-    assert_levels_of(&rt, rt.alloc(), file, &cases)?;
+    let net = parse(rt.alloc(), file).expect(&rt, "a network");
+    assert_levels(&rt, rt.alloc(), net, &cases)?;
     Ok(())
 }

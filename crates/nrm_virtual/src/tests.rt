@@ -58,7 +58,7 @@ fn nest(
 }
 
 // Of each case a denominator, the prices over it, a leg, and the products that are wanted there.
-fn assert_nests(
+fn assert_each(
     rt: &impl Abort,
     alloc: Global,
     net: &Network,
@@ -71,25 +71,14 @@ fn assert_nests(
     Ok(())
 }
 
-// The same on the network of a file.
-fn assert_nests_of(
+// The same, of a network that is used no further.
+fn assert_nests(
     rt: &impl Abort,
     alloc: Global,
-    file: &[u8],
+    net: Network,
     cases: &[(u32, &[u32], u8, &[(u16, i128, u8)])],
 ) -> Result<(), AllocError> {
-    let net = parse(alloc, file).expect(rt, "a network");
-    assert_nests(rt, alloc, &net, cases)
-}
-
-// The same on the network of two legs and five products.
-fn assert_sample_nests(
-    rt: &impl Abort,
-    alloc: Global,
-    cases: &[(u32, &[u32], u8, &[(u16, i128, u8)])],
-) -> Result<(), AllocError> {
-    let net = two_legs_five_products(alloc)?;
-    assert_nests(rt, alloc, &net, cases)
+    assert_each(rt, alloc, &net, cases)
 }
 
 #[test]
@@ -103,7 +92,8 @@ fn two_legs_at_prices_of_150_and_80(rt: HostRuntime) -> Result<(), Fail> {
         ),
         (1, &[150, 80], 1, &[(2, 350, 1), (3, 80, 3), (4, 79, 3)]),
     ];
-    assert_sample_nests(&rt, rt.alloc(), &cases)?;
+    let net = two_legs_five_products(rt.alloc())?;
+    assert_nests(&rt, rt.alloc(), net, &cases)?;
     Ok(())
 }
 
@@ -116,7 +106,8 @@ fn two_legs_over_a_denominator(rt: HostRuntime) -> Result<(), Fail> {
         0,
         &[(0, 800, 1), (1, 300, 2), (2, 840, 1), (4, 298, 2)],
     )];
-    assert_sample_nests(&rt, rt.alloc(), &cases)?;
+    let net = two_legs_five_products(rt.alloc())?;
+    assert_nests(&rt, rt.alloc(), net, &cases)?;
     Ok(())
 }
 
@@ -128,7 +119,8 @@ fn a_negative_fare_falls_in_the_last_bucket(rt: HostRuntime) -> Result<(), Fail>
         (1, &[0, 300], 0, &[(1, 50, 1), (2, -180, 2)]),
         (1, &[0, 300], 1, &[(0, 300, 1), (2, 120, 2)]),
     ];
-    assert_nests_of(&rt, rt.alloc(), file, &cases)?;
+    let net = parse(rt.alloc(), file).expect(&rt, "a network");
+    assert_nests(&rt, rt.alloc(), net, &cases)?;
     Ok(())
 }
 
@@ -142,6 +134,7 @@ fn at_a_threshold_and_without_any(rt: HostRuntime) -> Result<(), Fail> {
         (1, &[300, 199, 7], 1, &[(1, -1, 1)]),
         (1, &[10, 199, 7], 2, &[]),
     ];
-    assert_nests_of(&rt, rt.alloc(), file, &cases)?;
+    let net = parse(rt.alloc(), file).expect(&rt, "a network");
+    assert_nests(&rt, rt.alloc(), net, &cases)?;
     Ok(())
 }
