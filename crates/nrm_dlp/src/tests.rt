@@ -1,8 +1,13 @@
 //! The programs of a network of two legs, AB with 3 seats and BC with 2, of two products and two histories of two
 //! periods, worked by hand.
-use crate::{opening_program, program_at, program_of};
-use nrm_lp::Program;
-use nrm_samples::two_legs_last_first;
+ghost use Rattle.std.specs.Prelude.{IfOk};
+ghost use Rattle.nrm_fraction.specs.Large.{size_limit};
+ghost use Rattle.nrm_lp.specs.Shape.{HasShape};
+
+use crate::{mean_value, opening_program, prices, program_at, program_of};
+use nrm_lp::{Certificate, Numbers, Program};
+use nrm_samples::{two_legs, two_legs_last_first};
+use nrm_simplex::SolveFault;
 use std::alloc::{AllocError, Global};
 use std::process::Abort;
 use std::test::Fail;
@@ -54,5 +59,54 @@ fn program_of_one_history(alloc: Global) -> Result<Program, AllocError> {
 fn with_caps_and_bounds(rt: HostRuntime) -> Result<(), Fail> {
     let program = program_of_one_history(rt.alloc())?;
     assert_program(&rt, &program, &[3, 2], &[3, 6]);
+    Ok(())
+}
+
+// What is optimised before anything is sold, and its mean value.
+fn optimised_at_opening(alloc: Global) -> Result<(Certificate, (u64, u64)), SolveFault> {
+    let net = two_legs(alloc)?;
+    let certificate = prices(alloc, &net, &[3, 2], 1)?;
+    let mean = mean_value(&net, &certificate);
+    Ok((certificate, mean))
+}
+
+// Four seats of the through product fill the second leg in both histories together, two of the local one what is left of
+// the first; so a seat of the first leg is worth the local fare, and one of the second the rest of the through fare.
+#[test]
+fn optimises_by_hand(rt: HostRuntime) -> Result<(), Fail> {
+    let optimised = optimised_at_opening(rt.alloc());
+    assert!(rt; optimised.is_ok());
+    if let Ok((certificate, mean)) = optimised {
+        assert_eq!(rt; (certificate.q, certificate.den), (1, 1));
+        assert_eq!(rt; certificate.x.as_slice(), [4, 2].as_slice());
+        assert_eq!(rt; certificate.p.as_slice(), [200, 300].as_slice());
+        assert_eq!(rt; certificate.value, 2400);
+        assert_eq!(rt; mean, (1200, 1));
+    }
+    Ok(())
+}
+
+// A certificate in quarters of a currency unit.
+fn in_quarters(alloc: Global) -> Result<Certificate, AllocError>
+    ensures { IfOk result (λ certificate. HasShape size_limit 2 2 certificate) }
+{
+    Ok(Certificate {
+        q: 1,
+        x: Numbers::new(Vec::from_array(alloc, [4, 2])?),
+        den: 4,
+        p: Numbers::new(Vec::from_array(alloc, [800, 1200])?),
+        value: 9604,
+    })
+}
+
+fn mean_of_quarters(alloc: Global) -> Result<(u64, u64), AllocError> {
+    let net = two_legs(alloc)?;
+    Ok(mean_value(&net, &in_quarters(alloc)?))
+}
+
+// Over two histories, 9604 quarters are 9604 eighths.
+#[test]
+fn mean_values_are_in_lowest_terms(rt: HostRuntime) -> Result<(), Fail> {
+    assert_eq!(rt; mean_of_quarters(rt.alloc())?, (2401, 2));
     Ok(())
 }

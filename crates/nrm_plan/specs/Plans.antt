@@ -1,0 +1,95 @@
+-- Plans: what the last optimisation was of, and what it gave.
+use Rattle.std.specs.Prelude.{ℕ, ◌≡◌, ◌≢◌, ◌<◌, ◌≤◌, ◌*◌, ◌-◌, ◌^◌, ℤ, min, nat_abs, nat_lt, Bool, false, List, length, get_or, Option, Some, None, option_map}
+use Rattle.nrm_fraction.specs.Fraction.{Fraction}
+use Rattle.nrm_fraction.specs.Large.{size_limit}
+use Rattle.nrm_model.specs.Inventory.{inventory_of}
+use Rattle.nrm_model.specs.Network.{NetworkValue, leg_of, product_of}
+use Rattle.nrm_model.specs.declared.mode.Mode.{Mode}
+use Rattle.nrm_model.specs.declared.mode.Mode.TheVariants as mode
+use Rattle.nrm_lp.specs.declared.certificate.Certificate.{Certificate}
+use Rattle.nrm_lp.specs.Certified.{Certifies, sizes}
+use Rattle.nrm_lp.specs.Means.{mean_value}
+use Rattle.nrm_lp.specs.Overflow.{Overflows}
+use Rattle.nrm_lp.specs.Program.{price_sum}
+use Rattle.nrm_simplex.specs.Solving.{IsClosing}
+use Rattle.nrm_simplex.specs.declared.fault.SolveFault.{SolveFault}
+use Rattle.nrm_simplex.specs.declared.fault.SolveFault.TheVariants as fault
+use Rattle.nrm_dlp.specs.Programs.{program_at}
+
+-- how the seats are controlled, the period and the seats left of the last optimisation, and the certificate that it gave, where the
+-- mode solves a program
+pub record PlanValue : Type 0 where
+  pub mode : Mode
+  pub period : ℕ
+  pub left : List ℕ
+  pub certificate : Option Certificate
+
+-- seats left of a network: on each leg no more than it has
+pub record AreSeatsLeft (net : NetworkValue) (left : List ℕ) : Type 0 where
+  pub legs : length left ≡ length net.legs
+  pub seats : (i : ℕ) → i < length net.legs → get_or left i 0 ≤ (leg_of net i).seats
+
+-- the program at these seats left and period k was solved, and this is the certificate of its closing
+abbrev pub IsSolved : NetworkValue → List ℕ → ℕ → Option Certificate → Type 0
+IsSolved net left k None = ⊥
+IsSolved net left k (Some cert) = IsClosing (program_at net left k) cert
+
+-- first come, first served solves nothing; the other modes solve that program
+abbrev pub HasCertificate : NetworkValue → List ℕ → ℕ → Mode → Option Certificate → Type 0
+HasCertificate net left k mode.FirstCome cert = cert ≡ None
+HasCertificate net left k mode.Bid cert = IsSolved net left k cert
+HasCertificate net left k mode.Davn cert = IsSolved net left k cert
+
+-- A plan of a network: its certificate is that of its own seats left and period.
+pub record IsPlanOf (net : NetworkValue) (plan : PlanValue) : Type 0 where
+  pub left : AreSeatsLeft net plan.left
+  pub certificate : HasCertificate net plan.left plan.period plan.mode plan.certificate
+
+-- a plan of a network in a mode, for these seats left and period k
+pub record IsPlanFor (net : NetworkValue) (m : Mode) (left : List ℕ) (k : ℕ) (plan : PlanValue) : Type 0 where
+  pub mode_is : plan.mode ≡ m
+  pub left_is : plan.left ≡ left
+  pub period_is : plan.period ≡ k
+  pub planned : IsPlanOf net plan
+
+-- the plan before anything is sold: that of period 1 with every seat left
+abbrev pub IsOpeningPlan : NetworkValue → Mode → PlanValue → Type 0
+IsOpeningPlan net m plan = IsPlanFor net m (inventory_of net).seats 1 plan
+
+-- there is no plan, since the program that the mode would solve is Large: after n finished pivots, with this number
+abbrev pub PlanOverflows : NetworkValue → Mode → List ℕ → ℕ → ℕ → ℤ → Type 0
+PlanOverflows net mode.FirstCome left k n number = ⊥
+PlanOverflows net mode.Bid left k n number = Overflows size_limit (program_at net left k) n number
+PlanOverflows net mode.Davn left k n number = Overflows size_limit (program_at net left k) n number
+
+abbrev pub OpeningOverflows : NetworkValue → Mode → ℕ → ℤ → Type 0
+OpeningOverflows net m n number = PlanOverflows net m (inventory_of net).seats 1 n number
+
+-- why no plan is made: its program is Large, after so many finished pivots, where 4,294,967,295 stands for more; or memory is wanting,
+-- which first come, first served never needs
+abbrev pub IsPlanFault : NetworkValue → Mode → List ℕ → ℕ → SolveFault → Type 0
+IsPlanFault net m left k (fault.Overflow pivots number) = (n : ℕ) × PlanOverflows net m left k n number × (pivots ≡ min n (2 ^ 32 - 1))
+IsPlanFault net m left k fault.NoMemory = m ≢ mode.FirstCome
+
+-- the mean value of a history, where a program was solved
+abbrev pub value_of : NetworkValue → PlanValue → Option Fraction
+value_of net plan = option_map (mean_value net.histories) plan.certificate
+
+-- whether the fare of a product is below the sum of its legs' bid prices
+abbrev pub below_bid_prices : NetworkValue → Certificate → ℕ → Bool
+below_bid_prices net cert j = nat_lt (nat_abs cert.den * (product_of net j).fare) (price_sum (sizes cert.p) (product_of net j).legs)
+
+-- the fare refuses under bid-price control alone, and only where it is below that sum: equality sells
+abbrev pub fare_refuses_by : NetworkValue → Mode → Option Certificate → ℕ → Bool
+fare_refuses_by net mode.FirstCome cert j = false
+fare_refuses_by net mode.Bid None j = false
+fare_refuses_by net mode.Bid (Some cert) j = below_bid_prices net cert j
+fare_refuses_by net mode.Davn cert j = false
+
+abbrev pub fare_refuses : NetworkValue → PlanValue → ℕ → Bool
+fare_refuses net plan j = fare_refuses_by net plan.mode plan.certificate j
+
+-- a plan's bid prices are optimal duals: its certificate has an optimal allocation and optimal bid prices, against every allocation and
+-- all prices of the program at the plan's seats left and period, and its value is the gain of the one and the cost of the others
+abbrev pub HasOptimalPrices : NetworkValue → PlanValue → Type 0
+HasOptimalPrices net plan = (cert : Certificate) × (plan.certificate ≡ Some cert) × Certifies size_limit (program_at net plan.left plan.period) cert

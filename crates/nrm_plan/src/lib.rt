@@ -1,0 +1,13 @@
+//! Plans: one optimisation's result, of which requests are answered until the next one.
+#![tactic(auto)]
+
+mod fares;
+mod laws;
+mod plan;
+mod seats;
+#[cfg(test)]
+mod tests;
+
+pub use laws::{each_has_a_plan, plans_are_determined, plans_are_optimal};
+pub use plan::Plan;
+pub use seats::SeatsLeft;

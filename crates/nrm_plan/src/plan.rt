@@ -1,0 +1,152 @@
+//! A plan: the mode, the period and the seats left of one optimisation, and its certificate. A plan holds no network.
+ghost use Rattle.std.specs.Prelude.{ℕ, ℤ, ◌≡◌, ◌≢◌, ◌<◌, ◌≤◌, IfErr, IfOk, IfSome, Option, Some, get_or, length, option_map, pos, take};
+ghost use Rattle.std.specs.Int.{IsInRange};
+ghost use Rattle.nrm_fraction.specs.Fraction.{◌over◌};
+ghost use Rattle.nrm_lp.specs.declared.certificate.Certificate.{Certificate as CertificateValue};
+ghost use Rattle.nrm_model.specs.Inventory.{inventory_of};
+ghost use Rattle.nrm_model.specs.Limits.{IsNetwork};
+ghost use Rattle.nrm_plan.specs.Plans.{AreSeatsLeft, IsOpeningPlan, IsPlanFault, IsPlanFor, IsPlanOf, fare_refuses, value_of};
+
+use crate::SeatsLeft;
+use crate::fares::below_bid_prices;
+use nrm_dlp::{mean_value, prices};
+use nrm_lp::Certificate;
+use nrm_model::{Mode, Network};
+use nrm_simplex::SolveFault;
+use std::alloc::Global;
+use std::marker::Model;
+
+/// What was optimised, and what it gave.
+#[derive(Drop)]
+pub struct Plan {
+    mode: Mode,
+    period: u8,
+    left: SeatsLeft,
+    certificate: Option<Certificate>,
+}
+
+impl Model for Plan {
+    ghost use Rattle.nrm_plan.specs.Plans.{PlanValue};
+
+    ghost Value = { PlanValue };
+
+    ghost view = { λ p. record { mode = p.mode; period = p.period; left = p.left; certificate = p.certificate } };
+}
+
+// The seats of each leg.
+fn full_seats(net: &Network) -> SeatsLeft
+    ensures seats { result ≡ (inventory_of net.now).seats }
+    ensures limits { IsNetwork net.now }
+{
+    let mut seats = SeatsLeft::new();
+    for leg in 0..net.leg_count() as u8 {
+        seats.push(net.leg_at(leg).seats);
+    }
+    seats
+}
+
+impl Plan {
+    /// The plan of a network in a mode, at these seats left and from period `period` on: under first come, first served
+    /// nothing is solved, and no memory taken; in the other modes it has the certificate of the program's closing.
+    /// `left` has the seats left leg by leg, on each leg at most its seats; periods count from 1.
+    ///
+    /// # Errors
+    /// `Overflow` exactly where the program is Large, and `NoMemory`; first come, first served meets neither.
+    pub fn make(
+        alloc: Global,
+        net: &Network,
+        mode: Mode,
+        left: &[u16],
+        period: u8,
+    ) -> Result<Plan, SolveFault>
+        requires left { AreSeatsLeft net.now left.now }
+        requires period { IsInRange 1 net.now.periods period }
+        ensures plan { IfOk result (IsPlanFor net.now mode left.now period) }
+        ensures fault { IfErr result (IsPlanFault net.now mode left.now period) }
+    {
+        // For its clause alone: a network is within its limits.
+        let _ = net.n();
+        let certificate = match mode {
+            Mode::FirstCome => None,
+            Mode::Bid | Mode::Davn => Some(prices(alloc, net, left, period)?),
+        };
+        Ok(Plan {
+            mode,
+            period,
+            left: SeatsLeft::of(left),
+            certificate,
+        })
+    }
+
+    /// The plan before anything is sold: that of period 1 with every seat left.
+    ///
+    /// # Errors
+    /// As of `make`.
+    pub fn opening(alloc: Global, net: &Network, mode: Mode) -> Result<Plan, SolveFault>
+        ensures plan { IfOk result (IsOpeningPlan net.now mode) }
+        ensures fault { IfErr result (IsPlanFault net.now mode (inventory_of net.now).seats 1) }
+    {
+        Plan::make(alloc, net, mode, full_seats(net).as_slice(), 1)
+    }
+
+    /// How requests are controlled.
+    pub fn mode(&self) -> Mode
+        ensures { result ≡ self.now.mode }
+    {
+        self.mode
+    }
+
+    /// The period that was optimised, counted from 1.
+    pub fn period(&self) -> u8
+        ensures { result ≡ self.now.period }
+    {
+        self.period
+    }
+
+    /// The certificate; a plan of first come, first served has none.
+    pub fn certificate(&self) -> Option<&Certificate>
+        ensures { option_map (λ certificate. certificate.now) result ≡ self.now.certificate }
+    {
+        self.certificate.as_ref()
+    }
+
+    /// The bid price of a seat on a leg, in currency units: a numerator over the denominator of the certificate, not
+    /// reduced.
+    pub fn price(&self, leg: u8) -> (i64, i64)
+        requires { (cert : CertificateValue) × (self.now.certificate ≡ Some cert) × (leg < length cert.p) }
+        ensures { IfSome self.now.certificate (λ cert. (result.0 ≡ get_or cert.p leg (pos 0)) × (result.1 ≡ cert.den)) }
+    {
+        match self.certificate.as_ref() {
+            Some(certificate) => (certificate.p.as_slice()[leg as usize], certificate.den),
+            None => (0, 1),
+        }
+    }
+
+    /// The mean value of a history, in whole currency units: a numerator and a denominator in lowest terms. `None` under
+    /// first come, first served.
+    pub fn mean_value(&self, net: &Network) -> Option<(u64, u64)>
+        requires { IsPlanOf net.now self.now }
+        ensures value { option_map (λ value. pos value.0 over value.1) result ≡ value_of net.now self.now }
+        ensures some { IfSome result (λ value. 0 < value.1) }
+    {
+        // For its clause alone: a network is within its limits.
+        let _ = net.n();
+        let certificate = self.certificate.as_ref()?;
+        Some(mean_value(net, certificate))
+    }
+
+    /// Whether the fare of a product refuses: under bid-price control, where it is below the sum of the bid prices of the
+    /// product's legs; a fare that equals it sells. It takes no memory.
+    pub fn fare_refuses(&self, net: &Network, product: u16) -> bool
+        requires plan { IsPlanOf net.now self.now }
+        requires product { product < length net.now.products }
+        ensures { result ≡ fare_refuses net.now self.now product }
+    {
+        // For its clause alone: a network is within its limits.
+        let _ = net.n();
+        match (self.mode, self.certificate.as_ref()) {
+            (Mode::Bid, Some(certificate)) => below_bid_prices(net, certificate, product),
+            _ => false,
+        }
+    }
+}

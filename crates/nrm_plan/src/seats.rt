@@ -1,0 +1,66 @@
+//! Seats left, leg by leg, in an array of fixed length: keeping them takes no memory.
+ghost use Rattle.std.specs.Prelude.{◌≡◌, ◌<◌, ◌≤◌, ◌++◌, ◌∷◌, [], length};
+
+use std::marker::Model;
+
+// The most legs of a network.
+const MOST_LEGS: usize = 64;
+
+/// The seats left on each leg of a network, in file order, of at most 64 legs. Contracts see a list.
+#[derive(Drop)]
+pub struct SeatsLeft {
+    seats: [u16; MOST_LEGS],
+    legs: usize,
+}
+
+impl Model for SeatsLeft {
+    ghost use Rattle.std.specs.Prelude.{ℕ, List, ◌≡◌, ◌≤◌, length, take};
+
+    ghost Value = { List ℕ };
+
+    ghost view = { λ left. take left.legs left.seats };
+
+    ghost invariant = { λ left. (length left.seats ≡ 64) × (left.legs ≤ 64) };
+}
+
+impl SeatsLeft {
+    /// Of no leg.
+    pub fn new() -> SeatsLeft
+        ensures { result ≡ [] }
+    {
+        SeatsLeft {
+            seats: [0; MOST_LEGS],
+            legs: 0,
+        }
+    }
+
+    /// These seats.
+    pub fn of(seats: &[u16]) -> SeatsLeft
+        requires { length seats.now ≤ 64 }
+        ensures { result ≡ seats.now }
+    {
+        let mut kept = [0; MOST_LEGS];
+        kept[..seats.len()].copy_from_slice(seats);
+        SeatsLeft {
+            seats: kept,
+            legs: seats.len(),
+        }
+    }
+
+    /// Appends the seats left on the next leg.
+    pub fn push(&mut self, seats: u16)
+        requires { length self.old < 64 }
+        ensures { self.new ≡ self.old ++ seats ∷ [] }
+    {
+        self.seats[self.legs] = seats;
+        self.legs += 1;
+    }
+
+    /// The seats, leg by leg.
+    pub fn as_slice(&self) -> &[u16]
+        ensures { result.now ≡ self.now }
+    {
+        let legs = self.legs;
+        &self.seats[..legs]
+    }
+}
