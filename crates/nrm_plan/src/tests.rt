@@ -59,7 +59,13 @@ fn equal_fares_sell(rt: HostRuntime) {
     assert_said(
         &rt,
         said_at_opening(rt.alloc(), Mode::Bid),
-        (Mode::Bid, 1, Some([1, 200, 300]), Some((1200, 1)), [false, false]),
+        (
+            Mode::Bid,
+            1,
+            Some([1, 200, 300]),
+            Some((1200, 1)),
+            [false, false],
+        ),
     );
 }
 
@@ -69,7 +75,13 @@ fn a_lower_fare_refuses(rt: HostRuntime) {
     assert_said(
         &rt,
         said_later(rt.alloc(), Mode::Bid),
-        (Mode::Bid, 2, Some([1, 500, 0]), Some((500, 1)), [false, true]),
+        (
+            Mode::Bid,
+            2,
+            Some([1, 500, 0]),
+            Some((500, 1)),
+            [false, true],
+        ),
     );
 }
 
