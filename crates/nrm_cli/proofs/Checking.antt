@@ -1,6 +1,5 @@
 -- How a check ends, out of what its parts say.
-use Rattle.std.proofs.Common.{◌≡◌, ◌≢◌, ◌≤◌, ℕ, arith, Some, None, Ok, Err, MatchResult, IfSome, option_map, inl, inr, refl, sym, ap, subst, List, Option, Result}
-use Rattle.nrm_edge.specs.Causes.{Rose}
+use Rattle.std.proofs.Common.{◌≡◌, ◌≢◌, ℕ, Some, None, Ok, Err, MatchResult, IfSome, option_map, inl, inr, refl, List, Option, Result}
 use Rattle.nrm_model.specs.Network.{NetworkValue}
 use Rattle.nrm_fraction.specs.Large.{size_limit}
 use Rattle.nrm_lp.specs.declared.certificate.Certificate.{Certificate}
@@ -15,7 +14,7 @@ use Rattle.nrm_opening.specs.Refusals.{file_fault_line}
 use Rattle.nrm_cli.specs.Certificates.{LacksCertificate, certificate_under, lacking_line, no_certificate, refused_for, verdict_line}
 use Rattle.nrm_cli.specs.Ends.{Ends, Failures, status_of}
 use Rattle.nrm_cli.specs.Jobs.{check_file}
-use Rattle.nrm_cli.specs.Inner.Parts.{ChecksFile, CountsCertificate, OpensCertificate, PutsFound, PutsIfSome, PutsLine, PutsVerdict, lack_line, lack_status}
+use Rattle.nrm_cli.specs.Inner.Parts.{ChecksFile, CountsCertificate, OpensCertificate, PutsIfSome, PutsLine, PutsVerdict, lack_line, lack_status}
 use Rattle.nrm_cli.specs.Tells.{Gives, Lacks, Opens, Tells, lacking, optimal, wrong, file_fault}
 use Rattle.nrm_cli.specs.declared.certificate.NoCertificate.{NoCertificate}
 use Rattle.nrm_cli.specs.declared.certificate.NoCertificate.TheVariants as lacks

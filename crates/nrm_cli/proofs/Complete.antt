@@ -1,8 +1,9 @@
 -- Where the words are good, the files are told and the file is valid, and nothing failed, the job is done.
-use Rattle.std.proofs.Common.{ℕ, ◌≡◌, ◌≤◌, ◌++◌, List, length, Option, Some, None, Result, Ok, Err, ◌≢◌, refl, ap, sym, ◌∙◌, inl, inr, arith, append-nil, length-append, subst}
+use Rattle.std.proofs.Common.{ℕ, ℤ, ◌≡◌, ◌≤◌, ◌++◌, List, length, Option, Some, None, Result, Ok, Err, ◌≢◌, refl, ap, sym, ◌∙◌, inl, inr, arith, append-nil, length-append, subst}
 use Rattle.std.specs.Io.KnownBytes.{Consumes, IsAtEnd}
 use Rattle.nrm_edge.specs.Fetch.{Folder}
 use Rattle.nrm_model.specs.declared.mode.Mode.{Mode}
+use Rattle.nrm_model.specs.Inventory.{inventory_of}
 use Rattle.nrm_model.specs.Network.{NetworkValue}
 use Rattle.nrm_lp.specs.declared.certificate.Certificate.{Certificate}
 use Rattle.nrm_dlp.specs.Programs.{opening_program}
@@ -10,16 +11,19 @@ use Rattle.nrm_dual.specs.Conditions.{verdict_on}
 use Rattle.nrm_dual.specs.declared.verdict.Verdict.{Verdict}
 use Rattle.nrm_dual.specs.declared.verdict.Verdict.TheVariants as verdict
 use Rattle.nrm_network.specs.Canonical.{canonical_file}
+use Rattle.nrm_plan.specs.Plans.{IsOpeningPlan, OpeningOverflows, PlanValue}
+use Rattle.nrm_plan.proofs.Plans.{one-plan}
+use Rattle.nrm_report.specs.Texts.{plan_text}
 use Rattle.nrm_opening.specs.Outside.{Outside, OnFile, FilesFailed, SourceFailed, SinkFailed, Wrote}
 use Rattle.nrm_opening.specs.Refusals.{Refusal, network_under}
-use Rattle.nrm_control.specs.State.{SeatState, opening}
+use Rattle.nrm_control.specs.State.{opening}
 use Rattle.nrm_stream.specs.Commands.{commands_of}
-use Rattle.nrm_session.specs.Run.{Run, Writes, output_of}
+use Rattle.nrm_session.specs.Run.{output_of}
 use Rattle.nrm_session.proofs.Runs.{runs}
 use Rattle.nrm_cli.specs.Certificates.{LacksCertificate, certificate_under, verdict_line}
-use Rattle.nrm_cli.specs.Jobs.{Job, run_file, check_file, print_file, file_of_job}
-use Rattle.nrm_cli.specs.Ends.{Completes, CompletesJob, Ends, OrRanOut, RanOut, RunWrites, status_of}
-use Rattle.nrm_cli.specs.Tells.{Gives, Lacks, Opens, Reads, Refuses, Tells, usage, refused, lacking, optimal, wrong, printed, file_fault}
+use Rattle.nrm_cli.specs.Jobs.{Job, run_file, plan_file, check_file, print_file, file_of_job, mode_of_job, overflow_line, told_pivots}
+use Rattle.nrm_cli.specs.Ends.{Completes, CompletesJob, Ends, OrRanOut, RanOut, RunWrites, Starts, TellsOverflow, status_of}
+use Rattle.nrm_cli.specs.Tells.{Gives, Lacks, Opens, Reads, Refuses, Tells, usage, refused, lacking, optimal, wrong, planned, overflow, printed, file_fault}
 use Rattle.nrm_cli.specs.declared.status.Status.{Status}
 use Rattle.nrm_cli.specs.declared.status.Status.TheVariants as status
 
@@ -41,16 +45,18 @@ folder-same : (x y : Folder) → Some x ≡ Some y → x ≡ y
 folder-same x y e = cc
 
 -- a run over the lines of a stream is there, so its output is
-some-run : (net : NetworkValue) (mode : Mode) (stream : List ℕ) → (output : List ℕ) × RunWrites net mode stream output
-some-run net mode stream =
-    let (replies, last, run) = runs net (opening mode) (commands_of stream) in
+some-run : (net : NetworkValue) (plan : PlanValue) (stream : List ℕ) → (output : List ℕ) × RunWrites net plan stream output
+some-run net plan stream =
+    let (replies, last, run, suffices) = runs net (opening plan) (commands_of stream) in
     (output_of replies, (last, record { replies = replies; run = run; output = refl }))
 
 -- want of memory is one of the ends that a good job may have
 ran-complete : (job : Job) (net : NetworkValue) (before after : Outside) → RanOut (Some job) before after → CompletesJob job net before after status.NoMemory
-ran-complete (run_file mode file) net before after kept = λ stream coming short.
-    let (output, writes) = some-run net mode stream in
-    (output, writes, inr (refl, kept))
+ran-complete (run_file m file) net before after kept = (
+  (λ n number large. inr (refl, kept)),
+  (λ plan stream planned coming short. let (output, writes) = some-run net plan stream in (output, writes, inr (refl, kept))),
+)
+ran-complete (plan_file m file) net before after (kept, left) = ((λ n number large. inr (refl, kept)), (λ plan planned. inr (refl, kept)))
 ran-complete (check_file file certificate) net before after (kept, left) = λ files given told valid. inr (refl, kept)
 ran-complete (print_file file) net before after (kept, left) = inr (refl, kept)
 
@@ -117,6 +123,39 @@ module _ (asked : Option Job) (before after : Outside) (job : Job) (files : Fold
       let same : other ≡ files = folder-same other files (sym is-told ∙ told) in
       written gives.file gives.certificate shown (sym (same-job (check_file gives.file gives.certificate) gives.opens.0)) (subst (λ (f : Folder). certificate_under net (f gives.certificate) ≡ Ok shown) same valid-too) given-net given found s gives is goes wrote)
 
+  -- ---- the words ask for a job that has an opening plan: there is one, or its program is Large
+  opening-same : (m : Mode) (plan other : PlanValue) → IsOpeningPlan net m plan → IsOpeningPlan net m other → other ≡ plan
+  opening-same m plan other is is' = (one-plan net m (inventory_of net).seats 1).plan plan other is is'
+
+  planned-apart : (m : Mode) (plan : PlanValue) → IsOpeningPlan net m plan → (s : Status) → TellsOverflow net m before after s
+  planned-apart m plan is s = λ n number large. absurd ((one-plan net m (inventory_of net).seats 1).apart plan n number is large)
+
+  -- where a run was started, its plan is the network's
+  started : (st : Starts asked before) → IsOpeningPlan net st.mode st.plan
+  started st = subst (λ (n : NetworkValue). IsOpeningPlan n st.mode st.plan) (same-net (run_file st.mode st.file) st.net st.opens) st.planned
+
+  -- the line of a program that is Large
+  large-told : (m : Mode) (n : ℕ) (number : ℤ) → OpeningOverflows net m n number → Wrote before after (overflow_line (told_pivots n) number) → TellsOverflow net m before after status.Overflow
+  large-told m n number large wrote = λ n' number' large'.
+      let (count, same) = (one-plan net m (inventory_of net).seats 1).overflow n n' number number' large large' in
+      inl (refl, subst (λ (text : List ℕ). Wrote before after text) (λ i. overflow_line (told_pivots (sym count i)) (sym same i)) wrote)
+
+  none-some : (m : Mode) → None ≡ Some m → ⊥
+  none-some m e = cc
+
+  mode-same : (x y : Mode) → Some x ≡ Some y → x ≡ y
+  mode-same x y e = cc
+
+  complete-large : (other : Job) (m : Mode) (n : ℕ) (number : ℤ) → mode_of_job other ≡ Some m → OpeningOverflows net m n number → Wrote before after (overflow_line (told_pivots n) number) → CompletesJob other net before after status.Overflow
+  complete-large (run_file k file) m n number has large wrote =
+      let own = subst (λ (mode : Mode). OpeningOverflows net mode n number) (sym (mode-same k m has)) large in
+      (large-told k n number own wrote, (λ plan stream planned coming short. absurd ((one-plan net k (inventory_of net).seats 1).apart plan n number planned own)))
+  complete-large (plan_file k file) m n number has large wrote =
+      let own = subst (λ (mode : Mode). OpeningOverflows net mode n number) (sym (mode-same k m has)) large in
+      (large-told k n number own wrote, (λ plan planned. absurd ((one-plan net k (inventory_of net).seats 1).apart plan n number planned own)))
+  complete-large (check_file file certificate) m n number has large wrote = absurd (none-some m has)
+  complete-large (print_file file) m n number has large wrote = absurd (none-some m has)
+
   complete-told : (s : Status) (text : List ℕ) → Tells asked before after s text → Wrote before after text → CompletesJob job net before after s
   complete-told s text (usage none) wrote = let no : None ≡ Some job = sym none ∙ asks in cc
   complete-told s text (refused refusal why) wrote = absurd (not-refused refusal why)
@@ -126,6 +165,20 @@ module _ (asked : Option Job) (before after : Outside) (job : Job) (files : Fold
       absurd (not-lacking r.file r.certificate shown (sym (same-job (check_file r.file r.certificate) r.opens.0)) (subst (λ (f : Folder). certificate_under net (f r.certificate) ≡ Ok shown) same valid-too) given-net reason r))
   complete-told s text (optimal given-net given gives is shows) wrote = judged status.Done given-net given verdict.Optimal gives is refl wrote
   complete-told s text (wrong given-net given found gives is other shaped) wrote = judged status.Wrong given-net given found gives is (wrong-status found other) wrote
+  complete-told s text (planned m file given-net plan opens is) wrote =
+      let own = subst (λ (n : NetworkValue). IsOpeningPlan n m plan) (same-net (plan_file m file) given-net opens) is in
+      subst (Complete status.Done) (same-job (plan_file m file) opens.0) (
+        planned-apart m plan own status.Done,
+        (λ other is'.
+            inl (
+              refl,
+              subst (λ (p : PlanValue). Wrote before after (plan_text net p)) (opening-same m other plan is' own)
+                  (subst (λ (n : NetworkValue). Wrote before after (plan_text n plan)) (same-net (plan_file m file) given-net opens) wrote),
+            )),
+      )
+  complete-told s text (overflow other m given-net n number has opens large) wrote =
+      subst (Complete status.Overflow) (same-job other opens.0)
+      (complete-large other m n number has (subst (λ (net' : NetworkValue). OpeningOverflows net' m n number) (same-net other given-net opens) large) wrote)
   complete-told s text (printed file given-net opens) wrote =
       subst (Complete status.Done) (same-job (print_file file) opens.0)
       (inl (refl, subst (λ (n : NetworkValue). Wrote before after (canonical_file n)) (same-net (print_file file) given-net opens) wrote))
@@ -133,10 +186,15 @@ module _ (asked : Option Job) (before after : Outside) (job : Job) (files : Fold
 
   pub complete : (s : Status) → Ends asked before after s → CompletesJob job net before after s
   complete status.Done (inl served) =
-      subst (Complete status.Done) (same-job (run_file served.mode served.file) served.opens.0) (λ stream coming short.
-      let all : served.stream ≡ stream = all-taken stream served.stream after.coming (rw coming at served.read.taken) served.read.ended in
-      let of_net = subst (λ (n : NetworkValue). RunWrites n served.mode served.stream served.output) (same-net (run_file served.mode served.file) served.net served.opens) served.writes_it in
-      (served.output, subst (λ (t : List ℕ). RunWrites net served.mode t served.output) all of_net, inl (refl, served.wrote)))
+      let st = served.starts in
+      subst (Complete status.Done) (same-job (run_file st.mode st.file) st.opens.0) (
+        planned-apart st.mode st.plan (started st) status.Done,
+        (λ plan stream is coming short.
+            let all : served.stream ≡ stream = all-taken stream served.stream after.coming (rw coming at served.read.taken) served.read.ended in
+            let of_net = subst (λ (n : NetworkValue). RunWrites n st.plan served.stream served.output) (same-net (run_file st.mode st.file) st.net st.opens) served.writes_it in
+            let of_plan = subst (λ (p : PlanValue). RunWrites net p served.stream served.output) (opening-same st.mode plan st.plan is (started st)) of_net in
+            (served.output, subst (λ (t : List ℕ). RunWrites net plan t served.output) all of_plan, inl (refl, served.wrote))),
+      )
   complete status.Done (inr t) = complete-told status.Done t.text t.tells t.wrote
   complete status.Wrong t = complete-told status.Wrong t.text t.tells t.wrote
   complete status.Usage t = complete-told status.Usage t.text t.tells t.wrote
@@ -146,10 +204,14 @@ module _ (asked : Option Job) (before after : Outside) (job : Job) (files : Fold
   complete status.WriteFault ends = absurd (no_sink_fault ends.0)
   complete status.NoMemory ends = ran-complete job net before after (rw asks at ends)
   complete status.TooLong (taken, long, stopped) =
-      subst (Complete status.TooLong) (same-job (run_file stopped.mode stopped.file) stopped.opens.0) (λ stream coming short.
-      let few = no-more stream taken after.coming (rw coming at stopped.took) in
-      absurd (omega (arith, few, long, short)))
-  complete status.Overflow ends = absurd ends
+      let st = stopped.starts in
+      subst (Complete status.TooLong) (same-job (run_file st.mode st.file) st.opens.0) (
+        planned-apart st.mode st.plan (started st) status.TooLong,
+        (λ plan stream is coming short.
+            let few = no-more stream taken after.coming (rw coming at stopped.took) in
+            absurd (omega (arith, few, long, short))),
+      )
+  complete status.Overflow t = complete-told status.Overflow t.text t.tells t.wrote
 
 -- what holds of a job holds of the words that ask for it
 pub same-job-ends : (asked known : Option Job) (before after : Outside) (s : Status) → asked ≡ known → Ends asked before after s → Ends known before after s

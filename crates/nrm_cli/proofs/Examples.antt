@@ -1,20 +1,21 @@
 -- Sessions and refusals written down, from the bytes of the file and of the stream to the bytes that are written.
-use Rattle.std.specs.Prelude.{◌≡◌, ℕ, List, [], ◌∷◌, map, codes, refl, Option, Some, None, Ok, Err}
+use Rattle.std.specs.Prelude.{◌≡◌, ◌<◌, ◌≤◌, ℕ, zero, suc, pos, negsuc, get_or, List, [], ◌∷◌, map, codes, refl, Option, Some, None, Ok, Err}
 use Rattle.std.proofs.Common.{arith}
 use Rattle.std.specs.Fmt.{digits}
-use Rattle.nrm_model.specs.Network.{NetworkValue}
+use Rattle.nrm_model.specs.Network.{NetworkValue, leg_of}
 use Rattle.nrm_model.specs.declared.mode.Mode.TheVariants as mode
 use Rattle.nrm_network.specs.Canonical.{canonical_file}
 use Rattle.nrm_network.specs.declared.fault.Why.TheVariants as why
 use Rattle.nrm_network.proofs.OnLiterals.{network_on_literals}
+use Rattle.nrm_plan.specs.Plans.{IsOpeningPlan, PlanValue}
 use Rattle.nrm_control.specs.State.{SeatState, opening, after_request, after_cancellation}
-use Rattle.nrm_session.specs.Replies.{bad, unknown, sold, no_leg, cancelled, leg_told}
+use Rattle.nrm_session.specs.Replies.{bad, unknown, sold, no_leg, cancelled, leg_told, plan_told}
 use Rattle.nrm_dual.specs.Refusals.{too_long, bad_line, large_line, no_value, no_product, no_leg, too_fine}
 use Rattle.nrm_dual.specs.declared.verdict.Verdict.TheVariants as verdict
 use Rattle.nrm_opening.specs.Outside.{Outside, FilesFailed, SourceFailed, SinkFailed}
 use Rattle.nrm_cli.specs.Certificates.{lacking_line, no_certificate, refused_for, verdict_line}
 use Rattle.nrm_cli.specs.Ends.{Completes, OrRanOut, RunWrites, status_of, stream_limit}
-use Rattle.nrm_cli.specs.Jobs.{job_of, run_file, check_file, print_file, usage_line}
+use Rattle.nrm_cli.specs.Jobs.{job_of, run_file, plan_file, check_file, print_file, usage_line, overflow_line, told_pivots}
 use Rattle.nrm_cli.specs.Numbers.{number_of}
 use Rattle.nrm_cli.specs.declared.status.Status.{Status}
 use Rattle.nrm_cli.specs.declared.status.Status.TheVariants as status
@@ -32,6 +33,18 @@ two_legs = record {
 abbrev two_legs_file : List ℕ
 two_legs_file = codes "periods,1,1\nleg,AB,3\nleg,BC,2\nproduct,THRU,500,AB,BC\nproduct,LOC,200,AB\n"
 
+-- the opening plan of first come, first served
+abbrev first : PlanValue
+first = record { mode = mode.FirstCome; period = 1; left = 3 ∷ 2 ∷ []; certificate = None }
+
+first_planned : IsOpeningPlan two_legs mode.FirstCome first
+first_planned = record { mode_is = refl; left_is = refl; period_is = refl; planned = record { left = record { legs = refl; seats = λ i short. within i short }; certificate = refl } }
+  where
+    within : (i : ℕ) → i < 2 → get_or (3 ∷ 2 ∷ []) i 0 ≤ (leg_of two_legs i).seats
+    within zero short = omega arith
+    within (suc zero) short = omega arith
+    within (suc (suc i)) short = absurd (omega (arith, short))
+
 opened : network_under (Some two_legs_file) ≡ Ok two_legs
 unfolding network_on_literals
 opened = refl
@@ -45,7 +58,7 @@ abbrev requests : List ℕ
 requests = codes "book THRU 2\nbook THRU 1\nbook LOC 1\nbook LOC 1\nbook X 1\n"
 
 abbrev after_two_seats : SeatState
-after_two_seats = after_request two_legs (opening mode.FirstCome) 0 2
+after_two_seats = after_request two_legs (opening first) 0 2
 
 abbrev after_refusal : SeatState
 after_refusal = after_request two_legs after_two_seats 0 1
@@ -56,7 +69,7 @@ after_three_seats = after_request two_legs after_refusal 1 1
 abbrev after_requests : SeatState
 after_requests = after_request two_legs after_three_seats 1 1
 
-answered : RunWrites two_legs mode.FirstCome requests (codes "ok 1\nno BC\nok 2\nno AB\nunknown\n")
+answered : RunWrites two_legs first requests (codes "ok 1\nno BC\nok 2\nno AB\nunknown\n")
 unfolding digits
 answered = (
   after_requests,
@@ -77,12 +90,12 @@ after_cancel = after_cancellation after_two_seats 1
 abbrev after_mixed : SeatState
 after_mixed = after_request two_legs after_cancel 1 1
 
-answered_mixed : RunWrites two_legs mode.FirstCome mixed (codes "ok 1\ncancelled 1 1000\nunknown\nleg AB seats 3 sold 0 left 3\nbad\nbad\nbad\nok 2\n")
+answered_mixed : RunWrites two_legs first mixed (codes "ok 1\ncancelled 1 1000\nunknown\nleg AB seats 3 sold 0 left 3\nfirst\nbad\nbad\nok 2\n")
 unfolding digits
 answered_mixed = (
   after_mixed,
   record {
-    replies = sold 1 ∷ cancelled 1 1000 ∷ unknown ∷ leg_told (codes "leg AB seats 3 sold 0 left 3\n") ∷ bad ∷ bad ∷ bad ∷ sold 2 ∷ [];
+    replies = sold 1 ∷ cancelled 1 1000 ∷ unknown ∷ leg_told (codes "leg AB seats 3 sold 0 left 3\n") ∷ plan_told (codes "first\n") ∷ bad ∷ bad ∷ sold 2 ∷ [];
     run = (after_two_seats, (refl, refl), (after_cancel, (refl, refl), (after_cancel, (refl, refl), (after_cancel, (refl, refl), (after_cancel, (refl, refl), (after_cancel, (refl, refl), (after_cancel, (refl, refl), (after_mixed, (refl, refl), refl))))))));
     output = refl;
   },
@@ -115,8 +128,32 @@ words_of_a_print = refl
 one_word : job_of (codes "run" ∷ []) ≡ None
 one_word = refl
 
-other_mode : job_of (codes "run" ∷ codes "bid" ∷ codes "F" ∷ []) ≡ None
+words_of_a_run_by_bid_prices : job_of (codes "run" ∷ codes "bid" ∷ codes "F" ∷ []) ≡ Some (run_file mode.Bid (codes "F"))
+words_of_a_run_by_bid_prices = refl
+
+words_of_a_plan : job_of (codes "plan" ∷ codes "bid" ∷ codes "F" ∷ []) ≡ Some (plan_file mode.Bid (codes "F"))
+words_of_a_plan = refl
+
+words_of_no_plan : job_of (codes "plan" ∷ codes "first" ∷ codes "F" ∷ []) ≡ Some (plan_file mode.FirstCome (codes "F"))
+words_of_no_plan = refl
+
+plan_without_a_mode : job_of (codes "plan" ∷ codes "F" ∷ []) ≡ None
+plan_without_a_mode = refl
+
+other_mode : job_of (codes "run" ∷ codes "davn" ∷ codes "F" ∷ []) ≡ None
 other_mode = refl
+
+-- ---- the line of a program that is Large, with a sign before a negative number
+line_of_overflow : overflow_line 64 (pos 399599996004000) ≡ codes "overflow after 64 pivots at 399599996004000\n"
+unfolding digits
+line_of_overflow = refl
+
+line_of_a_negative_number : overflow_line 0 (negsuc 281474976710655) ≡ codes "overflow after 0 pivots at -281474976710656\n"
+unfolding digits
+line_of_a_negative_number = refl
+
+most_pivots_told : map told_pivots (0 ∷ 4294967295 ∷ 4294967296 ∷ []) ≡ 0 ∷ 4294967295 ∷ 4294967295 ∷ []
+most_pivots_told = refl
 
 one_word_more : job_of (codes "print" ∷ codes "F" ∷ codes "G" ∷ []) ≡ None
 one_word_more = refl
@@ -158,6 +195,6 @@ over coming held = record { files = Some (λ name. Some two_legs_file); coming =
 
 completed : (s : Status) (after : Outside) → Completes (Some (run_file mode.FirstCome (codes "F"))) (over (Some (codes "book LOC 1\nbook X 1\n")) (Some [])) after s
     → (FilesFailed (over (Some (codes "book LOC 1\nbook X 1\n")) (Some [])) after → ⊥) → (SourceFailed (over (Some (codes "book LOC 1\nbook X 1\n")) (Some [])) after → ⊥) → (SinkFailed (over (Some (codes "book LOC 1\nbook X 1\n")) (Some [])) after → ⊥)
-    → (output : List ℕ) × RunWrites two_legs mode.FirstCome (codes "book LOC 1\nbook X 1\n") output × OrRanOut (over (Some (codes "book LOC 1\nbook X 1\n")) (Some [])) after s status.Done output
+    → (output : List ℕ) × RunWrites two_legs first (codes "book LOC 1\nbook X 1\n") output × OrRanOut (over (Some (codes "book LOC 1\nbook X 1\n")) (Some [])) after s status.Done output
 completed s after completes files source sink =
-    completes (run_file mode.FirstCome (codes "F")) (λ name. Some two_legs_file) two_legs refl refl opened files source sink (codes "book LOC 1\nbook X 1\n") refl (omega arith)
+    (completes (run_file mode.FirstCome (codes "F")) (λ name. Some two_legs_file) two_legs refl refl opened files source sink).1 first (codes "book LOC 1\nbook X 1\n") first_planned refl (omega arith)

@@ -2,8 +2,11 @@ pub mod Checking
 pub mod Complete
 pub mod Examples
 pub mod OwnPasses
+pub mod Passing
 pub mod Places
+pub mod Planning
 pub mod Replies
 pub mod Serving
 pub mod Telling
+pub mod Wide
 pub mod Without

@@ -1,10 +1,9 @@
 -- The text of the closing of a network's program is found optimal, and so is each optimal certificate.
-use Rattle.std.proofs.Common.{◌≡◌, ◌^◌, ap, refl, subst, sym, length}
+use Rattle.std.proofs.Common.{ap, refl}
 use Rattle.std.proofs.lemmas.Bool.{ltb-true}
 use Rattle.nrm_fraction.specs.Large.{size_limit}
 use Rattle.nrm_lp.specs.Limits.{IsLimited}
 use Rattle.nrm_lp.specs.Closing.{certificate}
-use Rattle.nrm_lp.specs.Shape.{HasShape}
 use Rattle.nrm_lp.proofs.Certify.{certifies}
 use Rattle.nrm_dlp.specs.Programs.{opening_program}
 use Rattle.nrm_dlp.proofs.Limited.{opening-limited}

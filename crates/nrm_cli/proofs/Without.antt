@@ -1,12 +1,12 @@
 -- How a job ends where its file gives no network.
-use Rattle.std.proofs.Common.{ℕ, ◌≡◌, Some, Err, inl, inr, refl}
+use Rattle.std.proofs.Common.{◌≡◌, Some, Err, inl, inr, refl}
 use Rattle.nrm_opening.specs.Opening.{CountsOpening, OpensFile}
 use Rattle.nrm_opening.specs.Outside.{Outside, LeftStream}
 use Rattle.nrm_opening.specs.Refusals.{no_file, at_row, refusal_line, file_fault_line}
 use Rattle.nrm_opening.specs.declared.opening.NoNetwork.{NoNetwork}
 use Rattle.nrm_opening.specs.declared.opening.NoNetwork.TheVariants as none
 use Rattle.nrm_cli.specs.Ends.{Ends, Failures}
-use Rattle.nrm_cli.specs.Jobs.{Job, run_file, check_file, print_file, file_of_job}
+use Rattle.nrm_cli.specs.Jobs.{Job, run_file, plan_file, check_file, print_file, file_of_job}
 use Rattle.nrm_cli.specs.Inner.Parts.{PutsReason}
 use Rattle.nrm_cli.specs.Tells.{refused, file_fault}
 use Rattle.nrm_cli.specs.declared.status.Status.{Status}
@@ -16,6 +16,7 @@ use Rattle.nrm_cli.proofs.Telling.{told-ends}
 -- nothing was written and the stream was left
 ran-out : (job : Job) (before after : Outside) (s : Status) → PutsReason none.NoMemory before.held after.held before.sink_faults after.sink_faults s → LeftStream before after → Ends (Some job) before after s
 ran-out (run_file mode file) before after s (told, kept, same) left = rw told kept
+ran-out (plan_file mode file) before after s (told, kept, same) left = rw told (kept, left)
 ran-out (check_file file certificate) before after s (told, kept, same) left = rw told (kept, left)
 ran-out (print_file file) before after s (told, kept, same) left = rw told (kept, left)
 

@@ -1,5 +1,5 @@
 -- How the program ends: what each status says of the words, the files, the stream and what was written.
-use Rattle.std.specs.Prelude.{ℕ, ◌≡◌, ◌<◌, ◌≤◌, ◌⊎◌, List, length, Option, Some, None, Ok}
+use Rattle.std.specs.Prelude.{ℕ, ℤ, ◌≡◌, ◌<◌, ◌≤◌, ◌⊎◌, List, length, Option, Some, None, Ok}
 use Rattle.std.specs.Io.KnownBytes.{Consumes, IsAtEnd}
 use Rattle.nrm_edge.specs.Fetch.{Folder}
 use Rattle.nrm_model.specs.declared.mode.Mode.{Mode}
@@ -14,10 +14,12 @@ use Rattle.nrm_dlp.specs.Programs.{opening_program}
 use Rattle.nrm_dual.specs.Conditions.{verdict_on}
 use Rattle.nrm_dual.specs.declared.verdict.Verdict.{Verdict}
 use Rattle.nrm_dual.specs.declared.verdict.Verdict.TheVariants as verdict
+use Rattle.nrm_plan.specs.Plans.{IsOpeningPlan, OpeningOverflows, PlanValue}
+use Rattle.nrm_report.specs.Texts.{plan_text}
 use Rattle.nrm_opening.specs.Outside.{Outside, FilesFailed, SourceFailed, SinkFailed, NothingFailed, Wrote, WroteNothing, LeftStream}
 use Rattle.nrm_opening.specs.Refusals.{network_under}
 use Rattle.nrm_cli.specs.Certificates.{certificate_under, verdict_line}
-use Rattle.nrm_cli.specs.Jobs.{Job, run_file, check_file, print_file, file_of_job}
+use Rattle.nrm_cli.specs.Jobs.{Job, run_file, plan_file, check_file, print_file, file_of_job, overflow_line, told_pivots}
 use Rattle.nrm_cli.specs.Tells.{Opens, Told, ToldCut}
 use Rattle.nrm_cli.specs.declared.status.Status.{Status}
 use Rattle.nrm_cli.specs.declared.status.Status.TheVariants as status
@@ -36,24 +38,29 @@ pub record ReadToEnd (before after : Outside) (stream : List ℕ) : Type 0 where
   pub ended : IsAtEnd after.coming
   pub short : length stream ≤ stream_limit
 
--- the output of a run from the opening over the commands of the stream's lines, and of a run that was cut in a reply
-abbrev pub RunWrites : NetworkValue → Mode → List ℕ → List ℕ → Type 0
-RunWrites net mode stream output = (last : SeatState) × Writes net (opening mode) (commands_of stream) output last
+-- the output of a run from the opening with a plan, over the commands of the stream's lines, and of a run that was cut in a reply
+abbrev pub RunWrites : NetworkValue → PlanValue → List ℕ → List ℕ → Type 0
+RunWrites net plan stream output = (last : SeatState) × Writes net (opening plan) (commands_of stream) output last
 
-abbrev pub RunWritesCut : NetworkValue → Mode → List ℕ → List ℕ → Type 0
-RunWritesCut net mode stream output = (last : SeatState) × WritesCut net (opening mode) (commands_of stream) output last
+abbrev pub RunWritesCut : NetworkValue → PlanValue → List ℕ → List ℕ → Type 0
+RunWritesCut net plan stream output = (last : SeatState) × WritesCut net (opening plan) (commands_of stream) output last
 
--- a stream was served: the words ask for a run in a mode, the file gives a network, the stream was read to its end, and such
--- output was written
-pub record ServedSo (asked : Option Job) (before after : Outside) (writes : NetworkValue → Mode → List ℕ → List ℕ → Type 0) : Type 0 where
+-- the words ask for a run in a mode, the file gives a network, and this is its opening plan
+pub record Starts (asked : Option Job) (before : Outside) : Type 0 where
   pub mode : Mode
   pub file : List ℕ
   pub net : NetworkValue
+  pub plan : PlanValue
+  pub opens : Opens asked (run_file mode file) before net
+  pub planned : IsOpeningPlan net mode plan
+
+-- a stream was served: a run was started, the stream was read to its end, and such output was written
+pub record ServedSo (asked : Option Job) (before after : Outside) (writes : NetworkValue → PlanValue → List ℕ → List ℕ → Type 0) : Type 0 where
+  pub starts : Starts asked before
   pub stream : List ℕ
   pub output : List ℕ
-  pub opens : Opens asked (run_file mode file) before net
   pub read : ReadToEnd before after stream
-  pub writes_it : writes net mode stream output
+  pub writes_it : writes starts.net starts.plan stream output
   pub wrote : Wrote before after output
 
 -- the replies to all lines of the stream were written, or those before a put that failed and a front of one more
@@ -63,18 +70,16 @@ Served asked before after = ServedSo asked before after RunWrites
 abbrev pub ServedCut : Option Job → Outside → Outside → Type 0
 ServedCut asked before after = ServedSo asked before after RunWritesCut
 
--- a run ended before it answered: a network was opened, so many bytes of the stream were taken, and nothing was written
+-- a run ended before it answered: it was started, so many bytes of the stream were taken, and nothing was written
 pub record Stopped (asked : Option Job) (before after : Outside) (taken : List ℕ) : Type 0 where
-  pub mode : Mode
-  pub file : List ℕ
-  pub net : NetworkValue
-  pub opens : Opens asked (run_file mode file) before net
+  pub starts : Starts asked before
   pub took : Took before after taken
   pub wrote : WroteNothing before after
 
 -- memory ran out before anything was written; only a run may have taken bytes of the stream
 abbrev pub RanOut : Option Job → Outside → Outside → Type 0
 RanOut (Some (run_file mode file)) before after = WroteNothing before after
+RanOut (Some (plan_file mode file)) before after = WroteNothing before after × LeftStream before after
 RanOut (Some (check_file file certificate)) before after = WroteNothing before after × LeftStream before after
 RanOut (Some (print_file file)) before after = WroteNothing before after × LeftStream before after
 RanOut None before after = ⊥
@@ -90,7 +95,7 @@ Ends asked before after status.WriteFault = SinkFailed before after × (ServedCu
 Ends asked before after status.NoMemory = RanOut asked before after
 Ends asked before after status.TooLong = (taken : List ℕ) × (stream_limit < length taken) × Stopped asked before after taken
 Ends asked before after status.FileFault = Told asked before after status.FileFault
-Ends asked before after status.Overflow = ⊥
+Ends asked before after status.Overflow = Told asked before after status.Overflow
 
 -- which failures each status leaves out: a count of faults rises only with the status of its fault, and that of the files too
 -- where the line that tells of it is cut
@@ -118,12 +123,20 @@ status_of verdict.WrongValue = status.Wrong
 abbrev pub OrRanOut : Outside → Outside → Status → Status → List ℕ → Type 0
 OrRanOut before after s wanted output = ((s ≡ wanted) × Wrote before after output) ⊎ ((s ≡ status.NoMemory) × WroteNothing before after)
 
--- what is written of a job whose file gives a network: of a run, where the stream is told and short, the replies to all its lines;
--- of a check, where the second file is told and gives a certificate, the verdict on it; of a print, the canonical file
+-- where the opening program is Large the line that says so is written
+abbrev pub TellsOverflow : NetworkValue → Mode → Outside → Outside → Status → Type 0
+TellsOverflow net m before after s = (n : ℕ) (number : ℤ) → OpeningOverflows net m n number → OrRanOut before after s status.Overflow (overflow_line (told_pivots n) number)
+
+-- what is written of a job whose file gives a network: of a run, where the network has an opening plan in the mode, and the stream is told
+-- and short, the replies to all its lines; of a plan, the opening plan, where there is one; of a check, where the second file is told and
+-- gives a certificate, the verdict on it; of a print, the canonical file
 abbrev pub CompletesJob : Job → NetworkValue → Outside → Outside → Status → Type 0
-CompletesJob (run_file mode file) net before after s =
-    (stream : List ℕ) → before.coming ≡ Some stream → length stream ≤ stream_limit
-    → (output : List ℕ) × RunWrites net mode stream output × OrRanOut before after s status.Done output
+CompletesJob (run_file m file) net before after s =
+    TellsOverflow net m before after s
+    × ((plan : PlanValue) (stream : List ℕ) → IsOpeningPlan net m plan → before.coming ≡ Some stream → length stream ≤ stream_limit
+    → (output : List ℕ) × RunWrites net plan stream output × OrRanOut before after s status.Done output)
+CompletesJob (plan_file m file) net before after s =
+    TellsOverflow net m before after s × ((plan : PlanValue) → IsOpeningPlan net m plan → OrRanOut before after s status.Done (plan_text net plan))
 CompletesJob (check_file file certificate) net before after s =
     (files : Folder) (given : Certificate) → before.files ≡ Some files → certificate_under net (files certificate) ≡ Ok given
     → let found = verdict_on (opening_program net) given in OrRanOut before after s (status_of found) (verdict_line net found)

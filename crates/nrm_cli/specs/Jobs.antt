@@ -1,31 +1,44 @@
 -- What the words of the command line ask for.
-use Rattle.std.specs.Prelude.{ℕ, List, [], ◌∷◌, bytes_eq, codes, Option, Some, None, option_map, if◌then◌else◌}
+use Rattle.std.specs.Prelude.{ℕ, ℤ, ◌-◌, ◌^◌, min, nat_abs, decimal, List, [], ◌∷◌, ◌++◌, bytes_eq, codes, Option, Some, None, option_map, if◌then◌else◌}
+use Rattle.nrm_text.specs.Fractions.{sign_of}
+use Rattle.nrm_text.specs.Words.{text_line}
 use Rattle.nrm_model.specs.declared.mode.Mode.{Mode}
 use Rattle.nrm_model.specs.declared.mode.Mode.TheVariants as mode
 
--- to run the controller on a network file in a mode, to check a certificate against a network file, and to print a network file
+-- to run the controller on a network file in a mode, to write its opening plan, to check a certificate against a network file, and to
+-- print a network file
 pub data Job : Type 0 where
   run_file : Mode → List ℕ → Job
+  plan_file : Mode → List ℕ → Job
   check_file : List ℕ → List ℕ → Job
   print_file : List ℕ → Job
 
 -- the network file of a job
 abbrev pub file_of_job : Job → List ℕ
 file_of_job (run_file m file) = file
+file_of_job (plan_file m file) = file
 file_of_job (check_file file certificate) = file
 file_of_job (print_file file) = file
 
+-- the mode of a job that has an opening plan
+abbrev pub mode_of_job : Job → Option Mode
+mode_of_job (run_file m file) = Some m
+mode_of_job (plan_file m file) = Some m
+mode_of_job (check_file file certificate) = None
+mode_of_job (print_file file) = None
+
 -- the mode of a word, of those that are built
 abbrev pub mode_of : List ℕ → Option Mode
-mode_of word = if bytes_eq word (codes "first") then Some mode.FirstCome else None
+mode_of word = if bytes_eq word (codes "first") then Some mode.FirstCome else if bytes_eq word (codes "bid") then Some mode.Bid else None
 
--- `run MODE FILE`, `check FILE CERT` and `print FILE`; all other words ask for nothing that is built
+-- `run MODE FILE`, `plan MODE FILE`, `check FILE CERT` and `print FILE`; all other words ask for nothing that is built
 abbrev pub job_of : List (List ℕ) → Option Job
 job_of [] = None
 job_of (verb ∷ []) = None
 job_of (verb ∷ file ∷ []) = if bytes_eq verb (codes "print") then Some (print_file file) else None
 job_of (verb ∷ second ∷ third ∷ []) =
     if bytes_eq verb (codes "run") then option_map (λ m. run_file m third) (mode_of second)
+    else if bytes_eq verb (codes "plan") then option_map (λ m. plan_file m third) (mode_of second)
     else if bytes_eq verb (codes "check") then Some (check_file second third)
     else None
 job_of (verb ∷ second ∷ third ∷ fourth ∷ more) = None
@@ -33,3 +46,12 @@ job_of (verb ∷ second ∷ third ∷ fourth ∷ more) = None
 -- the line that says how to call the program
 abbrev pub usage_line : List ℕ
 usage_line = codes "usage: nrm run MODE FILE, plan MODE FILE, check FILE CERT, print FILE, gen MODE NUMBER\n"
+
+-- finished pivots as they are told: 4,294,967,295 stands for more
+abbrev pub told_pivots : ℕ → ℕ
+told_pivots n = min n (2 ^ 32 - 1)
+
+-- the line that says that the opening program is Large: after so many pivots, at which number
+abbrev pub overflow_line : ℕ → ℤ → List ℕ
+overflow_line pivots number =
+    text_line (codes "overflow" ∷ codes "after" ∷ decimal pivots ∷ codes "pivots" ∷ codes "at" ∷ (sign_of number ++ decimal (nat_abs number)) ∷ [])

@@ -1,6 +1,7 @@
 -- The texts that the program tells, each with its status and its cause.
-use Rattle.std.specs.Prelude.{ℕ, ◌≡◌, ◌≢◌, List, Option, Some, None, Ok, Err}
+use Rattle.std.specs.Prelude.{ℕ, ℤ, ◌≡◌, ◌≢◌, List, Option, Some, None, Ok, Err}
 use Rattle.nrm_model.specs.Network.{NetworkValue}
+use Rattle.nrm_model.specs.declared.mode.Mode.{Mode}
 use Rattle.nrm_network.specs.Canonical.{canonical_file}
 use Rattle.nrm_fraction.specs.Large.{size_limit}
 use Rattle.nrm_lp.specs.declared.certificate.Certificate.{Certificate}
@@ -9,10 +10,12 @@ use Rattle.nrm_dlp.specs.Programs.{opening_program}
 use Rattle.nrm_dual.specs.Conditions.{verdict_on}
 use Rattle.nrm_dual.specs.declared.verdict.Verdict.{Verdict}
 use Rattle.nrm_dual.specs.declared.verdict.Verdict.TheVariants as verdict
+use Rattle.nrm_plan.specs.Plans.{IsOpeningPlan, OpeningOverflows, PlanValue}
+use Rattle.nrm_report.specs.Texts.{plan_text}
 use Rattle.nrm_opening.specs.Outside.{Outside, OnFile, FilesFailed, Wrote, WroteFront, LeftStream}
 use Rattle.nrm_opening.specs.Refusals.{Refusal, network_under, refusal_line, file_fault_line}
 use Rattle.nrm_cli.specs.Certificates.{LacksCertificate, certificate_under, lacking_line, verdict_line}
-use Rattle.nrm_cli.specs.Jobs.{Job, check_file, print_file, file_of_job, usage_line}
+use Rattle.nrm_cli.specs.Jobs.{Job, plan_file, check_file, print_file, file_of_job, mode_of_job, usage_line, overflow_line, told_pivots}
 use Rattle.nrm_cli.specs.declared.status.Status.{Status}
 use Rattle.nrm_cli.specs.declared.status.Status.TheVariants as status
 
@@ -42,7 +45,7 @@ Gives asked before net given = Reads asked before net (λ contents. certificate_
 abbrev pub Lacks : Option Job → Outside → NetworkValue → LacksCertificate → Type 0
 Lacks asked before net reason = Reads asked before net (λ contents. certificate_under net contents ≡ Err reason)
 
--- a text, the status that goes with it, and why it is told. A verdict is that on the certificate for the program of period 1 with
+-- a text, the status that goes with it, and why it is told. A plan is that of period 1 with every seat left. A verdict is that on the certificate for the program of period 1 with
 -- every seat left: `optimal` where allocation and bid prices are optimal, whoever made them, and else the first condition that fails
 pub data Tells (asked : Option Job) (before after : Outside) : Status → List ℕ → Type 0 where
   usage : asked ≡ None → Tells asked before after status.Usage usage_line
@@ -52,6 +55,10 @@ pub data Tells (asked : Option Job) (before after : Outside) : Status → List �
       → Certifies size_limit (opening_program net) given → Tells asked before after status.Done (verdict_line net verdict.Optimal)
   wrong : (net : NetworkValue) (given : Certificate) (found : Verdict) → Gives asked before net given → verdict_on (opening_program net) given ≡ found
       → found ≢ verdict.Optimal → found ≢ verdict.WrongShape → Tells asked before after status.Wrong (verdict_line net found)
+  planned : (m : Mode) (file : List ℕ) (net : NetworkValue) (plan : PlanValue) → Opens asked (plan_file m file) before net → IsOpeningPlan net m plan
+      → Tells asked before after status.Done (plan_text net plan)
+  overflow : (job : Job) (m : Mode) (net : NetworkValue) (n : ℕ) (number : ℤ) → mode_of_job job ≡ Some m → Opens asked job before net → OpeningOverflows net m n number
+      → Tells asked before after status.Overflow (overflow_line (told_pivots n) number)
   printed : (file : List ℕ) (net : NetworkValue) → Opens asked (print_file file) before net → Tells asked before after status.Done (canonical_file net)
   file_fault : (job : Job) → asked ≡ Some job → FilesFailed before after → Tells asked before after status.FileFault file_fault_line
 

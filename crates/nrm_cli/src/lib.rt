@@ -3,6 +3,7 @@
 
 mod certificate;
 mod checked;
+mod planned;
 mod printed;
 mod put;
 mod served;

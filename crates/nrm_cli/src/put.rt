@@ -1,10 +1,14 @@
 //! One line, put with the status that goes with it.
-ghost use Rattle.std.specs.Prelude.{◌≡◌, ◌≤◌};
-ghost use Rattle.nrm_cli.specs.Inner.Parts.{PutsLine, PutsReason, status_for};
+ghost use Rattle.std.specs.Prelude.{◌≡◌, ◌≤◌, ◌++◌, decimal, length, nat_abs};
+ghost use Rattle.nrm_text.specs.Fractions.{sign_of};
+ghost use Rattle.nrm_cli.specs.Jobs.{overflow_line};
+ghost use Rattle.nrm_cli.specs.Inner.Parts.{PutsLine, PutsReason, PutsUnplanned, status_for};
 
 use crate::Status;
 use nrm_edge::{Sink, put_all};
 use nrm_opening::NoNetwork;
+use nrm_simplex::SolveFault;
+use nrm_text::Line;
 
 /// Puts a line that goes with a status.
 pub(crate) fn put_line<K: Sink>(sink: &mut K, line: &[u8], told: Status) -> Status
@@ -36,5 +40,56 @@ pub(crate) fn put_reason<K: Sink>(sink: &mut K, reason: NoNetwork) -> Status
     match reason.line() {
         Some(line) => put_line(sink, line.bytes(), status_for(reason)),
         None => Status::NoMemory,
+    }
+}
+
+// Appends `-` before a negative number.
+fn push_sign(line: &mut Line, number: i128)
+    requires { length line.old ≤ 100 }
+    ensures text { line.new ≡ line.old ++ sign_of number }
+    ensures length { length line.new ≤ 101 }
+{
+    if number < 0 {
+        line.push_bytes(b"-");
+    }
+}
+
+// Appends a whole number, with its sign where it is negative.
+#[tactic(auto, using(crate::proofs::Wide::wide_decimal))]
+fn push_signed(line: &mut Line, number: i128)
+    requires { length line.old ≤ 100 }
+    ensures text { line.new ≡ line.old ++ (sign_of number ++ decimal (nat_abs number)) }
+    ensures length { length line.new ≤ 150 }
+{
+    push_sign(line, number);
+    line.push_whole(number.unsigned_abs());
+}
+
+// The line of a program that is Large.
+#[tactic(auto, using(nrm_text::proofs::Decimals::short_decimal))]
+fn line_of_overflow(pivots: u32, number: i128) -> Line
+    ensures { result ≡ overflow_line pivots number }
+{
+    let mut line = Line::new();
+    line.push_bytes(b"overflow after ");
+    line.push_whole(u128::from(pivots));
+    line.push_bytes(b" pivots at ");
+    push_signed(&mut line, number);
+    line.push_bytes(b"\n");
+    line
+}
+
+/// Puts the line that says why nothing is planned, if one goes with it.
+pub(crate) fn put_unplanned<K: Sink>(sink: &mut K, why: SolveFault) -> Status
+    ensures puts { PutsUnplanned why (K.held sink.old) (K.held sink.new) (K.faults sink.old) (K.faults sink.new) result }
+    ensures later { K.faults sink.old ≤ K.faults sink.new }
+{
+    match why {
+        SolveFault::Overflow { pivots, number } => put_line(
+            sink,
+            line_of_overflow(pivots, number).bytes(),
+            Status::Overflow,
+        ),
+        SolveFault::NoMemory => Status::NoMemory,
     }
 }

@@ -1,5 +1,5 @@
 //! Serves the stream: the controller of a network file answers each line.
-ghost use Rattle.std.specs.Prelude.{◌≡◌, ◌≤◌, Some};
+ghost use Rattle.std.specs.Prelude.{◌≡◌, ◌≢◌, ◌≤◌, Some};
 ghost use Rattle.nrm_model.specs.declared.mode.Mode.TheVariants as modes;
 ghost use Rattle.nrm_opening.specs.Outside.{Goes, outside};
 ghost use Rattle.nrm_cli.specs.Ends.{Ends, Failures};
@@ -7,7 +7,7 @@ ghost use Rattle.nrm_cli.specs.Jobs.{run_file as run_job};
 ghost use Rattle.nrm_cli.specs.Inner.Parts.{AnswersStream};
 
 use crate::Status;
-use crate::put::put_reason;
+use crate::put::{put_reason, put_unplanned};
 use crate::stream::{StreamFault, read_stream};
 use nrm_control::Controller;
 use nrm_edge::{Files, Sink, Source};
@@ -37,13 +37,13 @@ fn answer_stream<S: Source, K: Sink>(
         Err(StreamFault::TooLong) => return Status::TooLong,
         Err(StreamFault::NoMemory) => return Status::NoMemory,
     };
-    match serve_whole(controller, &stream, sink) {
+    match serve_whole(alloc, controller, &stream, sink) {
         WholeEnd::Done => Status::Done,
         WholeEnd::WriteFault => Status::WriteFault,
     }
 }
 
-/// Opens a network, reads the stream whole and answers its lines.
+/// Opens a network, makes its opening plan, reads the stream whole and answers its lines.
 pub(crate) fn run_file<F: Files, S: Source, K: Sink>(
     alloc: Global,
     mode: Mode,
@@ -52,7 +52,7 @@ pub(crate) fn run_file<F: Files, S: Source, K: Sink>(
     source: &mut S,
     sink: &mut K,
 ) -> Status
-    requires { mode ≡ modes.FirstCome }
+    requires { mode ≢ modes.Davn }
     ensures ends { let at = outside F.contents F.faults S.coming S.faults K.held K.faults in
         Ends (Some (run_job mode name.now)) (at files.old source.old sink.old) (at files.new source.new sink.new) result }
     ensures failures { let at = outside F.contents F.faults S.coming S.faults K.held K.faults in
@@ -69,6 +69,6 @@ pub(crate) fn run_file<F: Files, S: Source, K: Sink>(
             let mut controller = controller;
             answer_stream(alloc, &mut controller, source, sink)
         }
-        Err(_) => Status::NoMemory,
+        Err(why) => put_unplanned(sink, why),
     }
 }

@@ -80,6 +80,30 @@ fn a_stream_is_answered(rt: HostRuntime) -> Result<(), Fail> {
     Ok(())
 }
 
+// Nothing is to come, so no seat has a price.
+#[test]
+fn a_stream_is_answered_at_bid_prices(rt: HostRuntime) -> Result<(), Fail> {
+    let (status, sink) = outcome(rt.alloc(), &["run", "bid", "F"])?;
+    assert_eq!(rt; status, Status::Done);
+    assert_eq!(rt;
+        sink.held(),
+        b"ok 1\nno BC\nok 2\nno AB\nunknown\n".as_slice()
+    );
+    Ok(())
+}
+
+#[test]
+fn a_plan_is_written(rt: HostRuntime) -> Result<(), Fail> {
+    let (status, sink) = outcome(rt.alloc(), &["plan", "bid", "DEMANDED"])?;
+    assert_eq!(rt; status, Status::Done);
+    assert_eq!(rt; sink.held(), OPTIMAL);
+
+    let (status, sink) = outcome(rt.alloc(), &["plan", "first", "DEMANDED"])?;
+    assert_eq!(rt; status, Status::Done);
+    assert_eq!(rt; sink.held(), b"first\n".as_slice());
+    Ok(())
+}
+
 #[test]
 fn a_network_is_printed(rt: HostRuntime) -> Result<(), Fail> {
     let (status, sink) = outcome(rt.alloc(), &["print", "F"])?;

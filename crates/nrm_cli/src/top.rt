@@ -1,14 +1,15 @@
 //! The top call.
 ghost use Rattle.std.specs.Prelude.{IfSome, map, option_map, string_bytes};
-ghost use Rattle.nrm_session.specs.Laws.{EachListHasARun, RepliesAreDetermined, SeatsAreKept, StatesAreDetermined};
+ghost use Rattle.nrm_session.specs.Laws.{EachListHasARun, PlansAreKept, RepliesAreDetermined, SeatsAreKept, StatesAreDetermined};
 ghost use Rattle.nrm_opening.specs.Outside.{Goes, outside};
 ghost use Rattle.nrm_cli.specs.Ends.{Completes, Ends, Failures};
 ghost use Rattle.nrm_cli.specs.Jobs.{job_of};
-ghost use Rattle.nrm_cli.specs.Own.{OptimalCertificatesPass, OwnCertificatesPass};
+ghost use Rattle.nrm_cli.specs.Own.{OptimalCertificatesPass, OwnCertificatesPass, PlannedPasses};
 ghost use Rattle.nrm_cli.specs.Inner.Parts.{IsBuilt, job_in};
 
 use crate::Status;
 use crate::checked::check_file;
+use crate::planned::plan_file;
 use crate::printed::print_file;
 use crate::put::put_line;
 use crate::served::run_file;
@@ -38,6 +39,7 @@ fn run_asked<F: Files, S: Source, K: Sink>(
 {
     match asked {
         Some(Asked::Run(mode, name)) => run_file(alloc, mode, name, files, source, sink),
+        Some(Asked::Plan(mode, name)) => plan_file(alloc, mode, name, files, sink),
         Some(Asked::Check(name, certificate)) => {
             check_file(alloc, name, certificate, files, sink)
         }
@@ -46,20 +48,24 @@ fn run_asked<F: Files, S: Source, K: Sink>(
     }
 }
 
-/// Does what the words (without the program's own name) ask for: `run first FILE` answers the lines of the stream on
-/// the network of the file, `check FILE CERT` checks a certificate against the program of period 1 with every seat left,
-/// and `print FILE` writes a network's canonical form. All other words get the usage line.
+/// Does what the words (without the program's own name) ask for: `run MODE FILE` answers the lines of the stream on the
+/// network of the file, `plan MODE FILE` writes its opening plan, `check FILE CERT` checks a certificate against the program
+/// of period 1 with every seat left, and `print FILE` writes a network's canonical form. MODE is `first` or `bid`. All other
+/// words get the usage line.
 ///
 /// `ends` says for each status what the words, the files, the stream and the written bytes were; `complete`, that good
-/// words, valid files, no fault and, for a run, a stream of at most 16,777,216 bytes give the whole output, or want of
-/// memory with nothing written; `failures`, that a count of faults rises only with the status of its fault; `goes`, that
-/// no count falls and the files stay.
+/// words, valid files, no fault, an opening that isn't Large and, for a run, a stream of at most 16,777,216 bytes give the
+/// whole output, an opening that is Large the line that says so, or else want of memory with nothing written; `failures`,
+/// that a count of faults rises only with the status of its fault; `goes`, that no count falls and the files stay.
 ///
 /// Of what is written: in no state of a session has a leg more seats sold than it has (`seats`), whatever the commands
-/// and from each state that has this. A network, a state and commands have one list of replies and one last state
-/// (`determined`, `states`, `there`). The text of the certificate that the solver finds for a network passes the check
-/// (`own`), and so does each certificate whose allocation and bid prices are optimal and whose value is their cost
-/// (`others`).
+/// and from each state that has this. In every state of a session that solves programs, from its opening on, the plan in
+/// force has an optimal allocation and optimal bid prices for the program at the plan's seats left and period (`optimal`).
+/// A network, a state and commands have one list of replies and one last state where no line wants for memory
+/// (`determined`), and such a list (`there`); with the replies given the states are one (`states`). The text of the
+/// certificate that the solver finds for a network passes the check (`own`): so where the bytes of CERT are what a call with
+/// `plan bid FILE` wrote of the same network file, `check FILE CERT` writes `optimal`, want of memory and faults aside
+/// (`passes`). So does each certificate whose allocation and bid prices are optimal and whose value is their cost (`others`).
 pub fn run<F: Files, S: Source, K: Sink>(
     alloc: Global,
     words: &[String],
@@ -76,10 +82,13 @@ pub fn run<F: Files, S: Source, K: Sink>(
     ensures goes { let at = outside F.contents F.faults S.coming S.faults K.held K.faults in
         Goes (at files.old source.old sink.old) (at files.new source.new sink.new) }
     ensures seats { SeatsAreKept }
+    ensures optimal { PlansAreKept }
     ensures determined { RepliesAreDetermined }
     ensures states { StatesAreDetermined }
     ensures there { EachListHasARun }
     ensures own { OwnCertificatesPass }
+    ensures passes { let at = outside F.contents F.faults S.coming S.faults K.held K.faults in
+        PlannedPasses (job_of (map string_bytes words.now)) (at files.old source.old sink.old) (at files.new source.new sink.new) result }
     ensures others { OptimalCertificatesPass }
 {
     run_asked(alloc, asked_in(words), files, source, sink)

@@ -1,5 +1,5 @@
 //! The words of the command line.
-ghost use Rattle.std.specs.Prelude.{◌≡◌, bytes_eq, IfSome, map, option_map, string_bytes};
+ghost use Rattle.std.specs.Prelude.{◌≡◌, ◌≢◌, bytes_eq, IfSome, map, option_map, string_bytes};
 ghost use Rattle.nrm_cli.specs.Inner.Parts.{IsBuilt, job_in};
 ghost use Rattle.nrm_model.specs.declared.mode.Mode.TheVariants as modes;
 ghost use Rattle.nrm_cli.specs.Jobs.{job_of, mode_of};
@@ -10,6 +10,7 @@ use nrm_model::Mode;
 #[derive(Clone, Copy)]
 pub(crate) enum Asked<'a> {
     Run(Mode, &'a str),
+    Plan(Mode, &'a str),
     Check(&'a str, &'a str),
     Print(&'a str),
 }
@@ -24,10 +25,12 @@ fn is_word(word: &String, wanted: &str) -> bool
 // The mode of a word, of those that are built.
 fn mode_in(word: &String) -> Option<Mode>
     ensures mode { result ≡ mode_of (string_bytes word.now) }
-    ensures built { IfSome result (λ mode. mode ≡ modes.FirstCome) }
+    ensures built { IfSome result (λ mode. mode ≢ modes.Davn) }
 {
     if is_word(word, "first") {
         Some(Mode::FirstCome)
+    } else if is_word(word, "bid") {
+        Some(Mode::Bid)
     } else {
         None
     }
@@ -42,6 +45,10 @@ pub(crate) fn asked_in(words: &[String]) -> Option<Asked<'_>>
         [verb, file] if is_word(verb, "print") => Some(Asked::Print(file.as_str())),
         [verb, mode, file] if is_word(verb, "run") => match mode_in(mode) {
             Some(mode) => Some(Asked::Run(mode, file.as_str())),
+            None => None,
+        },
+        [verb, mode, file] if is_word(verb, "plan") => match mode_in(mode) {
+            Some(mode) => Some(Asked::Plan(mode, file.as_str())),
             None => None,
         },
         [verb, file, certificate] if is_word(verb, "check") => {

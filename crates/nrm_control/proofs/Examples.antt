@@ -1,25 +1,64 @@
--- What a controller stands for, by hand.
-use Rattle.std.specs.Prelude.{[], ◌∷◌, refl}
+-- What a controller stands for, and its verdicts, by hand.
+use Rattle.std.specs.Prelude.{◌≡◌, [], ◌∷◌, pos, List, ℕ, Some, None, refl}
+use Rattle.std.proofs.Common.{ap}
 use Rattle.nrm_model.specs.Network.{NetworkValue}
 use Rattle.nrm_model.specs.declared.mode.Mode.TheVariants as modes
+use Rattle.nrm_samples.specs.Networks.{two_legs_five_products}
+use Rattle.nrm_plan.specs.Plans.{PlanValue}
+use Rattle.nrm_book.specs.declared.booking.Booking.{Booking}
 use Rattle.nrm_control.specs.Standing.{ControlValue, StandsFor}
-use Rattle.nrm_control.specs.State.{opening}
+use Rattle.nrm_control.specs.State.{opening, seats_left}
+use Rattle.nrm_control.specs.Verdict.{verdict_of}
+use Rattle.nrm_control.specs.declared.answer.Answer.TheVariants as answer
+
+-- nothing was solved, and bid prices of 150 and 80
+abbrev first : PlanValue
+first = record { mode = modes.FirstCome; period = 1; left = 10 ∷ 10 ∷ []; certificate = None }
+
+abbrev bid : PlanValue
+bid = record {
+  mode = modes.Bid;
+  period = 1;
+  left = 10 ∷ 10 ∷ [];
+  certificate = Some (record { q = pos 1; x = pos 12 ∷ pos 12 ∷ pos 16 ∷ pos 24 ∷ pos 0 ∷ []; den = pos 1; p = pos 150 ∷ pos 80 ∷ []; value = pos 16520 });
+}
 
 -- one that has just begun
-abbrev begun : NetworkValue → ControlValue
-begun net = record { net = net; mode = modes.FirstCome; bookings = []; next = 1 }
+abbrev begun : NetworkValue → PlanValue → ControlValue
+begun net plan = record { net = net; plan = plan; bookings = []; next = 1 }
 
-stands_for_its_opening : (net : NetworkValue) → StandsFor (begun net) (opening modes.FirstCome)
-stands_for_its_opening net = record { mode = refl; bookings = refl; next = refl }
+stands_for_its_opening : (net : NetworkValue) (plan : PlanValue) → StandsFor (begun net plan) (opening plan)
+stands_for_its_opening net plan = record { plan = refl; bookings = refl; next = refl }
 
-any_requests : (net : NetworkValue) → StandsFor (begun net) (record (opening modes.FirstCome) { requests = record { product = 0; party = 2 } ∷ [] })
-any_requests net = record { mode = refl; bookings = refl; next = refl }
+any_requests : (net : NetworkValue) (plan : PlanValue) → StandsFor (begun net plan) (record (opening plan) { requests = record { product = 0; party = 2 } ∷ [] })
+any_requests net plan = record { plan = refl; bookings = refl; next = refl }
 
-another_mode : (net : NetworkValue) → StandsFor (begun net) (opening modes.Bid) → ⊥
-another_mode net stands = cc stands.mode
+another_plan : (net : NetworkValue) → StandsFor (begun net first) (opening bid) → ⊥
+another_plan net stands = let mode = ap (λ (plan : PlanValue). plan.mode) stands.plan in cc
 
-another_number : (net : NetworkValue) → StandsFor (begun net) (record (opening modes.FirstCome) { next = 2 }) → ⊥
-another_number net stands = cc stands.next
+another_number : (net : NetworkValue) (plan : PlanValue) → StandsFor (begun net plan) (record (opening plan) { next = 2 }) → ⊥
+another_number net plan stands = cc stands.next
 
-one_booking_more : (net : NetworkValue) → StandsFor (begun net) (record (opening modes.FirstCome) { bookings = record { number = 1; product = 0; party = 2 } ∷ [] }) → ⊥
-one_booking_more net stands = cc stands.bookings
+one_booking_more : (net : NetworkValue) (plan : PlanValue) → StandsFor (begun net plan) (record (opening plan) { bookings = record { number = 1; product = 0; party = 2 } ∷ [] }) → ⊥
+one_booking_more net plan stands = cc stands.bookings
+
+-- ---- ACL over both legs for 229, below 230; and BCL for 80, which equals its price
+below_the_prices : verdict_of two_legs_five_products bid [] 1 4 1 ≡ answer.Fare
+below_the_prices = refl
+
+equal_to_the_price : verdict_of two_legs_five_products bid [] 1 3 1 ≡ answer.Sold 1
+equal_to_the_price = refl
+
+without_prices : verdict_of two_legs_five_products first [] 1 4 1 ≡ answer.Sold 1
+without_prices = refl
+
+-- nine of the ten seats on BC are sold
+abbrev nine_sold : List Booking
+nine_sold = record { number = 1; product = 3; party = 9 } ∷ []
+
+-- a leg refuses before the fare does
+leg_before_fare : verdict_of two_legs_five_products bid nine_sold 2 4 2 ≡ answer.Leg 1
+leg_before_fare = refl
+
+left_now : seats_left two_legs_five_products nine_sold ≡ 10 ∷ 1 ∷ []
+left_now = refl

@@ -1,16 +1,20 @@
 -- A network's inventory, and what is known of its legs.
-use Rattle.std.proofs.Common.{ℕ, ◌≡◌, ◌∙◌, ◌*◌, ◌<◌, ◌≤◌, List, [], ◌∷◌, length, find, slice_get, option_map, Option, Some, None, Bool, true, false, nat_lt, refl, sym, ap, subst, arith, All}
+use Rattle.std.proofs.Common.{get_or, if◌then◌else◌, ℕ, ◌≡◌, ◌∙◌, ◌*◌, ◌<◌, ◌≤◌, List, [], ◌∷◌, length, find, slice_get, option_map, Option, Some, None, Bool, true, false, nat_lt, refl, sym, ap, subst, arith, All}
 use Rattle.std.specs.Option.{option_map_or}
 use Rattle.std.proofs.lemmas.Bool.{ltb-false}
 use Rattle.std.proofs.lemmas.List.Elements.{All-cons, All-head, All-tail}
 use Rattle.std.proofs.lemmas.List.{length-map}
+use Rattle.std.proofs.lemmas.List.FromFn.{get_or-map-range_with_len, length-map-range_with_len}
+use Rattle.std.proofs.lemmas.Option.{slice_get-get_or}
 use Rattle.nrm_model.specs.declared.leg.Leg.{Leg}
 use Rattle.nrm_model.specs.declared.product.Product.{Product}
 use Rattle.nrm_model.specs.Inventory.{Inventory, inventory_of, legs_of}
 use Rattle.nrm_model.specs.Network.{NetworkValue, product_of}
-use Rattle.nrm_model.proofs.Inventories.{fare_of-product, legs_of-product, product_of-found}
+use Rattle.nrm_model.proofs.Inventories.{fare_of-product, leg_of-found, legs_of-product, product_of-found, seats_of-leg}
 use Rattle.nrm_book.specs.declared.booking.Booking.{Booking}
 use Rattle.nrm_book.specs.Bookings.{booking_numbered, left_on, worth_of}
+use Rattle.nrm_plan.specs.Plans.{AreSeatsLeft, PlanValue, fare_refuses}
+use Rattle.nrm_control.specs.State.{seats_left}
 use Rattle.nrm_control.specs.Verdict.{verdict_of}
 use Rattle.nrm_control.specs.declared.answer.Answer.TheVariants as answer
 
@@ -37,14 +41,21 @@ seats-cover net inventory bookings party j product legs is found same none =
     let own : legs_of inventory j ≡ legs = ap (λ (v : Inventory). legs_of v j) is ∙ legs_of-product net j product found ∙ sym same in
     rw own (none-refuses (left_on inventory bookings) party legs (sym none))
 
--- what the first leg that refuses, if there is one, says of the verdict
-pub verdict-is : (net : NetworkValue) (inventory : Inventory) (bookings : List Booking) (next party j : ℕ) (product : Product) (legs : List ℕ) (refusing : Option ℕ)
+-- what the first leg that refuses, if there is one, and then the fare, say of the verdict
+pub verdict-is : (net : NetworkValue) (plan : PlanValue) (inventory : Inventory) (bookings : List Booking) (next party j : ℕ) (product : Product) (legs : List ℕ) (refusing : Option ℕ)
     → inventory ≡ inventory_of net → Some product ≡ slice_get net.products j → legs ≡ product.legs → refusing ≡ find (λ i. nat_lt (left_on inventory bookings i) party) legs
-    → option_map_or answer.Leg refusing (answer.Sold next) ≡ verdict_of net bookings next j party
-verdict-is net inventory bookings next party j product legs refusing is found same refuses =
+    → option_map_or answer.Leg refusing (if fare_refuses net plan j then answer.Fare else answer.Sold next) ≡ verdict_of net plan bookings next j party
+verdict-is net plan inventory bookings next party j product legs refusing is found same refuses =
     let own : legs ≡ (product_of net j).legs = same ∙ ap (λ (p : Product). p.legs) (sym (product_of-found net j product found)) in
-    ap (λ o. option_map_or answer.Leg o (answer.Sold next))
+    ap (λ o. option_map_or answer.Leg o (if fare_refuses net plan j then answer.Fare else answer.Sold next))
     (refuses ∙ ap (λ ls. find (λ i. nat_lt (left_on inventory bookings i) party) ls) own ∙ ap (λ (v : Inventory). find (λ i. nat_lt (left_on v bookings i) party) (product_of net j).legs) is)
+
+-- whether the fare refuses
+pub fare-refused : (refuses : Bool) (next : ℕ) → refuses ≡ true → answer.Fare ≡ (if refuses then answer.Fare else answer.Sold next)
+fare-refused refuses next is = rw is refl
+
+pub fare-sold : (refuses : Bool) (next : ℕ) → refuses ≡ false → answer.Sold next ≡ (if refuses then answer.Fare else answer.Sold next)
+fare-sold refuses next is = rw is refl
 
 -- a product of the inventory is one of the network, with its fare
 pub product-within : (net : NetworkValue) (inventory : Inventory) (j : ℕ) → inventory ≡ inventory_of net → j < length inventory.legs → j < length net.products
@@ -67,3 +78,15 @@ found-within p n (leg ∷ legs) i found within = by (p leg) refl (found-within p
     by : (b : Bool) → p leg ≡ b → (Some i ≡ find p legs → All (λ k. k < n) legs → i < n) → i < n
     by true e more = let same : Some i ≡ Some leg = rw e at found in let is : leg ≡ i = cc in subst (λ k. k < n) is (All-head (λ k. k < n) leg legs within)
     by false e more = let rest : Some i ≡ find p legs = rw e at found in more rest (All-tail (λ k. k < n) leg legs within)
+
+-- the seats left on the legs are seats left of the network
+pub are-seats-left : (net : NetworkValue) (bookings : List Booking) → AreSeatsLeft net (seats_left net bookings)
+are-seats-left net bookings = record {
+  legs = length-map-range_with_len (left_on (inventory_of net) bookings) 0 (length net.legs);
+  seats = λ i short.
+      let left : get_or (seats_left net bookings) i 0 ≡ left_on (inventory_of net) bookings i = get_or-map-range_with_len (left_on (inventory_of net) bookings) 0 (length net.legs) i i 0 short (omega arith) in
+      let none : Leg = record { name = []; seats = 0; cuts = [] } in
+      let found = sym (slice_get-get_or net.legs i none short) in
+      let full = sym (seats_of-leg net i (get_or net.legs i none) found) ∙ ap (λ (leg : Leg). leg.seats) (sym (leg_of-found net i (get_or net.legs i none) found)) in
+      omega (arith, left, full);
+}

@@ -1,9 +1,11 @@
 -- What the controller remembers, and how each call changes it.
-use Rattle.std.specs.Prelude.{ℕ, ◌+◌, List, [], ◌∷◌, ◌++◌}
+use Rattle.std.specs.Prelude.{ℕ, ◌+◌, List, [], ◌∷◌, ◌++◌, length, map}
+use Rattle.std.specs.List.{range_with_len}
+use Rattle.nrm_model.specs.Inventory.{inventory_of}
 use Rattle.nrm_model.specs.Network.{NetworkValue}
-use Rattle.nrm_model.specs.declared.mode.Mode.{Mode}
 use Rattle.nrm_book.specs.declared.booking.Booking.{Booking}
-use Rattle.nrm_book.specs.Bookings.{without}
+use Rattle.nrm_book.specs.Bookings.{left_on, without}
+use Rattle.nrm_plan.specs.Plans.{PlanValue}
 use Rattle.nrm_control.specs.Verdict.{verdict_of}
 use Rattle.nrm_control.specs.declared.answer.Answer.{Answer}
 use Rattle.nrm_control.specs.declared.answer.Answer.TheVariants as answer
@@ -13,20 +15,24 @@ pub record Request : Type 0 where
   pub product : ℕ
   pub party : ℕ
 
--- how the seats are controlled, the bookings that stand, the next number, and the requests so far, sold or not
+-- the plan in force, the bookings that stand, the next number, and the requests so far, sold or not
 pub record SeatState : Type 0 where
-  pub mode : Mode
+  pub plan : PlanValue
   pub bookings : List Booking
   pub next : ℕ
   pub requests : List Request
 
--- a session in a mode begins with no booking, number 1, and no request
-abbrev pub opening : Mode → SeatState
-opening mode = record { mode = mode; bookings = []; next = 1; requests = [] }
+-- a session begins with a plan, no booking, number 1, and no request
+abbrev pub opening : PlanValue → SeatState
+opening plan = record { plan = plan; bookings = []; next = 1; requests = [] }
+
+-- the seats left on each leg
+abbrev pub seats_left : NetworkValue → List Booking → List ℕ
+seats_left net bookings = map (left_on (inventory_of net) bookings) (range_with_len 0 (length net.legs))
 
 -- what a request is answered in a state
 abbrev pub answer_in : NetworkValue → SeatState → ℕ → ℕ → Answer
-answer_in net s j party = verdict_of net s.bookings s.next j party
+answer_in net s j party = verdict_of net s.plan s.bookings s.next j party
 
 -- the state after a request, by its answer: each is remembered, and one that was sold is booked
 abbrev pub after_answer : SeatState → ℕ → ℕ → Answer → SeatState
@@ -36,6 +42,7 @@ after_answer s j party (answer.Sold number) = record s {
   requests = s.requests ++ record { product = j; party = party } ∷ [];
 }
 after_answer s j party (answer.Leg i) = record s { requests = s.requests ++ record { product = j; party = party } ∷ [] }
+after_answer s j party answer.Fare = record s { requests = s.requests ++ record { product = j; party = party } ∷ [] }
 
 abbrev pub after_request : NetworkValue → SeatState → ℕ → ℕ → SeatState
 after_request net s j party = after_answer s j party (answer_in net s j party)
@@ -43,3 +50,7 @@ after_request net s j party = after_answer s j party (answer_in net s j party)
 -- the state after the booking with a number is cancelled
 abbrev pub after_cancellation : SeatState → ℕ → SeatState
 after_cancellation s number = record s { bookings = without s.bookings number }
+
+-- the state with another plan in force
+abbrev pub with_plan : SeatState → PlanValue → SeatState
+with_plan s plan = record s { plan = plan }

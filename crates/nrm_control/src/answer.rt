@@ -7,4 +7,6 @@ pub enum Answer {
     Sold { number: u64 },
     /// This leg refuses, by its number: the first in the product's own order.
     Leg(u8),
+    /// Its legs have the seats, but its fare is below the sum of their bid prices.
+    Fare,
 }

@@ -1,32 +1,36 @@
-//! The controller: a network, how it is controlled, and the book of what was sold of it. Requests are served first come,
-//! first served.
-ghost use Rattle.std.specs.Prelude.{◌≡◌, ◌<◌, [], All, find, IfNone, IfOk, length, nat_lt, option_map};
+//! The controller: a network, the plan in force, and the book of what was sold of it.
+ghost use Rattle.std.specs.Prelude.{◌≡◌, ◌≢◌, ◌<◌, [], All, IfErr, IfNone, IfOk, IfSome, OnErr, OnOk, find, length, nat_lt, option_map, pos};
 ghost use Rattle.std.specs.Int.{IsInRange};
+ghost use Rattle.nrm_fraction.specs.Fraction.{◌over◌};
 ghost use Rattle.nrm_model.specs.Inventory.{inventory_of};
 ghost use Rattle.nrm_book.specs.Bookings.{booking_numbered, left_on, without, worth_of};
+ghost use Rattle.nrm_plan.specs.Plans.{IsPlanFault, IsPlanFor};
+ghost use Rattle.nrm_control.specs.State.{seats_left};
 
 use crate::Answer;
 use nrm_book::Book;
 use nrm_model::{Mode, Network};
-use std::alloc::{AllocError, Global};
+use nrm_plan::{Plan, SeatsLeft};
+use nrm_simplex::SolveFault;
+use std::alloc::Global;
 use std::marker::Model;
 
 /// A network under control.
 #[derive(Drop)]
 pub struct Controller {
     network: Network,
-    mode: Mode,
+    plan: Plan,
     book: Book,
 }
 
 impl Model for Controller {
-    ghost use Rattle.nrm_control.specs.Standing.{ControlValue, IsBookOf};
+    ghost use Rattle.nrm_control.specs.Standing.{ControlValue, IsInForce};
 
     ghost Value = { ControlValue };
 
-    ghost view = { λ c. record { net = c.network; mode = c.mode; bookings = c.book.bookings; next = c.book.next } };
+    ghost view = { λ c. record { net = c.network; plan = c.plan; bookings = c.book.bookings; next = c.book.next } };
 
-    ghost invariant = { λ c. IsBookOf c.network c.book };
+    ghost invariant = { λ c. IsInForce c.network c.plan c.book };
 }
 
 // The first of these legs whose seats left don't cover the party.
@@ -42,27 +46,59 @@ fn refusing_leg(book: &Book, legs: &[u8], party: u16) -> Option<u8>
     None
 }
 
+// The seats left on each leg.
+fn seats_left(net: &Network, book: &Book) -> SeatsLeft
+    requires { book.now.inventory ≡ inventory_of net.now }
+    ensures { result ≡ seats_left net.now book.now.bookings }
+{
+    let mut left = SeatsLeft::new();
+    for leg in 0..net.leg_count() as u8 {
+        left.push(book.left(leg));
+    }
+    left
+}
+
+// The plan of a network in a mode, for the seats left now and from this period on.
+fn plan_again(
+    alloc: Global,
+    net: &Network,
+    mode: Mode,
+    book: &Book,
+    period: u8,
+) -> Result<Plan, SolveFault>
+    requires book { book.now.inventory ≡ inventory_of net.now }
+    requires period { IsInRange 1 net.now.periods period }
+    ensures plan { IfOk result (IsPlanFor net.now mode (seats_left net.now book.now.bookings) period) }
+    ensures fault { IfErr result (IsPlanFault net.now mode (seats_left net.now book.now.bookings) period) }
+{
+    let left = seats_left(net, book);
+    Plan::make(alloc, net, mode, left.as_slice(), period)
+}
+
 impl Controller {
     ghost use Rattle.nrm_model.specs.declared.mode.Mode.TheVariants as modes;
-    ghost use Rattle.nrm_control.specs.Standing.{book_of, IsControl, IsOnNetwork, StandsFor, with_answer};
-    ghost use Rattle.nrm_control.specs.State.{after_cancellation, after_request, SeatState};
+    ghost use Rattle.nrm_plan.specs.Plans.{IsOpeningPlan, value_of};
+    ghost use Rattle.nrm_control.specs.Standing.{book_of, IsControl, IsOnNetwork, IsStartFault, StandsFor, with_answer};
+    ghost use Rattle.nrm_control.specs.State.{after_cancellation, after_request, SeatState, with_plan};
     ghost use Rattle.nrm_control.specs.Verdict.{verdict_of};
 
-    /// A controller of a network with nothing sold.
+    /// A controller of a network with nothing sold, and the plan of period 1 with every seat left.
     ///
     /// # Errors
-    /// Want of memory; the network is dropped.
-    pub fn start(alloc: Global, net: Network, mode: Mode) -> Result<Controller, AllocError>
-        requires { mode ≡ modes.FirstCome }
-        ensures begins { IfOk result (λ controller. controller ≡ record { net = net; mode = mode; bookings = []; next = 1 }) }
+    /// `Overflow` exactly where the program of that plan is Large, which under first come, first served is never;
+    /// `NoMemory`. The network is dropped.
+    pub fn start(alloc: Global, net: Network, mode: Mode) -> Result<Controller, SolveFault>
+        requires built { mode ≢ modes.Davn }
+        ensures begins { IfOk result (λ controller. controller ≡ record { net = net; plan = controller.plan; bookings = []; next = 1 }) }
+        ensures plan { IfOk result (λ controller. IsOpeningPlan net mode controller.plan) }
         ensures kept { IfOk result IsControl }
+        ensures fault { IfErr result (IsStartFault net mode) }
     {
-        // For its clause alone: a network is within its limits.
-        let _ = net.n();
+        let plan = Plan::opening(alloc, &net, mode)?;
         let book = Book::new(alloc, &net)?;
         Ok(Controller {
             network: net,
-            mode,
+            plan,
             book,
         })
     }
@@ -72,18 +108,21 @@ impl Controller {
         requires product { product < length self.old.net.products }
         requires party { IsInRange 1 999 party }
         requires next { self.old.next < 1000000000000 }
-        ensures answer { result ≡ verdict_of self.old.net self.old.bookings self.old.next product party }
+        ensures answer { result ≡ verdict_of self.old.net self.old.plan self.old.bookings self.old.next product party }
         ensures leg { IsOnNetwork self.old.net result }
         ensures changed { self.new ≡ with_answer self.old product party result }
         ensures kept { IsControl self.new }
         ensures state { (s : SeatState) → StandsFor self.old s → StandsFor self.new (after_request self.old.net s product party) }
     {
         let legs = self.network.product_at(product).legs.as_slice();
-        match refusing_leg(&self.book, legs, party) {
-            Some(leg) => Answer::Leg(leg),
-            None => Answer::Sold {
-                number: self.book.add(product, party),
-            },
+        if let Some(leg) = refusing_leg(&self.book, legs, party) {
+            return Answer::Leg(leg);
+        }
+        if self.plan.fare_refuses(&self.network, product) {
+            return Answer::Fare;
+        }
+        Answer::Sold {
+            number: self.book.add(product, party),
         }
     }
 
@@ -101,6 +140,32 @@ impl Controller {
         Some(u64::from(booking.party) * u64::from(fare))
     }
 
+    /// Optimises again, at the seats left now and from period `period` on: the whole new plan is made before it takes
+    /// the old one's place. Gives the plan's mean value, in whole currency units a history, as a numerator and a
+    /// denominator in lowest terms. Under first come, first served it solves nothing, takes no memory and gives `None`.
+    ///
+    /// # Errors
+    /// `Overflow` exactly where the program at these seats left and this period is Large; `NoMemory`. Nothing changes.
+    pub fn reoptimise(
+        &mut self,
+        alloc: Global,
+        period: u8,
+    ) -> Result<Option<(u64, u64)>, SolveFault>
+        requires period { IsInRange 1 self.old.net.periods period }
+        ensures plan { OnOk result (IsPlanFor self.old.net self.old.plan.mode (seats_left self.old.net self.old.bookings) period self.new.plan) }
+        ensures value { IfOk result (λ told. option_map (λ value. pos value.0 over value.1) told ≡ value_of self.old.net self.new.plan) }
+        ensures some { IfOk result (λ told. IfSome told (λ value. 0 < value.1)) }
+        ensures fault { IfErr result (IsPlanFault self.old.net self.old.plan.mode (seats_left self.old.net self.old.bookings) period) }
+        ensures unchanged { OnErr result (self.new ≡ self.old) }
+        ensures rest { self.new ≡ record self.old { plan = self.new.plan } }
+        ensures kept { IsControl self.new }
+        ensures state { (s : SeatState) → StandsFor self.old s → StandsFor self.new (with_plan s self.new.plan) }
+    {
+        let mode = self.plan.mode();
+        self.plan = plan_again(alloc, &self.network, mode, &self.book, period)?;
+        Ok(self.plan.mean_value(&self.network))
+    }
+
     /// The network.
     pub fn network(&self) -> &Network
         ensures network { result.now ≡ self.now.net }
@@ -109,11 +174,12 @@ impl Controller {
         &self.network
     }
 
-    /// How requests are controlled.
-    pub fn mode(&self) -> Mode
-        ensures { result ≡ self.now.mode }
+    /// The plan in force: that of the last optimisation that was made.
+    pub fn plan(&self) -> &Plan
+        ensures plan { result.now ≡ self.now.plan }
+        ensures kept { IsControl self.now }
     {
-        self.mode
+        &self.plan
     }
 
     /// The book of what was sold. It is one of the network, on which no leg has more seats sold than it has.

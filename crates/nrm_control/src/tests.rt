@@ -1,19 +1,99 @@
 //! Requests on a network of two legs, AB with 3 seats and BC with 2, worked by hand.
+ghost use Rattle.std.specs.Prelude.{◌≡◌, ◌≢◌, ◌<◌, ◌≤◌, ◌+◌, IfOk, length};
+ghost use Rattle.std.specs.Int.{IsInRange};
+ghost use Rattle.nrm_model.specs.declared.mode.Mode.TheVariants as modes;
+
 use crate::{Answer, Controller};
 use nrm_model::Mode;
 use nrm_samples::two_legs;
-use std::test::Fail;
+use nrm_simplex::SolveFault;
+use std::alloc::Global;
+use std::process::Abort;
 
-#[test]
-fn serves_by_hand(rt: HostRuntime) -> Result<(), Fail> {
-    let net = two_legs(rt.alloc())?;
-    let mut controller = Controller::start(rt.alloc(), net, Mode::FirstCome)?;
-    assert_eq!(rt; controller.request(0, 2), Answer::Sold { number: 1 });
-    assert_eq!(rt; controller.request(0, 1), Answer::Leg(1));
-    assert_eq!(rt; controller.request(1, 1), Answer::Sold { number: 2 });
-    assert_eq!(rt; controller.request(1, 1), Answer::Leg(0));
+// A controller of the network with nothing sold: of its value only what the calls ask for.
+fn begun(alloc: Global, mode: Mode) -> Result<Controller, SolveFault>
+    requires { mode ≢ modes.Davn }
+    ensures products { IfOk result (λ controller. length controller.net.products ≡ 2) }
+    ensures periods { IfOk result (λ controller. controller.net.periods ≡ 2) }
+    ensures next { IfOk result (λ controller. controller.next ≡ 1) }
+{
+    Controller::start(alloc, two_legs(alloc)?, mode)
+}
+
+// What a request gets, where the network has two products and the numbers are low.
+fn ask(controller: &mut Controller, product: u16, party: u16) -> Answer
+    requires products { length controller.old.net.products ≡ 2 }
+    requires product { product < 2 }
+    requires party { IsInRange 1 999 party }
+    requires next { controller.old.next < 1000000 }
+    ensures net { controller.new.net ≡ controller.old.net }
+    ensures next { controller.new.next ≤ controller.old.next + 1 }
+{
+    controller.request(product, party)
+}
+
+// First come, first served.
+fn serve(rt: &impl Abort, controller: &mut Controller)
+    requires products { length controller.old.net.products ≡ 2 }
+    requires next { controller.old.next ≡ 1 }
+{
+    assert_eq!(rt; ask(controller, 0, 2), Answer::Sold { number: 1 });
+    assert_eq!(rt; ask(controller, 0, 1), Answer::Leg(1));
+    assert_eq!(rt; ask(controller, 1, 1), Answer::Sold { number: 2 });
+    assert_eq!(rt; ask(controller, 1, 1), Answer::Leg(0));
     assert_eq!(rt; controller.cancel(1), Some(1000));
     assert_eq!(rt; controller.cancel(1), None);
-    assert_eq!(rt; controller.request(1, 2), Answer::Sold { number: 3 });
-    Ok(())
+    assert_eq!(rt; ask(controller, 1, 2), Answer::Sold { number: 3 });
+}
+
+#[test]
+fn serves_by_hand(rt: HostRuntime) {
+    match begun(rt.alloc(), Mode::FirstCome) {
+        Ok(controller) => {
+            let mut controller = controller;
+            serve(&rt, &mut controller);
+        }
+        Err(_) => assert!(rt; false),
+    }
+}
+
+// With one seat left on the first leg it costs 500 there and nothing on the second; with a seat sold on the second and
+// the last period to come, nothing on the first.
+fn serve_at_bid_prices(rt: &impl Abort, alloc: Global, controller: &mut Controller)
+    requires products { length controller.old.net.products ≡ 2 }
+    requires periods { controller.old.net.periods ≡ 2 }
+    requires next { controller.old.next ≡ 1 }
+{
+    assert_eq!(rt; ask(controller, 1, 2), Answer::Sold { number: 1 });
+    assert!(rt; controller.reoptimise(alloc, 1) == Ok(Some((500, 1))));
+    assert_eq!(rt; ask(controller, 1, 1), Answer::Fare);
+    assert_eq!(rt; ask(controller, 1, 2), Answer::Leg(0));
+    assert_eq!(rt; ask(controller, 0, 1), Answer::Sold { number: 2 });
+    assert_eq!(rt; controller.cancel(1), Some(400));
+    assert!(rt; controller.reoptimise(alloc, 2) == Ok(Some((600, 1))));
+    assert_eq!(rt; ask(controller, 1, 1), Answer::Sold { number: 3 });
+}
+
+#[test]
+fn serves_at_bid_prices_by_hand(rt: HostRuntime) {
+    match begun(rt.alloc(), Mode::Bid) {
+        Ok(controller) => {
+            let mut controller = controller;
+            serve_at_bid_prices(&rt, rt.alloc(), &mut controller);
+        }
+        Err(_) => assert!(rt; false),
+    }
+}
+
+// Nothing is solved.
+#[test]
+fn first_come_is_not_optimised(rt: HostRuntime) {
+    match begun(rt.alloc(), Mode::FirstCome) {
+        Ok(controller) => {
+            let mut controller = controller;
+            assert!(rt; controller.reoptimise(rt.alloc(), 2) == Ok(None));
+            assert_eq!(rt; controller.plan().period(), 2);
+        }
+        Err(_) => assert!(rt; false),
+    }
 }

@@ -1,12 +1,18 @@
--- The commands of a session determine its replies and its states.
-use Rattle.std.proofs.Common.{◌≡◌, ◌∙◌, [], ◌∷◌, Option, Some, None, MatchOption, refl, sym, subst}
+-- The commands of a session determine its replies and its states, where memory suffices; with the replies they always do.
+use Rattle.std.proofs.Common.{ℕ, ◌≡◌, ◌≢◌, ◌⊎◌, ◌∙◌, Bool, true, false, nat_lt, [], ◌∷◌, Option, Some, None, MatchOption, inl, inr, refl, sym, ap, subst}
+use Rattle.std.specs.Bool.{MatchBool}
+use Rattle.std.proofs.lemmas.List.Elements.{All-head, All-tail}
+use Rattle.nrm_fraction.specs.Fraction.{Fraction}
 use Rattle.nrm_model.specs.Network.{NetworkValue, leg_named, product_named}
 use Rattle.nrm_book.specs.Bookings.{booking_numbered}
-use Rattle.nrm_control.specs.State.{SeatState}
+use Rattle.nrm_plan.specs.Laws.{HasOnePlan}
+use Rattle.nrm_plan.specs.Plans.{PlanValue, value_of}
+use Rattle.nrm_plan.proofs.Plans.{one-plan}
+use Rattle.nrm_control.specs.State.{SeatState, seats_left, with_plan}
 use Rattle.nrm_stream.specs.declared.command.Command.{Command}
 use Rattle.nrm_stream.specs.declared.command.Command.TheVariants as command
-use Rattle.nrm_session.specs.Replies.{Reply}
-use Rattle.nrm_session.specs.Step.{Step}
+use Rattle.nrm_session.specs.Replies.{Reply, memory, optimised_at, overflow, unknown}
+use Rattle.nrm_session.specs.Step.{Gives, Reoptimises, Step, optimises, overflows, wants_memory}
 use Rattle.nrm_session.specs.Run.{Run}
 use Rattle.nrm_session.specs.Laws.{RepliesAreDetermined, StatesAreDetermined}
 
@@ -21,26 +27,72 @@ same-option : {X : Type 0} (o : Option X) (reply other none : Reply) (some : X �
 same-option None reply other none some s' s'' kept changed first second = same-pair reply other none s' s'' kept first second
 same-option (Some x) reply other none some s' s'' kept changed first second = same-pair reply other (some x) s' s'' (changed x) first second
 
-step-same : (net : NetworkValue) (s : SeatState) (c : Command) (reply other : Reply) (s' s'' : SeatState) → Step net s c reply s' → Step net s c other s'' → (other ≡ reply) × (s'' ≡ s')
-step-same net s (command.Book name party) reply other s' s'' first second = same-option (product_named net name) reply other _ _ s' s'' s _ first second
-step-same net s (command.Cancel number) reply other s' s'' first second = same-option (booking_numbered s.bookings number) reply other _ _ s' s'' s _ first second
-step-same net s (command.Reoptimise k) reply other s' s'' first second = same-pair reply other _ s' s'' s first second
-step-same net s (command.Leg name) reply other s' s'' first second = same-option (leg_named net name) reply other _ _ s' s'' s _ first second
-step-same net s command.Hindsight reply other s' s'' first second = same-pair reply other _ s' s'' s first second
-step-same net s command.Plan reply other s' s'' first second = same-pair reply other _ s' s'' s first second
-step-same net s command.Bad reply other s' s'' first second = same-pair reply other _ s' s'' s first second
+-- ---- what an optimisation may reply
+some-plan : (o : Option Fraction) → memory ≡ optimised_at o → ⊥
+some-plan None e = cc
+some-plan (Some value) e = cc
+
+-- two replies are one reply, or neither wants for memory
+abbrev pub Agree : Reply → Reply → Type 0
+Agree reply other = (other ≡ reply) ⊎ ((reply ≢ memory) × (other ≢ memory))
+
+memory-alone : (other : Reply) → (memory ≡ other → ⊥) → Agree other memory → ⊥
+memory-alone other apart (inl e) = apart e
+memory-alone other apart (inr suffices) = suffices.1 refl
+
+alone-memory : (other : Reply) → (memory ≡ other → ⊥) → Agree memory other → ⊥
+alone-memory other apart (inl e) = apart (sym e)
+alone-memory other apart (inr suffices) = suffices.0 refl
+
+module _ (net : NetworkValue) (s : SeatState) (k : ℕ) where
+  abbrev once : HasOnePlan net s.plan.mode (seats_left net s.bookings) k
+  once = one-plan net s.plan.mode (seats_left net s.bookings) k
+
+  again-same : (reply other : Reply) (s' s'' : SeatState) → Reoptimises net s k reply s' → Reoptimises net s k other s'' → Agree reply other → (other ≡ reply) × (s'' ≡ s')
+  again-same reply other s' s'' (optimises plan for) (optimises plan' for') agree =
+      let same = once.plan plan plan' for for' in (ap (λ (p : PlanValue). optimised_at (value_of net p)) same, ap (with_plan s) same)
+  again-same reply other s' s'' (optimises plan for) (overflows n number large) agree = absurd (once.apart plan n number for large)
+  again-same reply other s' s'' (optimises plan for) (wants_memory solves) agree = absurd (memory-alone (optimised_at (value_of net plan)) (some-plan (value_of net plan)) agree)
+  again-same reply other s' s'' (overflows n number large) (optimises plan for) agree = absurd (once.apart plan n number for large)
+  again-same reply other s' s'' (overflows n number large) (overflows n' number' large') agree = (refl, refl)
+  again-same reply other s' s'' (overflows n number large) (wants_memory solves) agree = absurd (memory-alone overflow (λ e. cc) agree)
+  again-same reply other s' s'' (wants_memory solves) (optimises plan for) agree = absurd (alone-memory (optimised_at (value_of net plan)) (some-plan (value_of net plan)) agree)
+  again-same reply other s' s'' (wants_memory solves) (overflows n number large) agree = absurd (alone-memory overflow (λ e. cc) agree)
+  again-same reply other s' s'' (wants_memory solves) (wants_memory solves') agree = (refl, refl)
+
+  period-same : (beyond : Bool) (reply other : Reply) (s' s'' : SeatState) → MatchBool beyond (Gives unknown reply s s') (Reoptimises net s k reply s') → MatchBool beyond (Gives unknown other s s'') (Reoptimises net s k other s'')
+      → Agree reply other → (other ≡ reply) × (s'' ≡ s')
+  period-same true reply other s' s'' first second agree = same-pair reply other unknown s' s'' s first second
+  period-same false reply other s' s'' first second agree = again-same reply other s' s'' first second agree
+
+step-same : (net : NetworkValue) (s : SeatState) (c : Command) (reply other : Reply) (s' s'' : SeatState) → Step net s c reply s' → Step net s c other s'' → Agree reply other → (other ≡ reply) × (s'' ≡ s')
+step-same net s (command.Book name party) reply other s' s'' first second agree = same-option (product_named net name) reply other _ _ s' s'' s _ first second
+step-same net s (command.Cancel number) reply other s' s'' first second agree = same-option (booking_numbered s.bookings number) reply other _ _ s' s'' s _ first second
+step-same net s (command.Reoptimise k) reply other s' s'' first second agree = period-same net s k (nat_lt net.periods k) reply other s' s'' first second agree
+step-same net s (command.Leg name) reply other s' s'' first second agree = same-option (leg_named net name) reply other _ _ s' s'' s _ first second
+step-same net s command.Hindsight reply other s' s'' first second agree = same-pair reply other _ s' s'' s first second
+step-same net s command.Plan reply other s' s'' first second agree = same-pair reply other _ s' s'' s first second
+step-same net s command.Bad reply other s' s'' first second agree = same-pair reply other _ s' s'' s first second
 
 pub determined : RepliesAreDetermined
-determined net s [] [] [] s' s'' first second = (refl, second ∙ sym first)
-determined net s [] [] (other ∷ others) s' s'' first second = absurd second
-determined net s [] (reply ∷ replies) others s' s'' first second = absurd first
-determined net s (c ∷ commands) [] others s' s'' first second = absurd first
-determined net s (c ∷ commands) (reply ∷ replies) [] s' s'' first second = absurd second
-determined net s (c ∷ commands) (reply ∷ replies) (other ∷ others) s' s'' (mid, step, run) (mid', step', run') =
-    let (same_reply, same_mid) = step-same net s c reply other mid mid' step step' in
+determined net s [] [] [] s' s'' first second suffices suffices' = (refl, second ∙ sym first)
+determined net s [] [] (other ∷ others) s' s'' first second suffices suffices' = absurd second
+determined net s [] (reply ∷ replies) others s' s'' first second suffices suffices' = absurd first
+determined net s (c ∷ commands) [] others s' s'' first second suffices suffices' = absurd first
+determined net s (c ∷ commands) (reply ∷ replies) [] s' s'' first second suffices suffices' = absurd second
+determined net s (c ∷ commands) (reply ∷ replies) (other ∷ others) s' s'' (mid, step, run) (mid', step', run') suffices suffices' =
+    let one = All-head (λ (r : Reply). r ≢ memory) reply replies suffices in
+    let one' = All-head (λ (r : Reply). r ≢ memory) other others suffices' in
+    let (same_reply, same_mid) = step-same net s c reply other mid mid' step step' (inr (one, one')) in
     let run'' = subst (λ (m : SeatState). Run net m commands others s'') same_mid run' in
-    let (same_replies, same_state) = determined net mid commands replies others s' s'' run run'' in
+    let (same_replies, same_state) =
+    determined net mid commands replies others s' s'' run run'' (All-tail (λ (r : Reply). r ≢ memory) reply replies suffices) (All-tail (λ (r : Reply). r ≢ memory) other others suffices') in
     ((λ k. same_reply k ∷ same_replies k), same_state)
 
 pub states-determined : StatesAreDetermined
-states-determined net s commands replies s' s'' first second = (determined net s commands replies replies s' s'' first second).1
+states-determined net s [] [] s' s'' first second = second ∙ sym first
+states-determined net s [] (reply ∷ replies) s' s'' first second = absurd first
+states-determined net s (c ∷ commands) [] s' s'' first second = absurd first
+states-determined net s (c ∷ commands) (reply ∷ replies) s' s'' (mid, step, run) (mid', step', run') =
+    let same_mid = (step-same net s c reply reply mid mid' step step' (inl refl)).1 in
+    states-determined net mid commands replies s' s'' run (subst (λ (m : SeatState). Run net m commands replies s'') same_mid run')

@@ -1,20 +1,23 @@
 -- Sessions and replies by hand, on a network of two legs with a seat each: BACK takes BC and then AB.
 use Rattle.std.proofs.Common.{lit<, arith, zero, suc}
-use Rattle.std.specs.Prelude.{◌≡◌, ◌<◌, ◌≤◌, ℕ, [], ◌∷◌, codes, refl}
+use Rattle.std.specs.Prelude.{◌≡◌, ◌<◌, ◌≤◌, ℕ, pos, List, [], ◌∷◌, codes, get_or, Option, Some, None, option_map, refl}
 use Rattle.std.specs.Fmt.{digits}
+use Rattle.nrm_fraction.specs.Fraction.{Fraction}
+use Rattle.nrm_lp.specs.Means.{mean_value}
+use Rattle.nrm_lp.specs.declared.certificate.Certificate.{Certificate}
 use Rattle.nrm_model.specs.Inventory.{inventory_of, seats_of}
-use Rattle.nrm_model.specs.Network.{NetworkValue}
-use Rattle.nrm_model.specs.declared.mode.Mode.{Mode}
+use Rattle.nrm_model.specs.Network.{NetworkValue, leg_of}
 use Rattle.nrm_model.specs.declared.mode.Mode.TheVariants as modes
+use Rattle.nrm_plan.specs.Plans.{PlanValue}
 use Rattle.nrm_book.specs.Bookings.{sold_on}
 use Rattle.nrm_control.specs.State.{SeatState, opening, after_request}
 use Rattle.nrm_control.specs.Standing.{ControlValue}
 use Rattle.nrm_stream.specs.declared.command.Command.TheVariants as command
-use Rattle.nrm_session.specs.Answering.{NamesItsLeg, reply_in}
+use Rattle.nrm_session.specs.Answering.{IsTellable, reply_in}
 use Rattle.nrm_session.specs.Laws.{NoLegOversold}
-use Rattle.nrm_session.specs.Replies.{bad, unknown, sold, no_leg, cancelled, text_of}
+use Rattle.nrm_session.specs.Replies.{Reply, bad, unknown, sold, no_leg, no_fare, cancelled, memory, optimised, optimised_at, optimised_none, overflow, plan_told, text_of}
 use Rattle.nrm_session.specs.Run.{Run}
-use Rattle.nrm_session.specs.Step.{Step}
+use Rattle.nrm_session.specs.Step.{Reoptimises, Step, optimises, overflows, wants_memory}
 use Rattle.nrm_session.specs.declared.reply.Reply.TheVariants as answered
 
 abbrev there_and_back : NetworkValue
@@ -26,44 +29,74 @@ there_and_back = record {
   demand = 0 ∷ 0 ∷ [];
 }
 
+-- first come, first served, for every seat or for none
+abbrev first_for : ℕ → List ℕ → PlanValue
+first_for period left = record { mode = modes.FirstCome; period = period; left = left; certificate = None }
+
+abbrev first : PlanValue
+first = first_for 1 (1 ∷ 1 ∷ [])
+
 -- one seat of BACK is sold, and one was refused
-abbrev sold_once : Mode → SeatState
-sold_once mode = record {
-  mode = mode;
+abbrev sold_once : PlanValue → SeatState
+sold_once plan = record {
+  plan = plan;
   bookings = record { number = 1; product = 0; party = 1 } ∷ [];
   next = 2;
   requests = record { product = 0; party = 1 } ∷ record { product = 0; party = 1 } ∷ [];
 }
 
 -- both legs refuse the second request, and the first in the product's own order is named; the request is remembered
-both_legs_refuse : (mode : Mode) → Run there_and_back (opening mode) (command.Book (codes "BACK") 1 ∷ command.Book (codes "BACK") 1 ∷ []) (sold 1 ∷ no_leg (codes "BC") ∷ []) (sold_once mode)
-both_legs_refuse mode = (after_request there_and_back (opening mode) 0 1, (refl, refl), (sold_once mode, (refl, refl), refl))
+both_legs_refuse : Run there_and_back (opening first) (command.Book (codes "BACK") 1 ∷ command.Book (codes "BACK") 1 ∷ []) (sold 1 ∷ no_leg (codes "BC") ∷ []) (sold_once first)
+both_legs_refuse = (after_request there_and_back (opening first) 0 1, (refl, refl), (sold_once first, (refl, refl), refl))
+
+-- the plan in force is told
+a_plan : Step there_and_back (opening first) command.Plan (plan_told (codes "first\n")) (opening first)
+a_plan = (refl, refl)
+
+-- a new plan is for the seats left now, and nothing else changes; there is no second period
+plans_again : Step there_and_back (sold_once first) (command.Reoptimise 1) optimised_none (sold_once (first_for 1 (0 ∷ 0 ∷ [])))
+plans_again = optimises (first_for 1 (0 ∷ 0 ∷ [])) (record { mode_is = refl; left_is = refl; period_is = refl; planned = record { left = record { legs = refl; seats = λ i short. within i short }; certificate = refl } })
+  where
+    within : (i : ℕ) → i < 2 → get_or (0 ∷ 0 ∷ []) i 0 ≤ (leg_of there_and_back i).seats
+    within zero short = omega arith
+    within (suc zero) short = omega arith
+    within (suc (suc i)) short = absurd (omega (arith, short))
+
+after_the_last_period : (s : SeatState) → Step there_and_back s (command.Reoptimise 2) unknown s
+after_the_last_period s = (refl, refl)
+
+-- first come, first served never wants for memory
+never_wanting : (s : SeatState) → Reoptimises there_and_back (sold_once first) 1 memory s → ⊥
+never_wanting s made = by memory s refl made
+  where
+    by : (reply : Reply) (s' : SeatState) → reply ≡ memory → Reoptimises there_and_back (sold_once first) 1 reply s' → ⊥
+    by reply s' e (optimises plan for) = planned plan.certificate e
+      where
+        planned : (cert : Option Certificate) → optimised_at (option_map (mean_value 1) cert) ≡ memory → ⊥
+        planned None e = cc
+        planned (Some cert) e = cc
+    by reply s' e (overflows n number large) = cc
+    by reply s' e (wants_memory solves) = solves refl
 
 -- what isn't built yet is bad
-a_plan : (net : NetworkValue) (s : SeatState) → Step net s command.Plan bad s
-a_plan net s = (refl, refl)
-
-plans_again : (net : NetworkValue) (s : SeatState) (k : ℕ) → Step net s (command.Reoptimise k) bad s
-plans_again net s k = (refl, refl)
-
 looks_back : (net : NetworkValue) (s : SeatState) → Step net s command.Hindsight bad s
 looks_back net s = (refl, refl)
 
 -- a leg may be full, and no more
-all_sold : (mode : Mode) → NoLegOversold there_and_back (sold_once mode)
-all_sold mode = λ i below. one i below
+all_sold : NoLegOversold there_and_back (sold_once first)
+all_sold = λ i below. one i below
   where
-    one : (i : ℕ) → i < 2 → sold_on (inventory_of there_and_back) (sold_once mode).bookings i ≤ seats_of (inventory_of there_and_back) i
+    one : (i : ℕ) → i < 2 → sold_on (inventory_of there_and_back) (sold_once first).bookings i ≤ seats_of (inventory_of there_and_back) i
     one zero below = omega arith
     one (suc zero) below = omega arith
     one (suc (suc i)) below = absurd (omega (arith, below))
 
-sold_twice : (mode : Mode) → NoLegOversold there_and_back (record (sold_once mode) { bookings = record { number = 1; product = 1; party = 2 } ∷ [] }) → ⊥
-sold_twice mode kept = let first = kept 0 (lit< tt) in omega (arith, first)
+sold_twice : NoLegOversold there_and_back (record (sold_once first) { bookings = record { number = 1; product = 1; party = 2 } ∷ [] }) → ⊥
+sold_twice kept = let first = kept 0 (lit< tt) in omega (arith, first)
 
 -- what a reply means where the controller stands
 abbrev standing : ControlValue
-standing = record { net = there_and_back; mode = modes.FirstCome; bookings = record { number = 1; product = 0; party = 1 } ∷ []; next = 2 }
+standing = record { net = there_and_back; plan = first; bookings = record { number = 1; product = 0; party = 1 } ∷ []; next = 2 }
 
 the_second_leg : reply_in standing (answered.NoLeg 1) ≡ no_leg (codes "BC")
 the_second_leg = refl
@@ -72,7 +105,7 @@ the_leg_told : text_of (reply_in standing (answered.Leg 1)) ≡ codes "leg BC se
 unfolding digits
 the_leg_told = refl
 
-a_third_leg : NamesItsLeg there_and_back (answered.NoLeg 2) → ⊥
+a_third_leg : IsTellable there_and_back (answered.NoLeg 2) → ⊥
 a_third_leg below = omega (arith, below)
 
 -- each text once
@@ -92,3 +125,19 @@ text_of_no_leg = refl
 text_of_cancelled : text_of (cancelled 7 1000) ≡ codes "cancelled 7 1000\n"
 unfolding digits
 text_of_cancelled = refl
+
+text_of_no_fare : text_of no_fare ≡ codes "no fare\n"
+text_of_no_fare = refl
+
+text_of_optimised : (value : Fraction) → value.num ≡ pos 65595 → value.den ≡ 2 → text_of (optimised value) ≡ codes "optimised 65595/2\n"
+unfolding digits
+text_of_optimised value num den = rw (num, den) refl
+
+text_of_optimised_none : text_of (optimised_at None) ≡ codes "optimised none\n"
+text_of_optimised_none = refl
+
+text_of_overflow : text_of overflow ≡ codes "overflow\n"
+text_of_overflow = refl
+
+text_of_memory : text_of memory ≡ codes "memory\n"
+text_of_memory = refl

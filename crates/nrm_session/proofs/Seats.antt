@@ -1,5 +1,6 @@
 -- No step oversells a leg.
-use Rattle.std.proofs.Common.{ℕ, ◌≡◌, ◌∙◌, ◌<◌, ◌≤◌, All, not, ◌==◌, List, [], ◌∷◌, length, map, find, option_map, Option, Some, None, MatchOption, refl, sym, ap, subst, arith, bytes_eq, slice_get, unwrap_or}
+use Rattle.std.proofs.Common.{Bool, true, false, nat_lt, if◌then◌else◌, ℕ, ◌≡◌, ◌∙◌, ◌<◌, ◌≤◌, All, not, ◌==◌, List, [], ◌∷◌, length, map, find, option_map, Option, Some, None, MatchOption, refl, sym, ap, subst, arith, bytes_eq, slice_get, unwrap_or}
+use Rattle.std.specs.Bool.{MatchBool}
 use Rattle.std.specs.Option.{option_map_or}
 use Rattle.std.proofs.lemmas.Option.{slice_get-map}
 use Rattle.std.proofs.lemmas.List.{length-map}
@@ -7,12 +8,12 @@ use Rattle.std.proofs.lemmas.List.Elements.{All-filter, All-nil, All-push, All-w
 use Rattle.nrm_model.specs.declared.product.Product.{Product}
 use Rattle.nrm_model.specs.Inventory.{inventory_of, legs_of}
 use Rattle.nrm_model.specs.Network.{NetworkValue, leg_named, product_named, product_of}
-use Rattle.nrm_model.specs.declared.mode.Mode.{Mode}
 use Rattle.nrm_model.proofs.NameLemmas.{number-below, position_from-map}
 use Rattle.nrm_book.specs.declared.booking.Booking.{Booking}
 use Rattle.nrm_book.specs.Bookings.{booking_numbered, left_on, worth_of}
 use Rattle.nrm_book.proofs.Kept.{seats-added, sold_on-without}
 use Rattle.nrm_book.proofs.Sold.{AreProducts, sold_on-by_booking}
+use Rattle.nrm_plan.specs.Plans.{PlanValue, fare_refuses}
 use Rattle.nrm_control.specs.State.{SeatState, after_answer, after_cancellation, after_request, answer_in, opening}
 use Rattle.nrm_control.specs.Verdict.{leg_refuses}
 use Rattle.nrm_control.specs.declared.answer.Answer.TheVariants as answer
@@ -21,7 +22,7 @@ use Rattle.nrm_stream.specs.declared.command.Command.{Command}
 use Rattle.nrm_stream.specs.declared.command.Command.TheVariants as command
 use Rattle.nrm_report.specs.Texts.{leg_text}
 use Rattle.nrm_session.specs.Replies.{Reply, unknown, cancelled, leg_told, reply_to}
-use Rattle.nrm_session.specs.Step.{Step}
+use Rattle.nrm_session.specs.Step.{Reoptimises, Step, optimises, overflows, wants_memory}
 use Rattle.nrm_session.specs.Run.{Run}
 use Rattle.nrm_session.specs.Laws.{IsKept, NoLegOversold, SeatsAreKept}
 
@@ -52,8 +53,13 @@ kept-sold net s j party number kept below none =
 kept-request : (net : NetworkValue) (s : SeatState) (j party : ℕ) → Kept net s → j < length net.products → Kept net (after_request net s j party)
 kept-request net s j party kept below = by (find (leg_refuses net s.bookings party) (product_of net j).legs) refl
   where
-    by : (o : Option ℕ) → find (leg_refuses net s.bookings party) (product_of net j).legs ≡ o → Kept net (after_answer s j party (option_map_or answer.Leg o (answer.Sold s.next)))
-    by None e = kept-sold net s j party s.next kept below e
+    by-fare : (refuses : Bool) → find (leg_refuses net s.bookings party) (product_of net j).legs ≡ None → Kept net (after_answer s j party (if refuses then answer.Fare else answer.Sold s.next))
+    by-fare true e = record { products = kept.products; seats = kept.seats }
+    by-fare false e = kept-sold net s j party s.next kept below e
+
+    by : (o : Option ℕ) → find (leg_refuses net s.bookings party) (product_of net j).legs ≡ o
+        → Kept net (after_answer s j party (option_map_or answer.Leg o (if fare_refuses net s.plan j then answer.Fare else answer.Sold s.next)))
+    by None e = by-fare (fare_refuses net s.plan j) e
     by (Some i) e = record { products = kept.products; seats = kept.seats }
 
 kept-cancelled : (net : NetworkValue) (s : SeatState) (number : ℕ) → Kept net s → Kept net (after_cancellation s number)
@@ -82,7 +88,16 @@ step-keeps net s (command.Cancel number) reply s' kept step = by (booking_number
     by : (o : Option Booking) → MatchOption o ((reply ≡ unknown) × (s' ≡ s)) (λ b. (reply ≡ cancelled number (worth_of (inventory_of net) b)) × (s' ≡ after_cancellation s number)) → Kept net s'
     by None told = stays net s s' kept told.1
     by (Some b) told = subst (Kept net) (sym told.1) (kept-cancelled net s number kept)
-step-keeps net s (command.Reoptimise k) reply s' kept step = stays net s s' kept step.1
+step-keeps net s (command.Reoptimise k) reply s' kept step = by (nat_lt net.periods k) step
+  where
+    again : (told : Reply) (after : SeatState) → Reoptimises net s k told after → Kept net after
+    again told after (optimises plan for) = record { products = kept.products; seats = kept.seats }
+    again told after (overflows n number large) = kept
+    again told after (wants_memory solves) = kept
+
+    by : (beyond : Bool) → MatchBool beyond ((reply ≡ unknown) × (s' ≡ s)) (Reoptimises net s k reply s') → Kept net s'
+    by true told = stays net s s' kept told.1
+    by false made = again reply s' made
 step-keeps net s (command.Leg name) reply s' kept step = by (leg_named net name) step
   where
     by : (o : Option ℕ) → MatchOption o ((reply ≡ unknown) × (s' ≡ s)) (λ i. (reply ≡ leg_told (leg_text net s.bookings i)) × (s' ≡ s)) → Kept net s'
@@ -98,8 +113,8 @@ run-keeps net s [] (reply ∷ replies) s' kept run = absurd run
 run-keeps net s (c ∷ commands) [] s' kept run = absurd run
 run-keeps net s (c ∷ commands) (reply ∷ replies) s' kept (mid, step, run) = run-keeps net mid commands replies s' (step-keeps net s c reply mid kept step) run
 
-opens-kept : (net : NetworkValue) (mode : Mode) → Kept net (opening mode)
-opens-kept net mode = record {
+opens-kept : (net : NetworkValue) (plan : PlanValue) → Kept net (opening plan)
+opens-kept net plan = record {
   products = All-nil (λ (b : Booking). b.product < length (inventory_of net).legs);
   seats = λ i at. let none = sold_on-by_booking (inventory_of net) i [] (All-nil (λ (b : Booking). b.product < length (inventory_of net).legs)) in omega (arith, none);
 }
@@ -123,6 +138,6 @@ into net s kept = record {
 
 pub kept : SeatsAreKept
 kept = (
-  (λ net mode. out net (opening mode) (opens-kept net mode)),
+  (λ net plan. out net (opening plan) (opens-kept net plan)),
   (λ net s s' commands replies kept run. out net s' (run-keeps net s commands replies s' (into net s kept) run)),
 )

@@ -1,37 +1,53 @@
 -- The steps that a controller makes, and their replies.
-use Rattle.std.proofs.Common.{ℕ, ◌≡◌, ◌∙◌, List, Option, Some, None, MatchOption, option_map, refl, sym, ap, subst, arith}
+use Rattle.std.proofs.Common.{ℕ, ℤ, ◌≡◌, ◌≤◌, ◌≢◌, ◌∙◌, Bool, false, nat_lt, List, Option, Some, None, MatchOption, option_map, refl, sym, ap, subst, arith}
+use Rattle.std.specs.Bool.{MatchBool}
+use Rattle.std.proofs.lemmas.Bool.{le-ltb}
+use Rattle.nrm_fraction.specs.Fraction.{Fraction}
 use Rattle.nrm_model.specs.Inventory.{inventory_of}
 use Rattle.nrm_model.specs.Network.{NetworkValue, leg_named, leg_of, product_named}
+use Rattle.nrm_model.specs.declared.mode.Mode.{Mode}
+use Rattle.nrm_model.specs.declared.mode.Mode.TheVariants as mode
 use Rattle.nrm_book.specs.declared.booking.Booking.{Booking}
 use Rattle.nrm_book.specs.Bookings.{booking_numbered, without, worth_of}
-use Rattle.nrm_control.specs.State.{SeatState, after_cancellation, after_request, answer_in}
+use Rattle.nrm_control.specs.State.{SeatState, after_cancellation, after_request, answer_in, seats_left, with_plan}
 use Rattle.nrm_control.specs.Standing.{ControlValue, StandsFor}
 use Rattle.nrm_control.specs.Verdict.{verdict_of}
+use Rattle.nrm_control.specs.declared.answer.Answer.{Answer}
 use Rattle.nrm_control.specs.declared.answer.Answer.TheVariants as answer
+use Rattle.nrm_plan.specs.Plans.{IsPlanFor, PlanOverflows, PlanValue, value_of}
 use Rattle.nrm_control.proofs.States.{answer-same}
 use Rattle.nrm_report.specs.Texts.{leg_text}
 use Rattle.nrm_stream.specs.declared.command.Command.TheVariants as command
-use Rattle.nrm_session.specs.Replies.{Reply, unknown, no_leg, cancelled, leg_told, reply_to}
-use Rattle.nrm_session.specs.Step.{Gives}
+use Rattle.nrm_session.specs.Replies.{Reply, unknown, no_leg, no_fare, cancelled, overflow, memory, leg_told, optimised_at, reply_to}
+use Rattle.nrm_session.specs.Step.{Gives, Reoptimises, Step, optimises, overflows, wants_memory}
 use Rattle.nrm_session.specs.Answering.{Steps}
 
--- a request that a leg refused leaves the controller as it was
-pub refused-steps : (old new : ControlValue) (name : List ℕ) (j party leg : ℕ) → Some j ≡ product_named old.net name → answer.Leg leg ≡ verdict_of old.net old.bookings old.next j party → new ≡ old
-    → ((s : SeatState) → StandsFor old s → StandsFor new (after_request old.net s j party)) → Steps old new (command.Book name party) (no_leg (leg_of new.net leg).name)
-refused-steps old new name j party leg found refuses same stay =
+-- a request that was refused leaves the controller as it was
+refused-steps : (old new : ControlValue) (name : List ℕ) (j party : ℕ) (given : Answer) → Some j ≡ product_named old.net name → given ≡ verdict_of old.net old.plan old.bookings old.next j party → new ≡ old
+    → ((s : SeatState) → StandsFor old s → StandsFor new (after_request old.net s j party)) → Steps old new (command.Book name party) (reply_to new.net given)
+refused-steps old new name j party given found refuses same stay =
     let net : new.net ≡ old.net = ap (λ (control : ControlValue). control.net) same in
-    let reply : Reply = no_leg (leg_of new.net leg).name in
+    let reply : Reply = reply_to new.net given in
     record {
       network = net;
       next = let next = ap (λ (control : ControlValue). control.next) same in omega (arith, next);
       step = λ s stands.
           let after : SeatState = after_request old.net s j party in
-          let told : reply ≡ reply_to old.net (answer_in old.net s j party) = ap (λ (net : NetworkValue). no_leg (leg_of net leg).name) net ∙ ap (reply_to old.net) (refuses ∙ sym (answer-same old s j party stands)) in (
+          let told : reply ≡ reply_to old.net (answer_in old.net s j party) = ap (λ (net : NetworkValue). reply_to net given) net ∙ ap (reply_to old.net) (refuses ∙ sym (answer-same old s j party stands)) in (
             after,
             subst (λ (o : Option ℕ). MatchOption o (Gives unknown reply s after) (λ j'. (reply ≡ reply_to old.net (answer_in old.net s j' party)) × (after ≡ after_request old.net s j' party))) found (told, refl),
             stay s stands,
           );
     }
+
+-- by a leg, and by the fare
+pub leg-refuses : (old new : ControlValue) (name : List ℕ) (j party leg : ℕ) → Some j ≡ product_named old.net name → answer.Leg leg ≡ verdict_of old.net old.plan old.bookings old.next j party → new ≡ old
+    → ((s : SeatState) → StandsFor old s → StandsFor new (after_request old.net s j party)) → Steps old new (command.Book name party) (no_leg (leg_of new.net leg).name)
+leg-refuses old new name j party leg = refused-steps old new name j party (answer.Leg leg)
+
+pub fare-refuses : (old new : ControlValue) (name : List ℕ) (j party : ℕ) → Some j ≡ product_named old.net name → answer.Fare ≡ verdict_of old.net old.plan old.bookings old.next j party → new ≡ old
+    → ((s : SeatState) → StandsFor old s → StandsFor new (after_request old.net s j party)) → Steps old new (command.Book name party) no_fare
+fare-refuses old new name j party = refused-steps old new name j party answer.Fare
 
 -- a leg that was found is told of
 pub leg-steps : (control : ControlValue) (name : List ℕ) (i : ℕ) → Some i ≡ leg_named control.net name → Steps control control (command.Leg name) (leg_told (leg_text control.net control.bookings i))
@@ -64,3 +80,47 @@ cancel-steps old new number refund is removed stay =
             stay s stands,
           );
     }
+
+-- ---- an optimisation at a period that the network has
+module _ (old new : ControlValue) (k : ℕ) (within : k ≤ old.net.periods) where
+  abbrev mode-now : SeatState → Mode
+  mode-now s = s.plan.mode
+
+  period : nat_lt old.net.periods k ≡ false
+  period = le-ltb old.net.periods k within
+
+  in-period : (s s' : SeatState) (reply : Reply) → Reoptimises old.net s k reply s' → Step old.net s (command.Reoptimise k) reply s'
+  in-period s s' reply made = subst (λ (beyond : Bool). MatchBool beyond (Gives unknown reply s s') (Reoptimises old.net s k reply s')) (sym period) made
+
+  -- what holds of the controller's plan and bookings holds of a state's that it stands for
+  of-state : (P : Mode → List Booking → Type 0) (s : SeatState) → StandsFor old s → P old.plan.mode old.bookings → P s.plan.mode s.bookings
+  of-state P s stands holds =
+      subst (λ (bookings : List Booking). P s.plan.mode bookings) (sym stands.bookings) (subst (λ (m : Mode). P m old.bookings) (ap (λ (plan : PlanValue). plan.mode) (sym stands.plan)) holds)
+
+  pub planned-steps : IsPlanFor old.net old.plan.mode (seats_left old.net old.bookings) k new.plan → new ≡ record old { plan = new.plan }
+      → ((s : SeatState) → StandsFor old s → StandsFor new (with_plan s new.plan)) → (told : Option Fraction) → told ≡ value_of old.net new.plan → Steps old new (command.Reoptimise k) (optimised_at told)
+  planned-steps for rest stay told value = record {
+    network = ap (λ (control : ControlValue). control.net) rest;
+    next = let same = ap (λ (control : ControlValue). control.next) rest in omega (arith, same);
+    step = λ s stands. (
+      with_plan s new.plan,
+      in-period s (with_plan s new.plan) (optimised_at told)
+          (subst (λ (reply : Reply). Reoptimises old.net s k reply (with_plan s new.plan)) (ap optimised_at (sym value))
+          (optimises new.plan (of-state (λ m bookings. IsPlanFor old.net m (seats_left old.net bookings) k new.plan) s stands for))),
+      stay s stands,
+    );
+  }
+
+  -- nothing changed
+  kept-steps : new ≡ old → (reply : Reply) → ((s : SeatState) → StandsFor old s → Reoptimises old.net s k reply s) → Steps old new (command.Reoptimise k) reply
+  kept-steps same reply made = record {
+    network = ap (λ (control : ControlValue). control.net) same;
+    next = let next = ap (λ (control : ControlValue). control.next) same in omega (arith, next);
+    step = λ s stands. (s, in-period s s reply (made s stands), subst (λ (control : ControlValue). StandsFor control s) (sym same) stands);
+  }
+
+  pub overflow-steps : new ≡ old → (n : ℕ) (number : ℤ) → PlanOverflows old.net old.plan.mode (seats_left old.net old.bookings) k n number → Steps old new (command.Reoptimise k) overflow
+  overflow-steps same n number large = kept-steps same overflow (λ s stands. overflows n number (of-state (λ m bookings. PlanOverflows old.net m (seats_left old.net bookings) k n number) s stands large))
+
+  pub memory-steps : new ≡ old → old.plan.mode ≢ mode.FirstCome → Steps old new (command.Reoptimise k) memory
+  memory-steps same solves = kept-steps same memory (λ s stands. wants_memory (of-state (λ m bookings. m ≢ mode.FirstCome) s stands solves))

@@ -1,11 +1,12 @@
 -- What carrying out one command does, and what its reply is.
-use Rattle.std.specs.Prelude.{◌≡◌, ◌+◌, ◌<◌, ◌≤◌, length, ⊤}
+use Rattle.std.specs.Prelude.{◌≡◌, ◌+◌, ◌<◌, ◌≤◌, length, pos, ⊤}
 use Rattle.nrm_model.specs.Network.{NetworkValue, leg_of}
 use Rattle.nrm_control.specs.State.{SeatState}
 use Rattle.nrm_control.specs.Standing.{ControlValue, StandsFor}
-use Rattle.nrm_report.specs.Texts.{leg_text}
+use Rattle.nrm_fraction.specs.Fraction.{◌over◌}
+use Rattle.nrm_report.specs.Texts.{leg_text, plan_text}
 use Rattle.nrm_stream.specs.declared.command.Command.{Command}
-use Rattle.nrm_session.specs.Replies.{Reply, bad, unknown, sold, no_leg, cancelled, leg_told}
+use Rattle.nrm_session.specs.Replies.{Reply, bad, unknown, sold, no_leg, no_fare, cancelled, optimised, optimised_none, overflow, memory, leg_told, plan_told}
 use Rattle.nrm_session.specs.Step.{Step}
 use Rattle.nrm_session.specs.declared.reply.Reply.{Reply as Answered}
 use Rattle.nrm_session.specs.declared.reply.Reply.TheVariants as answered
@@ -16,20 +17,32 @@ pub record Steps (old new : ControlValue) (command : Command) (reply : Reply) : 
   pub next : new.next ≤ old.next + 1
   pub step : (s : SeatState) → StandsFor old s → (s' : SeatState) × Step old.net s command reply s' × StandsFor new s'
 
--- the reply that a controller means, with its legs by their names and as they stand
+-- the reply that a controller means, with its legs by their names and as they stand, and its plan as it is in force
 abbrev pub reply_in : ControlValue → Answered → Reply
 reply_in control answered.Bad = bad
 reply_in control answered.Unknown = unknown
 reply_in control (answered.Sold number) = sold number
 reply_in control (answered.NoLeg i) = no_leg (leg_of control.net i).name
+reply_in control answered.NoFare = no_fare
 reply_in control (answered.Cancelled number refund) = cancelled number refund
+reply_in control (answered.Optimised num den) = optimised (pos num over den)
+reply_in control answered.OptimisedNone = optimised_none
+reply_in control answered.Overflow = overflow
+reply_in control answered.Memory = memory
 reply_in control (answered.Leg i) = leg_told (leg_text control.net control.bookings i)
+reply_in control answered.Plan = plan_told (plan_text control.net control.plan)
 
--- a leg that a reply names is one of the network
-abbrev pub NamesItsLeg : NetworkValue → Answered → Type 0
-NamesItsLeg net (answered.NoLeg i) = i < length net.legs
-NamesItsLeg net (answered.Leg i) = i < length net.legs
-NamesItsLeg net answered.Bad = ⊤
-NamesItsLeg net answered.Unknown = ⊤
-NamesItsLeg net (answered.Sold number) = ⊤
-NamesItsLeg net (answered.Cancelled number refund) = ⊤
+-- a leg that a reply names is one of the network, and a fraction has a denominator
+abbrev pub IsTellable : NetworkValue → Answered → Type 0
+IsTellable net (answered.NoLeg i) = i < length net.legs
+IsTellable net (answered.Leg i) = i < length net.legs
+IsTellable net answered.Bad = ⊤
+IsTellable net answered.Unknown = ⊤
+IsTellable net (answered.Sold number) = ⊤
+IsTellable net (answered.Cancelled number refund) = ⊤
+IsTellable net answered.NoFare = ⊤
+IsTellable net (answered.Optimised num den) = 1 ≤ den
+IsTellable net answered.OptimisedNone = ⊤
+IsTellable net answered.Overflow = ⊤
+IsTellable net answered.Memory = ⊤
+IsTellable net answered.Plan = ⊤

@@ -1,13 +1,16 @@
 -- Laws of whole sessions.
-use Rattle.std.specs.Prelude.{ℕ, ◌≡◌, ◌<◌, ◌≤◌, List, length, All}
+use Rattle.std.specs.Prelude.{ℕ, ◌≡◌, ◌≢◌, ◌<◌, ◌≤◌, List, length, All}
 use Rattle.nrm_model.specs.Inventory.{inventory_of, seats_of}
 use Rattle.nrm_model.specs.Network.{NetworkValue}
+use Rattle.nrm_model.specs.Limits.{IsNetwork}
 use Rattle.nrm_model.specs.declared.mode.Mode.{Mode}
+use Rattle.nrm_model.specs.declared.mode.Mode.TheVariants as mode
 use Rattle.nrm_book.specs.declared.booking.Booking.{Booking}
 use Rattle.nrm_book.specs.Bookings.{sold_on}
+use Rattle.nrm_plan.specs.Plans.{HasOptimalPrices, IsOpeningPlan, IsPlanOf, PlanValue}
 use Rattle.nrm_control.specs.State.{SeatState, opening}
 use Rattle.nrm_stream.specs.declared.command.Command.{Command}
-use Rattle.nrm_session.specs.Replies.{Reply}
+use Rattle.nrm_session.specs.Replies.{Reply, memory}
 use Rattle.nrm_session.specs.Run.{Run}
 
 -- no leg of the network has more seats sold than it has
@@ -19,21 +22,40 @@ pub record IsKept (net : NetworkValue) (s : SeatState) : Type 0 where
   pub products : All (λ (booking : Booking). booking.product < length net.products) s.bookings
   pub seats : NoLegOversold net s
 
--- the opening of each mode is such a state, and whatever the commands, a run from such a state comes to such a state; and each first part of a run is a run
+-- the opening is such a state, whatever its plan, and whatever the commands, a run from such a state comes to such a state; and each
+-- first part of a run is a run
 abbrev pub SeatsAreKept : Type 0
-SeatsAreKept = ((net : NetworkValue) (mode : Mode) → IsKept net (opening mode))
+SeatsAreKept = ((net : NetworkValue) (plan : PlanValue) → IsKept net (opening plan))
     × ((net : NetworkValue) (s s' : SeatState) (commands : List Command) (replies : List Reply) → IsKept net s → Run net s commands replies s' → IsKept net s')
 
--- no reply is free: the commands determine the replies and the state
+-- no line wanted for memory
+abbrev pub MemorySuffices : List Reply → Type 0
+MemorySuffices replies = All (λ reply. reply ≢ memory) replies
+
+-- want of memory is the one reply that is free: where none wants for it, the commands determine the replies and the state
 abbrev pub RepliesAreDetermined : Type 0
 RepliesAreDetermined = (net : NetworkValue) (s : SeatState) (commands : List Command) (replies others : List Reply) (s' s'' : SeatState)
-    → Run net s commands replies s' → Run net s commands others s'' → (others ≡ replies) × (s'' ≡ s')
+    → Run net s commands replies s' → Run net s commands others s'' → MemorySuffices replies → MemorySuffices others → (others ≡ replies) × (s'' ≡ s')
 
--- the commands and the replies determine the state
+-- the commands and the replies determine the state, whichever they are
 abbrev pub StatesAreDetermined : Type 0
 StatesAreDetermined = (net : NetworkValue) (s : SeatState) (commands : List Command) (replies : List Reply) (s' s'' : SeatState)
     → Run net s commands replies s' → Run net s commands replies s'' → s'' ≡ s'
 
--- each list of commands has a run from each state
+-- each list of commands has a run from each state in which memory suffices
 abbrev pub EachListHasARun : Type 0
-EachListHasARun = (net : NetworkValue) (s : SeatState) (commands : List Command) → (replies : List Reply) × (s' : SeatState) × Run net s commands replies s'
+EachListHasARun = (net : NetworkValue) (s : SeatState) (commands : List Command)
+    → (replies : List Reply) × (s' : SeatState) × Run net s commands replies s' × MemorySuffices replies
+
+-- the plan in force is one of the network in the mode of the session, and where the mode solves programs its bid prices are optimal duals
+-- of the program at the plan's seats left and period
+pub record IsPlanned (net : NetworkValue) (m : Mode) (s : SeatState) : Type 0 where
+  pub mode_is : s.plan.mode ≡ m
+  pub planned : IsPlanOf net s.plan
+  pub optimal : m ≢ mode.FirstCome → HasOptimalPrices net s.plan
+
+-- so it is in each opening, and a run from such a state comes to such a state
+abbrev pub PlansAreKept : Type 0
+PlansAreKept = ((net : NetworkValue) (m : Mode) (plan : PlanValue) → IsNetwork net → IsOpeningPlan net m plan → IsPlanned net m (opening plan))
+    × ((net : NetworkValue) (m : Mode) (s s' : SeatState) (commands : List Command) (replies : List Reply)
+    → IsNetwork net → IsPlanned net m s → Run net s commands replies s' → IsPlanned net m s')

@@ -1,12 +1,12 @@
 //! Laws of whole sessions. Each is the contract of a function that does nothing.
-ghost use Rattle.nrm_session.specs.Laws.{EachListHasARun, RepliesAreDetermined, SeatsAreKept, StatesAreDetermined};
+ghost use Rattle.nrm_session.specs.Laws.{EachListHasARun, PlansAreKept, RepliesAreDetermined, SeatsAreKept, StatesAreDetermined};
 
-/// No leg has more seats sold than it has in the opening of any mode, and a run keeps that from any state.
+/// No leg has more seats sold than it has in an opening, and a run keeps that from any state.
 pub fn seats_are_kept()
     ensures { SeatsAreKept }
 {}
 
-/// The commands of a session determine its replies and its states.
+/// The commands of a session determine its replies and its states, where no line wants for memory.
 pub fn replies_are_determined()
     ensures { RepliesAreDetermined }
 {}
@@ -16,7 +16,13 @@ pub fn states_are_determined()
     ensures { StatesAreDetermined }
 {}
 
-/// From each state, each list of commands has a run.
+/// From each state, each list of commands has a run in which no line wants for memory.
 pub fn each_list_has_a_run()
     ensures { EachListHasARun }
+{}
+
+/// The plan in force is one of the network in each opening, and a run keeps that from any state; where its mode solves programs,
+/// its bid prices are optimal duals of the program at the plan's seats left and period.
+pub fn plans_are_kept()
+    ensures { PlansAreKept }
 {}

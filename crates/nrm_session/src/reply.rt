@@ -1,36 +1,51 @@
 //! Replies: a command is carried out, and its reply put, one line in one piece.
-ghost use Rattle.std.specs.Prelude.{◌≡◌, ◌<◌, [], OnErr, OnOk};
+ghost use Rattle.std.specs.Prelude.{◌≡◌, ◌<◌, ◌≤◌, [], OnErr, OnOk, pos};
 ghost use Rattle.std.specs.Int.{IsInRange};
 ghost use Rattle.std.specs.Io.KnownBytes.{Appends};
 ghost use Rattle.nrm_edge.specs.Causes.{HasCause};
 ghost use Rattle.nrm_edge.specs.Pieces.{AppendsFront};
+ghost use Rattle.nrm_fraction.specs.Fraction.{◌over◌};
 ghost use Rattle.nrm_control.specs.Standing.{IsControl};
 ghost use Rattle.nrm_stream.specs.Commands.{IsCommand};
 ghost use Rattle.nrm_stream.specs.declared.command.Command.TheVariants as command;
-ghost use Rattle.nrm_session.specs.Answering.{NamesItsLeg, reply_in, Steps};
-ghost use Rattle.nrm_session.specs.Replies.{cancelled, no_leg, sold, text_of};
+ghost use Rattle.nrm_session.specs.Answering.{IsTellable, reply_in, Steps};
+ghost use Rattle.nrm_session.specs.Replies.{cancelled, no_leg, optimised, sold, text_of};
 
 use nrm_control::{Answer, Controller};
 use nrm_edge::{Failed, Sink, put_all};
-use nrm_report::leg_text;
+use nrm_report::{leg_text, plan_text};
+use nrm_simplex::SolveFault;
 use nrm_stream::Command;
 use nrm_text::{Line, Name};
+use std::alloc::Global;
 
 /// What a line is answered. Legs are named by their numbers in the network.
 #[derive(Clone, Copy, Debug, PartialEq, Eq)]
 pub enum Reply {
     /// No command, or one that isn't built yet.
     Bad,
-    /// No product, booking or leg of this name or number.
+    /// No product, booking or leg of this name or number, or a period beyond the last.
     Unknown,
     /// The request is sold, under this number.
     Sold { number: u64 },
     /// This leg refuses the request.
     NoLeg(u8),
+    /// The legs have the seats, but the fare is below the sum of their bid prices.
+    NoFare,
     /// The booking is cancelled, and this much is given back.
     Cancelled { number: u64, refund: u64 },
+    /// A new plan is in force, of this mean value of a history, in whole currency units, in lowest terms.
+    Optimised { num: u64, den: u64 },
+    /// A new plan is in force, for which no program was solved.
+    OptimisedNone,
+    /// The program is too large, and the plan in force stays.
+    Overflow,
+    /// Want of memory, and the plan in force stays.
+    Memory,
     /// How this leg stands.
     Leg(u8),
+    /// The plan in force.
+    Plan,
 }
 
 // Carries out a `book` line.
@@ -38,7 +53,7 @@ fn book(controller: &mut Controller, product: &Name, party: u16) -> Reply
     requires party { IsInRange 1 999 party }
     requires next { controller.old.next < 1000000000000 }
     ensures step { Steps controller.old controller.new (command.Book product.now party) (reply_in controller.new result) }
-    ensures leg { NamesItsLeg controller.new.net result }
+    ensures tellable { IsTellable controller.new.net result }
     ensures kept { IsControl controller.new }
 {
     match controller.network().find_product(product) {
@@ -46,6 +61,7 @@ fn book(controller: &mut Controller, product: &Name, party: u16) -> Reply
         Some(product) => match controller.request(product, party) {
             Answer::Sold { number } => Reply::Sold { number },
             Answer::Leg(leg) => Reply::NoLeg(leg),
+            Answer::Fare => Reply::NoFare,
         },
     }
 }
@@ -53,7 +69,7 @@ fn book(controller: &mut Controller, product: &Name, party: u16) -> Reply
 // Carries out a `cancel` line.
 fn cancel(controller: &mut Controller, number: u64) -> Reply
     ensures step { Steps controller.old controller.new (command.Cancel number) (reply_in controller.new result) }
-    ensures leg { NamesItsLeg controller.new.net result }
+    ensures tellable { IsTellable controller.new.net result }
     ensures kept { IsControl controller.new }
 {
     match controller.cancel(number) {
@@ -62,10 +78,28 @@ fn cancel(controller: &mut Controller, number: u64) -> Reply
     }
 }
 
+// Carries out a `reoptimise` line.
+fn reoptimise(alloc: Global, controller: &mut Controller, period: u8) -> Reply
+    requires { 1 ≤ period }
+    ensures step { Steps controller.old controller.new (command.Reoptimise period) (reply_in controller.new result) }
+    ensures tellable { IsTellable controller.new.net result }
+    ensures kept { IsControl controller.new }
+{
+    if period > controller.network().t() {
+        return Reply::Unknown;
+    }
+    match controller.reoptimise(alloc, period) {
+        Ok(Some((num, den))) => Reply::Optimised { num, den },
+        Ok(None) => Reply::OptimisedNone,
+        Err(SolveFault::Overflow { .. }) => Reply::Overflow,
+        Err(SolveFault::NoMemory) => Reply::Memory,
+    }
+}
+
 // Finds the leg of a `leg` line.
 fn tell_leg(controller: &Controller, name: &Name) -> Reply
     ensures step { Steps controller.now controller.now (command.Leg name.now) (reply_in controller.now result) }
-    ensures leg { NamesItsLeg controller.now.net result }
+    ensures tellable { IsTellable controller.now.net result }
 {
     match controller.network().find_leg(name) {
         None => Reply::Unknown,
@@ -73,12 +107,13 @@ fn tell_leg(controller: &Controller, name: &Name) -> Reply
     }
 }
 
-/// Carries out a command, and gives its reply. It takes no memory.
-pub fn carry_out(controller: &mut Controller, command: &Command) -> Reply
+/// Carries out a command, and gives its reply. It takes memory for `reoptimise` alone, and there only where the mode solves
+/// programs.
+pub fn carry_out(alloc: Global, controller: &mut Controller, command: &Command) -> Reply
     requires command { IsCommand command.now }
     requires next { controller.old.next < 1000000000000 }
     ensures step { Steps controller.old controller.new command.now (reply_in controller.new result) }
-    ensures leg { NamesItsLeg controller.new.net result }
+    ensures tellable { IsTellable controller.new.net result }
     ensures kept { IsControl controller.new }
 {
     // For its clause alone: this is a controller of a network within the limits.
@@ -86,10 +121,10 @@ pub fn carry_out(controller: &mut Controller, command: &Command) -> Reply
     match command {
         Command::Book { product, party } => book(controller, product, *party),
         Command::Cancel { number } => cancel(controller, *number),
+        Command::Reoptimise { period } => reoptimise(alloc, controller, *period),
         Command::Leg { name } => tell_leg(controller, name),
-        Command::Reoptimise { .. } | Command::Hindsight | Command::Plan | Command::Bad => {
-            Reply::Bad
-        }
+        Command::Plan => Reply::Plan,
+        Command::Hindsight | Command::Bad => Reply::Bad,
     }
 }
 
@@ -127,12 +162,24 @@ fn write_cancelled(line: &mut Line, number: u64, refund: u64)
     line.push_bytes(b"\n");
 }
 
-/// Puts the text of a reply: a line in one piece, and of a leg as many lines as there are.
+// Writes the line of a new plan with its mean value.
+#[tactic(auto, using(nrm_text::proofs::Fractions::short_fraction))]
+fn write_optimised(line: &mut Line, num: u64, den: u64)
+    requires empty { line.old ≡ [] }
+    requires some { 1 ≤ den }
+    ensures { line.new ≡ text_of (optimised (pos num over den)) }
+{
+    line.push_bytes(b"optimised ");
+    line.push_fraction(i128::from(num), u128::from(den));
+    line.push_bytes(b"\n");
+}
+
+/// Puts the text of a reply: a line in one piece, and of a leg and of a plan as many lines as there are.
 ///
 /// # Errors
 /// A put failed; a front of the text went out.
 pub fn put_reply<K: Sink>(controller: &Controller, reply: Reply, sink: &mut K) -> Result<(), Failed>
-    requires { NamesItsLeg controller.now.net reply }
+    requires { IsTellable controller.now.net reply }
     ensures whole { OnOk result (Appends (K.held sink.old) (K.held sink.new) (text_of (reply_in controller.now reply))) }
     ensures cut { OnErr result (AppendsFront (K.held sink.old) (K.held sink.new) (text_of (reply_in controller.now reply))) }
     ensures cause { HasCause (K.faults sink.old) (K.faults sink.new) result }
@@ -142,10 +189,16 @@ pub fn put_reply<K: Sink>(controller: &Controller, reply: Reply, sink: &mut K) -
     match reply {
         Reply::Bad => return put_all(sink, b"bad\n"),
         Reply::Unknown => return put_all(sink, b"unknown\n"),
+        Reply::NoFare => return put_all(sink, b"no fare\n"),
+        Reply::OptimisedNone => return put_all(sink, b"optimised none\n"),
+        Reply::Overflow => return put_all(sink, b"overflow\n"),
+        Reply::Memory => return put_all(sink, b"memory\n"),
         Reply::Leg(leg) => return leg_text(net, controller.book(), leg, sink),
+        Reply::Plan => return plan_text(net, controller.plan(), sink),
         Reply::Sold { number } => write_sold(&mut line, number),
         Reply::NoLeg(leg) => write_refused(&mut line, &net.leg_at(leg).name),
         Reply::Cancelled { number, refund } => write_cancelled(&mut line, number, refund),
+        Reply::Optimised { num, den } => write_optimised(&mut line, num, den),
     }
     put_all(sink, line.bytes())
 }

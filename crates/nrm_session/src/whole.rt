@@ -8,6 +8,7 @@ use crate::reply::{carry_out, put_reply};
 use nrm_control::Controller;
 use nrm_edge::Sink;
 use nrm_stream::{command_of, next_line};
+use std::alloc::Global;
 
 /// How a session over a whole stream ended.
 #[derive(Clone, Copy, Debug, PartialEq, Eq)]
@@ -19,9 +20,14 @@ pub enum WholeEnd {
     WriteFault,
 }
 
-/// Answers each line of a stream, in order, one line of reply a put; a leg's text takes one put a line. It takes no
-/// memory.
-pub fn serve_whole<K: Sink>(controller: &mut Controller, stream: &[u8], sink: &mut K) -> WholeEnd
+/// Answers each line of a stream, in order, one line of reply a put; the texts of a leg and of a plan take one put a line. It
+/// takes memory for `reoptimise` lines alone.
+pub fn serve_whole<K: Sink>(
+    alloc: Global,
+    controller: &mut Controller,
+    stream: &[u8],
+    sink: &mut K,
+) -> WholeEnd
     requires stream { length stream.now ≤ 2 ^ 32 }
     requires next { controller.old.next ≤ 100000000000 }
     ensures serves { ServesWhole controller.old controller.new stream.now (K.held sink.old) (K.held sink.new) (K.faults sink.old) (K.faults sink.new) result }
@@ -33,7 +39,7 @@ pub fn serve_whole<K: Sink>(controller: &mut Controller, stream: &[u8], sink: &m
     let _ = controller.network();
     let mut rest = stream;
     while let Some((line, after)) = next_line(rest) {
-        let reply = carry_out(controller, &command_of(line));
+        let reply = carry_out(alloc, controller, &command_of(line));
         match put_reply(controller, reply, sink) {
             Ok(()) => rest = after,
             Err(_) => return WholeEnd::WriteFault,

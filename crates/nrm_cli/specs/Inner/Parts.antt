@@ -5,7 +5,13 @@ use Rattle.nrm_edge.specs.Causes.{Rose}
 use Rattle.nrm_edge.specs.Fetch.{Folder}
 use Rattle.nrm_edge.specs.Pieces.{AppendsFront}
 use Rattle.nrm_model.specs.Network.{NetworkValue}
+use Rattle.nrm_model.specs.Inventory.{inventory_of}
+use Rattle.nrm_model.specs.declared.mode.Mode.{Mode}
 use Rattle.nrm_model.specs.declared.mode.Mode.TheVariants as modes
+use Rattle.nrm_simplex.specs.declared.fault.SolveFault.{SolveFault}
+use Rattle.nrm_simplex.specs.declared.fault.SolveFault.TheVariants as fault
+use Rattle.nrm_plan.specs.Plans.{IsOpeningPlan, IsPlanFault, PlanValue}
+use Rattle.nrm_report.specs.Texts.{plan_text}
 use Rattle.nrm_fraction.specs.Large.{size_limit}
 use Rattle.nrm_lp.specs.declared.certificate.Certificate.{Certificate}
 use Rattle.nrm_lp.specs.Certified.{Certifies}
@@ -25,7 +31,7 @@ use Rattle.nrm_control.specs.Standing.{ControlValue}
 use Rattle.nrm_stream.specs.Commands.{commands_of}
 use Rattle.nrm_session.specs.Serving.{Refines, RefinesCut}
 use Rattle.nrm_cli.specs.Ends.{status_of, stream_limit}
-use Rattle.nrm_cli.specs.Jobs.{Job, run_file, check_file, print_file}
+use Rattle.nrm_cli.specs.Jobs.{Job, run_file, plan_file, check_file, print_file, overflow_line}
 use Rattle.nrm_cli.specs.declared.status.Status.{Status}
 use Rattle.nrm_cli.specs.declared.status.Status.TheVariants as status
 use Rattle.nrm_cli.specs.declared.words.Asked.{Asked}
@@ -38,6 +44,7 @@ use Rattle.nrm_cli.specs.declared.stream.StreamFault.TheVariants as stream
 -- a job as the code holds it
 abbrev pub job_in : Asked → Job
 job_in (asked.Run mode file) = run_file mode file.now
+job_in (asked.Plan mode file) = plan_file mode file.now
 job_in (asked.Check file certificate) = check_file file.now certificate.now
 job_in (asked.Print file) = print_file file.now
 
@@ -109,6 +116,21 @@ lack_status lacking.Absent = status.Refused
 lack_status (lacking.Unread fault) = status.Refused
 lack_status lacking.Fault = status.FileFault
 
+-- the line that says that nothing is planned, and none for want of memory
+abbrev pub unplanned_line : SolveFault → Option (List ℕ)
+unplanned_line (fault.Overflow pivots number) = Some (overflow_line pivots number)
+unplanned_line fault.NoMemory = None
+
+-- what is put and answered where nothing is planned
+abbrev pub PutsUnplanned : SolveFault → Option (List ℕ) → Option (List ℕ) → ℕ → ℕ → Status → Type 0
+PutsUnplanned why held held' before now result = PutsIfSome (unplanned_line why) status.Overflow held held' before now result
+
+-- the text of the opening plan of a network in a mode is put, or it is told why there is none
+abbrev pub PutsPlan : NetworkValue → Mode → Option (List ℕ) → Option (List ℕ) → ℕ → ℕ → Status → Type 0
+PutsPlan net m held held' before now result =
+    ((plan : PlanValue) × IsOpeningPlan net m plan × PutsLine (plan_text net plan) status.Done held held' before now result)
+    ⊎ ((why : SolveFault) × IsPlanFault net m (inventory_of net).seats 1 why × PutsUnplanned why held held' before now result)
+
 -- what is put and answered where there is a certificate: the verdict on it, which is optimal only where the certificate shows that it
 -- is, and is never that it has another shape; or memory ran out
 pub record PutsFound (net : NetworkValue) (given : Certificate) (held held' : Option (List ℕ)) (before now : ℕ) (result : Status) : Type 0 where
@@ -128,9 +150,10 @@ pub record ChecksFile (net : NetworkValue) (files : Option Folder) (name : List 
   pub counts : CountsCertificate before now opened
   pub puts : MatchResult opened (λ given. PutsVerdict net given held held' sunk sunk' result) (λ reason. PutsIfSome (lack_line net reason) (lack_status reason) held held' sunk sunk' result)
 
--- a job in a mode that is built
+-- a run in a mode that is built, or another job
 abbrev pub IsBuilt : Asked → Type 0
-IsBuilt (asked.Run mode file) = mode ≡ modes.FirstCome
+IsBuilt (asked.Run mode file) = mode ≢ modes.Davn
+IsBuilt (asked.Plan mode file) = ⊤
 IsBuilt (asked.Check file certificate) = ⊤
 IsBuilt (asked.Print file) = ⊤
 

@@ -1,4 +1,4 @@
-use Rattle.std.proofs.Common.{◌≡◌, ◌∙◌, List, ℕ, ap, inr, length, subst, sym}
+use Rattle.std.proofs.Common.{◌∙◌, List, ℕ, ap, inr, length, subst, sym}
 use Rattle.nrm_fraction.specs.Large.{size_limit}
 use Rattle.nrm_lp.specs.Certified.{Certifies}
 use Rattle.nrm_lp.specs.Program.{ProgramValue}

@@ -1,12 +1,17 @@
 use Rattle.nrm_session.proofs.Determined.{determined, states-determined}
+use Rattle.nrm_session.proofs.InForce.{plans-kept}
 use Rattle.nrm_session.proofs.Runs.{runs}
 use Rattle.nrm_session.proofs.Seats.{kept}
 use Rattle.nrm_cli.proofs.OwnPasses.{optimal-pass, own-passes}
 use Rattle.nrm_cli.proofs.Complete.{completes, same-job-ends}
+use Rattle.nrm_cli.proofs.Passing.{planned-passes}
 use Rattle.nrm_cli.proofs.top.run.Goals as goal
 
 pub returns-clause-seats : goal.returns-clause-seats
 returns-clause-seats g c = kept
+
+pub returns-clause-optimal : goal.returns-clause-optimal
+returns-clause-optimal g c = plans-kept
 
 pub returns-clause-determined : goal.returns-clause-determined
 returns-clause-determined g c = determined
@@ -25,6 +30,9 @@ returns-clause-complete g c = completes _ _ _ c.run_asked.result (same-job-ends 
 
 pub returns-clause-own : goal.returns-clause-own
 returns-clause-own g c = own-passes
+
+pub returns-clause-passes : goal.returns-clause-passes
+returns-clause-passes g c = planned-passes _ _ _ c.run_asked.result (completes _ _ _ c.run_asked.result (same-job-ends _ _ _ _ c.run_asked.result c.asked_in.ensures.job c.run_asked.ensures.ends))
 
 pub returns-clause-others : goal.returns-clause-others
 returns-clause-others g c = optimal-pass

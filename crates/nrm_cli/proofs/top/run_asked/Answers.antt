@@ -27,6 +27,19 @@ returns-in-Some-Print-clause-goes g c = c.print_file.ensures.goes (g.S.Source.co
 pub returns-in-Some-Print-clause-failures : goal.returns-in-Some-Print-clause-failures
 returns-in-Some-Print-clause-failures g c = c.print_file.ensures.failures (g.S.Source.coming c.args.source.now) (g.S.Source.faults c.args.source.now)
 
+pub returns-in-Some-Plan-clause-ends : goal.returns-in-Some-Plan-clause-ends
+returns-in-Some-Plan-clause-ends g c =
+    let planned = c.in-Some-Plan.field-0 in
+    let is = rw c.in-Some-Plan.is at c.in-Some-Plan.field-0-is in
+    of-words c.args.asked (Some planned) _ _ c.plan_file.result c.in-Some-Plan.is
+    (of-words (Some planned) _ _ _ c.plan_file.result (ap Some is) (c.plan_file.ensures.ends (g.S.Source.coming c.args.source.now) (g.S.Source.faults c.args.source.now)))
+
+pub returns-in-Some-Plan-clause-goes : goal.returns-in-Some-Plan-clause-goes
+returns-in-Some-Plan-clause-goes g c = c.plan_file.ensures.goes (g.S.Source.coming c.args.source.now) (g.S.Source.faults c.args.source.now)
+
+pub returns-in-Some-Plan-clause-failures : goal.returns-in-Some-Plan-clause-failures
+returns-in-Some-Plan-clause-failures g c = c.plan_file.ensures.failures (g.S.Source.coming c.args.source.now) (g.S.Source.faults c.args.source.now)
+
 pub returns-in-Some-Check-clause-ends : goal.returns-in-Some-Check-clause-ends
 returns-in-Some-Check-clause-ends g c =
     let checked = c.in-Some-Check.field-0 in

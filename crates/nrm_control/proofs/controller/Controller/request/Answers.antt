@@ -1,8 +1,9 @@
-use Rattle.std.proofs.Common.{◌∙◌, ◌<◌, All, ap, length, nat_lt, refl, subst, Some, None}
+use Rattle.std.proofs.Common.{sym, ◌∙◌, ◌<◌, All, ap, length, nat_lt, refl, subst, Some, None}
 use Rattle.nrm_book.specs.Bookings.{left_on}
+use Rattle.nrm_plan.specs.Plans.{fare_refuses}
 use Rattle.nrm_control.specs.Standing.{ControlValue}
 use Rattle.nrm_control.specs.Verdict.{verdict_of}
-use Rattle.nrm_control.proofs.Inventories.{found-within, legs-within, seats-cover, verdict-is}
+use Rattle.nrm_control.proofs.Inventories.{fare-refused, fare-sold, found-within, legs-within, seats-cover, verdict-is}
 use Rattle.nrm_control.proofs.States.{request-stands, request-stands-through, sold-is}
 use Rattle.nrm_control.specs.declared.answer.Answer.TheVariants as answer
 use Rattle.nrm_control.proofs.controller.Controller.request.Goals as goal
@@ -14,28 +15,41 @@ refusing_leg-requires c =
 pub add-requires-clause-seats : goal.add-requires-clause-seats
 add-requires-clause-seats c =
     seats-cover c.self.inside.network c.self.inside.book.inventory c.self.inside.book.bookings c.args.party c.args.product c.product_at.result.now c.as_slice-legs.result.now
-    c.self.invariant.inventory c.product_at.ensures.product c.as_slice-legs.ensures c.in-None.ensures
+    c.self.invariant.inventory c.product_at.ensures.product c.as_slice-legs.ensures c.in_default.ensures
 
 pub returns-in-Some-clause-answer : goal.returns-in-Some-clause-answer
 returns-in-Some-clause-answer c =
-    verdict-is c.self.inside.network c.self.inside.book.inventory c.self.inside.book.bookings c.self.inside.book.next c.args.party c.args.product c.product_at.result.now c.as_slice-legs.result.now (Some c.in-Some.leg)
+    verdict-is c.self.inside.network c.self.inside.plan c.self.inside.book.inventory c.self.inside.book.bookings c.self.inside.book.next c.args.party c.args.product c.product_at.result.now c.as_slice-legs.result.now (Some c.in-Some.leg)
     c.self.invariant.inventory c.product_at.ensures.product c.as_slice-legs.ensures c.in-Some.ensures
-    ∙ ap (λ (control : ControlValue). verdict_of control.net control.bookings control.next c.args.product c.args.party) c.self.view_is
+    ∙ ap (λ (control : ControlValue). verdict_of control.net control.plan control.bookings control.next c.args.product c.args.party) c.self.view_is
 
 pub returns-in-Some-clause-state : goal.returns-in-Some-clause-state
 returns-in-Some-clause-state c = request-stands c.args.self.now c.args.self.now c.args.product c.args.party (answer.Leg c.in-Some.leg) (returns-in-Some-clause-answer c) refl
 
-pub returns-in-None-clause-answer : goal.returns-in-None-clause-answer
-returns-in-None-clause-answer c =
-    ap answer.Sold c.add.ensures.number
-    ∙ verdict-is c.self.inside.network c.self.inside.book.inventory c.self.inside.book.bookings c.self.inside.book.next c.args.party c.args.product c.product_at.result.now c.as_slice-legs.result.now None
-    c.self.invariant.inventory c.product_at.ensures.product c.as_slice-legs.ensures c.in-None.ensures
-    ∙ ap (λ (control : ControlValue). verdict_of control.net control.bookings control.next c.args.product c.args.party) c.self.view_is
+pub returns-then-fare_refuses-clause-answer : goal.returns-then-fare_refuses-clause-answer
+returns-then-fare_refuses-clause-answer c =
+    let inside = c.self.inside in
+    fare-refused (fare_refuses inside.network inside.plan c.args.product) inside.book.next (sym c.fare_refuses.ensures ∙ c.if-fare_refuses.true)
+    ∙ verdict-is inside.network inside.plan inside.book.inventory inside.book.bookings inside.book.next c.args.party c.args.product c.product_at.result.now c.as_slice-legs.result.now None
+    c.self.invariant.inventory c.product_at.ensures.product c.as_slice-legs.ensures c.in_default.ensures
+    ∙ ap (λ (control : ControlValue). verdict_of control.net control.plan control.bookings control.next c.args.product c.args.party) c.self.view_is
 
-pub returns-in-None-clause-state : goal.returns-in-None-clause-state
-returns-in-None-clause-state c =
-    request-stands-through _ c.args.self.now _ c.args.product c.args.party (answer.Sold c.add.result) c.self.view_is (returns-in-None-clause-answer c)
-    (sold-is c.self.inside.network c.self.inside.mode c.self.inside.book c.add.new.self c.args.product c.args.party c.add.result c.add.ensures.number c.add.ensures.added)
+pub returns-then-fare_refuses-clause-state : goal.returns-then-fare_refuses-clause-state
+returns-then-fare_refuses-clause-state c = request-stands c.args.self.now c.args.self.now c.args.product c.args.party answer.Fare (returns-then-fare_refuses-clause-answer c) refl
+
+pub returns-clause-answer : goal.returns-clause-answer
+returns-clause-answer c =
+    let inside = c.self.inside in
+    ap answer.Sold c.add.ensures.number
+    ∙ fare-sold (fare_refuses inside.network inside.plan c.args.product) inside.book.next (sym c.fare_refuses.ensures ∙ c.if-fare_refuses.false)
+    ∙ verdict-is inside.network inside.plan inside.book.inventory inside.book.bookings inside.book.next c.args.party c.args.product c.product_at.result.now c.as_slice-legs.result.now None
+    c.self.invariant.inventory c.product_at.ensures.product c.as_slice-legs.ensures c.in_default.ensures
+    ∙ ap (λ (control : ControlValue). verdict_of control.net control.plan control.bookings control.next c.args.product c.args.party) c.self.view_is
+
+pub returns-clause-state : goal.returns-clause-state
+returns-clause-state c =
+    request-stands-through _ c.args.self.now _ c.args.product c.args.party (answer.Sold c.add.result) c.self.view_is (returns-clause-answer c)
+    (sold-is c.self.inside.network c.self.inside.plan c.self.inside.book c.add.new.self c.args.product c.args.party c.add.result c.add.ensures.number c.add.ensures.added)
 
 pub returns-in-Some-clause-leg : goal.returns-in-Some-clause-leg
 returns-in-Some-clause-leg c =

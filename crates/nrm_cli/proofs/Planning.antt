@@ -1,0 +1,60 @@
+-- How a job ends that has an opening plan, or none since its program is Large or memory ran out.
+use Rattle.std.proofs.Common.{ℕ, ◌≡◌, List, Some, None, inl, inr, refl, subst}
+use Rattle.nrm_model.specs.Inventory.{inventory_of}
+use Rattle.nrm_model.specs.Network.{NetworkValue}
+use Rattle.nrm_model.specs.declared.mode.Mode.{Mode}
+use Rattle.nrm_simplex.specs.declared.fault.SolveFault.{SolveFault}
+use Rattle.nrm_simplex.specs.declared.fault.SolveFault.TheVariants as fault
+use Rattle.nrm_plan.specs.Plans.{IsPlanFault}
+use Rattle.nrm_control.specs.Standing.{IsStartFault}
+use Rattle.nrm_report.specs.Texts.{plan_text}
+use Rattle.nrm_opening.specs.Outside.{LeftStream, Outside}
+use Rattle.nrm_cli.specs.Ends.{Ends, Failures}
+use Rattle.nrm_cli.specs.Jobs.{Job, run_file, plan_file, check_file, print_file, mode_of_job, overflow_line, told_pivots}
+use Rattle.nrm_cli.specs.Inner.Parts.{PutsLine, PutsPlan, PutsUnplanned}
+use Rattle.nrm_cli.specs.Tells.{Opens, overflow, planned}
+use Rattle.nrm_cli.specs.declared.status.Status.{Status}
+use Rattle.nrm_cli.specs.declared.status.Status.TheVariants as status
+use Rattle.nrm_cli.proofs.Telling.{told-ends}
+
+-- what lacks a plan lacks a start
+pub start-fault : (net : NetworkValue) (m : Mode) (why : SolveFault) → IsPlanFault net m (inventory_of net).seats 1 why → IsStartFault net m why
+start-fault net m (fault.Overflow pivots number) is = is
+start-fault net m fault.NoMemory is = tt
+
+module _ (job : Job) (m : Mode) (net : NetworkValue) (before after : Outside) (has : mode_of_job job ≡ Some m) (opens : Opens (Some job) job before net) (left : LeftStream before after) where
+  -- ---- no plan
+  none-some : None ≡ Some m → ⊥
+  none-some e = cc
+
+  ran-out : (asked : Job) → mode_of_job asked ≡ Some m → (s : Status) → PutsUnplanned fault.NoMemory before.held after.held before.sink_faults after.sink_faults s → Ends (Some asked) before after s
+  ran-out (run_file mode file) is s (told, kept, same) = rw told kept
+  ran-out (plan_file mode file) is s (told, kept, same) = rw told (kept, left)
+  ran-out (check_file file certificate) is s puts = absurd (none-some is)
+  ran-out (print_file file) is s puts = absurd (none-some is)
+
+  pub unplanned-ends : (why : SolveFault) (s : Status) → IsStartFault net m why → PutsUnplanned why before.held after.held before.sink_faults after.sink_faults s → Ends (Some job) before after s
+  unplanned-ends fault.NoMemory s is puts = ran-out job has s puts
+  unplanned-ends (fault.Overflow pivots number) s (n, large, counted) puts =
+      told-ends (Some job) before after status.Overflow s (overflow_line (told_pivots n) number) (overflow job m net n number has opens large)
+      (subst (λ (k : ℕ). PutsLine (overflow_line k number) status.Overflow before.held after.held before.sink_faults after.sink_faults s) counted puts) left
+
+-- and which counts stay
+pub unplanned-failures : (before after : Outside) → after.file_faults ≡ before.file_faults → after.source_faults ≡ before.source_faults → (why : SolveFault) (s : Status)
+    → PutsUnplanned why before.held after.held before.sink_faults after.sink_faults s → Failures s before after
+unplanned-failures before after files source fault.NoMemory s (is, kept, same) = rw is (record { files = files; source = source; sink = same })
+unplanned-failures before after files source (fault.Overflow pivots number) s (inl (is, wrote, same)) = rw is (record { files = files; source = source; sink = same })
+unplanned-failures before after files source (fault.Overflow pivots number) s (inr (is, front, rose)) = rw is source
+
+-- ---- the plan's text, or none
+pub planned-ends : (m : Mode) (file : List ℕ) (net : NetworkValue) (before after : Outside) → Opens (Some (plan_file m file)) (plan_file m file) before net → LeftStream before after
+    → (s : Status) → PutsPlan net m before.held after.held before.sink_faults after.sink_faults s → Ends (Some (plan_file m file)) before after s
+planned-ends m file net before after opens left s (inl (plan, is, puts)) =
+    told-ends (Some (plan_file m file)) before after status.Done s (plan_text net plan) (planned m file net plan opens is) puts left
+planned-ends m file net before after opens left s (inr (why, is, puts)) = unplanned-ends (plan_file m file) m net before after refl opens left why s (start-fault net m why is) puts
+
+pub planned-failures : (m : Mode) (net : NetworkValue) (before after : Outside) → after.file_faults ≡ before.file_faults → after.source_faults ≡ before.source_faults
+    → (s : Status) → PutsPlan net m before.held after.held before.sink_faults after.sink_faults s → Failures s before after
+planned-failures m net before after files source s (inl (plan, for, inl (is, wrote, same))) = rw is (record { files = files; source = source; sink = same })
+planned-failures m net before after files source s (inl (plan, for, inr (is, front, rose))) = rw is source
+planned-failures m net before after files source s (inr (why, none, puts)) = unplanned-failures before after files source why s puts

@@ -1,0 +1,31 @@
+//! The plan text: the certificate of the plan, or that it has none.
+ghost use Rattle.std.specs.Prelude.{OnErr, OnOk};
+ghost use Rattle.std.specs.Io.KnownBytes.{Appends};
+ghost use Rattle.nrm_edge.specs.Causes.{HasCause};
+ghost use Rattle.nrm_edge.specs.Pieces.{AppendsFront};
+ghost use Rattle.nrm_plan.specs.Plans.{IsPlanOf};
+ghost use Rattle.nrm_report.specs.Texts.{plan_text};
+
+use crate::certificate_text;
+use nrm_edge::{Failed, Sink, put_all};
+use nrm_model::Network;
+use nrm_plan::Plan;
+
+/// Puts the text of a plan: `first` under first come, first served, and else the certificate, by which anyone can check that
+/// its allocation and its bid prices are optimal.
+///
+/// # Errors
+/// A put failed; a front of the text went out.
+pub fn plan_text<K: Sink>(net: &Network, plan: &Plan, sink: &mut K) -> Result<(), Failed>
+    requires { IsPlanOf net.now plan.now }
+    ensures whole { OnOk result (Appends (K.held sink.old) (K.held sink.new) (plan_text net.now plan.now)) }
+    ensures cut { OnErr result (AppendsFront (K.held sink.old) (K.held sink.new) (plan_text net.now plan.now)) }
+    ensures cause { HasCause (K.faults sink.old) (K.faults sink.new) result }
+{
+    // For its clause alone: a network is within its limits.
+    let _ = net.n();
+    match plan.certificate() {
+        Some(certificate) => certificate_text(net, certificate, sink),
+        None => put_all(sink, b"first\n"),
+    }
+}

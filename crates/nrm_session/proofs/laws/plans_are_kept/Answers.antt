@@ -1,0 +1,5 @@
+use Rattle.nrm_session.proofs.InForce.{plans-kept}
+use Rattle.nrm_session.proofs.laws.plans_are_kept.Goals as goal
+
+pub returns : goal.returns
+returns c = plans-kept
