@@ -1,49 +1,54 @@
 #!/usr/bin/env python3
 """An independent account of the rules: a plain, slow model against which cases are made.
 
-    tests/reference.py replies FILE           the replies to standard input, on the network of FILE, first come, first served
-    tests/reference.py print FILE             the canonical form of FILE
+    tests/reference.py run MODE FILE          the replies to standard input on the network of FILE
+    tests/reference.py plan MODE FILE         the plan of the network of FILE at period 1, with every seat left
     tests/reference.py check FILE CERT        what the certificate CERT is for the network of FILE
-    tests/reference.py certificate FILE       an optimal certificate for the network of FILE, which must be small
-    tests/reference.py stream FILE SEED N     a made stream of N mixed lines for the network of FILE; a seed gives one stream
+    tests/reference.py print FILE             the canonical form of FILE
+    tests/reference.py stream MODE FILE SEED N
+                                              a made stream of N mixed lines for the network of FILE; a seed gives one stream
 
-It was written from the rules alone and shares nothing with the program. It keeps no counters: seats are summed anew
-from the list of bookings at each line. A certificate is checked on exact fractions, which are brought to no common
-denominator; nothing is solved for it. `certificate` is Bland's simplex method on fractions.
+MODE is `first` or `bid`. It was written from the rules alone and shares nothing with the program. It keeps no counters:
+seats are summed anew from the list of bookings at each line. A certificate is checked on exact fractions, which are
+brought to no common denominator. A plan's prices are worked out on the whole tableau, a row at a time, in whole numbers
+of any size; only then is it asked whether one is too large.
 
-The status is that of the program: 3 where FILE or CERT is refused, 9 where it can't be read, 1 where a certificate is
-wrong, 5 where the text can't be written. So `tests/run check --program tests/reference.py` takes it as the program for the
-cases of `check FILE CERT`. The case `session-mixed-lines` has a stream of `stream` and the replies of `replies`.
+The words but `stream`, the texts and the statuses are those of the program, so `tests/run --program tests/reference.py`
+takes it as the program for the cases. The cases `session-mixed-lines` and `bid-mixed-lines` have a stream of `stream` and the
+replies of `run`.
 """
 import os
 import random
 import re
 import sys
 from fractions import Fraction
-from math import lcm
+from math import gcd, lcm
 
 LONGEST_FILE = 4_194_304
 LONGEST_CERTIFICATE = 65_536
+LONGEST_STREAM = 16_777_216
 MOST_LEGS, MOST_PRODUCTS = 64, 256
 MOST_MONEY = 99_999_999
 GREATEST = 2**63 - 1  # of a number in a certificate
-LIMIT = 2**48  # no number of a certificate over its common denominators reaches it
+LIMIT = 2**48  # no number of a tableau's row or of a certificate, over their common denominators, reaches it
 
 NAME = re.compile(rb"[A-Z0-9-]{1,12}")
 WHOLE = re.compile(rb"0|[1-9][0-9]*")
 FRACTION = re.compile(rb"(0|[1-9][0-9]*)/([1-9][0-9]*)")
 
 
-class Refused(Exception):
-    """The line for a file that is refused."""
+class Ended(Exception):
+    """The line that is written in place of the output, and the status."""
 
-    status = 3
+    def __init__(self, line, status):
+        self.line, self.status = line, status
 
 
-class Fault(Exception):
-    """The line for a file that can't be read."""
+class Refused(Ended):
+    """A file is refused."""
 
-    status = 9
+    def __init__(self, line):
+        super().__init__(line, 3)
 
 
 def bytes_of(path, refusal):
@@ -53,7 +58,7 @@ def bytes_of(path, refusal):
     except FileNotFoundError:
         raise Refused(refusal)
     except OSError:
-        raise Fault("file fault")
+        raise Ended("file fault", 9)
 
 
 # The network file
@@ -63,8 +68,13 @@ def rows_of(data):
     """The records of a file. A blank line is none; a carriage return or a line feed ends one outside quotes."""
     if data.startswith(b"\xef\xbb\xbf"):
         data = data[3:]
-    rows, row, field = [], [], b""
+    rows, row, field = [], [], bytearray()
     place = "before a row"
+
+    def end_field():
+        row.append(bytes(field))
+        field.clear()
+
     for at in range(len(data)):
         byte = data[at:at + 1]
         if place == "in quotes":
@@ -73,19 +83,26 @@ def rows_of(data):
             else:
                 field += byte
         elif place == "after quotes" and byte == b'"':
-            field, place = field + byte, "in quotes"
+            field += byte
+            place = "in quotes"
         elif place == "before a row" and byte in b"\r\n":
             pass
         elif place in ("before a row", "before a field") and byte == b'"':
             place = "in quotes"
         elif byte == b",":
-            row, field, place = row + [field], b"", "before a field"
+            end_field()
+            place = "before a field"
         elif byte in b"\r\n":
-            rows, row, field, place = rows + [row + [field]], [], b"", "before a row"
+            end_field()
+            rows.append(list(row))
+            row.clear()
+            place = "before a row"
         else:
-            field, place = field + byte, "in a field"
+            field += byte
+            place = "in a field"
     if place != "before a row":
-        rows = rows + [row + [field]]
+        end_field()
+        rows.append(row)
     return rows
 
 
@@ -212,17 +229,19 @@ def without_return(line):
     return line[:-1] if line.endswith(b"\r") else line
 
 
-# The linear program of a network, from period 1 at full seats, and its certificate
+# The linear program of a network, and its certificate
 
 
 class Program:
-    """Over all histories together: the seats of each leg, and the fare, the legs and the demand of each product."""
+    """Over all histories together: the seats left of each leg, and the fare, the legs and the demand to come of each product."""
 
-    def __init__(self, network):
-        self.legs = {leg: network.histories * seats for leg, (seats, _) in network.legs.items()}
+    def __init__(self, network, left=None, period=1):
+        if left is None:
+            left = {leg: seats for leg, (seats, _) in network.legs.items()}
+        self.legs = {leg: network.histories * left[leg] for leg in network.legs}
         self.fares = {product: fare for product, (fare, _) in network.products.items()}
         self.uses = {product: legs for product, (_, legs) in network.products.items()}
-        self.demand = {product: sum(sum(network.demand.get((product, history + 1), []))
+        self.demand = {product: sum(sum(network.demand.get((product, history + 1), [])[period - 1:])
                                     for history in range(network.histories)) for product in network.products}
 
     def sold(self, x, leg):
@@ -240,10 +259,8 @@ class Program:
 class Certificate:
     """The total allocation of each product, the price of each leg, and the total value."""
 
-    def __init__(self, network, given):
-        self.x = {product: network.histories * given[b"product", product] for product in network.products}
-        self.p = {leg: given[b"leg", leg] for leg in network.legs}
-        self.value = network.histories * given[b"value",]
+    def __init__(self, x, p, value):
+        self.x, self.p, self.value = x, p, value
 
     def is_too_fine(self):
         q = lcm(*[x.denominator for x in self.x.values()])
@@ -274,7 +291,8 @@ def certificate_of(network, data):
     for what in wanted:
         if what not in given:
             raise Refused(f"refused certificate no {b' '.join(what).decode()}")
-    certificate = Certificate(network, given)
+    certificate = Certificate({product: network.histories * given[b"product", product] for product in network.products},
+                              {leg: given[b"leg", leg] for leg in network.legs}, network.histories * given[b"value",])
     if certificate.is_too_fine():
         raise Refused("refused certificate too fine")
     return certificate
@@ -299,50 +317,122 @@ def verdict(program, certificate):
     return b"optimal\n" if certificate.value == program.cost(p) else b"wrong value\n"
 
 
+def certificate_text(network, certificate):
+    """The means of a history, and the prices."""
+    lines = [(b"value", certificate.value / network.histories)]
+    lines += [(b"product " + product, x / network.histories) for product, x in certificate.x.items()]
+    lines += [(b"leg " + leg, p) for leg, p in certificate.p.items()]
+    return b"".join(b"%s %s\n" % (what, fraction(number)) for what, number in lines)
+
+
+def fraction(number):
+    return b"%d/%d" % (number.numerator, number.denominator)
+
+
+# The path of the simplex method to a certificate
+
+
+class Large(Exception):
+    """A number that reaches the limit."""
+
+
+def below_limit(numbers):
+    for number in numbers:
+        if abs(number) >= LIMIT:
+            raise Large(number)
+
+
+class Row:
+    """Whole numbers over one positive denominator, in lowest terms."""
+
+    def __init__(self, numbers, den):
+        divisor = gcd(den, *numbers)
+        self.numbers, self.den = [number // divisor for number in numbers], den // divisor
+        below_limit([self.den] + self.numbers)
+
+    def at(self, column):
+        return Fraction(self.numbers[column], self.den)
+
+    def with_one_at(self, column):
+        return Row(self.numbers, self.numbers[column])
+
+    def with_nothing_at(self, column, pivot):
+        """This row less as many times the pivot row, which has 1 in the column, as this one has there."""
+        times = self.numbers[column]
+        if times == 0:
+            return self
+        return Row([a * pivot.den - times * b for a, b in zip(self.numbers, pivot.numbers)], self.den * pivot.den)
+
+
+class Tableau:
+    """The constraint rows, legs first and then bounds, and the value row.
+
+    The columns are the products, the seats left over on each leg, the demand of each product that isn't met, and the
+    right side, which is the last.
+    """
+
+    def __init__(self, program):
+        products, legs = list(program.fares), list(program.legs)
+        self.slacks = range(len(products), 2 * len(products) + len(legs))
+        right = [program.legs[leg] for leg in legs] + [program.demand[product] for product in products]
+        uses = [[int(leg in program.uses[product]) for product in products] for leg in legs]
+        uses += [[int(product == other) for other in products] for product in products]
+        self.rows = [Row(row + [int(at == other) for other in range(len(right))] + [right[at]], 1)
+                     for at, row in enumerate(uses)]
+        self.value = Row([-fare for fare in program.fares.values()] + [0] * (len(right) + 1), 1)
+        self.basic = list(self.slacks)  # the column of each row
+
+    def entering(self):
+        """The first column that the value row is negative in, if there is one."""
+        return next((column for column, number in enumerate(self.value.numbers[:-1]) if number < 0), None)
+
+    def leaving(self, column):
+        """The row whose right side and then slack columns, over its entry, are the least where they first differ."""
+        at_least = [at for at, row in enumerate(self.rows) if row.numbers[column] > 0]
+        for other in [-1, *self.slacks]:
+            if len(at_least) == 1:
+                break
+            ratios = [Fraction(self.rows[at].numbers[other], self.rows[at].numbers[column]) for at in at_least]
+            at_least = [at for at, ratio in zip(at_least, ratios) if ratio == min(ratios)]
+        return at_least[0]
+
+    def pivot(self, column):
+        at = self.leaving(column)
+        self.rows[at] = pivot = self.rows[at].with_one_at(column)
+        self.rows = [row if row is pivot else row.with_nothing_at(column, pivot) for row in self.rows]
+        self.value = self.value.with_nothing_at(column, pivot)
+        self.basic[at] = column
+
+    def closing(self, program):
+        values = {column: row.at(-1) for column, row in zip(self.basic, self.rows)}
+        x = [values.get(column, Fraction(0)) for column in range(len(program.fares))]
+        common = [lcm(*[it.denominator for it in x[:count]]) for count in range(1, len(x) + 1)]
+        below_limit(common + [int(it * common[-1]) for it in x])
+        p = [self.value.at(column) for column in self.slacks]
+        return Certificate(dict(zip(program.fares, x)), dict(zip(program.legs, p)), self.value.at(-1))
+
+
 def solved(program):
-    """An optimal allocation and optimal prices: the simplex method by the smallest subscript, on fractions."""
-    products, legs = list(program.fares), list(program.legs)
-    width = len(products) + len(legs) + len(products)  # the products, the seats left, the demand left
-    rows = []
-    for leg in legs:
-        rows.append([int(leg in program.uses[product]) for product in products] + [program.legs[leg]])
-    for product in products:
-        rows.append([int(product == other) for other in products] + [program.demand[product]])
-    table = [[Fraction(entry) for entry in row[:-1] + [int(at == k) for k in range(len(rows))] + row[-1:]]
-             for at, row in enumerate(rows)]
-    reduced = [Fraction(program.fares[product]) for product in products] + [Fraction(0)] * (len(rows) + 1)
-    basic = [len(products) + at for at in range(len(rows))]
-    while any(entry > 0 for entry in reduced[:width]):
-        enters = next(column for column in range(width) if reduced[column] > 0)
-        _, _, at = min((row[-1] / row[enters], basic[at], at) for at, row in enumerate(table) if row[enters] > 0)
-        table[at] = [entry / table[at][enters] for entry in table[at]]
-        for other in range(len(table)):
-            if other != at and table[other][enters] != 0:
-                table[other] = [a - table[other][enters] * b for a, b in zip(table[other], table[at])]
-        reduced = [a - reduced[enters] * b for a, b in zip(reduced, table[at])]
-        basic[at] = enters
-    values = {column: row[-1] for column, row in zip(basic, table)}
-    x = {product: values.get(at, Fraction(0)) for at, product in enumerate(products)}
-    return x, {leg: -reduced[len(products) + at] for at, leg in enumerate(legs)}
-
-
-def certificate_text(network):
-    program = Program(network)
-    x, p = solved(program)
-    written = [(b"value", program.cost(p) / network.histories)]
-    written += [(b"product " + product, x[product] / network.histories) for product in x]
-    written += [(b"leg " + leg, p[leg]) for leg in p]
-    return b"".join(b"%s %d/%d\n" % (what, number.numerator, number.denominator) for what, number in written)
+    """The certificate at the end of the path."""
+    tableau, pivots = Tableau(program), 0
+    try:
+        while (column := tableau.entering()) is not None:
+            tableau.pivot(column)
+            pivots += 1
+        return tableau.closing(program)
+    except Large as large:
+        raise Ended(f"overflow after {pivots} pivots at {large}", 7)
 
 
 # The session
 
 
 class Session:
-    """The surviving bookings, and the number of the next one."""
+    """The surviving bookings, the number of the next one, and under `bid` the certificate in force."""
 
-    def __init__(self, network):
+    def __init__(self, network, mode):
         self.network = network
+        self.certificate = solved(Program(network)) if mode == "bid" else None
         self.book = []  # (number, product, party), in the order in which they were made
         self.next = 1
 
@@ -360,9 +450,15 @@ class Session:
         for leg in self.network.products[product][1]:
             if self.left(leg) < party:
                 return b"no %s\n" % leg
+        if self.is_too_cheap(product):
+            return b"no fare\n"
         self.book.append((self.next, product, party))
         self.next += 1
         return b"ok %d\n" % (self.next - 1)
+
+    def is_too_cheap(self, product):
+        fare, legs = self.network.products[product]
+        return self.certificate is not None and fare < sum(self.certificate.p[leg] for leg in legs)
 
     def cancel(self, number):
         for booking in self.book:
@@ -370,6 +466,20 @@ class Session:
                 self.book.remove(booking)
                 return b"cancelled %d %d\n" % (number, booking[2] * self.network.products[booking[1]][0])
         return b"unknown\n"
+
+    def reoptimise(self, period):
+        if period > self.network.periods:
+            return b"unknown\n"
+        if self.certificate is None:
+            return b"optimised none\n"
+        try:
+            self.certificate = solved(Program(self.network, {leg: self.left(leg) for leg in self.network.legs}, period))
+        except Ended:
+            return b"overflow\n"
+        return b"optimised %s\n" % fraction(self.certificate.value / self.network.histories)
+
+    def plan(self):
+        return b"first\n" if self.certificate is None else certificate_text(self.network, self.certificate)
 
     def report(self, leg):
         if leg not in self.network.legs:
@@ -388,19 +498,34 @@ class Session:
             return self.request(words[1], numbers[2])
         if len(words) == 2 and words[0] == b"cancel" and numbers[1] >= 0:
             return self.cancel(numbers[1])
+        if len(words) == 2 and words[0] == b"reoptimise" and 1 <= numbers[1] <= 99:
+            return self.reoptimise(numbers[1])
+        if words == [b"plan"]:
+            return self.plan()
         if len(words) == 2 and words[0] == b"leg" and NAME.fullmatch(words[1]):
             return self.report(words[1])
         return b"bad\n"
 
 
-def replies(network, stream):
-    session = Session(network)
+def stream_given():
+    """Standard input, to its end or to where it is too long."""
+    try:
+        stream = sys.stdin.buffer.read(LONGEST_STREAM + 1)
+    except OSError:
+        raise Ended("", 4)
+    if len(stream) > LONGEST_STREAM:
+        raise Ended("", 8)
+    return stream
+
+
+def replies(session, stream):
     return b"".join(session.reply(line) for line in lines_of(stream))
 
 
 # A made stream
 
-BAD = [b"", b" ", b"book", b"cancel", b"leg", b"\r\r", b"book %s", b"book %s ", b"book %s 0", b"book %s 1000", b"book %s 01",
+BAD = [b"", b" ", b"book", b"cancel", b"leg", b"reoptimise", b"reoptimise 0", b"reoptimise 01", b"reoptimise 100", b"plan 1",
+       b"reoptimise %s", b"PLAN", b"\r\r", b"book %s", b"book %s ", b"book %s 0", b"book %s 1000", b"book %s 01",
        b"book  %s 1", b"book %s  1", b" book %s 1", b"book %s 1 ", b"book %s 1 1", b"BOOK %s 1", b"Book %s 1", b"book %s +1",
        b"book %s -1", b"book %s 1.0", b"book %s one", b"book %s 18446744073709551617", b"book\t%s\t1", b"book %s\r 1",
        b"book %s\x00 1", b"book %s\xff 1", b"book %sABCDEFGHIJKL 1", b"books %s 1", b"book,%s,1", b"leg %s ", b"leg %s 1",
@@ -427,44 +552,65 @@ def made_line(session, draw):
         return b"leg %s" % draw.choice(legs)
     if kind < 90:
         return b"leg %s" % draw.choice(products + [b"NONE"])
+    if kind < 92:
+        return b"reoptimise %d" % draw.choice([draw.randint(1, session.network.periods), draw.randint(1, 99)])
+    if draw.randrange(20) == 0:
+        return b"plan"
     line = draw.choice(BAD)
     return line % draw.choice(products) if b"%s" in line else line
 
 
-def made_stream(network, seed, count):
+def made_stream(session, seed, count):
     """Lines of all kinds; some end with a carriage return, and the last one isn't ended."""
-    draw, session, lines = random.Random(seed), Session(network), []
+    draw, lines = random.Random(seed), []
     while len(lines) < count:
         line = made_line(session, draw) + (b"\r" if draw.randrange(20) == 0 else b"")
         session.reply(line)
         lines.append(line)
-    return b"\n".join(lines[:-1] + [b"book %s 1" % next(iter(network.products))])
+    return b"\n".join(lines[:-1] + [b"book %s 1" % next(iter(session.network.products))])
 
 
-def told(verb, path, rest):
+USAGE = "usage: nrm run MODE FILE, plan MODE FILE, check FILE CERT, print FILE, gen MODE NUMBER"
+
+
+def told(words):
     """The text that is written, and the status."""
-    network = network_of(bytes_of(path, "refused no file"))
-    if verb == "replies":
-        return replies(network, sys.stdin.buffer.read()), 0
-    if verb == "print":
-        return canonical(network), 0
-    if verb == "check":
-        certificate = certificate_of(network, bytes_of(rest[0], "refused certificate no file"))
-        text = verdict(Program(network), certificate)
-        return text, 0 if text == b"optimal\n" else 1
-    if verb == "certificate":
-        return certificate_text(network), 0
-    return made_stream(network, int(rest[0]), int(rest[1])), 0
+    match words:
+        case ["run", "first" | "bid" as mode, path]:
+            session = Session(network_in(path), mode)
+            return replies(session, stream_given()), 0
+        case ["plan", "first" | "bid" as mode, path]:
+            return Session(network_in(path), mode).plan(), 0
+        case ["check", path, certificate]:
+            network = network_in(path)
+            certificate = certificate_of(network, bytes_of(certificate, "refused certificate no file"))
+            text = verdict(Program(network), certificate)
+            return text, 0 if text == b"optimal\n" else 1
+        case ["print", path]:
+            return canonical(network_in(path)), 0
+        case ["stream", "first" | "bid" as mode, path, seed, count]:
+            return made_stream(Session(network_in(path), mode), int(seed), int(count)), 0
+    raise Ended(USAGE, 2)
+
+
+def words_given():
+    """The words of the command line, or none where one is no text."""
+    try:
+        b"".join(word.encode() for word in sys.argv[1:])
+    except UnicodeEncodeError:
+        return []
+    return sys.argv[1:]
+
+
+def network_in(path):
+    return network_of(bytes_of(path, "refused no file"))
 
 
 def main():
-    verb, *words = sys.argv[1:] or [""]
-    if {"replies": 1, "print": 1, "check": 2, "certificate": 1, "stream": 3}.get(verb) != len(words):
-        sys.exit(__doc__)
     try:
-        text, status = told(verb, words[0], words[1:])
-    except (Refused, Fault) as ended:
-        text, status = f"{ended}\n".encode(), ended.status
+        text, status = told(words_given())
+    except Ended as ended:
+        text, status = f"{ended.line}\n".encode() if ended.line else b"", ended.status
     try:
         while text:
             text = text[os.write(1, text):]
