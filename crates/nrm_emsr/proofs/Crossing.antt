@@ -1,8 +1,8 @@
 -- The comparison of two fractions is that of their parts, multiplied across.
-use Rattle.std.proofs.Common.{ℕ, ◌≡◌, ◌∙◌, ◌+◌, ◌-◌, ◌*◌, ◌<◌, ◌==◌, ◌||◌, not, Bool, true, false, cond, List, [], ◌∷◌, length, map, sum_by, ne_eqb, eq-eqb, slice_index, nat_lt, nat_abs, refl, sym, ap, ap₂, subst, arith, ℤ, pos, ◌*ℤ◌, ◌<ℤ◌, int_lt}
-use native.Mathlib.Nat.{mul-pos}
+use Rattle.std.proofs.Common.{ℕ, ◌≡◌, ◌∙◌, ◌+◌, ◌-◌, ◌*◌, ◌<◌, ◌≤◌, ◌==◌, ◌||◌, not, Bool, true, false, cond, List, [], ◌∷◌, length, get_or, min, map, sum_by, eq-eqb, slice_index, nat_lt, nat_abs, refl, sym, ap, ap₂, subst, arith, ℤ, pos, negsuc, ◌*ℤ◌, ◌<ℤ◌, int_lt}
+use native.Mathlib.Nat.{mul-le-mul_right, mul-pos}
 use Rattle.std.proofs.lemmas.Int.{ints}
-use Rattle.std.proofs.lemmas.Bool.{eqb-false, or_parts}
+use Rattle.std.proofs.lemmas.Bool.{eqb-false, le-ltb, ltb-true, or_parts}
 use Rattle.nrm_number.proofs.Integers.{ring_ℤ, *ℤ-pos-lt, *ℤ-pos-lt_cancel}
 use Rattle.nrm_number.proofs.Ring.{solve, v0, v1, v2}
 use Rattle.nrm_number.proofs.Ring.Expr.{◌⊗◌, e1}
@@ -11,6 +11,7 @@ use Rattle.nrm_fraction.proofs.Field.{IsValue_whole, below_from, below_to}
 use Rattle.nrm_fraction.proofs.Tests.{less_if, less_true}
 use Rattle.nrm_fraction.proofs.Values.{IsValue, IsValue_over, IsValue_product, IsValue_turn}
 use Rattle.std.specs.List.{count_by, range_with_len}
+use Rattle.std.specs.List.Sorted.{IsPermutation}
 use Rattle.std.proofs.lemmas.List.FromFn.{length-map-range_with_len}
 use Rattle.std.proofs.lemmas.List.Sums.{sum_by-cons}
 use Rattle.nrm_emsr.specs.declared.nest.Nested.{Nested}
@@ -22,7 +23,10 @@ use Rattle.nrm_emsr.specs.Fares.{bucket_fare, mean_fare, weight_of, weighted_far
 use Rattle.nrm_emsr.specs.Protections.{at_most, demand_above, histories_over, least_from, seats_enough, suffices}
 use Rattle.nrm_emsr.specs.Inner.Nest.{crosses, in_buckets, nest_fare, nest_fares, nest_weight}
 use Rattle.nrm_emsr.proofs.Nests.{fares-is, nest_on, sum-is, weight-is}
-use Rattle.nrm_emsr.proofs.Least.{least-same}
+use Rattle.nrm_emsr.specs.Inner.Ranked.{Falls, greatest_count}
+use Rattle.nrm_emsr.proofs.Least.{enough-least}
+use Rattle.nrm_emsr.proofs.Places.{lower-fails, number-passes}
+use Rattle.nrm_emsr.proofs.Signs.{IsNat, nat-or-not, weighted-nat}
 
 same-test : (a b : Bool) → (a ≡ true → b ≡ true) → (b ≡ true → a ≡ true) → a ≡ b
 same-test true true f g = refl
@@ -59,6 +63,17 @@ at_most-crosses c n x y a b w v d some is next =
     ∙ ap₂ int_lt (spread (pos n *ℤ b) w d) (spread (pos c *ℤ a) v d)
     ∙ cancelled ((pos n *ℤ b) *ℤ pos w) ((pos c *ℤ a) *ℤ pos v) d some)
 
+-- ---- no history at all passes, and below a count that passes each does
+lower : (x y : ℕ) (z : ℤ) → x ≤ y → not (int_lt z (pos y)) ≡ true → not (int_lt z (pos x)) ≡ true
+lower x y (pos n) few h = grind (arith, few, h)
+lower x y (negsuc n) few h = let no : false ≡ true = h in cc
+
+crosses-below : (a next : ℤ) (w n v c e : ℕ) → IsNat a → c ≤ e → crosses e a w n next v ≡ true → crosses c a w n next v ≡ true
+crosses-below a next w n v c e (size, is) few h = rw is (lower (c * size * v) (e * size * v) ((pos n *ℤ next) *ℤ pos w) (mul-le-mul_right v (mul-le-mul_right size few)) (rw is at h))
+
+crosses-none : (a next : ℤ) (w n v : ℕ) → IsNat a → IsNat next → crosses 0 a w n next v ≡ true
+crosses-none a next w n v (size, is) (other, next-is) = rw (is, next-is) (ap not (le-ltb (n * other * w) (0 * size * v) (omega arith)))
+
 -- ---- the fare of a bucket in its parts
 abbrev chosen : Bool → Bool → Bool → ℤ → ℤ → ℕ → ℤ × ℕ
 chosen p q r t a w = cond p (cond q (t, 1) (a, w)) (cond r (pos 0, 1) (a, w))
@@ -73,6 +88,12 @@ parts w a t d some true false r f g = IsValue_over a (w * d) (mul-pos (f refl) s
 parts w a t d some false q true f g = IsValue_turn (whole (pos 0)) (pos 0) (pos 0) 1 (1 * d) (omega arith) (ap pos (omega arith)) (IsValue_whole (pos 0))
 parts w a t d some false q false f g = IsValue_over a (w * d) (mul-pos (g refl) some)
 
+chosen-nat : (p q r : Bool) (t : ℕ) (a : ℤ) (w : ℕ) → (p ≡ true → IsNat a) → (r ≡ false → IsNat a) → IsNat (chosen p q r (pos t) a w).0
+chosen-nat true true r t a w f g = (t, refl)
+chosen-nat true false r t a w f g = f refl
+chosen-nat false q true t a w f g = (0, refl)
+chosen-nat false q false t a w f g = g refl
+
 not-nought : (w : ℕ) → (w == 0) ≡ false → 0 < w
 not-nought w e = omega (arith, eqb-false w 0 e)
 
@@ -81,16 +102,26 @@ module _ (net : NetworkValue) (cert : Certificate) (i k : ℕ) (some : 0 < nat_a
   d = nat_abs cert.den
 
   -- the fare of a bucket, as the list of the leg's products has it
+  fare-same : (b : ℕ) → chosen (nat_lt b (bucket_count net i)) (weight_of net cert i k b b == 0) ((weight_of net cert i k b b == 0) || int_lt (weighted_fares net cert i k b b) (pos 0)) (pos (slice_index (leg_of net i).cuts (b - 1) * d)) (weighted_fares net cert i k b b) (weight_of net cert i k b b)
+      ≡ nest_fare (nest_on net cert i k) (leg_of net i).cuts d b
+  fare-same b s = chosen (nat_lt b (bucket_count net i)) (sym (weight-is net cert i k b b) s == 0) ((sym (weight-is net cert i k b b) s == 0) || int_lt (sym (fares-is net cert i k b b) s) (pos 0)) (pos (slice_index (leg_of net i).cuts (b - 1) * d)) (sym (fares-is net cert i k b b) s) (sym (weight-is net cert i k b b) s)
+
   fare-parts : (b : ℕ) → IsValue (bucket_fare net cert i k b) (nest_fare (nest_on net cert i k) (leg_of net i).cuts d b).0 ((nest_fare (nest_on net cert i k) (leg_of net i).cuts d b).1 * d)
   fare-parts b =
       let t : ℕ = slice_index (leg_of net i).cuts (b - 1) in
       let w : ℕ = weight_of net cert i k b b in
       let a : ℤ = weighted_fares net cert i k b b in
-      let p : Bool = nat_lt b (bucket_count net i) in
-      let same : chosen p (w == 0) ((w == 0) || int_lt a (pos 0)) (pos (t * d)) a w ≡ nest_fare (nest_on net cert i k) (leg_of net i).cuts d b
-      = λ s. chosen p (sym (weight-is net cert i k b b) s == 0) ((sym (weight-is net cert i k b b) s == 0) || int_lt (sym (fares-is net cert i k b b) s) (pos 0)) (pos (t * d)) (sym (fares-is net cert i k b b) s) (sym (weight-is net cert i k b b) s) in
-      subst (λ (r : ℤ × ℕ). IsValue (bucket_fare net cert i k b) r.0 (r.1 * d)) same
-      (parts w a t d some p (w == 0) ((w == 0) || int_lt a (pos 0)) (not-nought w) (λ h. not-nought w (or_parts (w == 0) (int_lt a (pos 0)) h).0))
+      subst (λ (r : ℤ × ℕ). IsValue (bucket_fare net cert i k b) r.0 (r.1 * d)) (fare-same b)
+      (parts w a t d some (nat_lt b (bucket_count net i)) (w == 0) ((w == 0) || int_lt a (pos 0)) (not-nought w) (λ h. not-nought w (or_parts (w == 0) (int_lt a (pos 0)) h).0))
+
+  -- it isn't negative
+  fare-nat : (b : ℕ) → IsNat (nest_fare (nest_on net cert i k) (leg_of net i).cuts d b).0
+  fare-nat b =
+      let w : ℕ = weight_of net cert i k b b in
+      let a : ℤ = weighted_fares net cert i k b b in
+      subst (λ (r : ℤ × ℕ). IsNat r.0) (fare-same b)
+      (chosen-nat (nat_lt b (bucket_count net i)) (w == 0) ((w == 0) || int_lt a (pos 0)) (slice_index (leg_of net i).cuts (b - 1) * d) a w
+      (λ h. weighted-nat net cert i k b b (ltb-true b (bucket_count net i) h)) (λ h. nat-or-not a (or_parts (w == 0) (int_lt a (pos 0)) h).1))
 
   over-is : (y : ℕ) (demand : ℕ → ℕ) (hs : List ℕ) → count_by (nat_lt y) (map demand hs) ≡ count_by (λ h. nat_lt y (demand h)) hs
   over-is y demand [] = refl
@@ -128,11 +159,31 @@ module _ (net : NetworkValue) (cert : Certificate) (i k : ℕ) (some : 0 < nat_a
         (nest_fare (nest_on net cert i k) (leg_of net i).cuts d (b + 1)).0 (weight_of net cert i k 1 b) (nest_fare (nest_on net cert i k) (leg_of net i).cuts d (b + 1)).1 d some
         (IsValue_over (weighted_fares net cert i k 1 b) (weight_of net cert i k 1 b * d) (mul-pos some-weight some)) (fare-parts (b + 1)))
 
-    -- what the search in whole numbers finds is enough
-    pub enough-is : least_from (λ y. crosses (count_by (nat_lt y) demands) a w (length demands) next v) (leg_of net i).seats 0 ≡ seats_enough net cert i k b
-    enough-is =
-        least-same (λ y. crosses (count_by (nat_lt y) demands) a w (length demands) next v) (suffices net cert i k b) (leg_of net i).seats 0 pointwise
-        ∙ sym (ap (λ (t : Bool). cond t 0 (least_from (suffices net cert i k b) (leg_of net i).seats 0)) (ne_eqb (weight_of net cert i k 1 b) 0 (λ none. omega (arith, none, some-weight))))
+    module _ (lower-bucket : b < bucket_count net i) (falling : List ℕ) (moved : IsPermutation demands falling) (falls : Falls falling) where
+      abbrev test : ℕ → Bool
+      test count = crosses count a w (length demands) next v
+
+      above-nat : IsNat a
+      above-nat = subst IsNat (sym fares) (weighted-nat net cert i k 1 b lower-bucket)
+
+      next-nat : IsNat next
+      next-nat = subst IsNat (sym next-is) (fare-nat (b + 1))
+
+      below : (c e : ℕ) → c ≤ e → test e ≡ true → test c ≡ true
+      below c e = crosses-below a next w (length demands) v c e above-nat
+
+      none : test 0 ≡ true
+      none = crosses-none a next w (length demands) v above-nat next-nat
+
+      -- the demand at the place of the greatest count that passes is enough, or the seats where they are fewer
+      place-is : min (leg_of net i).seats (get_or falling (greatest_count test (length demands)) 0) ≡ seats_enough net cert i k b
+      place-is =
+          sym (enough-least net cert i k b (get_or falling (greatest_count test (length demands)) 0) some-weight
+          (sym (pointwise (get_or falling (greatest_count test (length demands)) 0)) ∙ number-passes test below none demands falling moved falls)
+          (λ y under. sym (pointwise y) ∙ lower-fails test below none demands falling moved falls y under))
+
+      pub enough-is : min (leg_of net i).seats (get_or falling (greatest_count (λ count. crosses count a w net.histories next v) net.histories) 0) ≡ seats_enough net cert i k b
+      enough-is = ap (λ (n : ℕ). min (leg_of net i).seats (get_or falling (greatest_count (λ count. crosses count a w n next v) n) 0)) (sym long) ∙ place-is
 
 pub none-enough : (net : NetworkValue) (cert : Certificate) (i k b : ℕ) → nest_weight (nest_on net cert i k) 1 b ≡ 0 → 0 ≡ seats_enough net cert i k b
 none-enough net cert i k b none =

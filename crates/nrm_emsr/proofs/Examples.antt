@@ -1,11 +1,13 @@
 -- Bucket fares and protections that a reader can check by hand.
-use Rattle.std.specs.Prelude.{ℕ, ◌≡◌, ◌==◌, true, false, pos, [], ◌∷◌, codes, refl, map}
+use Rattle.std.specs.Prelude.{ℕ, ◌≡◌, ◌==◌, ◌||◌, true, false, pos, [], ◌∷◌, codes, refl, map}
+use Rattle.std.proofs.Common.{arith}
 use Rattle.nrm_number.specs.Gcd.{gcd, in_lowest_terms}
 use Rattle.nrm_fraction.specs.Fraction.{◌over◌, ◌*ᶠ◌, less, whole}
 use Rattle.nrm_model.specs.Network.{NetworkValue}
 use Rattle.nrm_lp.specs.declared.certificate.Certificate.{Certificate}
 use Rattle.nrm_samples.specs.Networks.{two_legs_five_products}
 use Rattle.nrm_emsr.specs.Fares.{bucket_fare, mean_fare, products_between, weight_of, weighted_fares}
+use Rattle.nrm_emsr.specs.Inner.Ranked.{Falls, greatest_count}
 use Rattle.nrm_emsr.specs.Protections.{at_most, histories_over, least_from, protections_of, seats_enough}
 
 abbrev pub prices_at : ℕ → ℕ → Certificate
@@ -53,6 +55,20 @@ first_passes = refl
 
 none_passes : least_from (λ y. false) 5 1 ≡ 6
 none_passes = refl
+
+-- the greatest count that passes, whatever lower ones do, up to all, and 0 where none does
+greatest_passes : map (λ last. greatest_count (λ count. (count == 2) || (count == last)) 4) (3 ∷ 4 ∷ 5 ∷ []) ≡ 3 ∷ 4 ∷ 2 ∷ []
+greatest_passes = refl
+
+no_count_passes : greatest_count (λ count. false) 4 ≡ 0
+no_count_passes = refl
+
+-- equal numbers fall, and rising ones don't
+equal_fall : Falls (2 ∷ 2 ∷ [])
+equal_fall i j d low short = let first : i ≡ 0 = omega arith in let second : j ≡ 1 = omega arith in rw (first, second) (omega arith)
+
+rising_fail : Falls (1 ∷ 2 ∷ []) → ⊥
+rising_fail falls = omega (arith, falls 0 1 0 (omega arith) (omega arith))
 
 -- ---- a through product that is worth less than its second leg: the last bucket's mean is below 0
 abbrev pub small_pair : NetworkValue

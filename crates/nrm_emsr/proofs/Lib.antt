@@ -1,6 +1,8 @@
 pub mod Nests
 pub mod Sides
+pub mod Places
 pub mod Least
+pub mod Signs
 pub mod Crossing
 pub mod Whole
 pub mod Examples

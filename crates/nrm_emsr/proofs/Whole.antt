@@ -1,39 +1,19 @@
 -- The whole demand of the buckets suffices: no history is over it, and the next bucket's fare isn't negative.
-use Rattle.std.proofs.Common.{ap, subst, sym, zero-add, if◌then◌else◌, ◌∙◌, refl, ℕ, zero, suc, ◌≡◌, ◌<◌, ◌≤◌, ◌+◌, ◌-◌, ◌*◌, ◌/◌, ◌==◌, ◌||◌, not, Bool, true, false, List, [], ◌∷◌, length, map, filter, sum_by, slice_index, nat_lt, nat_abs, arith, inl, inr, ℤ, pos, negsuc, ◌*ℤ◌, ◌+ℤ◌, neg_ℤ, int_lt}
+use Rattle.std.proofs.Common.{ap, subst, sym, zero-add, ◌∙◌, refl, ℕ, zero, suc, ◌≡◌, ◌≤◌, ◌+◌, ◌-◌, ◌*◌, ◌/◌, ◌==◌, ◌||◌, not, Bool, true, false, List, [], ◌∷◌, sum_by, slice_index, nat_lt, nat_abs, arith, inl, inr, ℤ, pos, negsuc, ◌*ℤ◌, neg_ℤ, int_lt}
 use Rattle.std.proofs.lemmas.Bool.{cases_Bool}
 use Rattle.std.proofs.lemmas.List.Sums.{sum_by-cons, sum_by-le-sum_by}
 use Rattle.std.specs.List.{count_by, range_with_len}
-use Rattle.std.specs.Int.{is_in_range}
 use Rattle.nrm_number.specs.Gcd.{gcd}
 use Rattle.nrm_fraction.specs.Fraction.{Fraction, ◌over◌, whole}
 use Rattle.nrm_fraction.proofs.Values.{IsValue, IsValue_self}
 use Rattle.nrm_model.specs.Network.{NetworkValue, leg_of}
-use Rattle.nrm_model.specs.Inventory.{inventory_of, products_on}
-use Rattle.nrm_model.specs.Demand.{demand_to_come, total_to_come}
+use Rattle.nrm_model.specs.Demand.{demand_to_come}
 use Rattle.nrm_lp.specs.declared.certificate.Certificate.{Certificate}
-use Rattle.nrm_virtual.specs.Adjusted.{adjusted_fare}
-use Rattle.nrm_virtual.specs.Buckets.{bucket_count, bucket_of}
-use Rattle.nrm_emsr.specs.Fares.{bucket_fare, mean_fare, products_between, sum_of, weight_of, weighted_fares}
+use Rattle.nrm_virtual.specs.Buckets.{bucket_count}
+use Rattle.nrm_emsr.specs.Fares.{bucket_fare, mean_fare, products_between, weight_of, weighted_fares}
 use Rattle.nrm_emsr.specs.Protections.{at_most, histories_over, suffices}
 use Rattle.nrm_emsr.proofs.Crossing.{at_most-crosses}
-
--- a number that isn't negative
-abbrev IsNat : ℤ → Type 0
-IsNat z = (n : ℕ) × (z ≡ pos n)
-
-nat-or-not : (z : ℤ) → int_lt z (pos 0) ≡ false → IsNat z
-nat-or-not (pos n) h = (n, refl)
-nat-or-not (negsuc n) h = let no : true ≡ false = h in cc
-
-above-nat : (z : ℤ) (c : ℕ) → int_lt z (pos c) ≡ false → IsNat z
-above-nat (pos n) c h = (n, refl)
-above-nat (negsuc n) c h = let no : true ≡ false = h in cc
-
-times-nat : (z : ℤ) (n : ℕ) → IsNat z → IsNat (z *ℤ pos n)
-times-nat z n (m, e) = (m * n, ap (λ x. x *ℤ pos n) e)
-
-plus-nat : (x y : ℤ) → IsNat x → IsNat y → IsNat (x +ℤ y)
-plus-nat x y (m, e) (n, f) = (m + n, ap (λ z. z +ℤ y) e ∙ ap (λ z. pos m +ℤ z) f)
+use Rattle.nrm_emsr.proofs.Signs.{IsNat, counted, nat-or-not, weighted-nat}
 
 zero-times : (a : ℤ) → pos 0 *ℤ a ≡ pos 0
 zero-times (pos n) = ap pos (omega arith)
@@ -59,27 +39,6 @@ none-over x y n c is =
     ∙ ap (λ z. not (int_lt ((pos n *ℤ z) *ℤ pos x.den) ((pos 0 *ℤ x.num) *ℤ pos y.den))) is
     ∙ ap (λ z. not (int_lt (pos (n * c * x.den)) z)) right ∙ ap not least
 
--- a sum over those that pass a test
-chosen-nat : (p : ℕ → Bool) (f : ℕ → ℤ) (xs : List ℕ) → ((x : ℕ) → p x ≡ true → IsNat (f x)) → IsNat (sum_of (map f (filter p xs)))
-chosen-nat p f [] h = (0, refl)
-chosen-nat p f (x ∷ xs) h =
-    elim (cases_Bool (p x)) [
-      | inl e ↦ rw e (plus-nat (f x) (sum_of (map f (filter p xs))) (h x e) (chosen-nat p f xs h))
-      | inr e ↦ rw e (chosen-nat p f xs h)
-    ]
-
-counted : (t : ℕ → Bool) (x : ℕ) (xs : List ℕ) (b : Bool) → t x ≡ b → count_by t (x ∷ xs) ≡ (if b then 1 else 0) + count_by t xs
-counted t x xs b e = sum_by-cons (λ y. if t y then 1 else 0) x xs ∙ ap (λ c. (if c then 1 else 0) + count_by t xs) e
-
--- fewer are counted than there are, so one isn't
-one-not : (t : ℕ → Bool) (xs : List ℕ) → count_by t xs < length xs → (x : ℕ) × (t x ≡ false)
-one-not t [] h = absurd (omega (arith, h))
-one-not t (x ∷ xs) h =
-    elim (cases_Bool (t x)) [
-      | inl e ↦ one-not t xs (omega (arith, h, counted t x xs true e))
-      | inr e ↦ (x, e)
-    ]
-
 -- no history has more than all histories together
 none-counted : (g : ℕ → ℕ → ℕ) (js hs : List ℕ) (w : ℕ) → sum_by (λ j. sum_by (g j) hs) js ≤ w → count_by (λ h. nat_lt w (sum_by (λ j. g j h) js)) hs ≡ 0
 none-counted g js [] w few = refl
@@ -93,22 +52,7 @@ either : (p q : Bool) → (p || q) ≡ false → q ≡ false
 either true q h = let no : true ≡ false = h in cc
 either false q h = h
 
-in-one : (b n : ℕ) → is_in_range b b n ≡ true → n ≡ b
-in-one b n h = grind (arith, h)
-
 module _ (net : NetworkValue) (cert : Certificate) (i k : ℕ) where
-  -- a product that isn't in the last bucket has a fare that isn't below some threshold
-  fare-nat : (b j : ℕ) → b < bucket_count net i → is_in_range b b (bucket_of net cert i j) ≡ true → IsNat (adjusted_fare net cert i j)
-  fare-nat b j lower here =
-      let same : bucket_of net cert i j ≡ b = in-one b (bucket_of net cert i j) here in
-      let (cut, e) = one-not (λ cut. int_lt (adjusted_fare net cert i j) (pos (cut * nat_abs cert.den))) (leg_of net i).cuts (omega (arith, same, lower)) in
-      above-nat (adjusted_fare net cert i j) (cut * nat_abs cert.den) e
-
-  weighted-nat : (b : ℕ) → b < bucket_count net i → IsNat (weighted_fares net cert i k b b)
-  weighted-nat b lower =
-      chosen-nat (λ j. is_in_range b b (bucket_of net cert i j)) (λ j. adjusted_fare net cert i j *ℤ pos (total_to_come net j k)) (products_on (inventory_of net) i)
-      (λ j here. times-nat (adjusted_fare net cert i j) (total_to_come net j k) (fare-nat b j lower here))
-
   mean-nat : (b : ℕ) → IsNat (weighted_fares net cert i k b b) → IsNat (mean_fare net cert i k b b).num
   mean-nat b (a, is) = let made = over-nat a (weight_of net cert i k b b * nat_abs cert.den) in subst (λ z. IsNat (z over (weight_of net cert i k b b * nat_abs cert.den)).num) (sym is) made
 
@@ -117,7 +61,7 @@ module _ (net : NetworkValue) (cert : Certificate) (i k : ℕ) where
       elim (cases_Bool (nat_lt b (bucket_count net i))) [
         | inl e ↦ elim (cases_Bool (weight_of net cert i k b b == 0)) [
           | inl f ↦ rw (e, f) (whole-nat (slice_index (leg_of net i).cuts (b - 1)))
-          | inr f ↦ rw (e, f) (mean-nat b (weighted-nat b (grind (arith, e))))
+          | inr f ↦ rw (e, f) (mean-nat b (weighted-nat net cert i k b b (grind (arith, e))))
         ]
         | inr e ↦ elim (cases_Bool ((weight_of net cert i k b b == 0) || int_lt (weighted_fares net cert i k b b) (pos 0))) [
           | inl f ↦ rw (e, f) (whole-nat 0)

@@ -1,2 +1,3 @@
 -- What private functions serve.
 pub mod Nest
+pub mod Ranked

@@ -1,9 +1,9 @@
-//! The comparison of two mean fares, in whole numbers that fit in 128 bits, and the least number of seats that passes.
-ghost use Rattle.std.specs.Prelude.{◌≡◌, ◌+◌, ◌*◌, ◌^◌, ◌<◌, ◌≤◌, ◌*ℤ◌, All, int_lt, length, nat_lt, not, pos, unsigned_abs};
-ghost use Rattle.std.specs.List.{count_by};
+//! The comparison of two mean fares, in whole numbers that fit in 128 bits, and the greatest count of histories that
+//! passes.
+ghost use Rattle.std.specs.Prelude.{◌≡◌, ◌+◌, ◌*◌, ◌^◌, ◌<◌, ◌≤◌, ◌*ℤ◌, All, int_lt, length, not, pos, unsigned_abs};
 ghost use Rattle.nrm_fraction.specs.Large.{size_limit};
-ghost use Rattle.nrm_emsr.specs.Protections.{least_from};
 ghost use Rattle.nrm_emsr.specs.Inner.Nest.{IsSmall, crosses, nest_fare};
+ghost use Rattle.nrm_emsr.specs.Inner.Ranked.{greatest_count};
 
 use crate::nest::{Mean, Nested, mean_of, scaled};
 
@@ -35,22 +35,21 @@ pub(crate) fn fare_of(nest: &[Nested], cuts: &[u32], den: u64, bucket: u8) -> Me
     }
 }
 
-/// The least number of seats that passes, and `seats` where no lower number does. A number passes where the share of
-/// the histories with a greater demand, times the fare above, is at most the next fare.
-pub(crate) fn least_that_passes(demands: &[u32], above: Mean, next: Mean, seats: u16) -> u16
-    requires few { length demands.now ≤ 32 }
+/// The greatest count, from 0 to the number of histories, that passes: times the fare above, it is at most that number,
+/// times the next fare. 0 where none does.
+pub(crate) fn most_that_pass(histories: u8, above: Mean, next: Mean) -> u8
+    requires histories { histories ≤ 32 }
     requires weight { above.seats < 2 ^ 23 }
     requires fares { unsigned_abs above.fares < 2 ^ 98 }
     requires next_weight { next.seats < 2 ^ 23 }
     requires next_fares { unsigned_abs next.fares < 2 ^ 98 }
-    ensures { result ≡ least_from (λ y. crosses (count_by (nat_lt y) demands.now) above.fares above.seats (length demands.now) next.fares next.seats) seats 0 }
+    ensures { result ≡ greatest_count (λ count. crosses count above.fares above.seats histories next.fares next.seats) histories }
 {
-    for y in 0..seats {
-        if passes(over(demands, y), above, demands.len() as u8, next) {
-            return y;
-        }
+    let mut count = histories;
+    while count > 0 && !passes(count, above, histories, next) {
+        count -= 1;
     }
-    seats
+    count
 }
 
 // Whether a count of histories, times a fare, is at most the histories, times the next fare.
@@ -85,19 +84,4 @@ fn side(count: u8, fares: i128, seats: u32) -> i128
     ensures within { unsigned_abs result < 2 ^ 126 }
 {
     scaled(scaled(fares, u32::from(count)), seats)
-}
-
-// How many demands are greater than a number of seats.
-fn over(demands: &[u32], seats: u16) -> u8
-    requires { length demands.now ≤ 32 }
-    ensures count { result ≡ count_by (nat_lt seats) demands.now }
-    ensures within { result ≤ 32 }
-{
-    let mut count = 0;
-    for demand in demands {
-        if u32::from(seats) < *demand {
-            count += 1;
-        }
-    }
-    count
 }

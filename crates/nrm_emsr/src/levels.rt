@@ -1,5 +1,5 @@
 //! Protection levels.
-ghost use Rattle.std.specs.Prelude.{◌≡◌, ◌+◌, ◌-◌, ◌<◌, ◌≤◌, ◌==◌, All, IfOk, length, map, max, sum_by, if◌then◌else◌};
+ghost use Rattle.std.specs.Prelude.{◌≡◌, ◌+◌, ◌-◌, ◌<◌, ◌≤◌, ◌==◌, All, IfOk, length, map, max, min, sum_by, if◌then◌else◌};
 ghost use Rattle.std.specs.Int.{IsInRange};
 ghost use Rattle.std.specs.List.{range_with_len};
 ghost use Rattle.nrm_fraction.specs.Large.{size_limit};
@@ -12,8 +12,9 @@ ghost use Rattle.nrm_virtual.specs.Table.{IsTableOf};
 ghost use Rattle.nrm_emsr.specs.Protections.{protections_of, seats_enough};
 ghost use Rattle.nrm_emsr.specs.Inner.Nest.{IsOf, IsSmall, in_buckets, nested_of};
 
-use crate::compared::{fare_of, least_that_passes};
+use crate::compared::{fare_of, most_that_pass};
 use crate::nest::{Nested, demand_of, mean_of, nest_of};
+use crate::ranked::{demand_at, falling};
 use nrm_lp::Certificate;
 use nrm_model::Network;
 use nrm_virtual::BucketTable;
@@ -56,7 +57,8 @@ fn greater(seats: u16, other: u16) -> u16
     seats.max(other)
 }
 
-// The least number of seats that suffices for buckets 1 to `last`, and the leg's seats where no lower number does.
+// The least number of seats that suffices for buckets 1 to `last`, and the leg's seats where no lower number does: of
+// the histories' demands of those buckets, in falling order, the one at the place of the greatest count that passes.
 fn enough_for(
     alloc: Global,
     net: &Network,
@@ -86,8 +88,16 @@ fn enough_for(
         cert.den.unsigned_abs(),
         last + 1,
     );
-    let demands = demands_of(alloc, net, nest, last, period)?;
-    Ok(least_that_passes(&demands, above, next, cap_of(net, leg)))
+    let demands = falling(demands_of(alloc, net, nest, last, period)?);
+    let most = most_that_pass(net.n(), above, next);
+    Ok(capped(demand_at(&demands, most), cap_of(net, leg)))
+}
+
+// A demand, or the seats where they are fewer.
+fn capped(demand: u32, seats: u16) -> u16
+    ensures { result ≡ min seats demand }
+{
+    demand.min(u32::from(seats)) as u16
 }
 
 // The seats of a leg, which no protection exceeds.
@@ -109,8 +119,7 @@ fn demands_of(
     requires known { All (IsOf (length net.now.products)) nest.now }
     requires few { length nest.now ≤ 256 }
     requires period { IsInRange 1 net.now.periods period }
-    ensures demands { IfOk result (λ demands. demands.items ≡ map (λ h. sum_by (λ nested. demand_to_come net.now nested.product h period) (in_buckets nest.now 1 last)) (range_with_len 0 net.now.histories)) }
-    ensures few { IfOk result (λ demands. length demands.items ≤ 32) }
+    ensures { IfOk result (λ demands. demands.items ≡ map (λ h. sum_by (λ nested. demand_to_come net.now nested.product h period) (in_buckets nest.now 1 last)) (range_with_len 0 net.now.histories)) }
 {
     let mut demands = Vec::new(alloc);
     for history in 0..net.n() {

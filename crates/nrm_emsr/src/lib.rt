@@ -6,6 +6,7 @@ mod compared;
 mod laws;
 mod levels;
 mod nest;
+mod ranked;
 #[cfg(test)]
 mod tests;
 
