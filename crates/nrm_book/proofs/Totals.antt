@@ -1,10 +1,11 @@
 -- The running sums over the list: one more booking, their bounds, and their ends.
-use Rattle.std.proofs.Common.{ℕ, ◌≡◌, ◌+◌, ◌*◌, ◌<◌, ◌≤◌, All, Bool, true, cond, eqb, List, length, get_or, take, sum_by, inl, inr, sym, ap, subst, arith}
+use Rattle.std.proofs.Common.{ℕ, ◌≡◌, ◌∙◌, ◌+◌, ◌-◌, ◌*◌, ◌<◌, ◌≤◌, All, Bool, true, cond, eqb, List, [], ◌∷◌, ◌++◌, length, get_or, take, sum_by, inl, inr, sym, ap, subst, arith}
+use Rattle.std.specs.List.{remove, slice_index}
 use Rattle.std.specs.Int.{IsInRange}
 use Rattle.std.proofs.Math.Nat.{mul-le-mul_left}
 use Rattle.std.proofs.lemmas.Bool.{cases_Bool, eqb-true}
 use Rattle.std.proofs.lemmas.List.{get_or_read, take_all}
-use Rattle.std.proofs.lemmas.List.Sums.{sum_by_more, sum_by_more_le, sum_by-le, sum_by-le-sum_by}
+use Rattle.std.proofs.lemmas.List.Sums.{sum_by_more, sum_by_more_le, sum_by-le, sum_by-le-sum_by, sum_by_push, sum_by-remove}
 use Rattle.nrm_model.specs.Inventory.{Inventory, seats_of, fare_of, uses_leg}
 use Rattle.nrm_book.specs.declared.booking.Booking.{Booking}
 use Rattle.nrm_book.specs.Bookings.{sold_of, worth_of, revenue_of}
@@ -82,3 +83,21 @@ revenue-within book is =
     let count = count-le-seats book is in
     let seats = sum_by-le (λ (seats : ℕ). seats) 999 book.inventory.seats is.inventory.seats in
     omega (arith, is.inventory.leg_count)
+
+-- what they are worth with one booking more, and with one less
+pub revenue-more : (book : BookValue) (items : List Booking) (b : Booking) (fares : List ℕ) (revenue worth : ℕ) → IsBook book → revenue ≡ revenue_of book.inventory book.bookings → items ≡ book.bookings ++ b ∷ []
+    → fares ≡ book.inventory.fares → worth ≡ b.party * slice_index fares b.product → revenue + worth ≡ revenue_of book.inventory items
+revenue-more book items b fares revenue worth _ kept more priced is =
+    let own : worth ≡ worth_of book.inventory b = is ∙ ap (λ (fares : List ℕ). b.party * slice_index fares b.product) priced in
+    let all = ap (revenue_of book.inventory) more in
+    let pushed = sum_by_push (worth_of book.inventory) book.bookings b in
+    omega arith
+
+pub revenue-less : (book : BookValue) (items : List Booking) (k : ℕ) (b : Booking) (fares : List ℕ) (revenue worth : ℕ) → IsBook book → revenue ≡ revenue_of book.inventory book.bookings → items ≡ remove book.bookings k
+    → k < length book.bookings → b ≡ get_or book.bookings k b → fares ≡ book.inventory.fares → worth ≡ b.party * slice_index fares b.product → (worth ≤ revenue) × (revenue - worth ≡ revenue_of book.inventory items)
+revenue-less book items k b fares revenue worth _ kept less short read priced is =
+    let own : worth ≡ worth_of book.inventory b = is ∙ ap (λ (fares : List ℕ). b.party * slice_index fares b.product) priced in
+    let there : worth_of book.inventory b ≡ worth_of book.inventory (get_or book.bookings k b) = ap (worth_of book.inventory) read in
+    let all = ap (revenue_of book.inventory) less in
+    let removed = sum_by-remove (worth_of book.inventory) book.bookings k b short in
+    (omega arith, omega arith)

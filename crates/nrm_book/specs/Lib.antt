@@ -1,3 +1,3 @@
 pub mod Book
 pub mod Bookings
-pub mod Room
+pub mod Stored

@@ -1,7 +1,7 @@
 //! The book: a plain list of bookings by rising number, with the seats, the fares and the leg lists of its network.
 //! Its room is reserved when it is made, for as many bookings as there are seats in all: each live booking holds at
-//! least one seat, so that no later call takes memory. Every answer is summed from the list.
-ghost use Rattle.std.specs.Prelude.{◌≡◌, ◌+◌, ◌<◌, ◌≤◌, ◌==◌, [], All, IfNone, IfOk, IfSome, length, map, position, sum, true};
+//! least one seat, so that no later call takes memory. The revenue is kept beside the list, the seats are summed from it.
+ghost use Rattle.std.specs.Prelude.{◌≡◌, ◌+◌, ◌*◌, ◌<◌, ◌≤◌, ◌==◌, [], All, IfNone, IfOk, IfSome, length, map, position, slice_index, sum, true};
 ghost use Rattle.std.specs.Int.{IsInRange};
 ghost use Rattle.nrm_model.specs.Inventory.{inventory_of, legs_of, seats_of, uses_leg};
 ghost use Rattle.nrm_book.specs.Bookings.{booking_numbered, left_on, revenue_of, sold_of, sold_on, without};
@@ -19,18 +19,19 @@ pub struct Book {
     legs: Vec<Vec<u8>>,
     bookings: Vec<Booking>,
     next: u64,
+    revenue: u64,
 }
 
 impl Model for Book {
     ghost use Rattle.std.specs.Prelude.{map};
     ghost use Rattle.nrm_book.specs.Book.{BookValue};
-    ghost use Rattle.nrm_book.specs.Room.{HasRoom};
+    ghost use Rattle.nrm_book.specs.Stored.{IsStored};
 
     ghost Value = { BookValue };
 
     ghost view = { λ b. record { inventory = record { seats = b.seats.items; fares = b.fares.items; legs = map (λ v. v.items) b.legs.items }; bookings = b.bookings.items; next = b.next } };
 
-    ghost invariant = { λ b. HasRoom (record { inventory = record { seats = b.seats.items; fares = b.fares.items; legs = map (λ v. v.items) b.legs.items }; bookings = b.bookings.items; next = b.next }) b.bookings };
+    ghost invariant = { λ b. IsStored (record { inventory = record { seats = b.seats.items; fares = b.fares.items; legs = map (λ v. v.items) b.legs.items }; bookings = b.bookings.items; next = b.next }) b.bookings b.revenue };
 }
 
 impl Book {
@@ -56,6 +57,7 @@ impl Book {
             legs,
             bookings,
             next: 1,
+            revenue: 0,
         })
     }
 
@@ -110,11 +112,7 @@ impl Book {
     pub fn revenue(&self) -> u64
         ensures { result ≡ revenue_of self.now.inventory self.now.bookings }
     {
-        let mut revenue = 0;
-        for booking in &self.bookings {
-            revenue += u64::from(booking.party) * u64::from(self.fares[booking.product as usize]);
-        }
-        revenue
+        self.revenue
     }
 
     /// The number of the next booking. Numbers begin at 1 and are never used again.
@@ -143,6 +141,7 @@ impl Book {
         };
         self.bookings.push_reserved(booking);
         self.next = number + 1;
+        self.revenue += worth(&self.fares, &booking);
         number
     }
 
@@ -156,7 +155,9 @@ impl Book {
         ensures kept { IsBook self.new }
     {
         let place = self.place_of(number)?;
-        Some(self.bookings.remove(place))
+        let booking = self.bookings.remove(place);
+        self.revenue -= worth(&self.fares, &booking);
+        Some(booking)
     }
 
     // Whether a product uses a leg.
@@ -208,6 +209,14 @@ fn legs_of_products(alloc: Global, net: &Network) -> Result<Vec<Vec<u8>>, AllocE
         legs.push(Vec::from_slice(alloc, net.product_at(j).legs.as_slice())?)?;
     }
     Ok(legs)
+}
+
+// What a booking is worth.
+fn worth(fares: &[u32], booking: &Booking) -> u64
+    requires { booking.now.product < length fares.now }
+    ensures { result ≡ booking.now.party * slice_index fares.now booking.now.product }
+{
+    u64::from(booking.party) * u64::from(fares[booking.product as usize])
 }
 
 // The seats of all legs together.

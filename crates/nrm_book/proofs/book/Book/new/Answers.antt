@@ -1,4 +1,4 @@
-use Rattle.std.proofs.Common.{◌∙◌, length, sum, ap, arith}
+use Rattle.std.proofs.Common.{◌∙◌, length, sum, refl, ap, arith}
 use Rattle.std.proofs.lemmas.List.{length-map}
 use Rattle.nrm_model.specs.declared.leg.Leg.{Leg}
 use Rattle.nrm_book.proofs.Copied.{IsBook-of}
@@ -17,6 +17,7 @@ invariant_of-result c = record {
       let seats = c.seats_in_all.ensures ∙ ap sum c.deref.ensures.value in
       let exact = c.in_ok-bookings.ensures.exact in
       omega arith;
+  worth = rw c.in_ok-bookings.ensures.items refl;
 }
 
 pub returns-clause-kept : goal.returns-clause-kept

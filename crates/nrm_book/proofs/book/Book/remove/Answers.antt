@@ -4,6 +4,7 @@ use Rattle.std.proofs.lemmas.List.Quantifiers.{position-Some}
 use Rattle.nrm_book.specs.declared.booking.Booking.{Booking}
 use Rattle.nrm_book.specs.Book.{BookValue, IsBook}
 use Rattle.nrm_book.proofs.Kept.{IsBook-removed, absent-is, found-is, removed-is}
+use Rattle.nrm_book.proofs.Totals.{revenue-less}
 use Rattle.nrm_book.proofs.book.Book.remove.Goals as goal
 
 pub returns-in_err-place-clause-booking : goal.returns-in_err-place-clause-booking
@@ -16,30 +17,34 @@ returns-in_err-place-clause-removed c =
 pub returns-clause-booking : goal.returns-clause-booking
 returns-clause-booking c =
     let items = ap (λ (book : BookValue). book.bookings) c.self.view_is in
-    let read = subst (λ (bookings : List Booking). c.remove.result ≡ get_or bookings c.in_ok-place.place c.remove.result) items c.remove.ensures.value in
-    found-is c.args.self.now.bookings c.in_ok-place.place c.args.number c.remove.result (sym c.in_ok-place.ensures) read
+    let read = subst (λ (bookings : List Booking). c.remove-booking.result ≡ get_or bookings c.in_ok-place.place c.remove-booking.result) items c.remove-booking.ensures.value in
+    found-is c.args.self.now.bookings c.in_ok-place.place c.args.number c.remove-booking.result (sym c.in_ok-place.ensures) read
 
 pub returns-clause-removed : goal.returns-clause-removed
 returns-clause-removed c =
     let is = subst IsBook c.self.view_is c.self.invariant.kept in
     let items = ap (λ (book : BookValue). book.bookings) c.self.view_is in
-    let left = c.remove.ensures.items ∙ ap (λ (bookings : List Booking). remove bookings c.in_ok-place.place) items
+    let left = c.remove-booking.ensures.items ∙ ap (λ (bookings : List Booking). remove bookings c.in_ok-place.place) items
     ∙ removed-is c.args.self.now.bookings c.in_ok-place.place c.args.number is.rising (sym c.in_ok-place.ensures) in
     λ k. record { inventory = (c.self.view_is k).inventory; bookings = left k; next = (c.self.view_is k).next }
 
 pub invariant_of-self : goal.invariant_of-self
 invariant_of-self c = record {
-  kept = IsBook-removed _ c.args.self.now c.args.number c.in_ok-place.place _ c.self.view_is c.self.invariant.kept (sym c.in_ok-place.ensures) c.remove.ensures.items;
-  room = omega (arith, c.self.invariant.room, c.remove.ensures.capacity);
+  kept = IsBook-removed _ c.args.self.now c.args.number c.in_ok-place.place _ c.self.view_is c.self.invariant.kept (sym c.in_ok-place.ensures) c.remove-booking.ensures.items;
+  room = omega (arith, c.self.invariant.room, c.remove-booking.ensures.capacity);
+  worth =
+      let items = ap (λ (book : BookValue). book.bookings) c.self.view_is in
+      let short = (position-Some (λ (booking : Booking). booking.number == c.args.number) c.args.self.now.bookings c.in_ok-place.place c.remove-booking.result (sym c.in_ok-place.ensures)).0 in
+      (revenue-less _ _ c.in_ok-place.place c.remove-booking.result _ _ _ c.self.invariant.kept c.self.invariant.worth c.remove-booking.ensures.items (omega (arith, ap length items)) c.remove-booking.ensures.value c.deref.ensures.value c.worth.ensures).1;
 }
 
 pub returns-clause-within : goal.returns-clause-within
 returns-clause-within c =
     let is = subst IsBook c.self.view_is c.self.invariant.kept in
     let items = ap (λ (book : BookValue). book.bookings) c.self.view_is in
-    let read = subst (λ (bookings : List Booking). c.remove.result ≡ get_or bookings c.in_ok-place.place c.remove.result) items c.remove.ensures.value in
-    let short = (position-Some (λ (booking : Booking). booking.number == c.args.number) c.args.self.now.bookings c.in_ok-place.place c.remove.result (sym c.in_ok-place.ensures)).0 in
-    subst (λ (booking : Booking). booking.product < length c.args.self.now.inventory.legs) (sym read) (is.products c.in_ok-place.place c.remove.result short)
+    let read = subst (λ (bookings : List Booking). c.remove-booking.result ≡ get_or bookings c.in_ok-place.place c.remove-booking.result) items c.remove-booking.ensures.value in
+    let short = (position-Some (λ (booking : Booking). booking.number == c.args.number) c.args.self.now.bookings c.in_ok-place.place c.remove-booking.result (sym c.in_ok-place.ensures)).0 in
+    subst (λ (booking : Booking). booking.product < length c.args.self.now.inventory.legs) (sym read) (is.products c.in_ok-place.place c.remove-booking.result short)
 
 pub returns-clause-kept : goal.returns-clause-kept
 returns-clause-kept c = (invariant_of-self c).kept
