@@ -1,5 +1,5 @@
 -- What is copied out of a network, place by place, and the empty book of it.
-use Rattle.std.proofs.Common.{ℕ, ◌≡◌, ◌∙◌, ◌+◌, ◌<◌, ◌≤◌, All, List, [], ◌∷◌, ◌++◌, length, get_or, map, take, slice_get, Some, sym, ap, subst, arith}
+use Rattle.std.proofs.Common.{ℕ, ◌≡◌, ◌≢◌, ◌∙◌, ◌+◌, ◌<◌, ◌≤◌, All, AllPairs, List, [], ◌∷◌, ◌++◌, length, get_or, map, take, slice_get, Some, sym, ap, subst, arith}
 use Rattle.std.proofs.lemmas.List.{length-map, map-append, take_more}
 use Rattle.std.proofs.lemmas.List.Elements.{All-map}
 use Rattle.std.proofs.lemmas.Option.{get_or_from_slice_get}
@@ -10,6 +10,7 @@ use Rattle.nrm_model.specs.Limits.{IsNetwork}
 use Rattle.nrm_model.specs.Inventory.{Inventory, inventory_of}
 use Rattle.nrm_book.specs.declared.booking.Booking.{Booking}
 use Rattle.nrm_book.specs.Book.{BookValue, IsBook, IsInventory}
+use Rattle.nrm_book.specs.Seats.{SeatsValue, seats_sold}
 use Rattle.nrm_book.proofs.Sold.{sold_on-by_booking}
 
 -- one more element
@@ -57,3 +58,15 @@ IsBook-of net seats fares legs bookings is seats_are fares_are legs_are none =
     let same : ◌≡◌ {A = BookValue} (record { inventory = inventory_of net; bookings = []; next = 1 }) (record { inventory = record { seats = seats; fares = fares; legs = legs }; bookings = bookings; next = 1 }) =
     λ k. record { inventory = record { seats = sym seats_are k; fares = sym fares_are k; legs = sym legs_are k }; bookings = sym none k; next = 1 } in
     subst IsBook same (IsBook-empty (inventory_of net) (IsInventory-of net is))
+
+-- no product of a network has a leg twice
+pub distinct-of : (net : NetworkValue) (legs : List (List ℕ)) → IsNetwork net → legs ≡ (inventory_of net).legs → All (λ (legs : List ℕ). AllPairs (λ a b. a ≢ b) legs) legs
+distinct-of net legs is are =
+    let P : List (List ℕ) → Type 0 = λ legs. All (λ (legs : List ℕ). AllPairs (λ a b. a ≢ b) legs) legs in
+    subst P (sym are) (All-map (λ (legs : List ℕ). AllPairs (λ a b. a ≢ b) legs) (λ (product : Product). product.legs) net.products (λ k d short. (is.products k d short).distinct))
+
+-- the counts of an empty book
+pub counts-of : (net : NetworkValue) (seats fares : List ℕ) (legs : List (List ℕ)) (bookings : List Booking) (sold : SeatsValue) → seats ≡ (inventory_of net).seats → fares ≡ (inventory_of net).fares → legs ≡ (inventory_of net).legs → bookings ≡ []
+    → sold ≡ seats_sold (inventory_of net) [] → sold ≡ seats_sold (record { seats = seats; fares = fares; legs = legs }) bookings
+counts-of net seats fares legs bookings sold seats_are fares_are legs_are none is =
+    is ∙ (λ k. seats_sold (record { seats = sym seats_are k; fares = sym fares_are k; legs = sym legs_are k }) (sym none k))

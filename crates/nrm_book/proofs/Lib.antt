@@ -4,3 +4,5 @@ pub mod Kept
 pub mod Copied
 pub mod Totals
 pub mod Searched
+pub mod Counted
+pub mod Moved

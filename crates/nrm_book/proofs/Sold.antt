@@ -48,11 +48,10 @@ sold_on-push inventory i bookings b are is =
     omega arith
 
 -- a product uses each of its legs
-pub uses-at : (inventory : Inventory) (product k : ℕ) → k < length (legs_of inventory product) → uses_leg inventory (get_or (legs_of inventory product) k 0) product ≡ true
-uses-at inventory product k short =
-    let leg = get_or (legs_of inventory product) k 0 in
-    let same : eqb (get_or (legs_of inventory product) k 0) (get_or (legs_of inventory product) k 0) ≡ true = grind (arith, nat_tests) in
-    list_any_at (λ leg. eqb leg (get_or (legs_of inventory product) k 0)) (legs_of inventory product) k 0 short same
+pub uses-each : (inventory : Inventory) (product : ℕ) → All (λ i. uses_leg inventory i product ≡ true) (legs_of inventory product)
+uses-each inventory product k d short =
+    let same : eqb (get_or (legs_of inventory product) k d) (get_or (legs_of inventory product) k d) ≡ true = grind (arith, nat_tests) in
+    list_any_at (λ leg. eqb leg (get_or (legs_of inventory product) k d)) (legs_of inventory product) k d short same
 
 -- a booking takes a seat of a leg that its product uses
 takes-one : (inventory : Inventory) (b : Booking) (i : ℕ) → i < length inventory.seats → uses_leg inventory i b.product ≡ true → 1 ≤ b.party → 1 ≤ sum_by (λ i. taken_on inventory i b) (range_with_len 0 (length inventory.seats))
@@ -71,7 +70,7 @@ takes-some inventory b is short some =
     let has : 1 ≤ length (legs_of inventory b.product) = rw at (is.some_leg b.product [] short) in
     let first = get_or (legs_of inventory b.product) 0 0 in
     let low : get_or (legs_of inventory b.product) 0 0 < length inventory.seats = rw at (is.legs b.product [] short 0 0 (rw at at has)) in
-    takes-one inventory b (get_or (legs_of inventory b.product) 0 0) low (uses-at inventory b.product 0 (omega arith)) some
+    takes-one inventory b (get_or (legs_of inventory b.product) 0 0) low (uses-each inventory b.product 0 0 (omega arith)) some
 
 -- so there are no more bookings than seats sold
 count-within : (inventory : Inventory) (bookings : List Booking) → IsInventory inventory → AreProducts inventory bookings → All (λ (booking : Booking). IsInRange 1 999 booking.party) bookings → length bookings ≤ sum_by (λ i. sum_by (taken_on inventory i) bookings) (range_with_len 0 (length inventory.seats))

@@ -1,3 +1,4 @@
 pub mod Book
 pub mod Bookings
+pub mod Seats
 pub mod Stored

@@ -1,12 +1,13 @@
 //! The book: a plain list of bookings by rising number, with the seats, the fares and the leg lists of its network.
 //! Its room is reserved when it is made, for as many bookings as there are seats in all: each live booking holds at
-//! least one seat, so that no later call takes memory. The revenue is kept beside the list, the seats are summed from it.
+//! least one seat, so that no later call takes memory. Beside the list stand the seats sold and the revenue, as counters.
 ghost use Rattle.std.specs.Prelude.{◌≡◌, ◌+◌, ◌*◌, ◌<◌, ◌≤◌, ◌==◌, [], All, IfNone, IfOk, IfSome, length, map, position, slice_index, sum, true};
 ghost use Rattle.std.specs.Int.{IsInRange};
 ghost use Rattle.nrm_model.specs.Inventory.{inventory_of, legs_of, seats_of, uses_leg};
 ghost use Rattle.nrm_book.specs.Bookings.{booking_numbered, left_on, revenue_of, sold_of, sold_on, without};
 
 use crate::Booking;
+use crate::seats::SeatsSold;
 use nrm_model::Network;
 use std::alloc::{AllocError, Global};
 use std::marker::Model;
@@ -19,6 +20,7 @@ pub struct Book {
     legs: Vec<Vec<u8>>,
     bookings: Vec<Booking>,
     next: u64,
+    sold: SeatsSold,
     revenue: u64,
 }
 
@@ -31,7 +33,7 @@ impl Model for Book {
 
     ghost view = { λ b. record { inventory = record { seats = b.seats.items; fares = b.fares.items; legs = map (λ v. v.items) b.legs.items }; bookings = b.bookings.items; next = b.next } };
 
-    ghost invariant = { λ b. IsStored (record { inventory = record { seats = b.seats.items; fares = b.fares.items; legs = map (λ v. v.items) b.legs.items }; bookings = b.bookings.items; next = b.next }) b.bookings b.revenue };
+    ghost invariant = { λ b. IsStored (record { inventory = record { seats = b.seats.items; fares = b.fares.items; legs = map (λ v. v.items) b.legs.items }; bookings = b.bookings.items; next = b.next }) b.bookings b.sold b.revenue };
 }
 
 impl Book {
@@ -50,6 +52,7 @@ impl Book {
         let seats = seats_of_legs(alloc, net)?;
         let fares = fares_of_products(alloc, net)?;
         let legs = legs_of_products(alloc, net)?;
+        let sold = SeatsSold::new(alloc, net)?;
         let bookings = Vec::with_capacity(alloc, seats_in_all(&seats))?;
         Ok(Book {
             seats,
@@ -57,6 +60,7 @@ impl Book {
             legs,
             bookings,
             next: 1,
+            sold,
             revenue: 0,
         })
     }
@@ -67,13 +71,7 @@ impl Book {
         ensures left { result ≡ left_on self.now.inventory self.now.bookings leg }
         ensures sold { sold_on self.now.inventory self.now.bookings leg + result ≡ seats_of self.now.inventory leg }
     {
-        let mut left = self.seats[leg as usize];
-        for booking in &self.bookings {
-            if self.uses(leg, booking.product) {
-                left -= booking.party;
-            }
-        }
-        left
+        self.seats[leg as usize] - self.sold.on(leg)
     }
 
     /// The seats sold of a product on one of its legs.
@@ -141,6 +139,7 @@ impl Book {
         };
         self.bookings.push_reserved(booking);
         self.next = number + 1;
+        self.sold.sell(&self.legs[product as usize], party);
         self.revenue += worth(&self.fares, &booking);
         number
     }
@@ -156,16 +155,10 @@ impl Book {
     {
         let place = self.place_of(number)?;
         let booking = self.bookings.remove(place);
+        self.sold
+            .give_back(&self.legs[booking.product as usize], booking.party);
         self.revenue -= worth(&self.fares, &booking);
         Some(booking)
-    }
-
-    // Whether a product uses a leg.
-    fn uses(&self, leg: u8, product: u16) -> bool
-        requires { product < length self.now.inventory.legs }
-        ensures { result ≡ uses_leg self.now.inventory leg product }
-    {
-        self.legs[product as usize].contains(&leg)
     }
 
     // The place of a number in the list, found by halves: the numbers rise.

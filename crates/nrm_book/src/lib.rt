@@ -3,6 +3,7 @@
 
 mod book;
 mod booking;
+mod seats;
 
 pub use book::Book;
 pub use booking::Booking;

@@ -1,4 +1,6 @@
-use Rattle.std.proofs.Common.{arith}
+use Rattle.std.proofs.Common.{◌<◌, length, refl, sym, subst, arith}
+use Rattle.nrm_book.specs.Book.{BookValue}
+use Rattle.nrm_book.proofs.Moved.{can-sell, legs-read, sold-next}
 use Rattle.nrm_book.proofs.Kept.{IsBook-sold, room-left}
 use Rattle.nrm_book.proofs.Totals.{revenue-more, revenue-within}
 use Rattle.nrm_book.proofs.book.Book.add.Goals as goal
@@ -12,16 +14,28 @@ push_reserved-requires c =
 pub invariant_of-self : goal.invariant_of-self
 invariant_of-self c = record {
   kept = IsBook-sold _ c.args.self.now c.args.product c.args.party _ c.self.view_is c.self.invariant.kept c.requires.product c.requires.party c.requires.seats c.requires.next c.push_reserved.ensures.items;
+  distinct = c.self.invariant.distinct;
+  seats =
+      let short = subst (λ (book : BookValue). c.args.product < length book.inventory.legs) (sym c.self.view_is) c.requires.product in
+      let legs = legs-read _ c.self.inside.legs.items c.args.product c.index.result.now c.deref.result.now c.self.invariant.kept refl short c.index.ensures c.deref.ensures.value in
+      sold-next _ c.self.inside.sold c.sell.new.self c.args.product c.args.party c.deref.result.now _ c.self.invariant.kept c.self.invariant.seats c.self.invariant.distinct short legs c.sell.ensures c.push_reserved.ensures.items;
   room = omega (arith, c.self.invariant.room, c.push_reserved.ensures.capacity);
-  worth = revenue-more _ _ _ _ _ _ c.self.invariant.kept c.self.invariant.worth c.push_reserved.ensures.items c.deref.ensures.value c.worth.ensures;
+  worth = revenue-more _ _ _ _ _ _ c.self.invariant.kept c.self.invariant.worth c.push_reserved.ensures.items c.deref-2.ensures.value c.worth.ensures;
 }
 
 pub overflow_add-self-2 : goal.overflow_add-self-2
 overflow_add-self-2 c =
     let after = IsBook-sold _ c.args.self.now c.args.product c.args.party _ c.self.view_is c.self.invariant.kept c.requires.product c.requires.party c.requires.seats c.requires.next c.push_reserved.ensures.items in
-    let more = revenue-more _ _ _ _ _ _ c.self.invariant.kept c.self.invariant.worth c.push_reserved.ensures.items c.deref.ensures.value c.worth.ensures in
+    let more = revenue-more _ _ _ _ _ _ c.self.invariant.kept c.self.invariant.worth c.push_reserved.ensures.items c.deref-2.ensures.value c.worth.ensures in
     let within = revenue-within _ after in
     omega arith
 
 pub returns-clause-kept : goal.returns-clause-kept
 returns-clause-kept c = (invariant_of-self c).kept
+
+pub sell-requires : goal.sell-requires
+sell-requires c =
+    let short = subst (λ (book : BookValue). c.args.product < length book.inventory.legs) (sym c.self.view_is) c.requires.product in
+    let legs = legs-read _ c.self.inside.legs.items c.args.product c.index.result.now c.deref.result.now c.self.invariant.kept refl short c.index.ensures c.deref.ensures.value in
+    let can = can-sell _ c.self.inside.sold c.args.product c.args.party c.deref.result.now c.self.invariant.kept c.self.invariant.seats c.self.invariant.distinct short legs c.requires.party.1 in
+    record { distinct = can.0; fits = can.1 }

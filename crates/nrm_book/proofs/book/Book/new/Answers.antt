@@ -1,7 +1,7 @@
 use Rattle.std.proofs.Common.{◌∙◌, length, sum, refl, ap, arith}
 use Rattle.std.proofs.lemmas.List.{length-map}
 use Rattle.nrm_model.specs.declared.leg.Leg.{Leg}
-use Rattle.nrm_book.proofs.Copied.{IsBook-of}
+use Rattle.nrm_book.proofs.Copied.{IsBook-of, counts-of, distinct-of}
 use Rattle.nrm_book.proofs.book.Book.new.Goals as goal
 
 pub seats_in_all-requires : goal.seats_in_all-requires
@@ -13,6 +13,8 @@ seats_in_all-requires c =
 pub invariant_of-result : goal.invariant_of-result
 invariant_of-result c = record {
   kept = IsBook-of c.args.net.now _ _ _ _ c.n.ensures.limits c.in_ok-seats.ensures c.in_ok-fares.ensures c.in_ok-legs.ensures c.in_ok-bookings.ensures.items;
+  distinct = distinct-of c.args.net.now _ c.n.ensures.limits c.in_ok-legs.ensures;
+  seats = counts-of c.args.net.now _ _ _ _ c.in_ok-sold.sold c.in_ok-seats.ensures c.in_ok-fares.ensures c.in_ok-legs.ensures c.in_ok-bookings.ensures.items c.in_ok-sold.ensures;
   room =
       let seats = c.seats_in_all.ensures ∙ ap sum c.deref.ensures.value in
       let exact = c.in_ok-bookings.ensures.exact in

@@ -1,9 +1,12 @@
-use Rattle.std.proofs.Common.{◌≡◌, ◌==◌, ◌∙◌, ◌<◌, List, length, get_or, sym, ap, subst, arith}
+use Rattle.std.proofs.Common.{ℕ, Vec, refl, ◌≡◌, ◌==◌, ◌∙◌, ◌<◌, List, length, get_or, sym, ap, subst, arith}
 use Rattle.std.specs.List.{remove}
 use Rattle.std.proofs.lemmas.List.Quantifiers.{position-Some}
 use Rattle.nrm_book.specs.declared.booking.Booking.{Booking}
 use Rattle.nrm_book.specs.Book.{BookValue, IsBook}
 use Rattle.nrm_book.proofs.Kept.{IsBook-removed, absent-is, found-is, removed-is}
+use Rattle.std.specs.declared.alloc.Global.{Global}
+use Rattle.std.proofs.lemmas.List.{length-map}
+use Rattle.nrm_book.proofs.Moved.{can-give_back, given_back-next, legs-read}
 use Rattle.nrm_book.proofs.Totals.{revenue-less}
 use Rattle.nrm_book.proofs.book.Book.remove.Goals as goal
 
@@ -31,11 +34,20 @@ returns-clause-removed c =
 pub invariant_of-self : goal.invariant_of-self
 invariant_of-self c = record {
   kept = IsBook-removed _ c.args.self.now c.args.number c.in_ok-place.place _ c.self.view_is c.self.invariant.kept (sym c.in_ok-place.ensures) c.remove-booking.ensures.items;
+  distinct = c.self.invariant.distinct;
+  seats =
+      let items = ap (λ (book : BookValue). book.bookings) c.self.view_is in
+      let placed = (position-Some (λ (booking : Booking). booking.number == c.args.number) c.args.self.now.bookings c.in_ok-place.place c.remove-booking.result (sym c.in_ok-place.ensures)).0 in
+      let at : c.in_ok-place.place < length c.self.inside.bookings.items = omega (arith, ap length items) in
+      let short = subst (λ (booking : Booking). booking.product < length c.self.inside.legs.items) (sym c.remove-booking.ensures.value) (omega (arith, c.self.invariant.kept.products c.in_ok-place.place c.remove-booking.result at, length-map c.self.inside.legs.items (λ (v : Vec ℕ Global). v.items))) in
+      let own = legs-read _ c.self.inside.legs.items c.remove-booking.result.product c.index.result.now c.deref.result.now c.self.invariant.kept refl (omega (arith, short, length-map c.self.inside.legs.items (λ (v : Vec ℕ Global). v.items))) c.index.ensures c.deref.ensures.value in
+      let left = (IsBook-removed _ c.args.self.now c.args.number c.in_ok-place.place _ c.self.view_is c.self.invariant.kept (sym c.in_ok-place.ensures) c.remove-booking.ensures.items).products in
+      given_back-next _ c.self.inside.sold c.in_ok-place.place c.remove-booking.result c.deref.result.now _ c.self.invariant.kept c.self.invariant.seats c.self.invariant.distinct at c.remove-booking.ensures.value own c.remove-booking.ensures.items left c.give_back.new.self c.give_back.ensures;
   room = omega (arith, c.self.invariant.room, c.remove-booking.ensures.capacity);
   worth =
       let items = ap (λ (book : BookValue). book.bookings) c.self.view_is in
       let short = (position-Some (λ (booking : Booking). booking.number == c.args.number) c.args.self.now.bookings c.in_ok-place.place c.remove-booking.result (sym c.in_ok-place.ensures)).0 in
-      (revenue-less _ _ c.in_ok-place.place c.remove-booking.result _ _ _ c.self.invariant.kept c.self.invariant.worth c.remove-booking.ensures.items (omega (arith, ap length items)) c.remove-booking.ensures.value c.deref.ensures.value c.worth.ensures).1;
+      (revenue-less _ _ c.in_ok-place.place c.remove-booking.result _ _ _ c.self.invariant.kept c.self.invariant.worth c.remove-booking.ensures.items (omega (arith, ap length items)) c.remove-booking.ensures.value c.deref-2.ensures.value c.worth.ensures).1;
 }
 
 pub returns-clause-within : goal.returns-clause-within
@@ -48,3 +60,14 @@ returns-clause-within c =
 
 pub returns-clause-kept : goal.returns-clause-kept
 returns-clause-kept c = (invariant_of-self c).kept
+
+pub give_back-requires : goal.give_back-requires
+give_back-requires c =
+    let items = ap (λ (book : BookValue). book.bookings) c.self.view_is in
+    let placed = (position-Some (λ (booking : Booking). booking.number == c.args.number) c.args.self.now.bookings c.in_ok-place.place c.remove-booking.result (sym c.in_ok-place.ensures)).0 in
+    let at : c.in_ok-place.place < length c.self.inside.bookings.items = omega (arith, ap length items) in
+    let short = subst (λ (booking : Booking). booking.product < length c.self.inside.legs.items) (sym c.remove-booking.ensures.value) (omega (arith, c.self.invariant.kept.products c.in_ok-place.place c.remove-booking.result at, length-map c.self.inside.legs.items (λ (v : Vec ℕ Global). v.items))) in
+    let own = legs-read _ c.self.inside.legs.items c.remove-booking.result.product c.index.result.now c.deref.result.now c.self.invariant.kept refl (omega (arith, short, length-map c.self.inside.legs.items (λ (v : Vec ℕ Global). v.items))) c.index.ensures c.deref.ensures.value in
+    let left = (IsBook-removed _ c.args.self.now c.args.number c.in_ok-place.place _ c.self.view_is c.self.invariant.kept (sym c.in_ok-place.ensures) c.remove-booking.ensures.items).products in
+    let can = can-give_back _ c.self.inside.sold c.in_ok-place.place c.remove-booking.result c.deref.result.now _ c.self.invariant.kept c.self.invariant.seats c.self.invariant.distinct at c.remove-booking.ensures.value own c.remove-booking.ensures.items left in
+    record { distinct = can.0; sold = can.1 }

@@ -1,0 +1,131 @@
+-- A booking that comes or goes, and the counts of the seats sold.
+use Rattle.std.proofs.Common.{ℕ, ◌≡◌, ◌≢◌, ◌∙◌, ◌+◌, ◌-◌, ◌<◌, ◌≤◌, All, AllPairs, true, false, List, [], ◌∷◌, ◌++◌, length, get_or, map, sum_by, Vec, refl, sym, ap, subst, zero-add, arith}
+use Rattle.std.specs.List.{remove, slice_index}
+use Rattle.std.specs.declared.alloc.Global.{Global}
+use Rattle.std.proofs.lemmas.List.{get_or-map, length-map}
+use Rattle.std.proofs.lemmas.List.FromFn.{get_or-map-range_with_len, length-map-range_with_len}
+use Rattle.std.proofs.lemmas.List.Sums.{sum_by-remove}
+use Rattle.std.proofs.lemmas.Option.{unwrap_or-slice_get}
+use Rattle.nrm_model.specs.Inventory.{Inventory, seats_of, legs_of, uses_leg}
+use Rattle.nrm_book.specs.declared.booking.Booking.{Booking}
+use Rattle.nrm_book.specs.Bookings.{sold_on}
+use Rattle.nrm_book.specs.Book.{BookValue, IsBook, IsInventory}
+use Rattle.nrm_book.specs.Seats.{SeatsValue, CanFall, CanRise, changed, seats_sold}
+use Rattle.nrm_book.proofs.Counted.{changed-is}
+use Rattle.nrm_book.proofs.Sold.{AreProducts, taken_on, sold_on-by_booking, sold_on-push, uses-each}
+
+-- the legs of a product, as they were read
+pub legs-read : (book : BookValue) (legs : List (Vec ℕ Global)) (product : ℕ) (v : Vec ℕ Global) (read : List ℕ) → IsBook book → map (λ (v : Vec ℕ Global). v.items) legs ≡ book.inventory.legs → product < length book.inventory.legs
+    → v ≡ get_or legs product v → read ≡ v.items → read ≡ legs_of book.inventory product
+legs-read book legs product v read _ are short at is =
+    let low : product < length legs = omega (arith, ap length are, length-map legs (λ (v : Vec ℕ Global). v.items)) in
+    is ∙ ap (λ (v : Vec ℕ Global). v.items) at ∙ sym (get_or-map (λ (v : Vec ℕ Global). v.items) legs product v [] low) ∙ ap (λ (xs : List (List ℕ)). get_or xs product []) are ∙ sym (unwrap_or-slice_get book.inventory.legs product [])
+
+-- a fact of each product's legs
+pub of-legs : (inventory : Inventory) (P : List ℕ → Type 0) (product : ℕ) → All P inventory.legs → product < length inventory.legs → P (legs_of inventory product)
+of-legs inventory P product all short = subst P (sym (unwrap_or-slice_get inventory.legs product [])) (all product [] short)
+
+-- what is counted on a leg
+pub counted-on : (inventory : Inventory) (bookings : List Booking) (sold : SeatsValue) (leg : ℕ) → sold ≡ seats_sold inventory bookings → leg < length inventory.seats → (leg < length sold.by_leg) × (slice_index sold.by_leg leg ≡ sold_on inventory bookings leg)
+counted-on inventory bookings sold leg is short =
+    let Counts : SeatsValue → Type 0 = λ sold. (leg < length sold.by_leg) × (slice_index sold.by_leg leg ≡ sold_on inventory bookings leg) in
+    subst Counts (sym is) (omega (arith, length-map-range_with_len (sold_on inventory bookings) 0 (length inventory.seats)), get_or-map-range_with_len (sold_on inventory bookings) 0 (length inventory.seats) leg leg 0 short (zero-add leg))
+
+module _ (inventory : Inventory) (few many : List Booking) (b : Booking) (is : IsInventory inventory) (short : b.product < length inventory.legs) (more : (i : ℕ) → sold_on inventory many i ≡ sold_on inventory few i + taken_on inventory i b) where
+  low : All (λ i. i < length inventory.seats) (legs_of inventory b.product)
+  low = of-legs inventory (λ (legs : List ℕ). All (λ i. i < length inventory.seats) legs) b.product is.legs short
+
+  one-party : (i : ℕ) → uses_leg inventory i b.product ≡ true → sold_on inventory many i ≡ sold_on inventory few i + b.party
+  one-party i uses =
+      let taken : taken_on inventory i b ≡ b.party = rw uses refl in
+      more i ∙ ap (λ n. sold_on inventory few i + n) taken
+
+  no-party : (i : ℕ) → uses_leg inventory i b.product ≡ false → sold_on inventory many i ≡ sold_on inventory few i
+  no-party i apart =
+      let taken : taken_on inventory i b ≡ 0 = rw apart refl in
+      omega (arith, more i)
+
+  -- one booking more
+  pub sold-is : AllPairs (λ a b. a ≢ b) (legs_of inventory b.product) → changed (λ sold. sold + b.party) (seats_sold inventory few) (legs_of inventory b.product) ≡ seats_sold inventory many
+  sold-is distinct = changed-is inventory few many (λ sold. sold + b.party) b.product distinct
+      (λ k d at. (low k d at, sym (one-party (get_or (legs_of inventory b.product) k d) (uses-each inventory b.product k d at)))) (λ i apart. sym (no-party i apart))
+
+  -- one booking less
+  pub given-back-is : AllPairs (λ a b. a ≢ b) (legs_of inventory b.product) → changed (λ sold. sold - b.party) (seats_sold inventory many) (legs_of inventory b.product) ≡ seats_sold inventory few
+  given-back-is distinct = changed-is inventory many few (λ sold. sold - b.party) b.product distinct
+      (λ k d at. (low k d at, omega (arith, one-party (get_or (legs_of inventory b.product) k d) (uses-each inventory b.product k d at)))) (λ i apart. no-party i apart)
+
+  -- and there is enough to give back
+  pub can-fall : (sold : SeatsValue) → sold ≡ seats_sold inventory many → All (λ i. CanFall sold i b.party) (legs_of inventory b.product)
+  can-fall sold are k d at =
+      let i = get_or (legs_of inventory b.product) k d in
+      let here = counted-on inventory many sold (get_or (legs_of inventory b.product) k d) are (low k d at) in
+      let party = one-party (get_or (legs_of inventory b.product) k d) (uses-each inventory b.product k d at) in
+      record {
+        leg = here.0;
+        sum = omega (arith, here.1, party);
+      }
+
+-- a party fits each count
+pub can-rise : (book : BookValue) (sold : SeatsValue) (product party : ℕ) → IsBook book → sold ≡ seats_sold book.inventory book.bookings → product < length book.inventory.legs → party ≤ 999 → All (λ i. CanRise sold i party) (legs_of book.inventory product)
+can-rise book sold product party is are short sized k d at =
+    let leg = get_or (legs_of book.inventory product) k d in
+    let low = of-legs book.inventory (λ (legs : List ℕ). All (λ i. i < length book.inventory.seats) legs) product is.inventory.legs short k d at in
+    let here = counted-on book.inventory book.bookings sold (get_or (legs_of book.inventory product) k d) are low in
+    let within = is.seats (get_or (legs_of book.inventory product) k d) low in
+    let seats : seats_of book.inventory (get_or (legs_of book.inventory product) k d) ≤ 999 = is.inventory.seats (get_or (legs_of book.inventory product) k d) 0 low in
+    record {
+      leg = here.0;
+      sum = omega (arith, here.1, within, seats);
+    }
+
+-- the seats of a booking that went
+pub sold_on-removed : (inventory : Inventory) (bookings items : List Booking) (k : ℕ) (b : Booking) → AreProducts inventory bookings → AreProducts inventory items → items ≡ remove bookings k → k < length bookings → b ≡ get_or bookings k b
+    → (i : ℕ) → sold_on inventory bookings i ≡ sold_on inventory items i + taken_on inventory i b
+sold_on-removed inventory bookings items k b are left less short read i =
+    let before = sold_on-by_booking inventory i bookings are in
+    let after = sold_on-by_booking inventory i items left in
+    let own : taken_on inventory i b ≡ taken_on inventory i (get_or bookings k b) = ap (taken_on inventory i) read in
+    let gone = sum_by-remove (taken_on inventory i) bookings k b short in
+    let all = ap (sum_by (taken_on inventory i)) less in
+    omega arith
+
+-- ---- of a book
+module _ (book : BookValue) (sold : SeatsValue) (product party : ℕ) (legs : List ℕ) (is : IsBook book) (are : sold ≡ seats_sold book.inventory book.bookings) (apart : All (λ (legs : List ℕ). AllPairs (λ a b. a ≢ b) legs) book.inventory.legs)
+    (short : product < length book.inventory.legs) (own : legs ≡ legs_of book.inventory product) where
+  -- a party can be sold
+  pub can-sell : party ≤ 999 → AllPairs (λ a b. a ≢ b) legs × All (λ i. CanRise sold i party) legs
+  can-sell sized =
+      let P : List ℕ → Type 0 = λ legs. AllPairs (λ a b. a ≢ b) legs × All (λ i. CanRise sold i party) legs in
+      subst P (sym own) (of-legs book.inventory (λ (legs : List ℕ). AllPairs (λ a b. a ≢ b) legs) product apart short, can-rise book sold product party is are short sized)
+
+-- what is counted after a sale
+pub sold-next : (book : BookValue) (sold next : SeatsValue) (product party : ℕ) (legs : List ℕ) (items : List Booking) → IsBook book → sold ≡ seats_sold book.inventory book.bookings → All (λ (legs : List ℕ). AllPairs (λ a b. a ≢ b) legs) book.inventory.legs
+    → product < length book.inventory.legs → legs ≡ legs_of book.inventory product → next ≡ changed (λ sold. sold + party) sold legs → items ≡ book.bookings ++ record { number = book.next; product = product; party = party } ∷ [] → next ≡ seats_sold book.inventory items
+sold-next book sold next product party legs items is are apart short own changes pushed =
+    let b : Booking = record { number = book.next; product = product; party = party } in
+    let more : (i : ℕ) → sold_on book.inventory (book.bookings ++ record { number = book.next; product = product; party = party } ∷ []) i ≡ sold_on book.inventory book.bookings i + taken_on book.inventory i (record { number = book.next; product = product; party = party }) = λ i. sold_on-push book.inventory i book.bookings b is.products short in
+    let distinct = of-legs book.inventory (λ (legs : List ℕ). AllPairs (λ a b. a ≢ b) legs) product apart short in
+    let is_so = sold-is book.inventory book.bookings (book.bookings ++ b ∷ []) b is.inventory short more distinct in
+    changes ∙ (λ k. changed (λ sold. sold + party) (are k) (own k)) ∙ is_so ∙ ap (seats_sold book.inventory) (sym pushed)
+
+-- a booking that was read can be given back, and what is counted then
+module _ (book : BookValue) (sold : SeatsValue) (k : ℕ) (b : Booking) (legs : List ℕ) (items : List Booking) (is : IsBook book) (are : sold ≡ seats_sold book.inventory book.bookings) (apart : All (λ (legs : List ℕ). AllPairs (λ a b. a ≢ b) legs) book.inventory.legs)
+    (at : k < length book.bookings) (read : b ≡ get_or book.bookings k b) (own : legs ≡ legs_of book.inventory b.product) (less : items ≡ remove book.bookings k) (left : AreProducts book.inventory items) where
+  short : b.product < length book.inventory.legs
+  short = subst (λ (b : Booking). b.product < length book.inventory.legs) (sym read) (is.products k b at)
+
+  more : (i : ℕ) → sold_on book.inventory book.bookings i ≡ sold_on book.inventory items i + taken_on book.inventory i b
+  more = sold_on-removed book.inventory book.bookings items k b is.products left less at read
+
+  distinct : AllPairs (λ a b. a ≢ b) (legs_of book.inventory b.product)
+  distinct = of-legs book.inventory (λ (legs : List ℕ). AllPairs (λ a b. a ≢ b) legs) b.product apart short
+
+  pub can-give_back : AllPairs (λ a b. a ≢ b) legs × All (λ i. CanFall sold i b.party) legs
+  can-give_back =
+      let P : List ℕ → Type 0 = λ legs. AllPairs (λ a b. a ≢ b) legs × All (λ i. CanFall sold i b.party) legs in
+      subst P (sym own) (distinct, can-fall book.inventory items book.bookings b is.inventory short more sold are)
+
+  pub given_back-next : (next : SeatsValue) → next ≡ changed (λ sold. sold - b.party) sold legs → next ≡ seats_sold book.inventory items
+  given_back-next next changes =
+      changes ∙ (λ k. changed (λ sold. sold - b.party) (are k) (own k)) ∙ given-back-is book.inventory items book.bookings b is.inventory short more distinct

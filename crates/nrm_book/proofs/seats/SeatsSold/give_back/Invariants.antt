@@ -1,0 +1,7 @@
+use Rattle.std.proofs.Common.{◌-◌}
+use Rattle.nrm_book.specs.Seats.{CanFall}
+use Rattle.nrm_book.proofs.Counted.{Changes, fall-apart}
+use Rattle.nrm_book.proofs.seats.SeatsSold.give_back.Given as goal
+
+abbrev pub invariant-loop-leg : goal.invariant-loop-leg
+invariant-loop-leg l = Changes (λ sold. sold - l.party) (λ seats i. CanFall seats i l.party) (fall-apart l.party) l.initial.self l.self l.legs l.leg-index
