@@ -4,5 +4,6 @@ pub mod Kept
 pub mod Copied
 pub mod Totals
 pub mod Searched
+pub mod Pairs
 pub mod Counted
 pub mod Moved

@@ -1,17 +1,22 @@
 -- A booking that comes or goes, and the counts of the seats sold.
-use Rattle.std.proofs.Common.{ℕ, ◌≡◌, ◌≢◌, ◌∙◌, ◌+◌, ◌-◌, ◌<◌, ◌≤◌, All, AllPairs, true, false, List, [], ◌∷◌, ◌++◌, length, get_or, map, sum_by, Vec, refl, sym, ap, subst, zero-add, arith}
+use Rattle.std.proofs.Common.{ℕ, ◌≡◌, ◌≢◌, ◌∙◌, ◌+◌, ◌-◌, ◌<◌, ◌≤◌, All, AllPairs, true, false, cond, eqb, nat_eq, is_some, IsSome, Option, unwrap_or, List, [], ◌∷◌, ◌++◌, length, get_or, map, sum_by, Vec, refl, sym, ap, subst, zero-add, arith}
 use Rattle.std.specs.List.{remove, slice_index}
 use Rattle.std.specs.declared.alloc.Global.{Global}
 use Rattle.std.proofs.lemmas.List.{get_or-map, length-map}
 use Rattle.std.proofs.lemmas.List.FromFn.{get_or-map-range_with_len, length-map-range_with_len}
-use Rattle.std.proofs.lemmas.List.Sums.{sum_by-remove}
+use Rattle.std.proofs.lemmas.List.Sums.{sum_by-remove, sum_by_push}
 use Rattle.std.proofs.lemmas.Option.{unwrap_or-slice_get}
 use Rattle.nrm_model.specs.Inventory.{Inventory, seats_of, legs_of, uses_leg}
 use Rattle.nrm_book.specs.declared.booking.Booking.{Booking}
-use Rattle.nrm_book.specs.Bookings.{sold_on}
+use Rattle.nrm_book.specs.Bookings.{sold_of, sold_on}
 use Rattle.nrm_book.specs.Book.{BookValue, IsBook, IsInventory}
-use Rattle.nrm_book.specs.Seats.{SeatsValue, CanFall, CanRise, changed, seats_sold}
+use Rattle.nrm_book.specs.Seats.{SeatsValue, CanFall, CanRise, HasPair, changed, count_in, pairs_on, pairs_sold, seats_sold}
 use Rattle.nrm_book.proofs.Counted.{changed-is}
+use Rattle.nrm_book.proofs.Pairs.{lookup-kept, lookup-range}
+use Rattle.nrm_book.proofs.Totals.{sold-within}
+use Rattle.std.specs.Map.{lookup}
+use Rattle.std.proofs.lemmas.Bool.{ne_eqb}
+use Rattle.std.proofs.lemmas.Bool.Decides.{nat_tests}
 use Rattle.nrm_book.proofs.Sold.{AreProducts, taken_on, sold_on-by_booking, sold_on-push, uses-each}
 
 -- the legs of a product, as they were read
@@ -31,7 +36,42 @@ counted-on inventory bookings sold leg is short =
     let Counts : SeatsValue → Type 0 = λ sold. (leg < length sold.by_leg) × (slice_index sold.by_leg leg ≡ sold_on inventory bookings leg) in
     subst Counts (sym is) (omega (arith, length-map-range_with_len (sold_on inventory bookings) 0 (length inventory.seats)), get_or-map-range_with_len (sold_on inventory bookings) 0 (length inventory.seats) leg leg 0 short (zero-add leg))
 
-module _ (inventory : Inventory) (few many : List Booking) (b : Booking) (is : IsInventory inventory) (short : b.product < length inventory.legs) (more : (i : ℕ) → sold_on inventory many i ≡ sold_on inventory few i + taken_on inventory i b) where
+-- the pairs of a leg
+pub leg-counted : (inventory : Inventory) (bookings : List Booking) (sold : SeatsValue) (leg : ℕ) → sold ≡ seats_sold inventory bookings → leg < length inventory.seats
+    → IsSome (lookup (nat_eq leg) sold.by_product) × (pairs_on sold.by_product leg ≡ pairs_sold inventory bookings leg)
+leg-counted inventory bookings sold leg is low =
+    let Counts : SeatsValue → Type 0 = λ sold. IsSome (lookup (nat_eq leg) sold.by_product) × (pairs_on sold.by_product leg ≡ pairs_sold inventory bookings leg) in
+    let nest = lookup-range (pairs_sold inventory bookings) 0 (length inventory.seats) leg (omega arith) (omega arith) in
+    subst Counts (sym is) (ap is_some nest, ap (λ (o : Option (List (ℕ × ℕ))). unwrap_or o []) nest)
+
+-- and the count of a product there
+pub pair-counted : (inventory : Inventory) (bookings : List Booking) (sold : SeatsValue) (leg product : ℕ) → sold ≡ seats_sold inventory bookings → leg < length inventory.seats → product < length inventory.legs → uses_leg inventory leg product ≡ true
+    → HasPair sold.by_product leg product × (count_in sold.by_product leg product ≡ sold_of bookings product)
+pair-counted inventory bookings sold leg product is low short uses =
+    let Counts : SeatsValue → Type 0 = λ sold. HasPair sold.by_product leg product × (count_in sold.by_product leg product ≡ sold_of bookings product) in
+    let nest = lookup-range (pairs_sold inventory bookings) 0 (length inventory.seats) leg (omega arith) (omega arith) in
+    let pairs_are = ap (λ (o : Option (List (ℕ × ℕ))). unwrap_or o []) nest in
+    let count = ap (lookup (nat_eq product)) pairs_are ∙ lookup-kept (sold_of bookings) (uses_leg inventory leg) 0 (length inventory.legs) product (omega arith) (omega arith) uses in
+    subst Counts (sym is) (record { leg = ap is_some nest; product = ap is_some count }, ap (λ (o : Option ℕ). unwrap_or o 0) count)
+
+-- the party of a booking, if it is of this product
+abbrev pub party_of : ℕ → Booking → ℕ
+party_of j booking = cond (eqb booking.product j) booking.party 0
+
+module _ (inventory : Inventory) (few many : List Booking) (b : Booking) (is : IsInventory inventory) (short : b.product < length inventory.legs) (more : (i : ℕ) → sold_on inventory many i ≡ sold_on inventory few i + taken_on inventory i b)
+    (of_product : (j : ℕ) → sold_of many j ≡ sold_of few j + party_of j b) where
+  own-party : sold_of many b.product ≡ sold_of few b.product + b.party
+  own-party =
+      let same : eqb b.product b.product ≡ true = grind (arith, nat_tests) in
+      let own : party_of b.product b ≡ b.party = rw same refl in
+      of_product b.product ∙ ap (λ n. sold_of few b.product + n) own
+
+  other-party : (j : ℕ) → j ≢ b.product → sold_of few j ≡ sold_of many j
+  other-party j other =
+      let no : eqb b.product j ≡ false = ne_eqb b.product j (λ e. other (sym e)) in
+      let none : party_of j b ≡ 0 = rw no refl in
+      omega (arith, of_product j)
+
   low : All (λ i. i < length inventory.seats) (legs_of inventory b.product)
   low = of-legs inventory (λ (legs : List ℕ). All (λ i. i < length inventory.seats) legs) b.product is.legs short
 
@@ -46,37 +86,44 @@ module _ (inventory : Inventory) (few many : List Booking) (b : Booking) (is : I
       omega (arith, more i)
 
   -- one booking more
-  pub sold-is : AllPairs (λ a b. a ≢ b) (legs_of inventory b.product) → changed (λ sold. sold + b.party) (seats_sold inventory few) (legs_of inventory b.product) ≡ seats_sold inventory many
-  sold-is distinct = changed-is inventory few many (λ sold. sold + b.party) b.product distinct
-      (λ k d at. (low k d at, sym (one-party (get_or (legs_of inventory b.product) k d) (uses-each inventory b.product k d at)))) (λ i apart. sym (no-party i apart))
+  pub sold-is : AllPairs (λ a b. a ≢ b) (legs_of inventory b.product) → changed (λ sold. sold + b.party) (seats_sold inventory few) (legs_of inventory b.product) b.product ≡ seats_sold inventory many
+  sold-is distinct = changed-is inventory few many (λ sold. sold + b.party) b.product short other-party (sym own-party) distinct
+      (λ k d at. (low k d at, uses-each inventory b.product k d at, sym (one-party (get_or (legs_of inventory b.product) k d) (uses-each inventory b.product k d at)))) (λ i apart. sym (no-party i apart))
 
   -- one booking less
-  pub given-back-is : AllPairs (λ a b. a ≢ b) (legs_of inventory b.product) → changed (λ sold. sold - b.party) (seats_sold inventory many) (legs_of inventory b.product) ≡ seats_sold inventory few
-  given-back-is distinct = changed-is inventory many few (λ sold. sold - b.party) b.product distinct
-      (λ k d at. (low k d at, omega (arith, one-party (get_or (legs_of inventory b.product) k d) (uses-each inventory b.product k d at)))) (λ i apart. no-party i apart)
+  pub given-back-is : AllPairs (λ a b. a ≢ b) (legs_of inventory b.product) → changed (λ sold. sold - b.party) (seats_sold inventory many) (legs_of inventory b.product) b.product ≡ seats_sold inventory few
+  given-back-is distinct = changed-is inventory many few (λ sold. sold - b.party) b.product short (λ j other. sym (other-party j other)) (omega (arith, own-party)) distinct
+      (λ k d at. (low k d at, uses-each inventory b.product k d at, omega (arith, one-party (get_or (legs_of inventory b.product) k d) (uses-each inventory b.product k d at)))) (λ i apart. no-party i apart)
 
   -- and there is enough to give back
-  pub can-fall : (sold : SeatsValue) → sold ≡ seats_sold inventory many → All (λ i. CanFall sold i b.party) (legs_of inventory b.product)
+  pub can-fall : (sold : SeatsValue) → sold ≡ seats_sold inventory many → All (λ i. CanFall sold i b.product b.party) (legs_of inventory b.product)
   can-fall sold are k d at =
       let i = get_or (legs_of inventory b.product) k d in
       let here = counted-on inventory many sold (get_or (legs_of inventory b.product) k d) are (low k d at) in
+      let pair = pair-counted inventory many sold (get_or (legs_of inventory b.product) k d) b.product are (low k d at) short (uses-each inventory b.product k d at) in
       let party = one-party (get_or (legs_of inventory b.product) k d) (uses-each inventory b.product k d at) in
       record {
         leg = here.0;
         sum = omega (arith, here.1, party);
+        pair = pair.0;
+        count = omega (arith, pair.1, own-party);
       }
 
 -- a party fits each count
-pub can-rise : (book : BookValue) (sold : SeatsValue) (product party : ℕ) → IsBook book → sold ≡ seats_sold book.inventory book.bookings → product < length book.inventory.legs → party ≤ 999 → All (λ i. CanRise sold i party) (legs_of book.inventory product)
+pub can-rise : (book : BookValue) (sold : SeatsValue) (product party : ℕ) → IsBook book → sold ≡ seats_sold book.inventory book.bookings → product < length book.inventory.legs → party ≤ 999 → All (λ i. CanRise sold i product party) (legs_of book.inventory product)
 can-rise book sold product party is are short sized k d at =
     let leg = get_or (legs_of book.inventory product) k d in
     let low = of-legs book.inventory (λ (legs : List ℕ). All (λ i. i < length book.inventory.seats) legs) product is.inventory.legs short k d at in
     let here = counted-on book.inventory book.bookings sold (get_or (legs_of book.inventory product) k d) are low in
+    let uses = uses-each book.inventory product k d at in
+    let pair = pair-counted book.inventory book.bookings sold (get_or (legs_of book.inventory product) k d) product are low short uses in
     let within = is.seats (get_or (legs_of book.inventory product) k d) low in
     let seats : seats_of book.inventory (get_or (legs_of book.inventory product) k d) ≤ 999 = is.inventory.seats (get_or (legs_of book.inventory product) k d) 0 low in
     record {
       leg = here.0;
       sum = omega (arith, here.1, within, seats);
+      pair = pair.0;
+      count = omega (arith, pair.1, sold-within book (get_or (legs_of book.inventory product) k d) product is low uses);
     }
 
 -- the seats of a booking that went
@@ -94,20 +141,21 @@ sold_on-removed inventory bookings items k b are left less short read i =
 module _ (book : BookValue) (sold : SeatsValue) (product party : ℕ) (legs : List ℕ) (is : IsBook book) (are : sold ≡ seats_sold book.inventory book.bookings) (apart : All (λ (legs : List ℕ). AllPairs (λ a b. a ≢ b) legs) book.inventory.legs)
     (short : product < length book.inventory.legs) (own : legs ≡ legs_of book.inventory product) where
   -- a party can be sold
-  pub can-sell : party ≤ 999 → AllPairs (λ a b. a ≢ b) legs × All (λ i. CanRise sold i party) legs
+  pub can-sell : party ≤ 999 → AllPairs (λ a b. a ≢ b) legs × All (λ i. CanRise sold i product party) legs
   can-sell sized =
-      let P : List ℕ → Type 0 = λ legs. AllPairs (λ a b. a ≢ b) legs × All (λ i. CanRise sold i party) legs in
+      let P : List ℕ → Type 0 = λ legs. AllPairs (λ a b. a ≢ b) legs × All (λ i. CanRise sold i product party) legs in
       subst P (sym own) (of-legs book.inventory (λ (legs : List ℕ). AllPairs (λ a b. a ≢ b) legs) product apart short, can-rise book sold product party is are short sized)
 
 -- what is counted after a sale
 pub sold-next : (book : BookValue) (sold next : SeatsValue) (product party : ℕ) (legs : List ℕ) (items : List Booking) → IsBook book → sold ≡ seats_sold book.inventory book.bookings → All (λ (legs : List ℕ). AllPairs (λ a b. a ≢ b) legs) book.inventory.legs
-    → product < length book.inventory.legs → legs ≡ legs_of book.inventory product → next ≡ changed (λ sold. sold + party) sold legs → items ≡ book.bookings ++ record { number = book.next; product = product; party = party } ∷ [] → next ≡ seats_sold book.inventory items
+    → product < length book.inventory.legs → legs ≡ legs_of book.inventory product → next ≡ changed (λ sold. sold + party) sold legs product → items ≡ book.bookings ++ record { number = book.next; product = product; party = party } ∷ [] → next ≡ seats_sold book.inventory items
 sold-next book sold next product party legs items is are apart short own changes pushed =
     let b : Booking = record { number = book.next; product = product; party = party } in
     let more : (i : ℕ) → sold_on book.inventory (book.bookings ++ record { number = book.next; product = product; party = party } ∷ []) i ≡ sold_on book.inventory book.bookings i + taken_on book.inventory i (record { number = book.next; product = product; party = party }) = λ i. sold_on-push book.inventory i book.bookings b is.products short in
+    let of_product : (j : ℕ) → sold_of (book.bookings ++ record { number = book.next; product = product; party = party } ∷ []) j ≡ sold_of book.bookings j + party_of j (record { number = book.next; product = product; party = party }) = λ j. sum_by_push (party_of j) book.bookings b in
     let distinct = of-legs book.inventory (λ (legs : List ℕ). AllPairs (λ a b. a ≢ b) legs) product apart short in
-    let is_so = sold-is book.inventory book.bookings (book.bookings ++ b ∷ []) b is.inventory short more distinct in
-    changes ∙ (λ k. changed (λ sold. sold + party) (are k) (own k)) ∙ is_so ∙ ap (seats_sold book.inventory) (sym pushed)
+    let is_so = sold-is book.inventory book.bookings (book.bookings ++ b ∷ []) b is.inventory short more of_product distinct in
+    changes ∙ (λ k. changed (λ sold. sold + party) (are k) (own k) product) ∙ is_so ∙ ap (seats_sold book.inventory) (sym pushed)
 
 -- a booking that was read can be given back, and what is counted then
 module _ (book : BookValue) (sold : SeatsValue) (k : ℕ) (b : Booking) (legs : List ℕ) (items : List Booking) (is : IsBook book) (are : sold ≡ seats_sold book.inventory book.bookings) (apart : All (λ (legs : List ℕ). AllPairs (λ a b. a ≢ b) legs) book.inventory.legs)
@@ -118,14 +166,21 @@ module _ (book : BookValue) (sold : SeatsValue) (k : ℕ) (b : Booking) (legs : 
   more : (i : ℕ) → sold_on book.inventory book.bookings i ≡ sold_on book.inventory items i + taken_on book.inventory i b
   more = sold_on-removed book.inventory book.bookings items k b is.products left less at read
 
+  of_product : (j : ℕ) → sold_of book.bookings j ≡ sold_of items j + party_of j b
+  of_product j =
+      let own : party_of j b ≡ party_of j (get_or book.bookings k b) = ap (party_of j) read in
+      let gone = sum_by-remove (party_of j) book.bookings k b at in
+      let all = ap (sum_by (party_of j)) less in
+      omega arith
+
   distinct : AllPairs (λ a b. a ≢ b) (legs_of book.inventory b.product)
   distinct = of-legs book.inventory (λ (legs : List ℕ). AllPairs (λ a b. a ≢ b) legs) b.product apart short
 
-  pub can-give_back : AllPairs (λ a b. a ≢ b) legs × All (λ i. CanFall sold i b.party) legs
+  pub can-give_back : AllPairs (λ a b. a ≢ b) legs × All (λ i. CanFall sold i b.product b.party) legs
   can-give_back =
-      let P : List ℕ → Type 0 = λ legs. AllPairs (λ a b. a ≢ b) legs × All (λ i. CanFall sold i b.party) legs in
-      subst P (sym own) (distinct, can-fall book.inventory items book.bookings b is.inventory short more sold are)
+      let P : List ℕ → Type 0 = λ legs. AllPairs (λ a b. a ≢ b) legs × All (λ i. CanFall sold i b.product b.party) legs in
+      subst P (sym own) (distinct, can-fall book.inventory items book.bookings b is.inventory short more of_product sold are)
 
-  pub given_back-next : (next : SeatsValue) → next ≡ changed (λ sold. sold - b.party) sold legs → next ≡ seats_sold book.inventory items
+  pub given_back-next : (next : SeatsValue) → next ≡ changed (λ sold. sold - b.party) sold legs b.product → next ≡ seats_sold book.inventory items
   given_back-next next changes =
-      changes ∙ (λ k. changed (λ sold. sold - b.party) (are k) (own k)) ∙ given-back-is book.inventory items book.bookings b is.inventory short more distinct
+      changes ∙ (λ k. changed (λ sold. sold - b.party) (are k) (own k) b.product) ∙ given-back-is book.inventory items book.bookings b is.inventory short more of_product distinct

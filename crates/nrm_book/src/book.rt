@@ -1,13 +1,14 @@
-//! The book: a plain list of bookings by rising number, with the seats, the fares and the leg lists of its network.
-//! Its room is reserved when it is made, for as many bookings as there are seats in all: each live booking holds at
-//! least one seat, so that no later call takes memory. Beside the list stand the seats sold and the revenue, as counters.
+//! The book: a plain list of bookings by rising number, with the seats, the fares and the leg lists of its network, and
+//! beside it counters that are always what the list sums to: the seats sold and the revenue. Its room is reserved when it
+//! is made, for as many bookings as there are seats in all (a live booking holds one or more): no later call takes memory.
 ghost use Rattle.std.specs.Prelude.{◌≡◌, ◌+◌, ◌*◌, ◌<◌, ◌≤◌, ◌==◌, [], All, IfNone, IfOk, IfSome, length, map, position, slice_index, sum, true};
 ghost use Rattle.std.specs.Int.{IsInRange};
-ghost use Rattle.nrm_model.specs.Inventory.{inventory_of, legs_of, seats_of, uses_leg};
+ghost use Rattle.nrm_model.specs.Inventory.{inventory_of, legs_of, products_on, seats_of, uses_leg};
 ghost use Rattle.nrm_book.specs.Bookings.{booking_numbered, left_on, revenue_of, sold_of, sold_on, without};
 
 use crate::Booking;
 use crate::seats::SeatsSold;
+use indexmap::IndexMap;
 use nrm_model::Network;
 use std::alloc::{AllocError, Global};
 use std::marker::Model;
@@ -81,13 +82,15 @@ impl Book {
         requires uses { uses_leg self.now.inventory leg product ≡ true }
         ensures { result ≡ sold_of self.now.bookings product }
     {
-        let mut sold = 0;
-        for booking in &self.bookings {
-            if booking.product == product {
-                sold += booking.party;
-            }
-        }
-        sold
+        self.sold.of(leg, product)
+    }
+
+    /// The products of a leg in file order, each with its seats sold.
+    pub fn on_leg(&self, leg: u8) -> &IndexMap<u16, u16>
+        requires { leg < length self.now.inventory.seats }
+        ensures { result.now.entries ≡ map (λ j. (j, sold_of self.now.bookings j)) (products_on self.now.inventory leg) }
+    {
+        self.sold.on_leg(leg)
     }
 
     /// The bookings that stand, by rising number.
@@ -139,7 +142,7 @@ impl Book {
         };
         self.bookings.push_reserved(booking);
         self.next = number + 1;
-        self.sold.sell(&self.legs[product as usize], party);
+        self.sold.sell(&self.legs[product as usize], product, party);
         self.revenue += worth(&self.fares, &booking);
         number
     }
@@ -155,8 +158,11 @@ impl Book {
     {
         let place = self.place_of(number)?;
         let booking = self.bookings.remove(place);
-        self.sold
-            .give_back(&self.legs[booking.product as usize], booking.party);
+        self.sold.give_back(
+            &self.legs[booking.product as usize],
+            booking.product,
+            booking.party,
+        );
         self.revenue -= worth(&self.fares, &booking);
         Some(booking)
     }

@@ -1,8 +1,12 @@
-//! The seats sold, counted: a number for each leg. A sale and a cancellation change those of the product's own legs.
-ghost use Rattle.std.specs.Prelude.{◌≡◌, ◌≢◌, ◌+◌, ◌-◌, ◌<◌, [], All, AllPairs, IfOk, length, slice_index};
+//! The seats sold, counted: for each leg its products in file order, each with its seats sold, and the sum of the leg.
+//! All pairs are there from the start, so that a sale and a cancellation change counts and take no memory. They change
+//! those of the product's own legs.
+ghost use Rattle.std.specs.Prelude.{◌≡◌, ◌≢◌, ◌+◌, ◌-◌, ◌<◌, [], All, AllPairs, IfOk, IsSome, length, nat_eq, slice_index};
+ghost use Rattle.std.specs.Map.{lookup};
 ghost use Rattle.nrm_model.specs.Inventory.{inventory_of};
-ghost use Rattle.nrm_book.specs.Seats.{CanFall, CanRise, changed, changed_on, seats_sold};
+ghost use Rattle.nrm_book.specs.Seats.{CanFall, CanRise, HasPair, changed, changed_on, count_in, pairs_on, pairs_sold, seats_sold};
 
+use indexmap::IndexMap;
 use nrm_model::Network;
 use std::alloc::{AllocError, Global};
 use std::marker::Model;
@@ -10,15 +14,17 @@ use std::marker::Model;
 /// The seats sold of a network.
 #[derive(Drop)]
 pub struct SeatsSold {
+    by_product: IndexMap<u8, IndexMap<u16, u16>>,
     by_leg: Vec<u16>,
 }
 
 impl Model for SeatsSold {
+    ghost use Rattle.std.specs.Prelude.{map};
     ghost use Rattle.nrm_book.specs.Seats.{SeatsValue};
 
     ghost Value = { SeatsValue };
 
-    ghost view = { λ s. record { by_leg = s.by_leg.items } };
+    ghost view = { λ s. record { by_product = map (λ e. (e.0, e.1.entries)) s.by_product.entries; by_leg = s.by_leg.items } };
 }
 
 impl SeatsSold {
@@ -29,11 +35,13 @@ impl SeatsSold {
     pub fn new(alloc: Global, net: &Network) -> Result<SeatsSold, AllocError>
         ensures { IfOk result (λ sold. sold ≡ seats_sold (inventory_of net.now) []) }
     {
+        let mut by_product = IndexMap::new(alloc);
         let mut by_leg = Vec::new(alloc);
         for leg in 0..net.leg_count() as u8 {
+            by_product.insert(leg, unsold(alloc, net, leg)?)?;
             by_leg.push(0)?;
         }
-        Ok(SeatsSold { by_leg })
+        Ok(SeatsSold { by_product, by_leg })
     }
 
     /// The seats sold on a leg.
@@ -44,39 +52,74 @@ impl SeatsSold {
         self.by_leg[leg as usize]
     }
 
-    /// Sells a party on each of these legs. It takes no memory.
-    pub fn sell(&mut self, legs: &[u8], party: u16)
+    /// The seats sold of a product on one of its legs.
+    pub fn of(&self, leg: u8, product: u16) -> u16
+        requires { HasPair self.now.by_product leg product }
+        ensures { result ≡ count_in self.now.by_product leg product }
+    {
+        self.by_product[&leg][&product]
+    }
+
+    /// The products of a leg in file order, each with its seats sold.
+    pub fn on_leg(&self, leg: u8) -> &IndexMap<u16, u16>
+        requires { IsSome (lookup (nat_eq leg) self.now.by_product) }
+        ensures { result.now.entries ≡ pairs_on self.now.by_product leg }
+    {
+        &self.by_product[&leg]
+    }
+
+    /// Sells a party of a product on each of these legs. It takes no memory.
+    pub fn sell(&mut self, legs: &[u8], product: u16, party: u16)
         requires distinct { AllPairs (λ a b. a ≢ b) legs.now }
-        requires fits { All (λ leg. CanRise self.old leg party) legs.now }
-        ensures { self.new ≡ changed (λ sold. sold + party) self.old legs.now }
+        requires fits { All (λ leg. CanRise self.old leg product party) legs.now }
+        ensures { self.new ≡ changed (λ sold. sold + party) self.old legs.now product }
     {
         for leg in legs {
-            self.sell_on(*leg, party);
+            self.sell_on(*leg, product, party);
         }
     }
 
-    /// Gives a party back on each of these legs.
-    pub fn give_back(&mut self, legs: &[u8], party: u16)
+    /// Gives a party of a product back on each of these legs.
+    pub fn give_back(&mut self, legs: &[u8], product: u16, party: u16)
         requires distinct { AllPairs (λ a b. a ≢ b) legs.now }
-        requires sold { All (λ leg. CanFall self.old leg party) legs.now }
-        ensures { self.new ≡ changed (λ sold. sold - party) self.old legs.now }
+        requires sold { All (λ leg. CanFall self.old leg product party) legs.now }
+        ensures { self.new ≡ changed (λ sold. sold - party) self.old legs.now product }
     {
         for leg in legs {
-            self.give_back_on(*leg, party);
+            self.give_back_on(*leg, product, party);
         }
     }
 
-    fn sell_on(&mut self, leg: u8, party: u16)
-        requires { CanRise self.old leg party }
-        ensures { self.new ≡ changed_on (λ sold. sold + party) self.old leg }
+    fn sell_on(&mut self, leg: u8, product: u16, party: u16)
+        requires { CanRise self.old leg product party }
+        ensures { self.new ≡ changed_on (λ sold. sold + party) self.old leg product }
     {
+        let products = self.by_product.get_mut(&leg).unwrap();
+        let sold = products.get_mut(&product).unwrap();
+        *sold += party;
         self.by_leg[leg as usize] += party;
     }
 
-    fn give_back_on(&mut self, leg: u8, party: u16)
-        requires { CanFall self.old leg party }
-        ensures { self.new ≡ changed_on (λ sold. sold - party) self.old leg }
+    fn give_back_on(&mut self, leg: u8, product: u16, party: u16)
+        requires { CanFall self.old leg product party }
+        ensures { self.new ≡ changed_on (λ sold. sold - party) self.old leg product }
     {
+        let products = self.by_product.get_mut(&leg).unwrap();
+        let sold = products.get_mut(&product).unwrap();
+        *sold -= party;
         self.by_leg[leg as usize] -= party;
     }
+}
+
+// The products of a leg in file order, none sold.
+fn unsold(alloc: Global, net: &Network, leg: u8) -> Result<IndexMap<u16, u16>, AllocError>
+    ensures { IfOk result (λ products. products.entries ≡ pairs_sold (inventory_of net.now) [] leg) }
+{
+    let mut products = IndexMap::new(alloc);
+    for product in 0..net.product_count() as u16 {
+        if net.uses_leg(product, leg) {
+            products.insert(product, 0)?;
+        }
+    }
+    Ok(products)
 }

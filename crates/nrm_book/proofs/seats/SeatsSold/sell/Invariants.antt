@@ -4,4 +4,4 @@ use Rattle.nrm_book.proofs.Counted.{Changes, rise-apart}
 use Rattle.nrm_book.proofs.seats.SeatsSold.sell.Given as goal
 
 abbrev pub invariant-loop-leg : goal.invariant-loop-leg
-invariant-loop-leg l = Changes (λ sold. sold + l.party) (λ seats i. CanRise seats i l.party) (rise-apart l.party) l.initial.self l.self l.legs l.leg-index
+invariant-loop-leg l = Changes (λ sold. sold + l.party) (λ seats i. CanRise seats i l.product l.party) l.product (rise-apart l.product l.party) l.initial.self l.self l.legs l.leg-index
