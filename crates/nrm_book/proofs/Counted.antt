@@ -58,8 +58,8 @@ module _ (change : ℕ → ℕ) (Can : SeatsValue → ℕ → Type 0) (j : ℕ) 
     to_come = λ m low high. can m 0 high;
   }
 
-  pub one-more : (seats now next : SeatsValue) (legs : List ℕ) (k : ℕ) → AllPairs (λ a b. a ≢ b) legs → k < length legs → Changes seats now legs k → next ≡ changed_on change now (get_or legs k 0) j → Changes seats next legs (k + 1)
-  one-more seats now next legs k distinct short so_far is = record {
+  pub one_more : (seats now next : SeatsValue) (legs : List ℕ) (k : ℕ) → AllPairs (λ a b. a ≢ b) legs → k < length legs → Changes seats now legs k → next ≡ changed_on change now (get_or legs k 0) j → Changes seats next legs (k + 1)
+  one_more seats now next legs k distinct short so_far is = record {
     done = is ∙ ap (λ (s : SeatsValue). changed_on change s (get_or legs k 0) j) so_far.done ∙ sym (fold_more (λ (seats : SeatsValue) (i : ℕ). changed_on change seats i j) seats legs k 0 short);
     to_come = λ m low high.
         let other : get_or legs m 0 ≢ get_or legs k 0 = λ same. distinct k m 0 (omega arith) high (sym same) in

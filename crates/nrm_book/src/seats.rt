@@ -1,8 +1,8 @@
 //! The seats sold, counted: for each leg its products in file order, each with its seats sold, and the sum of the leg.
 //! All pairs are there from the start, so that a sale and a cancellation change counts and take no memory. They change
 //! those of the product's own legs.
-ghost use Rattle.std.specs.Prelude.{◌≡◌, ◌≢◌, ◌+◌, ◌-◌, ◌<◌, [], All, AllPairs, IfOk, IsSome, length, nat_eq, slice_index};
-ghost use Rattle.std.specs.Map.{lookup};
+ghost use Rattle.std.specs.Prelude.{◌≡◌, ◌≢◌, ◌+◌, ◌-◌, ◌<◌, ◌≤◌, [], All, AllPairs, IfOk, IsSome, length, nat_eq, slice_index, unwrap_or};
+ghost use Rattle.std.specs.Map.{lookup, set_value};
 ghost use Rattle.nrm_model.specs.Inventory.{inventory_of};
 ghost use Rattle.nrm_book.specs.Seats.{CanFall, CanRise, HasPair, changed, changed_on, count_in, pairs_on, pairs_sold, seats_sold};
 
@@ -94,9 +94,7 @@ impl SeatsSold {
         requires { CanRise self.old leg product party }
         ensures { self.new ≡ changed_on (λ sold. sold + party) self.old leg product }
     {
-        let products = self.by_product.get_mut(&leg).unwrap();
-        let sold = products.get_mut(&product).unwrap();
-        *sold += party;
+        rise(self.by_product.get_mut(&leg).unwrap(), product, party);
         self.by_leg[leg as usize] += party;
     }
 
@@ -104,9 +102,7 @@ impl SeatsSold {
         requires { CanFall self.old leg product party }
         ensures { self.new ≡ changed_on (λ sold. sold - party) self.old leg product }
     {
-        let products = self.by_product.get_mut(&leg).unwrap();
-        let sold = products.get_mut(&product).unwrap();
-        *sold -= party;
+        fall(self.by_product.get_mut(&leg).unwrap(), product, party);
         self.by_leg[leg as usize] -= party;
     }
 }
@@ -122,4 +118,24 @@ fn unsold(alloc: Global, net: &Network, leg: u8) -> Result<IndexMap<u16, u16>, A
         }
     }
     Ok(products)
+}
+
+// A party more of a product among those of a leg.
+fn rise(products: &mut IndexMap<u16, u16>, product: u16, party: u16)
+    requires there { IsSome (lookup (nat_eq product) products.old.entries) }
+    requires fits { unwrap_or (lookup (nat_eq product) products.old.entries) 0 + party < 65536 }
+    ensures { products.new.entries ≡ set_value (nat_eq product) products.old.entries (unwrap_or (lookup (nat_eq product) products.old.entries) 0 + party) }
+{
+    let sold = products.get_mut(&product).unwrap();
+    *sold += party;
+}
+
+// A party less of a product among those of a leg.
+fn fall(products: &mut IndexMap<u16, u16>, product: u16, party: u16)
+    requires there { IsSome (lookup (nat_eq product) products.old.entries) }
+    requires sold { party ≤ unwrap_or (lookup (nat_eq product) products.old.entries) 0 }
+    ensures { products.new.entries ≡ set_value (nat_eq product) products.old.entries (unwrap_or (lookup (nat_eq product) products.old.entries) 0 - party) }
+{
+    let sold = products.get_mut(&product).unwrap();
+    *sold -= party;
 }

@@ -1,6 +1,6 @@
 use Rattle.std.proofs.Common.{◌-◌, arith}
 use Rattle.nrm_book.specs.Seats.{CanFall}
-use Rattle.nrm_book.proofs.Counted.{all-done, none-yet, one-more, fall-apart}
+use Rattle.nrm_book.proofs.Counted.{all-done, none-yet, one_more, fall-apart}
 use Rattle.nrm_book.proofs.seats.SeatsSold.give_back.Goals as goal
 
 pub loop-leg-init : goal.loop-leg-init
@@ -11,7 +11,7 @@ give_back_on-requires c = c.loop-leg.invariant.to_come c.loop-leg.leg-index (ome
 
 pub loop-leg-preserved : goal.loop-leg-preserved
 loop-leg-preserved c =
-    one-more (λ sold. sold - c.args.party) (λ seats i. CanFall seats i c.args.product c.args.party) c.args.product (fall-apart c.args.product c.args.party) c.args.self.now c.loop-leg.self c.give_back_on.new.self c.args.legs.now c.loop-leg.leg-index
+    one_more (λ sold. sold - c.args.party) (λ seats i. CanFall seats i c.args.product c.args.party) c.args.product (fall-apart c.args.product c.args.party) c.args.self.now c.loop-leg.self c.give_back_on.new.self c.args.legs.now c.loop-leg.leg-index
     c.requires.distinct c.loop-leg-test.true c.loop-leg.invariant c.give_back_on.ensures
 
 pub returns : goal.returns
