@@ -1,5 +1,5 @@
 -- A booking that comes or goes, and the counts of the seats sold.
-use Rattle.std.proofs.Common.{ℕ, ◌≡◌, ◌≢◌, ◌∙◌, ◌+◌, ◌-◌, ◌<◌, ◌≤◌, All, AllPairs, true, false, cond, eqb, nat_eq, is_some, IsSome, Option, unwrap_or, List, [], ◌∷◌, ◌++◌, length, get_or, map, sum_by, Vec, refl, sym, ap, subst, zero-add, arith}
+use Rattle.std.proofs.Common.{ℕ, ◌≡◌, ◌≢◌, ◌∙◌, ◌+◌, ◌-◌, ◌<◌, ◌≤◌, All, AllPairs, true, false, cond, eqb, nat_eq, is_some, IsSome, Option, slice_get, unwrap_or, List, [], ◌∷◌, ◌++◌, length, get_or, map, sum_by, Vec, refl, sym, ap, subst, zero-add, arith}
 use Rattle.std.specs.List.{remove, slice_index}
 use Rattle.std.specs.declared.alloc.Global.{Global}
 use Rattle.std.proofs.lemmas.List.{get_or-map, length-map}
@@ -20,11 +20,9 @@ use Rattle.std.proofs.lemmas.Bool.Decides.{nat_tests}
 use Rattle.nrm_book.proofs.Sold.{AreProducts, taken_on, sold_on-by_booking, sold_on-push, uses-each}
 
 -- the legs of a product, as they were read
-pub legs-read : (book : BookValue) (legs : List (Vec ℕ Global)) (product : ℕ) (v : Vec ℕ Global) (read : List ℕ) → IsBook book → map (λ (v : Vec ℕ Global). v.items) legs ≡ book.inventory.legs → product < length book.inventory.legs
-    → v ≡ get_or legs product v → read ≡ v.items → read ≡ legs_of book.inventory product
-legs-read book legs product v read _ are short at is =
-    let low : product < length legs = omega (arith, ap length are, length-map legs (λ (v : Vec ℕ Global). v.items)) in
-    is ∙ ap (λ (v : Vec ℕ Global). v.items) at ∙ sym (get_or-map (λ (v : Vec ℕ Global). v.items) legs product v [] low) ∙ ap (λ (xs : List (List ℕ)). get_or xs product []) are ∙ sym (unwrap_or-slice_get book.inventory.legs product [])
+pub legs-read : (legs : List (Vec ℕ Global)) (read : List ℕ) (product : ℕ) {own : List (Vec ℕ Global)} → legs ≡ own → read ≡ unwrap_or (slice_get (map (λ (v : Vec ℕ Global). v.items) legs) product) []
+    → read ≡ unwrap_or (slice_get (map (λ (v : Vec ℕ Global). v.items) own) product) []
+legs-read legs read product are is = is ∙ ap (λ (legs : List (Vec ℕ Global)). unwrap_or (slice_get (map (λ (v : Vec ℕ Global). v.items) legs) product) []) are
 
 -- a fact of each product's legs
 pub of-legs : (inventory : Inventory) (P : List ℕ → Type 0) (product : ℕ) → All P inventory.legs → product < length inventory.legs → P (legs_of inventory product)

@@ -1,7 +1,7 @@
 //! The book: a plain list of bookings by rising number, with the seats, the fares and the leg lists of its network, and
 //! beside it counters that are always what the list sums to: the seats sold and the revenue. Its room is reserved when it
 //! is made, for as many bookings as there are seats in all (a live booking holds one or more): no later call takes memory.
-ghost use Rattle.std.specs.Prelude.{◌≡◌, ◌+◌, ◌*◌, ◌<◌, ◌≤◌, ◌==◌, [], All, IfNone, IfOk, IfSome, length, map, position, slice_index, sum, true};
+ghost use Rattle.std.specs.Prelude.{◌≡◌, ◌+◌, ◌*◌, ◌<◌, ◌≤◌, ◌==◌, [], All, IfNone, IfOk, IfSome, length, map, position, slice_get, slice_index, sum, true, unwrap_or};
 ghost use Rattle.std.specs.Int.{IsInRange};
 ghost use Rattle.nrm_model.specs.Inventory.{inventory_of, legs_of, products_on, seats_of, uses_leg};
 ghost use Rattle.nrm_book.specs.Bookings.{booking_numbered, left_on, revenue_of, sold_of, sold_on, without};
@@ -142,7 +142,7 @@ impl Book {
         };
         self.bookings.push_reserved(booking);
         self.next = number + 1;
-        self.sold.sell(&self.legs[product as usize], product, party);
+        self.sold.sell(legs_of(&self.legs, product), product, party);
         self.revenue += worth(&self.fares, &booking);
         number
     }
@@ -159,7 +159,7 @@ impl Book {
         let place = self.place_of(number)?;
         let booking = self.bookings.remove(place);
         self.sold.give_back(
-            &self.legs[booking.product as usize],
+            legs_of(&self.legs, booking.product),
             booking.product,
             booking.party,
         );
@@ -208,6 +208,14 @@ fn legs_of_products(alloc: Global, net: &Network) -> Result<Vec<Vec<u8>>, AllocE
         legs.push(Vec::from_slice(alloc, net.product_at(j).legs.as_slice())?)?;
     }
     Ok(legs)
+}
+
+// The legs of a product.
+fn legs_of(legs: &[Vec<u8>], product: u16) -> &[u8]
+    requires { product < length legs.now }
+    ensures { result.now ≡ unwrap_or (slice_get (map (λ v. v.items) legs.now) product) [] }
+{
+    &legs[product as usize]
 }
 
 // What a booking is worth.

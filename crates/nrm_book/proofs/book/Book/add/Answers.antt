@@ -17,8 +17,8 @@ invariant_of-self c = record {
   distinct = c.self.invariant.distinct;
   seats =
       let short = subst (λ (book : BookValue). c.args.product < length book.inventory.legs) (sym c.self.view_is) c.requires.product in
-      let legs = legs-read _ c.self.inside.legs.items c.args.product c.index.result.now c.deref.result.now c.self.invariant.kept refl short c.index.ensures c.deref.ensures.value in
-      sold-next _ c.self.inside.sold c.sell.new.self c.args.product c.args.party c.deref.result.now _ c.self.invariant.kept c.self.invariant.seats c.self.invariant.distinct short legs c.sell.ensures c.push_reserved.ensures.items;
+      let legs = legs-read c.deref.result.now c.legs_of.result.now c.args.product c.deref.ensures.value c.legs_of.ensures in
+      sold-next _ c.self.inside.sold c.sell.new.self c.args.product c.args.party c.legs_of.result.now _ c.self.invariant.kept c.self.invariant.seats c.self.invariant.distinct short legs c.sell.ensures c.push_reserved.ensures.items;
   room = omega (arith, c.self.invariant.room, c.push_reserved.ensures.capacity);
   worth = revenue-more _ _ _ _ _ _ c.self.invariant.kept c.self.invariant.worth c.push_reserved.ensures.items c.deref-2.ensures.value c.worth.ensures;
 }
@@ -36,6 +36,6 @@ returns-clause-kept c = (invariant_of-self c).kept
 pub sell-requires : goal.sell-requires
 sell-requires c =
     let short = subst (λ (book : BookValue). c.args.product < length book.inventory.legs) (sym c.self.view_is) c.requires.product in
-    let legs = legs-read _ c.self.inside.legs.items c.args.product c.index.result.now c.deref.result.now c.self.invariant.kept refl short c.index.ensures c.deref.ensures.value in
-    let can = can-sell _ c.self.inside.sold c.args.product c.args.party c.deref.result.now c.self.invariant.kept c.self.invariant.seats c.self.invariant.distinct short legs c.requires.party.1 in
+    let legs = legs-read c.deref.result.now c.legs_of.result.now c.args.product c.deref.ensures.value c.legs_of.ensures in
+    let can = can-sell _ c.self.inside.sold c.args.product c.args.party c.legs_of.result.now c.self.invariant.kept c.self.invariant.seats c.self.invariant.distinct short legs c.requires.party.1 in
     record { distinct = can.0; fits = can.1 }

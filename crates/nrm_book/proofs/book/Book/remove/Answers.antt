@@ -39,10 +39,9 @@ invariant_of-self c = record {
       let items = ap (λ (book : BookValue). book.bookings) c.self.view_is in
       let placed = (position-Some (λ (booking : Booking). booking.number == c.args.number) c.args.self.now.bookings c.in_ok-place.place c.remove-booking.result (sym c.in_ok-place.ensures)).0 in
       let at : c.in_ok-place.place < length c.self.inside.bookings.items = omega (arith, ap length items) in
-      let short = subst (λ (booking : Booking). booking.product < length c.self.inside.legs.items) (sym c.remove-booking.ensures.value) (omega (arith, c.self.invariant.kept.products c.in_ok-place.place c.remove-booking.result at, length-map c.self.inside.legs.items (λ (v : Vec ℕ Global). v.items))) in
-      let own = legs-read _ c.self.inside.legs.items c.remove-booking.result.product c.index.result.now c.deref.result.now c.self.invariant.kept refl (omega (arith, short, length-map c.self.inside.legs.items (λ (v : Vec ℕ Global). v.items))) c.index.ensures c.deref.ensures.value in
+      let own = legs-read c.deref.result.now c.legs_of.result.now c.remove-booking.result.product c.deref.ensures.value c.legs_of.ensures in
       let left = (IsBook-removed _ c.args.self.now c.args.number c.in_ok-place.place _ c.self.view_is c.self.invariant.kept (sym c.in_ok-place.ensures) c.remove-booking.ensures.items).products in
-      given_back-next _ c.self.inside.sold c.in_ok-place.place c.remove-booking.result c.deref.result.now _ c.self.invariant.kept c.self.invariant.seats c.self.invariant.distinct at c.remove-booking.ensures.value own c.remove-booking.ensures.items left c.give_back.new.self c.give_back.ensures;
+      given_back-next _ c.self.inside.sold c.in_ok-place.place c.remove-booking.result c.legs_of.result.now _ c.self.invariant.kept c.self.invariant.seats c.self.invariant.distinct at c.remove-booking.ensures.value own c.remove-booking.ensures.items left c.give_back.new.self c.give_back.ensures;
   room = omega (arith, c.self.invariant.room, c.remove-booking.ensures.capacity);
   worth =
       let items = ap (λ (book : BookValue). book.bookings) c.self.view_is in
@@ -66,8 +65,7 @@ give_back-requires c =
     let items = ap (λ (book : BookValue). book.bookings) c.self.view_is in
     let placed = (position-Some (λ (booking : Booking). booking.number == c.args.number) c.args.self.now.bookings c.in_ok-place.place c.remove-booking.result (sym c.in_ok-place.ensures)).0 in
     let at : c.in_ok-place.place < length c.self.inside.bookings.items = omega (arith, ap length items) in
-    let short = subst (λ (booking : Booking). booking.product < length c.self.inside.legs.items) (sym c.remove-booking.ensures.value) (omega (arith, c.self.invariant.kept.products c.in_ok-place.place c.remove-booking.result at, length-map c.self.inside.legs.items (λ (v : Vec ℕ Global). v.items))) in
-    let own = legs-read _ c.self.inside.legs.items c.remove-booking.result.product c.index.result.now c.deref.result.now c.self.invariant.kept refl (omega (arith, short, length-map c.self.inside.legs.items (λ (v : Vec ℕ Global). v.items))) c.index.ensures c.deref.ensures.value in
+    let own = legs-read c.deref.result.now c.legs_of.result.now c.remove-booking.result.product c.deref.ensures.value c.legs_of.ensures in
     let left = (IsBook-removed _ c.args.self.now c.args.number c.in_ok-place.place _ c.self.view_is c.self.invariant.kept (sym c.in_ok-place.ensures) c.remove-booking.ensures.items).products in
-    let can = can-give_back _ c.self.inside.sold c.in_ok-place.place c.remove-booking.result c.deref.result.now _ c.self.invariant.kept c.self.invariant.seats c.self.invariant.distinct at c.remove-booking.ensures.value own c.remove-booking.ensures.items left in
+    let can = can-give_back _ c.self.inside.sold c.in_ok-place.place c.remove-booking.result c.legs_of.result.now _ c.self.invariant.kept c.self.invariant.seats c.self.invariant.distinct at c.remove-booking.ensures.value own c.remove-booking.ensures.items left in
     record { distinct = can.0; sold = can.1 }
