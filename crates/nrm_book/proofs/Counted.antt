@@ -15,7 +15,7 @@ use Rattle.nrm_book.specs.declared.booking.Booking.{Booking}
 use Rattle.nrm_book.specs.Bookings.{sold_of, sold_on}
 use Rattle.nrm_book.proofs.Pairs.{pairs, lookup-kept, lookup-other, lookup-range, pairs-apart, range-rises, set-pairs}
 use Rattle.nrm_book.proofs.Sums.{sum-zero}
-use Rattle.nrm_book.specs.Seats.{PairsValue, SeatsValue, CanFall, CanRise, HasPair, changed, changed_on, count_in, pairs_on, pairs_sold, seats_sold}
+use Rattle.nrm_book.specs.Seats.{SeatsValue, CanFall, CanRise, changed, changed_on, count_in, pairs_on, pairs_sold, seats_sold}
 
 -- ---- leg by leg
 pub rise-apart : (j party : ℕ) (seats : SeatsValue) (i other : ℕ) → other ≢ i → CanRise seats other j party → CanRise (changed_on (λ sold. sold + party) seats i j) other j party

@@ -2,7 +2,6 @@
 use Rattle.std.proofs.Common.{ℕ, ◌≡◌, ◌≢◌, ◌∙◌, ◌+◌, ◌-◌, ◌<◌, ◌≤◌, All, AllPairs, true, false, cond, eqb, nat_eq, is_some, IsSome, Option, slice_get, unwrap_or, List, [], ◌∷◌, ◌++◌, length, get_or, map, sum_by, Vec, refl, sym, ap, subst, zero-add, arith}
 use Rattle.std.specs.List.{remove, slice_index}
 use Rattle.std.specs.declared.alloc.Global.{Global}
-use Rattle.std.proofs.lemmas.List.{get_or-map, length-map}
 use Rattle.std.proofs.lemmas.List.FromFn.{get_or-map-range_with_len, length-map-range_with_len}
 use Rattle.std.proofs.lemmas.List.Sums.{sum_by-remove, sum_by_push}
 use Rattle.std.proofs.lemmas.Option.{unwrap_or-slice_get}

@@ -1,17 +1,17 @@
 -- Pairs of a key and what it stands for, in maps in order: what a look-up finds, and what a write leaves.
-use Rattle.std.proofs.Common.{ℕ, zero, suc, ◌≡◌, ◌≢◌, ◌∙◌, ◌+◌, ◌<◌, ◌≤◌, All, AllPairs, Bool, true, false, cond, nat_eq, List, [], ◌∷◌, ◌++◌, length, get_or, map, filter, Option, Some, None, IsSome, is_some, option_map, inl, inr, refl, sym, ap, subst, arith, ne_eqb, eq-eqb}
+use Rattle.std.proofs.Common.{ℕ, zero, suc, ◌≡◌, ◌≢◌, ◌∙◌, ◌+◌, ◌<◌, ◌≤◌, All, AllPairs, Bool, true, false, cond, nat_eq, List, [], ◌∷◌, ◌++◌, get_or, map, filter, Option, Some, None, IsSome, option_map, inl, inr, refl, sym, ap, subst, arith, ne_eqb, eq-eqb}
 use Rattle.std.specs.List.{range_with_len}
 use Rattle.std.specs.Map.{lookup, set_value}
 use Rattle.std.specs.Borrow.{MutBor}
 use Rattle.std.specs.Option.{option_copied_mut, unwrap_or}
 use Rattle.std.proofs.lemmas.Bool.{cases_Bool, cases_lt, eqb-true}
-use Rattle.std.proofs.lemmas.List.{append-nil, length-map, map-append, map-id}
+use Rattle.std.proofs.lemmas.List.{append-nil, map-append, map-id}
 use Rattle.std.proofs.lemmas.List.Elements.{All-head, All-tail, All-filter, filter-append}
 use Rattle.std.proofs.lemmas.List.FromFn.{length-range_with_len, get_or-range_with_len, map-range_with_len_more}
 use Rattle.std.proofs.lemmas.Map.Made.{lookup-map_values}
 use Rattle.indexmap.specs.IndexMap.{IndexMap, insert_entry}
 use Rattle.indexmap.proofs.CallerLemmas.{insert_entry-new}
-use Rattle.nrm_book.specs.Seats.{PairsValue, HasPair, count_in, pairs_on}
+use Rattle.nrm_book.specs.Seats.{PairsValue, count_in, pairs_on}
 
 -- ---- pairs of a list of keys
 module _ {X : Type 0} (f : ℕ → X) where

@@ -1,4 +1,4 @@
-use Rattle.std.proofs.Common.{ℕ, ◌∙◌, [], refl, sym, ap}
+use Rattle.std.proofs.Common.{◌∙◌, [], refl, sym, ap}
 use Rattle.nrm_model.specs.Inventory.{inventory_of, uses_leg}
 use Rattle.nrm_book.specs.Bookings.{sold_of}
 use Rattle.nrm_book.proofs.Pairs.{kept-no, kept-yes}

@@ -1,4 +1,4 @@
-use Rattle.std.proofs.Common.{◌<◌, length, refl, sym, subst, arith}
+use Rattle.std.proofs.Common.{◌<◌, length, sym, subst, arith}
 use Rattle.nrm_book.specs.Book.{BookValue}
 use Rattle.nrm_book.proofs.Moved.{can-sell, legs-read, sold-next}
 use Rattle.nrm_book.proofs.Kept.{IsBook-sold, room-left}

@@ -1,11 +1,9 @@
-use Rattle.std.proofs.Common.{ℕ, Vec, refl, ◌≡◌, ◌==◌, ◌∙◌, ◌<◌, List, length, get_or, sym, ap, subst, arith}
+use Rattle.std.proofs.Common.{◌≡◌, ◌==◌, ◌∙◌, ◌<◌, List, length, get_or, sym, ap, subst, arith}
 use Rattle.std.specs.List.{remove}
 use Rattle.std.proofs.lemmas.List.Quantifiers.{position-Some}
 use Rattle.nrm_book.specs.declared.booking.Booking.{Booking}
 use Rattle.nrm_book.specs.Book.{BookValue, IsBook}
 use Rattle.nrm_book.proofs.Kept.{IsBook-removed, absent-is, found-is, removed-is}
-use Rattle.std.specs.declared.alloc.Global.{Global}
-use Rattle.std.proofs.lemmas.List.{length-map}
 use Rattle.nrm_book.proofs.Moved.{can-give_back, given_back-next, legs-read}
 use Rattle.nrm_book.proofs.Totals.{revenue-less}
 use Rattle.nrm_book.proofs.book.Book.remove.Goals as goal

@@ -1,4 +1,4 @@
-use Rattle.std.proofs.Common.{ℕ, ◌≡◌, ◌∙◌, ◌+◌, List, IsSome, nat_eq, slice_set, unwrap_or, sym, ap, subst, arith}
+use Rattle.std.proofs.Common.{ℕ, ◌∙◌, ◌+◌, List, IsSome, nat_eq, slice_set, unwrap_or, sym, ap, subst, arith}
 use Rattle.std.specs.Map.{lookup, set_value}
 use Rattle.std.specs.Option.{option_copied_mut}
 use Rattle.nrm_book.specs.Seats.{SeatsValue, pairs_on}
