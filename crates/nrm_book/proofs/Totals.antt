@@ -1,52 +1,21 @@
--- The running sums over the list: one more booking, their bounds, and their ends.
-use Rattle.std.proofs.Common.{ℕ, ◌≡◌, ◌∙◌, ◌+◌, ◌-◌, ◌*◌, ◌<◌, ◌≤◌, All, Bool, true, cond, eqb, List, [], ◌∷◌, ◌++◌, length, get_or, take, sum_by, inl, inr, sym, ap, subst, arith}
+-- The sums over the list: their bounds, and what one booking more and one less makes of the revenue.
+use Rattle.std.proofs.Common.{ℕ, ◌≡◌, ◌∙◌, ◌+◌, ◌-◌, ◌*◌, ◌<◌, ◌≤◌, All, true, cond, eqb, List, [], ◌∷◌, ◌++◌, length, get_or, sum_by, inl, inr, sym, ap, subst, arith}
 use Rattle.std.specs.List.{remove, slice_index}
-use Rattle.std.specs.Int.{IsInRange}
 use Rattle.std.proofs.Math.Nat.{mul-le-mul_left}
 use Rattle.std.proofs.lemmas.Bool.{cases_Bool, eqb-true}
-use Rattle.std.proofs.lemmas.List.{get_or_read, take_all}
-use Rattle.std.proofs.lemmas.List.Sums.{sum_by_more, sum_by_more_le, sum_by-le, sum_by-le-sum_by, sum_by_push, sum_by-remove}
+use Rattle.std.proofs.lemmas.List.{get_or_read}
+use Rattle.std.proofs.lemmas.List.Sums.{sum_by-le, sum_by-le-sum_by, sum_by_push, sum_by-remove}
 use Rattle.nrm_model.specs.Inventory.{Inventory, seats_of, fare_of, uses_leg}
 use Rattle.nrm_book.specs.declared.booking.Booking.{Booking}
 use Rattle.nrm_book.specs.Bookings.{sold_of, worth_of, revenue_of}
 use Rattle.nrm_book.specs.Book.{BookValue, IsBook}
-use Rattle.nrm_book.proofs.Sold.{no_booking, taken_on, sold_on-by_booking, count-le-seats}
+use Rattle.nrm_book.proofs.Sold.{taken_on, sold_on-by_booking, count-le-seats}
 
 -- the number that was read at a place, where the list has another name
 pub number-read : (xs ys : List ℕ) (i x : ℕ) → xs ≡ ys → i < length ys → x ≡ get_or xs i x → x ≡ get_or ys i 0
 number-read xs ys i x same short read =
     let here : x ≡ get_or ys i x = subst (λ (zs : List ℕ). x ≡ get_or zs i x) same read in
     get_or_read ys i x short here 0
-
--- a sum over the list with one booking more, and its bound
-pub sum-next : (f : Booking → ℕ) (items bookings : List Booking) (k : ℕ) → items ≡ bookings → k < length items
-    → (sum_by f (take (k + 1) bookings) ≡ sum_by f (take k bookings) + f (get_or items k no_booking))
-    × (sum_by f (take k bookings) + f (get_or items k no_booking) ≤ sum_by f bookings)
-sum-next f items bookings k same short =
-    let P : List Booking → Type 0 = λ bookings. (sum_by f (take (k + 1) bookings) ≡ sum_by f (take k bookings) + f (get_or items k no_booking))
-    × (sum_by f (take k bookings) + f (get_or items k no_booking) ≤ sum_by f bookings) in
-    subst P same (sum_by_more f items k no_booking short, sum_by_more_le f items k no_booking short)
-
--- the same of the parties of those bookings that pass a test
-pub party-next : (passes : Booking → Bool) (items bookings : List Booking) (k : ℕ) (test : Bool) → items ≡ bookings → k < length items → test ≡ passes (get_or items k no_booking)
-    → (sum_by (λ booking. cond (passes booking) booking.party 0) (take (k + 1) bookings) ≡ sum_by (λ booking. cond (passes booking) booking.party 0) (take k bookings) + cond test (get_or items k no_booking).party 0)
-    × (sum_by (λ booking. cond (passes booking) booking.party 0) (take k bookings) + cond test (get_or items k no_booking).party 0 ≤ sum_by (λ booking. cond (passes booking) booking.party 0) bookings)
-party-next passes items bookings k test same short is =
-    let P : Bool → Type 0 = λ test. (sum_by (λ booking. cond (passes booking) booking.party 0) (take (k + 1) bookings) ≡ sum_by (λ booking. cond (passes booking) booking.party 0) (take k bookings) + cond test (get_or items k no_booking).party 0)
-    × (sum_by (λ booking. cond (passes booking) booking.party 0) (take k bookings) + cond test (get_or items k no_booking).party 0 ≤ sum_by (λ booking. cond (passes booking) booking.party 0) bookings) in
-    subst P (sym is) (sum-next (λ booking. cond (passes booking) booking.party 0) items bookings k same short)
-
-pub sum-end : (f : Booking → ℕ) (items bookings : List Booking) (k : ℕ) → items ≡ bookings → length items ≤ k → sum_by f (take k bookings) ≡ sum_by f bookings
-sum-end f items bookings k same all =
-    let few : length bookings ≤ k = omega (arith, ap length same) in
-    ap (sum_by f) (take_all k bookings few)
-
--- a booking that was read is of a product of the inventory, and its party is within its range
-pub booking-within : (book : BookValue) (items : List Booking) (k : ℕ) → IsBook book → items ≡ book.bookings → k < length items
-    → ((get_or items k no_booking).product < length book.inventory.legs) × IsInRange 1 999 (get_or items k no_booking).party
-booking-within book items k is same short =
-    let P : List Booking → Type 0 = λ items. k < length items → ((get_or items k no_booking).product < length book.inventory.legs) × IsInRange 1 999 (get_or items k no_booking).party in
-    subst P (sym same) (λ short. (is.products k no_booking short, is.parties k no_booking short)) short
 
 -- the seats sold on a leg are no more than it has
 pub taken-within : (book : BookValue) (leg : ℕ) → IsBook book → leg < length book.inventory.seats → sum_by (taken_on book.inventory leg) book.bookings ≤ seats_of book.inventory leg
