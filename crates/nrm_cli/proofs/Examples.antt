@@ -35,10 +35,10 @@ two_legs_file = codes "periods,1,1\nleg,AB,3\nleg,BC,2\nproduct,THRU,500,AB,BC\n
 
 -- the opening plan of first come, first served
 abbrev first : PlanValue
-first = record { mode = mode.FirstCome; period = 1; left = 3 ∷ 2 ∷ []; certificate = None }
+first = record { mode = mode.FirstCome; period = 1; left = 3 ∷ 2 ∷ []; certificate = None; nests = None }
 
 first_planned : IsOpeningPlan two_legs mode.FirstCome first
-first_planned = record { mode_is = refl; left_is = refl; period_is = refl; planned = record { left = record { legs = refl; seats = λ i short. within i short }; certificate = refl } }
+first_planned = record { mode_is = refl; left_is = refl; period_is = refl; planned = record { left = record { legs = refl; seats = λ i short. within i short }; certificate = refl; nests = refl } }
   where
     within : (i : ℕ) → i < 2 → get_or (3 ∷ 2 ∷ []) i 0 ≤ (leg_of two_legs i).seats
     within zero short = omega arith
@@ -140,7 +140,10 @@ words_of_no_plan = refl
 plan_without_a_mode : job_of (codes "plan" ∷ codes "F" ∷ []) ≡ None
 plan_without_a_mode = refl
 
-other_mode : job_of (codes "run" ∷ codes "davn" ∷ codes "F" ∷ []) ≡ None
+words_of_a_run_by_nests : job_of (codes "run" ∷ codes "davn" ∷ codes "F" ∷ []) ≡ Some (run_file mode.Davn (codes "F"))
+words_of_a_run_by_nests = refl
+
+other_mode : job_of (codes "run" ∷ codes "fast" ∷ codes "F" ∷ []) ≡ None
 other_mode = refl
 
 -- ---- the line of a program that is Large, with a sign before a negative number

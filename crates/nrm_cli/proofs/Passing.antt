@@ -20,7 +20,7 @@ use Rattle.nrm_network.specs.File.{file_of}
 use Rattle.nrm_network.specs.declared.fault.Why.{Why}
 use Rattle.nrm_network.proofs.ReadNetwork.{read-is-network}
 use Rattle.nrm_plan.specs.Plans.{HasCertificate, IsOpeningPlan, IsSolved, PlanValue}
-use Rattle.nrm_report.specs.Texts.{plan_text, text_of_certificate}
+use Rattle.nrm_report.specs.Texts.{plan_text, text_of_plan}
 use Rattle.nrm_opening.specs.Outside.{Outside}
 use Rattle.nrm_opening.specs.Refusals.{Refusal, network_in, network_under}
 use Rattle.nrm_cli.specs.Certificates.{certificate_under, verdict_line}
@@ -64,7 +64,7 @@ module _ (net : NetworkValue) (plan : PlanValue) (is : IsOpeningPlan net mode.Bi
   text-passes limits =
       let (c, has, (n, t, closes, made)) = closing-of plan.certificate solved in
       let (reads, passes) = own-passes net limits n t closes in
-      let text : plan_text net plan ≡ certificate_text net (certificate (opening_program net) t) = ap (text_of_certificate net) has ∙ ap (certificate_text net) made in
+      let text : plan_text net plan ≡ certificate_text net (certificate (opening_program net) t) = (λ n. text_of_plan net (is.mode_is n) plan.period (has n)) ∙ ap (certificate_text net) made in
       (certificate (opening_program net) t, ap (λ bytes. certificate_under net (Some bytes)) text ∙ reads, passes)
 
 -- what a call with `plan bid FILE` wrote is the text of the network's opening plan

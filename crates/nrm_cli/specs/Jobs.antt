@@ -27,9 +27,13 @@ mode_of_job (plan_file m file) = Some m
 mode_of_job (check_file file certificate) = None
 mode_of_job (print_file file) = None
 
--- the mode of a word, of those that are built
+-- the mode of a word
 abbrev pub mode_of : List ℕ → Option Mode
-mode_of word = if bytes_eq word (codes "first") then Some mode.FirstCome else if bytes_eq word (codes "bid") then Some mode.Bid else None
+mode_of word =
+    if bytes_eq word (codes "first") then Some mode.FirstCome
+    else if bytes_eq word (codes "bid") then Some mode.Bid
+    else if bytes_eq word (codes "davn") then Some mode.Davn
+    else None
 
 -- `run MODE FILE`, `plan MODE FILE`, `check FILE CERT` and `print FILE`; all other words ask for nothing that is built
 abbrev pub job_of : List (List ℕ) → Option Job

@@ -1,6 +1,5 @@
 //! Serves the stream: the controller of a network file answers each line.
-ghost use Rattle.std.specs.Prelude.{◌≡◌, ◌≢◌, ◌≤◌, Some};
-ghost use Rattle.nrm_model.specs.declared.mode.Mode.TheVariants as modes;
+ghost use Rattle.std.specs.Prelude.{◌≤◌, Some};
 ghost use Rattle.nrm_opening.specs.Outside.{Goes, outside};
 ghost use Rattle.nrm_cli.specs.Ends.{Ends, Failures};
 ghost use Rattle.nrm_cli.specs.Jobs.{run_file as run_job};
@@ -52,7 +51,6 @@ pub(crate) fn run_file<F: Files, S: Source, K: Sink>(
     source: &mut S,
     sink: &mut K,
 ) -> Status
-    requires { mode ≢ modes.Davn }
     ensures ends { let at = outside F.contents F.faults S.coming S.faults K.held K.faults in
         Ends (Some (run_job mode name.now)) (at files.old source.old sink.old) (at files.new source.new sink.new) result }
     ensures failures { let at = outside F.contents F.faults S.coming S.faults K.held K.faults in

@@ -92,6 +92,18 @@ fn a_stream_is_answered_at_bid_prices(rt: HostRuntime) -> Result<(), Fail> {
     Ok(())
 }
 
+// No leg has a threshold, so nothing is protected.
+#[test]
+fn a_stream_is_answered_by_nests(rt: HostRuntime) -> Result<(), Fail> {
+    let (status, sink) = outcome(rt.alloc(), &["run", "davn", "F"])?;
+    assert_eq!(rt; status, Status::Done);
+    assert_eq!(rt;
+        sink.held(),
+        b"ok 1\nno BC\nok 2\nno AB\nunknown\n".as_slice()
+    );
+    Ok(())
+}
+
 #[test]
 fn a_plan_is_written(rt: HostRuntime) -> Result<(), Fail> {
     let (status, sink) = outcome(rt.alloc(), &["plan", "bid", "DEMANDED"])?;

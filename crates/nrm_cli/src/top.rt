@@ -1,11 +1,12 @@
 //! The top call.
-ghost use Rattle.std.specs.Prelude.{IfSome, map, option_map, string_bytes};
+ghost use Rattle.std.specs.Prelude.{map, option_map, string_bytes};
+ghost use Rattle.nrm_session.specs.Headline.{RequestsAreAnswered};
 ghost use Rattle.nrm_session.specs.Laws.{EachListHasARun, PlansAreKept, RepliesAreDetermined, SeatsAreKept, StatesAreDetermined};
 ghost use Rattle.nrm_opening.specs.Outside.{Goes, outside};
 ghost use Rattle.nrm_cli.specs.Ends.{Completes, Ends, Failures};
 ghost use Rattle.nrm_cli.specs.Jobs.{job_of};
 ghost use Rattle.nrm_cli.specs.Own.{OptimalCertificatesPass, OwnCertificatesPass, PlannedPasses};
-ghost use Rattle.nrm_cli.specs.Inner.Parts.{IsBuilt, job_in};
+ghost use Rattle.nrm_cli.specs.Inner.Parts.{job_in};
 
 use crate::Status;
 use crate::checked::check_file;
@@ -29,7 +30,6 @@ fn run_asked<F: Files, S: Source, K: Sink>(
     source: &mut S,
     sink: &mut K,
 ) -> Status
-    requires { IfSome asked IsBuilt }
     ensures ends { let at = outside F.contents F.faults S.coming S.faults K.held K.faults in
         Ends (option_map job_in asked.entry) (at files.old source.old sink.old) (at files.new source.new sink.new) result }
     ensures failures { let at = outside F.contents F.faults S.coming S.faults K.held K.faults in
@@ -50,7 +50,7 @@ fn run_asked<F: Files, S: Source, K: Sink>(
 
 /// Does what the words (without the program's own name) ask for: `run MODE FILE` answers the lines of the stream on the
 /// network of the file, `plan MODE FILE` writes its opening plan, `check FILE CERT` checks a certificate against the program
-/// of period 1 with every seat left, and `print FILE` writes a network's canonical form. MODE is `first` or `bid`. All other
+/// of period 1 with every seat left, and `print FILE` writes a network's canonical form. MODE is `first`, `bid` or `davn`. All other
 /// words get the usage line.
 ///
 /// `ends` says for each status what the words, the files, the stream and the written bytes were; `complete`, that good
@@ -58,8 +58,10 @@ fn run_asked<F: Files, S: Source, K: Sink>(
 /// whole output, an opening that is Large the line that says so, or else want of memory with nothing written; `failures`,
 /// that a count of faults rises only with the status of its fault; `goes`, that no count falls and the files stay.
 ///
-/// Of what is written: in no state of a session has a leg more seats sold than it has (`seats`), whatever the commands
-/// and from each state that has this. In every state of a session that solves programs, from its opening on, the plan in
+/// Of what is written: a request for a product of the network is sold exactly when on every leg the seats left cover the party
+/// plus the protection above the product's bucket, and its fare reaches the sum of its legs' bid prices, each in the mode that has
+/// them; else the first leg that is short is named, or the fare (`requests`). In no state of a session has a leg more seats sold
+/// than it has (`seats`), whatever the commands and from each state that has this. In every state of a session that solves programs, from its opening on, the plan in
 /// force has an optimal allocation and optimal bid prices for the program at the plan's seats left and period (`optimal`).
 /// A network, a state and commands have one list of replies and one last state where no line wants for memory
 /// (`determined`), and such a list (`there`); with the replies given the states are one (`states`). The text of the
@@ -81,6 +83,7 @@ pub fn run<F: Files, S: Source, K: Sink>(
         Failures result (at files.old source.old sink.old) (at files.new source.new sink.new) }
     ensures goes { let at = outside F.contents F.faults S.coming S.faults K.held K.faults in
         Goes (at files.old source.old sink.old) (at files.new source.new sink.new) }
+    ensures requests { RequestsAreAnswered }
     ensures seats { SeatsAreKept }
     ensures optimal { PlansAreKept }
     ensures determined { RepliesAreDetermined }

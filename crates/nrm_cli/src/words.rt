@@ -1,7 +1,6 @@
 //! The words of the command line.
-ghost use Rattle.std.specs.Prelude.{◌≡◌, ◌≢◌, bytes_eq, IfSome, map, option_map, string_bytes};
-ghost use Rattle.nrm_cli.specs.Inner.Parts.{IsBuilt, job_in};
-ghost use Rattle.nrm_model.specs.declared.mode.Mode.TheVariants as modes;
+ghost use Rattle.std.specs.Prelude.{◌≡◌, bytes_eq, map, option_map, string_bytes};
+ghost use Rattle.nrm_cli.specs.Inner.Parts.{job_in};
 ghost use Rattle.nrm_cli.specs.Jobs.{job_of, mode_of};
 
 use nrm_model::Mode;
@@ -22,15 +21,16 @@ fn is_word(word: &String, wanted: &str) -> bool
     word.as_str() == wanted
 }
 
-// The mode of a word, of those that are built.
+// The mode of a word.
 fn mode_in(word: &String) -> Option<Mode>
-    ensures mode { result ≡ mode_of (string_bytes word.now) }
-    ensures built { IfSome result (λ mode. mode ≢ modes.Davn) }
+    ensures { result ≡ mode_of (string_bytes word.now) }
 {
     if is_word(word, "first") {
         Some(Mode::FirstCome)
     } else if is_word(word, "bid") {
         Some(Mode::Bid)
+    } else if is_word(word, "davn") {
+        Some(Mode::Davn)
     } else {
         None
     }
@@ -38,8 +38,7 @@ fn mode_in(word: &String) -> Option<Mode>
 
 /// The job that the words ask for, if they ask for one.
 pub(crate) fn asked_in(words: &[String]) -> Option<Asked<'_>>
-    ensures job { option_map job_in result ≡ job_of (map string_bytes words.now) }
-    ensures built { IfSome result IsBuilt }
+    ensures { option_map job_in result ≡ job_of (map string_bytes words.now) }
 {
     match words {
         [verb, file] if is_word(verb, "print") => Some(Asked::Print(file.as_str())),

@@ -1,6 +1,7 @@
 -- What a controller stands for, and its verdicts, by hand.
-use Rattle.std.specs.Prelude.{◌≡◌, [], ◌∷◌, pos, List, ℕ, Some, None, refl}
+use Rattle.std.specs.Prelude.{◌≡◌, [], ◌∷◌, pos, List, Some, None, refl}
 use Rattle.std.proofs.Common.{ap}
+use Rattle.nrm_fraction.specs.Fraction.{◌over◌, ◌*ᶠ◌, less, whole}
 use Rattle.nrm_model.specs.Network.{NetworkValue}
 use Rattle.nrm_model.specs.declared.mode.Mode.TheVariants as modes
 use Rattle.nrm_samples.specs.Networks.{two_legs_five_products}
@@ -13,7 +14,7 @@ use Rattle.nrm_control.specs.declared.answer.Answer.TheVariants as answer
 
 -- nothing was solved, and bid prices of 150 and 80
 abbrev first : PlanValue
-first = record { mode = modes.FirstCome; period = 1; left = 10 ∷ 10 ∷ []; certificate = None }
+first = record { mode = modes.FirstCome; period = 1; left = 10 ∷ 10 ∷ []; certificate = None; nests = None }
 
 abbrev bid : PlanValue
 bid = record {
@@ -21,7 +22,11 @@ bid = record {
   period = 1;
   left = 10 ∷ 10 ∷ [];
   certificate = Some (record { q = pos 1; x = pos 12 ∷ pos 12 ∷ pos 16 ∷ pos 24 ∷ pos 0 ∷ []; den = pos 1; p = pos 150 ∷ pos 80 ∷ []; value = pos 16520 });
+  nests = None;
 }
+
+abbrev nested : PlanValue
+nested = record bid { mode = modes.Davn }
 
 -- one that has just begun
 abbrev begun : NetworkValue → PlanValue → ControlValue
@@ -62,3 +67,21 @@ leg_before_fare = refl
 
 left_now : seats_left two_legs_five_products nine_sold ≡ 10 ∷ 1 ∷ []
 left_now = refl
+
+-- ---- by virtual nests: on AB seven seats are protected above the bucket of ABL, and none above that of ABH and ACH
+abbrev three_low : List Booking
+three_low = record { number = 1; product = 1; party = 3 } ∷ []
+
+third_low : verdict_of two_legs_five_products nested [] 1 1 3 ≡ answer.Sold 1
+unfolding ◌over◌ ◌*ᶠ◌ less whole
+third_low = refl
+
+fourth_low : verdict_of two_legs_five_products nested three_low 2 1 1 ≡ answer.Leg 0
+unfolding ◌over◌ ◌*ᶠ◌ less whole
+fourth_low = refl
+
+seven_high : verdict_of two_legs_five_products nested three_low 2 0 7 ≡ answer.Sold 2
+seven_high = refl
+
+eighth_high : verdict_of two_legs_five_products nested three_low 2 0 8 ≡ answer.Leg 0
+eighth_high = refl

@@ -1,5 +1,6 @@
 -- A network's inventory, and what is known of its legs.
-use Rattle.std.proofs.Common.{get_or, if◌then◌else◌, ℕ, ◌≡◌, ◌∙◌, ◌*◌, ◌<◌, ◌≤◌, List, [], ◌∷◌, length, find, slice_get, option_map, Option, Some, None, Bool, true, false, nat_lt, refl, sym, ap, subst, arith, All}
+use Rattle.std.proofs.Common.{zero, suc, ◌+◌, ◌==◌, ◌||◌, eq-eqb, get_or, if◌then◌else◌, ℕ, ◌≡◌, ◌∙◌, ◌*◌, ◌<◌, ◌≤◌, List, [], ◌∷◌, length, find, slice_get, option_map, Option, Some, None, Bool, true, false, nat_lt, refl, sym, ap, subst, arith, All}
+use Rattle.std.specs.List.{list_any}
 use Rattle.std.specs.Option.{option_map_or}
 use Rattle.std.proofs.lemmas.Bool.{ltb-false}
 use Rattle.std.proofs.lemmas.List.Elements.{All-cons, All-head, All-tail}
@@ -8,47 +9,59 @@ use Rattle.std.proofs.lemmas.List.FromFn.{get_or-map-range_with_len, length-map-
 use Rattle.std.proofs.lemmas.Option.{slice_get-get_or}
 use Rattle.nrm_model.specs.declared.leg.Leg.{Leg}
 use Rattle.nrm_model.specs.declared.product.Product.{Product}
-use Rattle.nrm_model.specs.Inventory.{Inventory, inventory_of, legs_of}
+use Rattle.nrm_model.specs.Inventory.{Inventory, inventory_of, legs_of, uses_leg}
 use Rattle.nrm_model.specs.Network.{NetworkValue, product_of}
 use Rattle.nrm_model.proofs.Inventories.{fare_of-product, leg_of-found, legs_of-product, product_of-found, seats_of-leg}
 use Rattle.nrm_book.specs.declared.booking.Booking.{Booking}
 use Rattle.nrm_book.specs.Bookings.{booking_numbered, left_on, worth_of}
-use Rattle.nrm_plan.specs.Plans.{AreSeatsLeft, PlanValue, fare_refuses}
+use Rattle.nrm_plan.specs.Plans.{AreSeatsLeft, PlanValue, fare_refuses, kept_from}
 use Rattle.nrm_control.specs.State.{seats_left}
-use Rattle.nrm_control.specs.Verdict.{verdict_of}
+use Rattle.nrm_control.specs.Verdict.{leg_refuses, verdict_of}
 use Rattle.nrm_control.specs.declared.answer.Answer.TheVariants as answer
 
--- where no leg of a list refuses a party, each has the seats for it
-pub none-refuses : (left : ℕ → ℕ) (party : ℕ) (legs : List ℕ) → find (λ i. nat_lt (left i) party) legs ≡ None → All (λ i. party ≤ left i) legs
-none-refuses left party [] none = λ k d short. absurd (omega (arith, short))
-none-refuses left party (i ∷ legs) none = by (nat_lt (left i) party) refl (none-refuses left party legs)
+-- where no leg of a list refuses a party, whatever is kept, each has the seats for it
+pub none-refuses : (left kept : ℕ → ℕ) (party : ℕ) (legs : List ℕ) → find (λ i. nat_lt (left i) (party + kept i)) legs ≡ None → All (λ i. party ≤ left i) legs
+none-refuses left kept party [] none = λ k d short. absurd (omega (arith, short))
+none-refuses left kept party (i ∷ legs) none = by (nat_lt (left i) (party + kept i)) refl (none-refuses left kept party legs)
   where
-    by : (b : Bool) → nat_lt (left i) party ≡ b → (find (λ i. nat_lt (left i) party) legs ≡ None → All (λ i. party ≤ left i) legs) → All (λ i. party ≤ left i) (i ∷ legs)
+    by : (b : Bool) → nat_lt (left i) (party + kept i) ≡ b → (find (λ i. nat_lt (left i) (party + kept i)) legs ≡ None → All (λ i. party ≤ left i) legs) → All (λ i. party ≤ left i) (i ∷ legs)
     by true e more = let some : Some i ≡ None = rw e at none in cc
-    by false e more = let rest : find (λ i. nat_lt (left i) party) legs ≡ None = rw e at none in All-cons (λ i. party ≤ left i) i legs (ltb-false (left i) party e) (more rest)
+    by false e more =
+        let rest : find (λ i. nat_lt (left i) (party + kept i)) legs ≡ None = rw e at none in
+        All-cons (λ i. party ≤ left i) i legs (omega (arith, ltb-false (left i) (party + kept i) e)) (more rest)
 
--- the legs of a product are legs of the inventory
-pub legs-within : (net : NetworkValue) (inventory : Inventory) (legs own : List ℕ) → inventory ≡ inventory_of net → legs ≡ own → All (λ i. i < length net.legs) own → All (λ i. i < length inventory.seats) legs
-legs-within net inventory legs own is same within =
-    let count : length inventory.seats ≡ length net.legs = ap (λ (v : Inventory). length v.seats) is ∙ length-map net.legs (λ (leg : Leg). leg.seats) in
-    rw (same, count) within
+-- the legs of a product are legs of the network, and used by it
+among : (legs : List ℕ) (k d : ℕ) → k < length legs → list_any (λ leg. leg == get_or legs k d) legs ≡ true
+among [] k d short = absurd (omega (arith, short))
+among (i ∷ legs) zero d short = let same : i == i ≡ true = eq-eqb i i refl in rw same refl
+among (i ∷ legs) (suc k) d short = by (i == get_or legs k d) (among legs k d (omega (arith, short)))
+  where
+    by : (b : Bool) → list_any (λ leg. leg == get_or legs k d) legs ≡ true → (b || list_any (λ leg. leg == get_or legs k d) legs) ≡ true
+    by true more = refl
+    by false more = more
+
+pub own-legs : (net : NetworkValue) (j : ℕ) (product : Product) (legs : List ℕ) → Some product ≡ slice_get net.products j → legs ≡ product.legs → All (λ i. i < length net.legs) product.legs
+    → All (λ i. (i < length net.legs) × (uses_leg (inventory_of net) i j ≡ true)) legs
+own-legs net j product legs found same within = λ k d short.
+    let of_product : k < length product.legs = omega (arith, short, ap length same) in
+    let own = legs_of-product net j product found in
+    (rw same (within k d of_product), rw (own, same) (among product.legs k d of_product))
 
 -- so that the product's legs, if none refuses, have the seats
-pub seats-cover : (net : NetworkValue) (inventory : Inventory) (bookings : List Booking) (party j : ℕ) (product : Product) (legs : List ℕ)
-    → inventory ≡ inventory_of net → Some product ≡ slice_get net.products j → legs ≡ product.legs → None ≡ find (λ i. nat_lt (left_on inventory bookings i) party) legs
+pub seats-cover : (net : NetworkValue) (inventory : Inventory) (plan : PlanValue) (bookings : List Booking) (party j : ℕ) (product : Product) (legs : List ℕ)
+    → inventory ≡ inventory_of net → Some product ≡ slice_get net.products j → legs ≡ product.legs → None ≡ find (leg_refuses net plan bookings j party) legs
     → All (λ i. party ≤ left_on inventory bookings i) (legs_of inventory j)
-seats-cover net inventory bookings party j product legs is found same none =
+seats-cover net inventory plan bookings party j product legs is found same none =
     let own : legs_of inventory j ≡ legs = ap (λ (v : Inventory). legs_of v j) is ∙ legs_of-product net j product found ∙ sym same in
-    rw own (none-refuses (left_on inventory bookings) party legs (sym none))
+    rw own (subst (λ (v : Inventory). All (λ i. party ≤ left_on v bookings i) legs) (sym is) (none-refuses (left_on (inventory_of net) bookings) (λ i. kept_from net plan i j) party legs (sym none)))
 
 -- what the first leg that refuses, if there is one, and then the fare, say of the verdict
-pub verdict-is : (net : NetworkValue) (plan : PlanValue) (inventory : Inventory) (bookings : List Booking) (next party j : ℕ) (product : Product) (legs : List ℕ) (refusing : Option ℕ)
-    → inventory ≡ inventory_of net → Some product ≡ slice_get net.products j → legs ≡ product.legs → refusing ≡ find (λ i. nat_lt (left_on inventory bookings i) party) legs
+pub verdict-is : (net : NetworkValue) (plan : PlanValue) (bookings : List Booking) (next party j : ℕ) (product : Product) (legs : List ℕ) (refusing : Option ℕ)
+    → Some product ≡ slice_get net.products j → legs ≡ product.legs → refusing ≡ find (leg_refuses net plan bookings j party) legs
     → option_map_or answer.Leg refusing (if fare_refuses net plan j then answer.Fare else answer.Sold next) ≡ verdict_of net plan bookings next j party
-verdict-is net plan inventory bookings next party j product legs refusing is found same refuses =
+verdict-is net plan bookings next party j product legs refusing found same refuses =
     let own : legs ≡ (product_of net j).legs = same ∙ ap (λ (p : Product). p.legs) (sym (product_of-found net j product found)) in
-    ap (λ o. option_map_or answer.Leg o (if fare_refuses net plan j then answer.Fare else answer.Sold next))
-    (refuses ∙ ap (λ ls. find (λ i. nat_lt (left_on inventory bookings i) party) ls) own ∙ ap (λ (v : Inventory). find (λ i. nat_lt (left_on v bookings i) party) (product_of net j).legs) is)
+    ap (λ o. option_map_or answer.Leg o (if fare_refuses net plan j then answer.Fare else answer.Sold next)) (refuses ∙ ap (find (leg_refuses net plan bookings j party)) own)
 
 -- whether the fare refuses
 pub fare-refused : (refuses : Bool) (next : ℕ) → refuses ≡ true → answer.Fare ≡ (if refuses then answer.Fare else answer.Sold next)

@@ -1,11 +1,12 @@
 //! The controller: a network, the plan in force, and the book of what was sold of it.
-ghost use Rattle.std.specs.Prelude.{◌≡◌, ◌≢◌, ◌<◌, [], All, IfErr, IfNone, IfOk, IfSome, OnErr, OnOk, find, length, nat_lt, option_map, pos};
+ghost use Rattle.std.specs.Prelude.{◌≡◌, ◌<◌, [], All, IfErr, IfNone, IfOk, IfSome, OnErr, OnOk, find, length, option_map, pos, true};
 ghost use Rattle.std.specs.Int.{IsInRange};
 ghost use Rattle.nrm_fraction.specs.Fraction.{◌over◌};
-ghost use Rattle.nrm_model.specs.Inventory.{inventory_of};
-ghost use Rattle.nrm_book.specs.Bookings.{booking_numbered, left_on, without, worth_of};
-ghost use Rattle.nrm_plan.specs.Plans.{IsPlanFault, IsPlanFor};
+ghost use Rattle.nrm_model.specs.Inventory.{inventory_of, uses_leg};
+ghost use Rattle.nrm_book.specs.Bookings.{booking_numbered, without, worth_of};
+ghost use Rattle.nrm_plan.specs.Plans.{IsPlanFault, IsPlanFor, IsPlanOf};
 ghost use Rattle.nrm_control.specs.State.{seats_left};
+ghost use Rattle.nrm_control.specs.Verdict.{leg_refuses};
 
 use crate::Answer;
 use nrm_book::Book;
@@ -33,13 +34,36 @@ impl Model for Controller {
     ghost invariant = { λ c. IsInForce c.network c.plan c.book };
 }
 
-// The first of these legs whose seats left don't cover the party.
-fn refusing_leg(book: &Book, legs: &[u8], party: u16) -> Option<u8>
-    requires { All (λ i. i < length book.now.inventory.seats) legs.now }
-    ensures { result ≡ find (λ i. nat_lt (left_on book.now.inventory book.now.bookings i) party) legs.now }
+// Whether the seats left of a product's leg don't cover the party and the seats that are kept from the product.
+fn refuses(net: &Network, plan: &Plan, book: &Book, leg: u8, product: u16, party: u16) -> bool
+    requires plan { IsPlanOf net.now plan.now }
+    requires book { book.now.inventory ≡ inventory_of net.now }
+    requires leg { leg < length net.now.legs }
+    requires product { product < length net.now.products }
+    requires uses { uses_leg (inventory_of net.now) leg product ≡ true }
+    ensures { result ≡ leg_refuses net.now plan.now book.now.bookings product party leg }
+{
+    let kept = plan.kept_from(net, leg, product);
+    u32::from(book.left(leg)) < u32::from(party) + u32::from(kept)
+}
+
+// The first of a product's legs, in its own order, that refuses.
+fn refusing_leg(
+    net: &Network,
+    plan: &Plan,
+    book: &Book,
+    legs: &[u8],
+    product: u16,
+    party: u16,
+) -> Option<u8>
+    requires plan { IsPlanOf net.now plan.now }
+    requires book { book.now.inventory ≡ inventory_of net.now }
+    requires product { product < length net.now.products }
+    requires legs { All (λ i. (i < length net.now.legs) × (uses_leg (inventory_of net.now) i product ≡ true)) legs.now }
+    ensures { result ≡ find (leg_refuses net.now plan.now book.now.bookings product party) legs.now }
 {
     for leg in legs {
-        if book.left(*leg) < party {
+        if refuses(net, plan, book, *leg, product, party) {
             return Some(*leg);
         }
     }
@@ -76,7 +100,6 @@ fn plan_again(
 }
 
 impl Controller {
-    ghost use Rattle.nrm_model.specs.declared.mode.Mode.TheVariants as modes;
     ghost use Rattle.nrm_plan.specs.Plans.{IsOpeningPlan, value_of};
     ghost use Rattle.nrm_control.specs.Standing.{book_of, IsControl, IsOnNetwork, IsStartFault, StandsFor, with_answer};
     ghost use Rattle.nrm_control.specs.State.{after_cancellation, after_request, SeatState, with_plan};
@@ -88,7 +111,6 @@ impl Controller {
     /// `Overflow` exactly where the program of that plan is Large, which under first come, first served is never;
     /// `NoMemory`. The network is dropped.
     pub fn start(alloc: Global, net: Network, mode: Mode) -> Result<Controller, SolveFault>
-        requires built { mode ≢ modes.Davn }
         ensures begins { IfOk result (λ controller. controller ≡ record { net = net; plan = controller.plan; bookings = []; next = 1 }) }
         ensures plan { IfOk result (λ controller. IsOpeningPlan net mode controller.plan) }
         ensures kept { IfOk result IsControl }
@@ -114,11 +136,12 @@ impl Controller {
         ensures kept { IsControl self.new }
         ensures state { (s : SeatState) → StandsFor self.old s → StandsFor self.new (after_request self.old.net s product party) }
     {
-        let legs = self.network.product_at(product).legs.as_slice();
-        if let Some(leg) = refusing_leg(&self.book, legs, party) {
+        let net = &self.network;
+        let legs = net.product_at(product).legs.as_slice();
+        if let Some(leg) = refusing_leg(net, &self.plan, &self.book, legs, product, party) {
             return Answer::Leg(leg);
         }
-        if self.plan.fare_refuses(&self.network, product) {
+        if self.plan.fare_refuses(net, product) {
             return Answer::Fare;
         }
         Answer::Sold {

@@ -1,18 +1,16 @@
-//! Requests on a network of two legs, AB with 3 seats and BC with 2, worked by hand.
-ghost use Rattle.std.specs.Prelude.{◌≡◌, ◌≢◌, ◌<◌, ◌≤◌, ◌+◌, IfOk, length};
+//! Requests on networks of two legs, worked by hand: AB with 3 seats and BC with 2, and both with ten.
+ghost use Rattle.std.specs.Prelude.{◌≡◌, ◌<◌, ◌≤◌, ◌+◌, IfOk, length};
 ghost use Rattle.std.specs.Int.{IsInRange};
-ghost use Rattle.nrm_model.specs.declared.mode.Mode.TheVariants as modes;
 
 use crate::{Answer, Controller};
 use nrm_model::Mode;
-use nrm_samples::two_legs;
+use nrm_samples::{two_legs, two_legs_five_products};
 use nrm_simplex::SolveFault;
 use std::alloc::Global;
 use std::process::Abort;
 
 // A controller of the network with nothing sold: of its value only what the calls ask for.
 fn begun(alloc: Global, mode: Mode) -> Result<Controller, SolveFault>
-    requires { mode ≢ modes.Davn }
     ensures products { IfOk result (λ controller. length controller.net.products ≡ 2) }
     ensures periods { IfOk result (λ controller. controller.net.periods ≡ 2) }
     ensures next { IfOk result (λ controller. controller.next ≡ 1) }
@@ -20,10 +18,9 @@ fn begun(alloc: Global, mode: Mode) -> Result<Controller, SolveFault>
     Controller::start(alloc, two_legs(alloc)?, mode)
 }
 
-// What a request gets, where the network has two products and the numbers are low.
+// What a request gets, where the numbers are low.
 fn ask(controller: &mut Controller, product: u16, party: u16) -> Answer
-    requires products { length controller.old.net.products ≡ 2 }
-    requires product { product < 2 }
+    requires product { product < length controller.old.net.products }
     requires party { IsInRange 1 999 party }
     requires next { controller.old.next < 1000000 }
     ensures net { controller.new.net ≡ controller.old.net }
@@ -93,6 +90,38 @@ fn first_come_is_not_optimised(rt: HostRuntime) {
             let mut controller = controller;
             assert!(rt; controller.reoptimise(rt.alloc(), 2) == Ok(None));
             assert_eq!(rt; controller.plan().period(), 2);
+        }
+        Err(_) => assert!(rt; false),
+    }
+}
+
+// A controller by virtual nests of the network with two legs of ten seats each, and thresholds.
+fn begun_nested(alloc: Global) -> Result<Controller, SolveFault>
+    ensures products { IfOk result (λ controller. length controller.net.products ≡ 5) }
+    ensures next { IfOk result (λ controller. controller.next ≡ 1) }
+{
+    Controller::start(alloc, two_legs_five_products(alloc)?, Mode::Davn)
+}
+
+// On the first leg seven seats are protected above the bucket of ABL, and none above that of ABH and ACH.
+fn serve_nested(rt: &impl Abort, controller: &mut Controller)
+    requires products { length controller.old.net.products ≡ 5 }
+    requires next { controller.old.next ≡ 1 }
+{
+    assert_eq!(rt; ask(controller, 1, 3), Answer::Sold { number: 1 });
+    assert_eq!(rt; ask(controller, 1, 1), Answer::Leg(0));
+    assert_eq!(rt; ask(controller, 0, 7), Answer::Sold { number: 2 });
+    assert_eq!(rt; ask(controller, 2, 1), Answer::Leg(0));
+    assert_eq!(rt; controller.cancel(1), Some(450));
+    assert_eq!(rt; ask(controller, 2, 3), Answer::Sold { number: 3 });
+}
+
+#[test]
+fn serves_by_nests_by_hand(rt: HostRuntime) {
+    match begun_nested(rt.alloc()) {
+        Ok(controller) => {
+            let mut controller = controller;
+            serve_nested(&rt, &mut controller);
         }
         Err(_) => assert!(rt; false),
     }

@@ -1,6 +1,6 @@
 -- Plans by hand, on two legs with ten seats each and five products: at bid prices of 150 and 80 a fare is compared with the sum on the
 -- product's legs.
-use Rattle.std.specs.Prelude.{◌≡◌, ◌≢◌, ◌∷◌, [], map, pos, Some, None, true, false, refl}
+use Rattle.std.specs.Prelude.{◌≡◌, ◌∷◌, [], map, pos, Some, None, true, false, refl}
 use Rattle.nrm_model.specs.declared.mode.Mode.{Mode}
 use Rattle.nrm_model.specs.declared.mode.Mode.TheVariants as mode
 use Rattle.nrm_lp.specs.declared.certificate.Certificate.{Certificate}
@@ -16,7 +16,7 @@ abbrev in_halves : Certificate
 in_halves = record { q = pos 1; x = []; den = pos 2; p = pos 300 ∷ pos 160 ∷ []; value = pos 33040 }
 
 abbrev planned : Mode → Certificate → PlanValue
-planned m cert = record { mode = m; period = 1; left = 10 ∷ 10 ∷ []; certificate = Some cert }
+planned m cert = record { mode = m; period = 1; left = 10 ∷ 10 ∷ []; certificate = Some cert; nests = None }
 
 -- 400 against 150, 150 against 150, 500 against 230, 80 against 80, 229 against 230
 fares : map (fare_refuses two_legs_five_products (planned mode.Bid at_150_and_80)) (0 ∷ 1 ∷ 2 ∷ 3 ∷ 4 ∷ []) ≡ false ∷ false ∷ false ∷ false ∷ true ∷ []

@@ -1,5 +1,6 @@
 -- Plans: that there is one, and only one, and that its bid prices are optimal.
-use Rattle.std.proofs.Common.{◌*◌, length, ℕ, ◌≡◌, ◌≢◌, ◌⊎◌, ◌∙◌, ℤ, List, Option, Some, None, arith, inl, inr, refl, sym, ap, subst}
+use Rattle.std.proofs.Common.{map, ◌*◌, length, ℕ, ◌≡◌, ◌≢◌, ◌⊎◌, ◌∙◌, ℤ, List, Option, Some, None, arith, inl, inr, refl, sym, ap, subst}
+use Rattle.std.specs.List.{range_with_len}
 use Rattle.std.proofs.lemmas.List.{length-map}
 use Rattle.std.proofs.lemmas.List.FromFn.{length-map-range_with_len}
 use Rattle.nrm_fraction.specs.Large.{size_limit}
@@ -19,8 +20,11 @@ use Rattle.nrm_simplex.specs.Solving.{IsClosing}
 use Rattle.nrm_simplex.proofs.Walk.{closing_certifies}
 use Rattle.nrm_dlp.specs.Programs.{program_at}
 use Rattle.nrm_dlp.proofs.Limited.{limited}
+use Rattle.nrm_virtual.specs.Table.{TableValue, nest_of}
+use Rattle.nrm_emsr.specs.Protections.{protections_of}
+use Rattle.nrm_plan.specs.Nesting.{AreNestsOf, NestsValue}
 use Rattle.nrm_plan.specs.Laws.{EachHasAPlan, PlansAreDetermined, PlansAreOptimal}
-use Rattle.nrm_plan.specs.Plans.{AreSeatsLeft, HasCertificate, IsPlanFor, IsPlanOf, IsSolved, PlanOverflows, PlanValue}
+use Rattle.nrm_plan.specs.Plans.{AreNests, AreSeatsLeft, HasCertificate, HasNests, IsPlanFor, IsPlanOf, IsSolved, PlanOverflows, PlanValue}
 
 module _ (net : NetworkValue) (left : List ℕ) (k : ℕ) where
   abbrev Shows : Option Certificate → Type 0
@@ -87,7 +91,7 @@ pub optimal : PlansAreOptimal
 optimal net plan is of other = certificate-optimal net plan.left plan.period plan.mode plan.certificate is of.left of.certificate other
 
 -- the program of a network has a bound for each product and a cap for each leg, so the certificate of a plan has the network's shape
-shape-of-network : (net : NetworkValue) (left : List ℕ) (k : ℕ) (cert : Certificate) → length left ≡ length net.legs → HasShape size_limit (length (program_at net left k).bounds) (length (program_at net left k).caps) cert
+pub shape-of-network : (net : NetworkValue) (left : List ℕ) (k : ℕ) (cert : Certificate) → length left ≡ length net.legs → HasShape size_limit (length (program_at net left k).bounds) (length (program_at net left k).caps) cert
     → HasShape size_limit (length net.products) (length net.legs) cert
 shape-of-network net left k cert legs shape =
     let products = length-map-range_with_len (λ j. total_to_come net j k) 0 (length net.products) in
@@ -111,31 +115,71 @@ plan-shape net plan cert is of has = by plan.mode of.certificate
     by mode.Bid solved = shown (solved-optimal net plan.left plan.period plan.certificate is of.left solved)
     by mode.Davn solved = shown (solved-optimal net plan.left plan.period plan.certificate is of.left solved)
 
+-- ---- nests
+-- those of a certificate are there
+table-of : (net : NetworkValue) (cert : Certificate) → TableValue
+table-of net cert = map (λ i. (i, nest_of net cert i)) (range_with_len 0 (length net.legs))
+
+some-nests : (net : NetworkValue) (k : ℕ) (cert : Certificate) → (nests : NestsValue) × AreNestsOf net k cert nests
+unfolding table-of
+some-nests net k cert = (record { buckets = table-of net cert; protections = map (λ i. protections_of net cert i k) (range_with_len 0 (length net.legs)) }, record { buckets = refl; protections = refl })
+
+nests-of-solved : (net : NetworkValue) (left : List ℕ) (k : ℕ) (cert : Option Certificate) → IsSolved net left k cert → (nests : Option NestsValue) × AreNests net k cert nests
+nests-of-solved net left k None missing = absurd missing
+nests-of-solved net left k (Some cert) closes = let (nests, are) = some-nests net k cert in (Some nests, are)
+
+has-nests : (net : NetworkValue) (left : List ℕ) (k : ℕ) (m : Mode) (cert : Option Certificate) → HasCertificate net left k m cert → (nests : Option NestsValue) × HasNests net k m cert nests
+has-nests net left k mode.FirstCome cert has = (None, refl)
+has-nests net left k mode.Bid cert has = (None, refl)
+has-nests net left k mode.Davn cert has = nests-of-solved net left k cert has
+
+-- and only those
+nests-are : (net : NetworkValue) (k : ℕ) (cert : Certificate) (nests other : NestsValue) → AreNestsOf net k cert nests → AreNestsOf net k cert other → other ≡ nests
+nests-are net k cert nests other are are' = λ i. record { buckets = (are'.buckets ∙ sym are.buckets) i; protections = (are'.protections ∙ sym are.protections) i }
+
+solved-nests-once : (net : NetworkValue) (k : ℕ) (cert : Option Certificate) (nests other : Option NestsValue) → AreNests net k cert nests → AreNests net k cert other → other ≡ nests
+solved-nests-once net k None nests other missing are = absurd missing
+solved-nests-once net k (Some cert) None other missing are = absurd missing
+solved-nests-once net k (Some cert) (Some nests) None are missing = absurd missing
+solved-nests-once net k (Some cert) (Some nests) (Some other) are are' = ap Some (nests-are net k cert nests other are are')
+
+nests-once : (net : NetworkValue) (k : ℕ) (m : Mode) (cert : Option Certificate) (nests other : Option NestsValue) → HasNests net k m cert nests → HasNests net k m cert other → other ≡ nests
+nests-once net k mode.FirstCome cert nests other has has' = has' ∙ sym has
+nests-once net k mode.Bid cert nests other has has' = has' ∙ sym has
+nests-once net k mode.Davn cert nests other has has' = solved-nests-once net k cert nests other has has'
+
 -- a plan of these parts
-pub plan-for : (net : NetworkValue) (m : Mode) (left : List ℕ) (k : ℕ) (cert : Option Certificate) → AreSeatsLeft net left → HasCertificate net left k m cert
-    → IsPlanFor net m left k (record { mode = m; period = k; left = left; certificate = cert })
-plan-for net m left k cert are has = record { mode_is = refl; left_is = refl; period_is = refl; planned = record { left = are; certificate = has } }
+pub plan-for : (net : NetworkValue) (m : Mode) (left : List ℕ) (k : ℕ) (cert : Option Certificate) (nests : Option NestsValue) → AreSeatsLeft net left → HasCertificate net left k m cert → HasNests net k m cert nests
+    → IsPlanFor net m left k (record { mode = m; period = k; left = left; certificate = cert; nests = nests })
+plan-for net m left k cert nests are has nested = record { mode_is = refl; left_is = refl; period_is = refl; planned = record { left = are; certificate = has; nests = nested } }
 
 pub has-a-plan : EachHasAPlan
 has-a-plan net m left k are = by (certificate-or net left k m)
   where
     by : HasOr net left k m → ((plan : PlanValue) × IsPlanFor net m left k plan) ⊎ ((n : ℕ) × (number : ℤ) × PlanOverflows net m left k n number)
-    by (inl (cert, has)) = inl (record { mode = m; period = k; left = left; certificate = cert }, plan-for net m left k cert are has)
+    by (inl (cert, has)) =
+        let (nests, nested) = has-nests net left k m cert has in
+        inl (record { mode = m; period = k; left = left; certificate = cert; nests = nests }, plan-for net m left k cert nests are has nested)
     by (inr large) = inr large
 
 -- the certificate of a plan for such seats left and such a period
 for-certificate : (net : NetworkValue) (m : Mode) (left : List ℕ) (k : ℕ) (plan : PlanValue) → IsPlanFor net m left k plan → HasCertificate net left k m plan.certificate
 for-certificate net m left k plan for = rw (sym for.mode_is, sym for.left_is, sym for.period_is) for.planned.certificate
 
+for-nests : (net : NetworkValue) (m : Mode) (left : List ℕ) (k : ℕ) (plan : PlanValue) → IsPlanFor net m left k plan → HasNests net k m plan.certificate plan.nests
+for-nests net m left k plan for = rw (sym for.mode_is, sym for.period_is) for.planned.nests
+
 pub one-plan : PlansAreDetermined
 one-plan net m left k = record {
   plan = λ plan other for for'.
       let same = certificate-once net left k m plan.certificate other.certificate (for-certificate net m left k plan for) (for-certificate net m left k other for') in
+      let nests = nests-once net k m plan.certificate plan.nests other.nests (for-nests net m left k plan for) (subst (λ (c : Option Certificate). HasNests net k m c other.nests) same (for-nests net m left k other for')) in
       λ i. record {
         mode = (for'.mode_is ∙ sym for.mode_is) i;
         period = (for'.period_is ∙ sym for.period_is) i;
         left = (for'.left_is ∙ sym for.left_is) i;
         certificate = same i;
+        nests = nests i;
       };
   overflow = λ n n' number number' large large'. overflow-once net left k m n n' number number' large large';
   apart = λ plan n number for large. certificate-apart net left k m plan.certificate n number (for-certificate net m left k plan for) large;

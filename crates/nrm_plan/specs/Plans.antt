@@ -15,14 +15,18 @@ use Rattle.nrm_simplex.specs.Solving.{IsClosing}
 use Rattle.nrm_simplex.specs.declared.fault.SolveFault.{SolveFault}
 use Rattle.nrm_simplex.specs.declared.fault.SolveFault.TheVariants as fault
 use Rattle.nrm_dlp.specs.Programs.{program_at}
+use Rattle.nrm_virtual.specs.Buckets.{bucket_of}
+use Rattle.nrm_emsr.specs.Protections.{protection_of}
+use Rattle.nrm_plan.specs.Nesting.{AreNestsOf, NestsValue}
 
--- how the seats are controlled, the period and the seats left of the last optimisation, and the certificate that it gave, where the
--- mode solves a program
+-- how the seats are controlled, the period and the seats left of the last optimisation, the certificate that it gave, where the mode
+-- solves a program, and the nests, where the mode has them
 pub record PlanValue : Type 0 where
   pub mode : Mode
   pub period : ℕ
   pub left : List ℕ
   pub certificate : Option Certificate
+  pub nests : Option NestsValue
 
 -- seats left of a network: on each leg no more than it has
 pub record AreSeatsLeft (net : NetworkValue) (left : List ℕ) : Type 0 where
@@ -40,10 +44,23 @@ HasCertificate net left k mode.FirstCome cert = cert ≡ None
 HasCertificate net left k mode.Bid cert = IsSolved net left k cert
 HasCertificate net left k mode.Davn cert = IsSolved net left k cert
 
--- A plan of a network: its certificate is that of its own seats left and period.
+-- only virtual nesting has nests: those at the bid prices of its certificate
+abbrev pub AreNests : NetworkValue → ℕ → Option Certificate → Option NestsValue → Type 0
+AreNests net k (Some cert) (Some nests) = AreNestsOf net k cert nests
+AreNests net k (Some cert) None = ⊥
+AreNests net k None nests = ⊥
+
+abbrev pub HasNests : NetworkValue → ℕ → Mode → Option Certificate → Option NestsValue → Type 0
+HasNests net k mode.FirstCome cert nests = nests ≡ None
+HasNests net k mode.Bid cert nests = nests ≡ None
+HasNests net k mode.Davn cert nests = AreNests net k cert nests
+
+-- A plan of a network: its certificate is that of its own seats left and period, and its nests are those at the certificate's bid prices
+-- from that period on.
 pub record IsPlanOf (net : NetworkValue) (plan : PlanValue) : Type 0 where
   pub left : AreSeatsLeft net plan.left
   pub certificate : HasCertificate net plan.left plan.period plan.mode plan.certificate
+  pub nests : HasNests net plan.period plan.mode plan.certificate plan.nests
 
 -- a plan of a network in a mode, for these seats left and period k
 pub record IsPlanFor (net : NetworkValue) (m : Mode) (left : List ℕ) (k : ℕ) (plan : PlanValue) : Type 0 where
@@ -88,6 +105,16 @@ fare_refuses_by net mode.Davn cert j = false
 
 abbrev pub fare_refuses : NetworkValue → PlanValue → ℕ → Bool
 fare_refuses net plan j = fare_refuses_by net plan.mode plan.certificate j
+
+-- the seats that are kept from product j on its leg i: under virtual nesting those protected for the buckets above its own
+abbrev pub seats_kept : NetworkValue → Mode → ℕ → Option Certificate → ℕ → ℕ → ℕ
+seats_kept net mode.FirstCome k cert i j = 0
+seats_kept net mode.Bid k cert i j = 0
+seats_kept net mode.Davn k None i j = 0
+seats_kept net mode.Davn k (Some cert) i j = protection_of net cert i k (bucket_of net cert i j - 1)
+
+abbrev pub kept_from : NetworkValue → PlanValue → ℕ → ℕ → ℕ
+kept_from net plan i j = seats_kept net plan.mode plan.period plan.certificate i j
 
 -- a plan's bid prices are optimal duals: its certificate has an optimal allocation and optimal bid prices, against every allocation and
 -- all prices of the program at the plan's seats left and period, and its value is the gain of the one and the cost of the others

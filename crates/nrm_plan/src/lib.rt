@@ -3,6 +3,7 @@
 
 mod fares;
 mod laws;
+mod nests;
 mod plan;
 mod seats;
 #[cfg(test)]

@@ -1,14 +1,17 @@
 //! A plan: the mode, the period and the seats left of one optimisation, and its certificate. A plan holds no network.
-ghost use Rattle.std.specs.Prelude.{ℕ, ℤ, ◌≡◌, ◌≢◌, ◌<◌, ◌≤◌, IfErr, IfOk, IfSome, Option, Some, get_or, length, option_map, pos, take};
+ghost use Rattle.std.specs.Prelude.{ℕ, ℤ, ◌≡◌, ◌≢◌, ◌<◌, ◌≤◌, IfErr, IfOk, IfSome, Option, Some, get_or, length, option_map, pos, true, []};
 ghost use Rattle.std.specs.Int.{IsInRange};
 ghost use Rattle.nrm_fraction.specs.Fraction.{◌over◌};
 ghost use Rattle.nrm_lp.specs.declared.certificate.Certificate.{Certificate as CertificateValue};
-ghost use Rattle.nrm_model.specs.Inventory.{inventory_of};
+ghost use Rattle.nrm_model.specs.Inventory.{inventory_of, uses_leg};
 ghost use Rattle.nrm_model.specs.Limits.{IsNetwork};
-ghost use Rattle.nrm_plan.specs.Plans.{AreSeatsLeft, IsOpeningPlan, IsPlanFault, IsPlanFor, IsPlanOf, fare_refuses, value_of};
+ghost use Rattle.nrm_virtual.specs.Table.{HasPair, bucket_in};
+ghost use Rattle.nrm_plan.specs.Nesting.{NestsValue, level_at};
+ghost use Rattle.nrm_plan.specs.Plans.{AreSeatsLeft, IsOpeningPlan, IsPlanFault, IsPlanFor, IsPlanOf, HasCertificate, HasNests, fare_refuses, kept_from, value_of};
 
 use crate::SeatsLeft;
 use crate::fares::below_bid_prices;
+use crate::nests::Nests;
 use nrm_dlp::{mean_value, prices};
 use nrm_lp::Certificate;
 use nrm_model::{Mode, Network};
@@ -23,6 +26,7 @@ pub struct Plan {
     period: u8,
     left: SeatsLeft,
     certificate: Option<Certificate>,
+    nests: Option<Nests>,
 }
 
 impl Model for Plan {
@@ -30,7 +34,7 @@ impl Model for Plan {
 
     ghost Value = { PlanValue };
 
-    ghost view = { λ p. record { mode = p.mode; period = p.period; left = p.left; certificate = p.certificate } };
+    ghost view = { λ p. record { mode = p.mode; period = p.period; left = p.left; certificate = p.certificate; nests = p.nests } };
 }
 
 // The seats of each leg.
@@ -43,6 +47,31 @@ fn full_seats(net: &Network) -> SeatsLeft
         seats.push(net.leg_at(leg).seats);
     }
     seats
+}
+
+// The certificate and the nests of a plan, where its mode has them.
+fn solved(
+    alloc: Global,
+    net: &Network,
+    mode: Mode,
+    left: &[u16],
+    period: u8,
+) -> Result<(Option<Certificate>, Option<Nests>), SolveFault>
+    requires left { AreSeatsLeft net.now left.now }
+    requires period { IsInRange 1 net.now.periods period }
+    ensures certificate { IfOk result (λ made. HasCertificate net.now left.now period mode made.0) }
+    ensures nests { IfOk result (λ made. HasNests net.now period mode made.0 made.1) }
+    ensures fault { IfErr result (IsPlanFault net.now mode left.now period) }
+{
+    if mode == Mode::FirstCome {
+        return Ok((None, None));
+    }
+    let certificate = prices(alloc, net, left, period)?;
+    if mode == Mode::Bid {
+        return Ok((Some(certificate), None));
+    }
+    let nests = Nests::build(alloc, net, &certificate, period)?;
+    Ok((Some(certificate), Some(nests)))
 }
 
 impl Plan {
@@ -66,15 +95,13 @@ impl Plan {
     {
         // For its clause alone: a network is within its limits.
         let _ = net.n();
-        let certificate = match mode {
-            Mode::FirstCome => None,
-            Mode::Bid | Mode::Davn => Some(prices(alloc, net, left, period)?),
-        };
+        let (certificate, nests) = solved(alloc, net, mode, left, period)?;
         Ok(Plan {
             mode,
             period,
             left: SeatsLeft::of(left),
             certificate,
+            nests,
         })
     }
 
@@ -122,6 +149,28 @@ impl Plan {
         }
     }
 
+    /// The bucket of a product on one of its legs, under virtual nesting.
+    pub fn bucket(&self, leg: u8, product: u16) -> u8
+        requires { (nests : NestsValue) × (self.now.nests ≡ Some nests) × HasPair nests.buckets leg product }
+        ensures { (nests : NestsValue) → self.now.nests ≡ Some nests → Some result ≡ bucket_in nests.buckets leg product }
+    {
+        match self.nests.as_ref() {
+            Some(nests) => nests.bucket(leg, product),
+            None => 0,
+        }
+    }
+
+    /// The seats of a leg that are protected for its buckets 1 to `bucket`, under virtual nesting; none are for no bucket.
+    pub fn protection(&self, leg: u8, bucket: u8) -> u16
+        requires { (nests : NestsValue) × (self.now.nests ≡ Some nests) × (leg < length nests.protections) × (bucket ≤ length (get_or nests.protections leg [])) }
+        ensures { (nests : NestsValue) → self.now.nests ≡ Some nests → result ≡ level_at (get_or nests.protections leg []) bucket }
+    {
+        match self.nests.as_ref() {
+            Some(nests) => nests.protection(leg, bucket),
+            None => 0,
+        }
+    }
+
     /// The mean value of a history, in whole currency units: a numerator and a denominator in lowest terms. `None` under
     /// first come, first served.
     pub fn mean_value(&self, net: &Network) -> Option<(u64, u64)>
@@ -147,6 +196,21 @@ impl Plan {
         match (self.mode, self.certificate.as_ref()) {
             (Mode::Bid, Some(certificate)) => below_bid_prices(net, certificate, product),
             _ => false,
+        }
+    }
+
+    /// The seats that are kept from a product on one of its legs: under virtual nesting those protected for the buckets
+    /// above the product's, and none in the other modes. It takes no memory, and works nothing out anew.
+    pub fn kept_from(&self, net: &Network, leg: u8, product: u16) -> u16
+        requires plan { IsPlanOf net.now self.now }
+        requires leg { leg < length net.now.legs }
+        requires product { product < length net.now.products }
+        requires uses { uses_leg (inventory_of net.now) leg product ≡ true }
+        ensures { result ≡ kept_from net.now self.now leg product }
+    {
+        match self.nests.as_ref() {
+            Some(nests) => nests.protection(leg, nests.bucket(leg, product) - 1),
+            None => 0,
         }
     }
 }

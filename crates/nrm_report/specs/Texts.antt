@@ -1,11 +1,19 @@
 -- What is written of a leg and of a plan.
-use Rattle.std.specs.Prelude.{ℕ, ◌==◌, List, [], ◌∷◌, ◌++◌, flat_map, decimal, codes, Option, Some, None, if◌then◌else◌}
+use Rattle.std.specs.Prelude.{ℕ, ◌==◌, nat_abs, map, length, List, [], ◌∷◌, ◌++◌, flat_map, decimal, codes, Option, Some, None, if◌then◌else◌}
+use Rattle.std.specs.List.{range_with_len}
+use Rattle.nrm_fraction.specs.Fraction.{◌over◌}
+use Rattle.nrm_text.specs.Fractions.{fraction_text}
 use Rattle.nrm_text.specs.Words.{text_line}
 use Rattle.nrm_model.specs.Inventory.{inventory_of, products_on}
 use Rattle.nrm_model.specs.Network.{NetworkValue, leg_of, product_of}
+use Rattle.nrm_model.specs.declared.mode.Mode.{Mode}
+use Rattle.nrm_model.specs.declared.mode.Mode.TheVariants as mode
 use Rattle.nrm_book.specs.Bookings.{sold_of, sold_on, left_on}
 use Rattle.nrm_book.specs.declared.booking.Booking.{Booking}
 use Rattle.nrm_lp.specs.declared.certificate.Certificate.{Certificate}
+use Rattle.nrm_virtual.specs.Adjusted.{adjusted_fare}
+use Rattle.nrm_virtual.specs.Buckets.{bucket_of}
+use Rattle.nrm_emsr.specs.Protections.{protections_of}
 use Rattle.nrm_plan.specs.Plans.{PlanValue}
 use Rattle.nrm_dual.specs.Texts.{certificate_text}
 
@@ -24,10 +32,28 @@ on_line net bookings i j =
 abbrev pub leg_text : NetworkValue → List Booking → ℕ → List ℕ
 leg_text net bookings i = leg_line net bookings i ++ flat_map (on_line net bookings i) (products_on (inventory_of net) i)
 
--- the plan text: the one word `first` where no program is solved, and else the certificate
-abbrev pub text_of_certificate : NetworkValue → Option Certificate → List ℕ
-text_of_certificate net None = codes "first\n"
-text_of_certificate net (Some cert) = certificate_text net cert
+-- a product in a nest: its adjusted fare and its bucket
+abbrev pub nest_line : NetworkValue → Certificate → ℕ → ℕ → List ℕ
+nest_line net cert i j =
+    text_line (codes "nest" ∷ (leg_of net i).name ∷ (product_of net j).name ∷ fraction_text (adjusted_fare net cert i j over nat_abs cert.den) ∷ decimal (bucket_of net cert i j) ∷ [])
+
+-- the protections of a leg, for each of its buckets but the last
+abbrev pub protect_line : NetworkValue → Certificate → ℕ → ℕ → List ℕ
+protect_line net cert k i = text_line (codes "protect" ∷ (leg_of net i).name ∷ map (λ seats. decimal seats) (protections_of net cert i k))
+
+-- the nests: leg by leg each product on it, in file order; then the protections, leg by leg
+abbrev pub nests_text : NetworkValue → ℕ → Certificate → List ℕ
+nests_text net k cert =
+    flat_map (λ i. flat_map (nest_line net cert i) (products_on (inventory_of net) i)) (range_with_len 0 (length net.legs))
+    ++ flat_map (protect_line net cert k) (range_with_len 0 (length net.legs))
+
+-- the plan text: the one word `first` where no program is solved; under bid-price control the certificate; and under virtual nesting the
+-- certificate and the nests
+abbrev pub text_of_plan : NetworkValue → Mode → ℕ → Option Certificate → List ℕ
+text_of_plan net m k None = codes "first\n"
+text_of_plan net mode.FirstCome k (Some cert) = certificate_text net cert
+text_of_plan net mode.Bid k (Some cert) = certificate_text net cert
+text_of_plan net mode.Davn k (Some cert) = certificate_text net cert ++ nests_text net k cert
 
 abbrev pub plan_text : NetworkValue → PlanValue → List ℕ
-plan_text net plan = text_of_certificate net plan.certificate
+plan_text net plan = text_of_plan net plan.mode plan.period plan.certificate

@@ -3,6 +3,7 @@
 
 mod certificate;
 mod leg;
+mod nests;
 mod plan;
 
 pub use certificate::certificate_text;

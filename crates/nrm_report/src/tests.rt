@@ -1,15 +1,16 @@
-//! The texts of a leg, AB with 10 seats, and of a certificate, worked by hand.
+//! The texts of a leg, AB with 10 seats, of a certificate, and of a plan under virtual nesting, worked by hand.
 ghost use Rattle.std.specs.Prelude.{◌≡◌, IfOk, length};
 ghost use Rattle.nrm_fraction.specs.Large.{size_limit};
 ghost use Rattle.nrm_lp.specs.Shape.{HasShape};
 ghost use Rattle.nrm_model.specs.Inventory.{inventory_of};
 ghost use Rattle.nrm_samples.specs.Networks.{two_legs_five_products};
 
-use crate::{certificate_text, leg_text};
+use crate::{certificate_text, leg_text, plan_text};
 use nrm_book::Book;
 use nrm_edge::MemSink;
 use nrm_lp::{Certificate, Numbers};
-use nrm_model::Network;
+use nrm_model::{Mode, Network};
+use nrm_plan::Plan;
 use nrm_samples::two_legs_five_products;
 use std::alloc::{AllocError, Global};
 use std::process::Abort;
@@ -28,7 +29,7 @@ fn book_by_hand(rt: &impl Abort, alloc: Global, net: &Network) -> Result<Book, A
 
 // A sink with room for each of the texts, of which the puts of these numbers fail.
 fn failing_sink(alloc: Global, failing: &[u64]) -> Result<MemSink, AllocError> {
-    MemSink::new(alloc, 200, Vec::new(alloc), failing.to_vec(alloc)?)
+    MemSink::new(alloc, 400, Vec::new(alloc), failing.to_vec(alloc)?)
 }
 
 // A text of which so much went out, and whether that is all of it, where the puts of the numbers `failing` fail.
@@ -148,5 +149,55 @@ fn each_line_of_a_certificate_goes_out_in_one_put(rt: HostRuntime) -> Result<(),
     let text =
         b"value 751/4\nproduct ABH 3/2\nproduct ABL 5/2\nproduct ACH 0/1\nproduct BCL 1/8\nproduct ACL 1/4\nleg AB 0/1\n";
     certificate_goes_out(&rt, rt.alloc(), &[8], false, text)?;
+    Ok(())
+}
+
+// The text of the opening plan under virtual nesting, where the puts of the numbers `failing` fail: whether it goes out
+// whole, and what does.
+fn plan_goes_out(
+    rt: &impl Abort,
+    alloc: Global,
+    failing: &[u64],
+    whole: bool,
+    text: &[u8],
+) -> Result<(), AllocError> {
+    let net = two_legs_five_products(alloc)?;
+    plan_of_network_goes_out(rt, alloc, &net, failing, (whole, text))
+}
+
+// The same, of a network that has a plan.
+fn plan_of_network_goes_out(
+    rt: &impl Abort,
+    alloc: Global,
+    net: &Network,
+    failing: &[u64],
+    wanted: (bool, &[u8]),
+) -> Result<(), AllocError> {
+    let mut sink = failing_sink(alloc, failing)?;
+    let Ok(plan) = Plan::opening(alloc, net, Mode::Davn) else {
+        panic!(rt; "there is no plan");
+    };
+    let whole = plan_text(net, &plan, &mut sink).is_ok();
+    assert_out(rt, failing, (whole, sink.held()), wanted);
+    Ok(())
+}
+
+#[test]
+fn writes_a_plan_with_its_nests(rt: HostRuntime) -> Result<(), Fail> {
+    let text =
+        b"value 4130/1\nproduct ABH 3/1\nproduct ABL 3/1\nproduct ACH 4/1\nproduct BCL 6/1\nproduct ACL 0/1\nleg AB 150/1\nleg BC 80/1\nnest AB ABH 400/1 1\nnest AB ABL 150/1 2\nnest AB ACH 420/1 1\nnest AB ACL 149/1 2\nnest BC ACH 350/1 1\nnest BC BCL 80/1 3\nnest BC ACL 79/1 3\nprotect AB 7 10\nprotect BC 4 6\n";
+    plan_goes_out(&rt, rt.alloc(), &[], true, text)?;
+    Ok(())
+}
+
+// The puts of the second product in a nest and of the last protections.
+#[test]
+fn each_line_of_a_nest_goes_out_in_one_put(rt: HostRuntime) -> Result<(), Fail> {
+    let text =
+        b"value 4130/1\nproduct ABH 3/1\nproduct ABL 3/1\nproduct ACH 4/1\nproduct BCL 6/1\nproduct ACL 0/1\nleg AB 150/1\nleg BC 80/1\nnest AB ABH 400/1 1\n";
+    plan_goes_out(&rt, rt.alloc(), &[10], false, text)?;
+    let text =
+        b"value 4130/1\nproduct ABH 3/1\nproduct ABL 3/1\nproduct ACH 4/1\nproduct BCL 6/1\nproduct ACL 0/1\nleg AB 150/1\nleg BC 80/1\nnest AB ABH 400/1 1\nnest AB ABL 150/1 2\nnest AB ACH 420/1 1\nnest AB ACL 149/1 2\nnest BC ACH 350/1 1\nnest BC BCL 80/1 3\nnest BC ACL 79/1 3\nprotect AB 7 10\n";
+    plan_goes_out(&rt, rt.alloc(), &[17], false, text)?;
     Ok(())
 }

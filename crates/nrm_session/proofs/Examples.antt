@@ -31,7 +31,7 @@ there_and_back = record {
 
 -- first come, first served, for every seat or for none
 abbrev first_for : ℕ → List ℕ → PlanValue
-first_for period left = record { mode = modes.FirstCome; period = period; left = left; certificate = None }
+first_for period left = record { mode = modes.FirstCome; period = period; left = left; certificate = None; nests = None }
 
 abbrev first : PlanValue
 first = first_for 1 (1 ∷ 1 ∷ [])
@@ -55,7 +55,7 @@ a_plan = (refl, refl)
 
 -- a new plan is for the seats left now, and nothing else changes; there is no second period
 plans_again : Step there_and_back (sold_once first) (command.Reoptimise 1) optimised_none (sold_once (first_for 1 (0 ∷ 0 ∷ [])))
-plans_again = optimises (first_for 1 (0 ∷ 0 ∷ [])) (record { mode_is = refl; left_is = refl; period_is = refl; planned = record { left = record { legs = refl; seats = λ i short. within i short }; certificate = refl } })
+plans_again = optimises (first_for 1 (0 ∷ 0 ∷ [])) (record { mode_is = refl; left_is = refl; period_is = refl; planned = record { left = record { legs = refl; seats = λ i short. within i short }; certificate = refl; nests = refl } })
   where
     within : (i : ℕ) → i < 2 → get_or (0 ∷ 0 ∷ []) i 0 ≤ (leg_of there_and_back i).seats
     within zero short = omega arith

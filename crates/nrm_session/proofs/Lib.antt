@@ -5,3 +5,4 @@ pub mod Runs
 pub mod Seats
 pub mod SoFar
 pub mod Steps
+pub mod Verdicts

@@ -13,7 +13,7 @@ use Rattle.nrm_book.specs.declared.booking.Booking.{Booking}
 use Rattle.nrm_book.specs.Bookings.{booking_numbered, left_on, worth_of}
 use Rattle.nrm_book.proofs.Kept.{seats-added, sold_on-without}
 use Rattle.nrm_book.proofs.Sold.{AreProducts, sold_on-by_booking}
-use Rattle.nrm_plan.specs.Plans.{PlanValue, fare_refuses}
+use Rattle.nrm_plan.specs.Plans.{PlanValue, fare_refuses, kept_from}
 use Rattle.nrm_control.specs.State.{SeatState, after_answer, after_cancellation, after_request, answer_in, opening}
 use Rattle.nrm_control.specs.Verdict.{leg_refuses}
 use Rattle.nrm_control.specs.declared.answer.Answer.TheVariants as answer
@@ -39,25 +39,25 @@ legs-same net j = ap (λ o. unwrap_or o []) (slice_get-map (λ (p : Product). p.
     by (Some product) = refl
 
 -- a request that no leg refuses has the seats
-kept-sold : (net : NetworkValue) (s : SeatState) (j party number : ℕ) → Kept net s → j < length net.products → find (leg_refuses net s.bookings party) (product_of net j).legs ≡ None
+kept-sold : (net : NetworkValue) (s : SeatState) (j party number : ℕ) → Kept net s → j < length net.products → find (leg_refuses net s.plan s.bookings j party) (product_of net j).legs ≡ None
     → Kept net (after_answer s j party (answer.Sold number))
 kept-sold net s j party number kept below none =
     let short : j < length (inventory_of net).legs = omega (arith, length-map net.products (λ (p : Product). p.legs), below) in
     let own : All (λ i. party ≤ left_on (inventory_of net) s.bookings i) (legs_of (inventory_of net) j) =
-    rw (legs-same net j) (none-refuses (left_on (inventory_of net) s.bookings) party (product_of net j).legs none) in
+    rw (legs-same net j) (none-refuses (left_on (inventory_of net) s.bookings) (λ i. kept_from net s.plan i j) party (product_of net j).legs none) in
     record {
       products = All-push (λ (b : Booking). b.product < length (inventory_of net).legs) s.bookings (record { number = number; product = j; party = party }) kept.products short;
       seats = λ i at. seats-added (inventory_of net) s.bookings (record { number = number; product = j; party = party }) i kept.products short own (kept.seats i at);
     }
 
 kept-request : (net : NetworkValue) (s : SeatState) (j party : ℕ) → Kept net s → j < length net.products → Kept net (after_request net s j party)
-kept-request net s j party kept below = by (find (leg_refuses net s.bookings party) (product_of net j).legs) refl
+kept-request net s j party kept below = by (find (leg_refuses net s.plan s.bookings j party) (product_of net j).legs) refl
   where
-    by-fare : (refuses : Bool) → find (leg_refuses net s.bookings party) (product_of net j).legs ≡ None → Kept net (after_answer s j party (if refuses then answer.Fare else answer.Sold s.next))
+    by-fare : (refuses : Bool) → find (leg_refuses net s.plan s.bookings j party) (product_of net j).legs ≡ None → Kept net (after_answer s j party (if refuses then answer.Fare else answer.Sold s.next))
     by-fare true e = record { products = kept.products; seats = kept.seats }
     by-fare false e = kept-sold net s j party s.next kept below e
 
-    by : (o : Option ℕ) → find (leg_refuses net s.bookings party) (product_of net j).legs ≡ o
+    by : (o : Option ℕ) → find (leg_refuses net s.plan s.bookings j party) (product_of net j).legs ≡ o
         → Kept net (after_answer s j party (option_map_or answer.Leg o (if fare_refuses net s.plan j then answer.Fare else answer.Sold s.next)))
     by None e = by-fare (fare_refuses net s.plan j) e
     by (Some i) e = record { products = kept.products; seats = kept.seats }

@@ -1,4 +1,5 @@
 //! Laws of whole sessions. Each is the contract of a function that does nothing.
+ghost use Rattle.nrm_session.specs.Headline.{RequestsAreAnswered};
 ghost use Rattle.nrm_session.specs.Laws.{EachListHasARun, PlansAreKept, RepliesAreDetermined, SeatsAreKept, StatesAreDetermined};
 
 /// No leg has more seats sold than it has in an opening, and a run keeps that from any state.
@@ -25,4 +26,10 @@ pub fn each_list_has_a_run()
 /// its bid prices are optimal duals of the program at the plan's seats left and period.
 pub fn plans_are_kept()
     ensures { PlansAreKept }
+{}
+
+/// A request is sold exactly when on every leg the seats left cover the party plus the protection above its bucket, and its fare
+/// reaches the sum of the bid prices; else the first leg that is short is named, or the fare.
+pub fn requests_are_answered()
+    ensures { RequestsAreAnswered }
 {}

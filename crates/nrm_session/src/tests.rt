@@ -1,6 +1,5 @@
 //! Sessions worked by hand: legs AB with 3 seats and BC with 2, a through product for 500 and a local one for 200.
-ghost use Rattle.std.specs.Prelude.{◌≡◌, ◌≢◌, ◌≤◌, ◌^◌, IfOk, length};
-ghost use Rattle.nrm_model.specs.declared.mode.Mode.TheVariants as modes;
+ghost use Rattle.std.specs.Prelude.{◌≡◌, ◌≤◌, ◌^◌, IfOk, length};
 
 use crate::{WholeEnd, serve_whole};
 use nrm_control::Controller;
@@ -12,7 +11,6 @@ use std::alloc::Global;
 use std::process::Abort;
 
 fn begin(alloc: Global, mode: Mode) -> Result<Controller, SolveFault>
-    requires { mode ≢ modes.Davn }
     ensures { IfOk result (λ controller. controller.next ≡ 1) }
 {
     Controller::start(alloc, two_legs(alloc)?, mode)
@@ -25,8 +23,7 @@ fn session(
     stream: &[u8],
     failing: &[u64],
 ) -> Result<(WholeEnd, MemSink), SolveFault>
-    requires mode { mode ≢ modes.Davn }
-    requires stream { length stream.now ≤ 2 ^ 32 }
+    requires { length stream.now ≤ 2 ^ 32 }
 {
     let mut controller = begin(alloc, mode)?;
     let mut sink = MemSink::new(alloc, 512, Vec::new(alloc), failing.to_vec(alloc)?)?;
@@ -82,8 +79,7 @@ fn lines_are_answered_at_bid_prices_by_hand(rt: HostRuntime) {
 
 // The put of this number fails: so much was written before it.
 fn assert_cut(rt: &impl Abort, alloc: Global, mode: Mode, failing: u64, stream: &[u8], held: &[u8])
-    requires mode { mode ≢ modes.Davn }
-    requires stream { length stream.now ≤ 2 ^ 32 }
+    requires { length stream.now ≤ 2 ^ 32 }
 {
     let given = session(alloc, mode, stream, &[failing]);
     assert_ends(rt, given, WholeEnd::WriteFault, held);

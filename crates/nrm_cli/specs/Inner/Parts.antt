@@ -7,7 +7,6 @@ use Rattle.nrm_edge.specs.Pieces.{AppendsFront}
 use Rattle.nrm_model.specs.Network.{NetworkValue}
 use Rattle.nrm_model.specs.Inventory.{inventory_of}
 use Rattle.nrm_model.specs.declared.mode.Mode.{Mode}
-use Rattle.nrm_model.specs.declared.mode.Mode.TheVariants as modes
 use Rattle.nrm_simplex.specs.declared.fault.SolveFault.{SolveFault}
 use Rattle.nrm_simplex.specs.declared.fault.SolveFault.TheVariants as fault
 use Rattle.nrm_plan.specs.Plans.{IsOpeningPlan, IsPlanFault, PlanValue}
@@ -149,13 +148,6 @@ pub record ChecksFile (net : NetworkValue) (files : Option Folder) (name : List 
   pub opens : OpensCertificate net files name opened
   pub counts : CountsCertificate before now opened
   pub puts : MatchResult opened (λ given. PutsVerdict net given held held' sunk sunk' result) (λ reason. PutsIfSome (lack_line net reason) (lack_status reason) held held' sunk sunk' result)
-
--- a run in a mode that is built, or another job
-abbrev pub IsBuilt : Asked → Type 0
-IsBuilt (asked.Run mode file) = mode ≢ modes.Davn
-IsBuilt (asked.Plan mode file) = ⊤
-IsBuilt (asked.Check file certificate) = ⊤
-IsBuilt (asked.Print file) = ⊤
 
 -- a stream was read to its end, and such output was written
 pub record AnswersAll (coming after : Option (List ℕ)) (held held' : Option (List ℕ)) (refines : List ℕ → List ℕ → Type 0) : Type 0 where

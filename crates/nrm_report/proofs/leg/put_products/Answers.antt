@@ -14,10 +14,10 @@ returns-in_err-put_product-clause-cut g c =
     let i = c.args.leg in
     let j = c.loop-product.product in
     let held = g.K.Sink.held in
-    let front = AppendsFront-after (held c.args.sink.now) (held c.loop-product.sink) (held c.put_product.new.sink) (lines_of net bookings i j) (on_line net bookings i j) c.loop-product.invariant.sent c.in_err-put_product.ensures.cut in
-    let more = AppendsFront-more (held c.args.sink.now) (held c.put_product.new.sink) (lines_of net bookings i j ++ on_line net bookings i j) (lines_from net bookings i (j + 1) (length net.products - (j + 1))) front in
-    let all = lines-all net bookings i j (length net.products) (sym c.uses.ensures ∙ c.if-uses.true) (omega (arith, c.product_count-product-end.ensures.count)) in
-    OnErr-holds c.from_residual.result (subst (AppendsFront (held c.args.sink.now) (held c.put_product.new.sink)) (sym (lines-products net bookings i ∙ all)) more)
+    let front = AppendsFront-after (held c.args.sink.now) (held c.loop-product.sink) (held c.put_product.new.sink) (lines_of net (on_line net bookings i) i j) (on_line net bookings i j) c.loop-product.invariant.sent c.in_err-put_product.ensures.cut in
+    let more = AppendsFront-more (held c.args.sink.now) (held c.put_product.new.sink) (lines_of net (on_line net bookings i) i j ++ on_line net bookings i j) (lines_from net (on_line net bookings i) i (j + 1) (length net.products - (j + 1))) front in
+    let all = lines-all net (on_line net bookings i) i j (length net.products) (sym c.uses.ensures ∙ c.if-uses.true) (omega (arith, c.product_count-product-end.ensures.count)) in
+    OnErr-holds c.from_residual.result (subst (AppendsFront (held c.args.sink.now) (held c.put_product.new.sink)) (sym (lines-products net (on_line net bookings i) i ∙ all)) more)
 
 pub loop-product-preserved : goal.loop-product-preserved
 loop-product-preserved g c =
@@ -28,8 +28,8 @@ loop-product-preserved g c =
     let held = g.K.Sink.held in
     elim c.if-uses.branch [
       | then-uses+in_ok-put_product w ↦
-          let whole = Appends-trans (held c.args.sink.now) (held c.loop-product.sink) (held w.put_product.new.sink) (lines_of net bookings i j) (on_line net bookings i j) c.loop-product.invariant.sent w.in_ok-put_product.ensures.whole in
-          rw w.sink-is (record { sent = rw (lines-used net bookings i j (sym c.uses.ensures ∙ w.if-uses.true)) whole; count = omega (arith, c.loop-product.invariant.count, w.in_ok-put_product.ensures.cause.done) })
+          let whole = Appends-trans (held c.args.sink.now) (held c.loop-product.sink) (held w.put_product.new.sink) (lines_of net (on_line net bookings i) i j) (on_line net bookings i j) c.loop-product.invariant.sent w.in_ok-put_product.ensures.whole in
+          rw w.sink-is (record { sent = rw (lines-used net (on_line net bookings i) i j (sym c.uses.ensures ∙ w.if-uses.true)) whole; count = omega (arith, c.loop-product.invariant.count, w.in_ok-put_product.ensures.cause.done) })
       | else-uses w ↦
-          rw w.sink-is (record { sent = rw (lines-unused net bookings i j (sym c.uses.ensures ∙ w.if-uses.false)) c.loop-product.invariant.sent; count = omega (arith, c.loop-product.invariant.count) })
+          rw w.sink-is (record { sent = rw (lines-unused net (on_line net bookings i) i j (sym c.uses.ensures ∙ w.if-uses.false)) c.loop-product.invariant.sent; count = omega (arith, c.loop-product.invariant.count) })
     ]

@@ -1,26 +1,25 @@
-use Rattle.std.proofs.Common.{sym, ◌∙◌, ◌<◌, All, ap, length, nat_lt, refl, subst, Some, None}
-use Rattle.nrm_book.specs.Bookings.{left_on}
+use Rattle.std.proofs.Common.{sym, ◌∙◌, ◌<◌, All, ap, length, refl, subst, Some, None}
 use Rattle.nrm_plan.specs.Plans.{fare_refuses}
 use Rattle.nrm_control.specs.Standing.{ControlValue}
-use Rattle.nrm_control.specs.Verdict.{verdict_of}
-use Rattle.nrm_control.proofs.Inventories.{fare-refused, fare-sold, found-within, legs-within, seats-cover, verdict-is}
+use Rattle.nrm_control.specs.Verdict.{leg_refuses, verdict_of}
+use Rattle.nrm_control.proofs.Inventories.{fare-refused, fare-sold, found-within, own-legs, seats-cover, verdict-is}
 use Rattle.nrm_control.proofs.States.{request-stands, request-stands-through, sold-is}
 use Rattle.nrm_control.specs.declared.answer.Answer.TheVariants as answer
 use Rattle.nrm_control.proofs.controller.Controller.request.Goals as goal
 
-pub refusing_leg-requires : goal.refusing_leg-requires
-refusing_leg-requires c =
-    legs-within c.self.inside.network c.self.inside.book.inventory c.as_slice-legs.result.now c.product_at.result.now.legs c.self.invariant.inventory c.as_slice-legs.ensures c.product_at.ensures.limits.legs
+pub refusing_leg-requires-clause-legs : goal.refusing_leg-requires-clause-legs
+refusing_leg-requires-clause-legs c =
+    own-legs c.self.inside.network c.args.product c.product_at.result.now c.as_slice-legs.result.now c.product_at.ensures.product c.as_slice-legs.ensures c.product_at.ensures.limits.legs
 
 pub add-requires-clause-seats : goal.add-requires-clause-seats
 add-requires-clause-seats c =
-    seats-cover c.self.inside.network c.self.inside.book.inventory c.self.inside.book.bookings c.args.party c.args.product c.product_at.result.now c.as_slice-legs.result.now
+    seats-cover c.self.inside.network c.self.inside.book.inventory c.self.inside.plan c.self.inside.book.bookings c.args.party c.args.product c.product_at.result.now c.as_slice-legs.result.now
     c.self.invariant.inventory c.product_at.ensures.product c.as_slice-legs.ensures c.in_default.ensures
 
 pub returns-in-Some-clause-answer : goal.returns-in-Some-clause-answer
 returns-in-Some-clause-answer c =
-    verdict-is c.self.inside.network c.self.inside.plan c.self.inside.book.inventory c.self.inside.book.bookings c.self.inside.book.next c.args.party c.args.product c.product_at.result.now c.as_slice-legs.result.now (Some c.in-Some.leg)
-    c.self.invariant.inventory c.product_at.ensures.product c.as_slice-legs.ensures c.in-Some.ensures
+    verdict-is c.self.inside.network c.self.inside.plan c.self.inside.book.bookings c.self.inside.book.next c.args.party c.args.product c.product_at.result.now c.as_slice-legs.result.now (Some c.in-Some.leg)
+    c.product_at.ensures.product c.as_slice-legs.ensures c.in-Some.ensures
     ∙ ap (λ (control : ControlValue). verdict_of control.net control.plan control.bookings control.next c.args.product c.args.party) c.self.view_is
 
 pub returns-in-Some-clause-state : goal.returns-in-Some-clause-state
@@ -30,8 +29,8 @@ pub returns-then-fare_refuses-clause-answer : goal.returns-then-fare_refuses-cla
 returns-then-fare_refuses-clause-answer c =
     let inside = c.self.inside in
     fare-refused (fare_refuses inside.network inside.plan c.args.product) inside.book.next (sym c.fare_refuses.ensures ∙ c.if-fare_refuses.true)
-    ∙ verdict-is inside.network inside.plan inside.book.inventory inside.book.bookings inside.book.next c.args.party c.args.product c.product_at.result.now c.as_slice-legs.result.now None
-    c.self.invariant.inventory c.product_at.ensures.product c.as_slice-legs.ensures c.in_default.ensures
+    ∙ verdict-is inside.network inside.plan inside.book.bookings inside.book.next c.args.party c.args.product c.product_at.result.now c.as_slice-legs.result.now None
+    c.product_at.ensures.product c.as_slice-legs.ensures c.in_default.ensures
     ∙ ap (λ (control : ControlValue). verdict_of control.net control.plan control.bookings control.next c.args.product c.args.party) c.self.view_is
 
 pub returns-then-fare_refuses-clause-state : goal.returns-then-fare_refuses-clause-state
@@ -42,8 +41,8 @@ returns-clause-answer c =
     let inside = c.self.inside in
     ap answer.Sold c.add.ensures.number
     ∙ fare-sold (fare_refuses inside.network inside.plan c.args.product) inside.book.next (sym c.fare_refuses.ensures ∙ c.if-fare_refuses.false)
-    ∙ verdict-is inside.network inside.plan inside.book.inventory inside.book.bookings inside.book.next c.args.party c.args.product c.product_at.result.now c.as_slice-legs.result.now None
-    c.self.invariant.inventory c.product_at.ensures.product c.as_slice-legs.ensures c.in_default.ensures
+    ∙ verdict-is inside.network inside.plan inside.book.bookings inside.book.next c.args.party c.args.product c.product_at.result.now c.as_slice-legs.result.now None
+    c.product_at.ensures.product c.as_slice-legs.ensures c.in_default.ensures
     ∙ ap (λ (control : ControlValue). verdict_of control.net control.plan control.bookings control.next c.args.product c.args.party) c.self.view_is
 
 pub returns-clause-state : goal.returns-clause-state
@@ -55,5 +54,5 @@ pub returns-in-Some-clause-leg : goal.returns-in-Some-clause-leg
 returns-in-Some-clause-leg c =
     let inside = c.self.inside in
     let own : All (λ k. k < length inside.network.legs) c.as_slice-legs.result.now = rw c.as_slice-legs.ensures c.product_at.ensures.limits.legs in
-    let below = found-within (λ i. nat_lt (left_on inside.book.inventory inside.book.bookings i) c.args.party) (length inside.network.legs) c.as_slice-legs.result.now c.in-Some.leg c.in-Some.ensures own in
+    let below = found-within (leg_refuses inside.network inside.plan inside.book.bookings c.args.product c.args.party) (length inside.network.legs) c.as_slice-legs.result.now c.in-Some.leg c.in-Some.ensures own in
     subst (λ (control : ControlValue). c.in-Some.leg < length control.net.legs) c.self.view_is below

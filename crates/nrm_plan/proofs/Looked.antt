@@ -1,0 +1,74 @@
+-- The protection above a product's bucket, as it is looked up.
+use Rattle.std.proofs.Common.{◌∷◌, ◌++◌, ℕ, zero, suc, ◌≡◌, ◌∙◌, ◌+◌, ◌-◌, ◌*◌, ◌<◌, ◌≤◌, List, [], Option, Some, None, map, length, get_or, arith, refl, ap, sym, subst}
+use Rattle.std.specs.List.{range_with_len}
+use Rattle.std.proofs.lemmas.List.FromFn.{get_or-map-range_with_len, length-map-range_with_len, map-range_with_len_more}
+use Rattle.std.proofs.lemmas.List.Sums.{count_by-le-length}
+use Rattle.std.specs.Prelude.{pos, nat_abs, int_lt}
+use Rattle.nrm_model.specs.Network.{NetworkValue, leg_of}
+use Rattle.nrm_model.specs.declared.mode.Mode.{Mode}
+use Rattle.nrm_model.specs.declared.mode.Mode.TheVariants as mode
+use Rattle.nrm_lp.specs.declared.certificate.Certificate.{Certificate}
+use Rattle.nrm_virtual.specs.Adjusted.{adjusted_fare}
+use Rattle.nrm_virtual.specs.Buckets.{bucket_count, bucket_of}
+use Rattle.nrm_emsr.specs.Protections.{protection_of, protections_of}
+use Rattle.nrm_plan.specs.Nesting.{AreNestsOf, NestsValue, level_at}
+use Rattle.nrm_plan.specs.Plans.{HasNests, IsPlanOf, PlanValue, kept_from, seats_kept}
+
+-- a bucket is one of the leg's
+pub bucket-within : (net : NetworkValue) (cert : Certificate) (i j : ℕ) → (1 ≤ bucket_of net cert i j) × (bucket_of net cert i j ≤ bucket_count net i)
+bucket-within net cert i j =
+    let few = count_by-le-length (λ cut. int_lt (adjusted_fare net cert i j) (pos (cut * nat_abs cert.den))) (leg_of net i).cuts in
+    (omega arith, omega (arith, few))
+
+-- the protections of a leg, one by one
+pub level-is : (net : NetworkValue) (cert : Certificate) (i k b : ℕ) → b < bucket_count net i → level_at (protections_of net cert i k) b ≡ protection_of net cert i k b
+level-is net cert i k zero below = refl
+level-is net cert i k (suc b) below = get_or-map-range_with_len (protection_of net cert i k) 1 (bucket_count net i - 1) b (suc b) 0 (omega (arith, below)) (omega arith)
+
+module _ (net : NetworkValue) (k : ℕ) (cert : Certificate) (nests : NestsValue) (are : AreNestsOf net k cert nests) (i j : ℕ) (leg : i < length net.legs) where
+  pub own-levels : get_or nests.protections i [] ≡ protections_of net cert i k
+  own-levels = ap (λ (levels : List (List ℕ)). get_or levels i []) are.protections ∙ get_or-map-range_with_len (λ i. protections_of net cert i k) 0 (length net.legs) i i [] leg (omega arith)
+
+  pub legs-held : i < length nests.protections
+  legs-held = omega (arith, ap length are.protections ∙ length-map-range_with_len (λ i. protections_of net cert i k) 0 (length net.legs), leg)
+
+  pub levels-held : (bucket : ℕ) → bucket ≡ bucket_of net cert i j → bucket - 1 ≤ length (get_or nests.protections i [])
+  levels-held bucket is =
+      let (some, within) = bucket-within net cert i j in
+      omega (arith, is, within, ap length own-levels ∙ length-map-range_with_len (protection_of net cert i k) 1 (bucket_count net i - 1))
+
+  pub looked-up : (bucket : ℕ) → bucket ≡ bucket_of net cert i j → level_at (get_or nests.protections i []) (bucket - 1) ≡ protection_of net cert i k (bucket_of net cert i j - 1)
+  looked-up bucket is =
+      let (some, within) = bucket-within net cert i j in
+      (λ n. level_at (own-levels n) (is n - 1)) ∙ level-is net cert i k (bucket_of net cert i j - 1) (omega (arith, some, within))
+
+-- a plan that has nests is one for virtual nesting
+abbrev pub NestsOf : NetworkValue → PlanValue → NestsValue → Type 0
+NestsOf net plan nests = (cert : Certificate) × AreNestsOf net plan.period cert nests × ((i j : ℕ) → kept_from net plan i j ≡ protection_of net cert i plan.period (bucket_of net cert i j - 1))
+
+pub plan-nests : (net : NetworkValue) (plan : PlanValue) (nests : NestsValue) → IsPlanOf net plan → plan.nests ≡ Some nests → NestsOf net plan nests
+plan-nests net plan nests of has = by plan.mode plan.certificate refl refl (subst (λ (n : Option NestsValue). HasNests net plan.period plan.mode plan.certificate n) has of.nests)
+  where
+    none-some : {x : NestsValue} → Some x ≡ None → ⊥
+    none-some e = cc
+
+    by : (m : Mode) (cert : Option Certificate) → plan.mode ≡ m → plan.certificate ≡ cert → HasNests net plan.period m cert (Some nests)
+        → (c : Certificate) × AreNestsOf net plan.period c nests × ((i j : ℕ) → seats_kept net plan.mode plan.period plan.certificate i j ≡ protection_of net c i plan.period (bucket_of net c i j - 1))
+    by mode.FirstCome cert em ec nested = absurd (none-some nested)
+    by mode.Bid cert em ec nested = absurd (none-some nested)
+    by mode.Davn None em ec nested = absurd nested
+    by mode.Davn (Some c) em ec nested = (c, nested, λ i j. (λ n. seats_kept net (em n) plan.period (ec n) i j))
+
+-- and one that has none keeps no seats
+pub no-nests : (net : NetworkValue) (plan : PlanValue) → IsPlanOf net plan → plan.nests ≡ None → (i j : ℕ) → kept_from net plan i j ≡ 0
+no-nests net plan of has i j = by plan.mode plan.certificate (subst (λ (n : Option NestsValue). HasNests net plan.period plan.mode plan.certificate n) has of.nests)
+  where
+    by : (m : Mode) (cert : Option Certificate) → HasNests net plan.period m cert None → seats_kept net m plan.period cert i j ≡ 0
+    by mode.FirstCome cert nested = refl
+    by mode.Bid cert nested = refl
+    by mode.Davn None nested = refl
+    by mode.Davn (Some c) nested = absurd nested
+
+-- one leg's protections more
+pub levels-more : (f : ℕ → List ℕ) (i : ℕ) (levels : List (List ℕ)) (next : List ℕ) → levels ≡ map f (range_with_len 0 i) → next ≡ f i → levels ++ next ∷ [] ≡ map f (range_with_len 0 (i + 1))
+levels-more f i levels next made worked = (λ n. made n ++ worked n ∷ []) ∙ sym (map-range_with_len_more f 0 i i (omega arith))

@@ -1,0 +1,22 @@
+-- The nests of a plan: the bucket of each product on each of its legs, and the protections of each leg.
+use Rattle.std.specs.Prelude.{ℕ, zero, suc, ◌≡◌, List, length, map, get_or}
+use Rattle.std.specs.List.{range_with_len}
+use Rattle.nrm_model.specs.Network.{NetworkValue}
+use Rattle.nrm_lp.specs.declared.certificate.Certificate.{Certificate}
+use Rattle.nrm_virtual.specs.Table.{IsTableOf, TableValue}
+use Rattle.nrm_emsr.specs.Protections.{protections_of}
+
+-- leg by leg: its products with their buckets, and the seats that are protected for its buckets 1 to b, for each b but the last
+pub record NestsValue : Type 0 where
+  pub buckets : TableValue
+  pub protections : List (List ℕ)
+
+-- they are those of a network at these bid prices, from period k on
+pub record AreNestsOf (net : NetworkValue) (k : ℕ) (cert : Certificate) (nests : NestsValue) : Type 0 where
+  pub buckets : IsTableOf net cert nests.buckets
+  pub protections : nests.protections ≡ map (λ i. protections_of net cert i k) (range_with_len 0 (length net.legs))
+
+-- the seats protected for buckets 1 to b, among those of a leg; none are for no bucket
+abbrev pub level_at : List ℕ → ℕ → ℕ
+level_at levels zero = 0
+level_at levels (suc b) = get_or levels b 0

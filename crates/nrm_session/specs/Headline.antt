@@ -1,0 +1,68 @@
+-- The headline, to be read aloud: when a request is sold, and what is replied where it isn't.
+use Rattle.std.specs.Prelude.{ℕ, ◌≡◌, ◌↔◌, ◌+◌, ◌-◌, ◌*◌, ◌≤◌, List, ◌∷◌, ◌++◌, All, Some, nat_abs}
+use Rattle.nrm_model.specs.Inventory.{inventory_of}
+use Rattle.nrm_model.specs.Network.{NetworkValue, leg_of, product_named, product_of}
+use Rattle.nrm_model.specs.declared.mode.Mode.{Mode}
+use Rattle.nrm_model.specs.declared.mode.Mode.TheVariants as mode
+use Rattle.nrm_lp.specs.declared.certificate.Certificate.{Certificate}
+use Rattle.nrm_lp.specs.Certified.{sizes}
+use Rattle.nrm_lp.specs.Program.{price_sum}
+use Rattle.nrm_virtual.specs.Buckets.{bucket_of}
+use Rattle.nrm_emsr.specs.Protections.{protection_of}
+use Rattle.nrm_plan.specs.Plans.{PlanValue}
+use Rattle.nrm_book.specs.Bookings.{left_on}
+use Rattle.nrm_control.specs.State.{SeatState, after_request}
+use Rattle.nrm_stream.specs.declared.command.Command.TheVariants as command
+use Rattle.nrm_session.specs.Replies.{Reply, sold, no_leg, no_fare}
+use Rattle.nrm_session.specs.Step.{Step}
+
+-- the plan in force is of this mode, and these are its bid prices
+pub record InForce (plan : PlanValue) (its_mode : Mode) (prices : Certificate) : Type 0 where
+  pub in_mode : plan.mode ≡ its_mode
+  pub at_prices : plan.certificate ≡ Some prices
+
+-- the protection above a product's bucket on a leg, at bid prices from a period on
+abbrev pub protection_above_bucket : NetworkValue → Certificate → ℕ → ℕ → ℕ → ℕ
+protection_above_bucket net prices period product leg = protection_of net prices leg period (bucket_of net prices leg product - 1)
+
+-- the sum of the bid prices of a product's legs, over the denominator of the prices
+abbrev pub bid_price_sum : NetworkValue → Certificate → ℕ → ℕ
+bid_price_sum net prices product = price_sum (sizes prices.p) (product_of net product).legs
+
+-- On a leg, the seats left cover the party, and under virtual nesting the party plus the protection above the product's bucket.
+pub record SeatsCover (net : NetworkValue) (s : SeatState) (product party leg : ℕ) : Type 0 where
+  pub the_party : party ≤ left_on (inventory_of net) s.bookings leg
+  pub and_protection : (prices : Certificate) → InForce s.plan mode.Davn prices
+      → party + protection_above_bucket net prices s.plan.period product leg ≤ left_on (inventory_of net) s.bookings leg
+
+-- They do on every leg of the product.
+abbrev pub EveryLegCovers : NetworkValue → SeatState → ℕ → ℕ → Type 0
+EveryLegCovers net s product party = All (SeatsCover net s product party) (product_of net product).legs
+
+-- In bid-price mode, the fare reaches the sum of the bid prices of its legs.
+abbrev pub FareReaches : NetworkValue → SeatState → ℕ → Type 0
+FareReaches net s product = (prices : Certificate) → InForce s.plan mode.Bid prices → bid_price_sum net prices product ≤ nat_abs prices.den * (product_of net product).fare
+
+-- In the product's own order, a leg of this name is the first on which they don't cover.
+pub record FirstLegShort (net : NetworkValue) (s : SeatState) (product party : ℕ) (name : List ℕ) : Type 0 where
+  pub before : List ℕ
+  pub leg : ℕ
+  pub after : List ℕ
+  pub order : (product_of net product).legs ≡ before ++ leg ∷ after
+  pub covered : All (SeatsCover net s product party) before
+  pub short : ¬ (SeatsCover net s product party leg)
+  pub its_name : (leg_of net leg).name ≡ name
+
+-- The reply sells with the next number exactly when every leg covers and the fare reaches. It names a leg exactly when that is the first leg
+-- short. It says that the fare refuses exactly when every leg covers and the fare doesn't reach.
+pub record Headline (net : NetworkValue) (s : SeatState) (product party : ℕ) (reply : Reply) : Type 0 where
+  pub is_sold : (reply ≡ sold s.next) ↔ (EveryLegCovers net s product party × FareReaches net s product)
+  pub names_leg : (name : List ℕ) → (reply ≡ no_leg name) ↔ FirstLegShort net s product party name
+  pub names_fare : (reply ≡ no_fare) ↔ (EveryLegCovers net s product party × ¬ (FareReaches net s product))
+
+-- in every state, of each step at a request for a product of the network the headline holds; and each reply of which it holds is one of such a
+-- step, so there is no other
+abbrev pub RequestsAreAnswered : Type 0
+RequestsAreAnswered = (net : NetworkValue) (s : SeatState) (name : List ℕ) (product party : ℕ) → product_named net name ≡ Some product
+    → ((reply : Reply) (s' : SeatState) → Step net s (command.Book name party) reply s' → Headline net s product party reply)
+    × ((reply : Reply) → Headline net s product party reply → Step net s (command.Book name party) reply (after_request net s product party))
