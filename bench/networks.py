@@ -9,7 +9,7 @@ def hub():
     legs = [(leg, draw.randint(60, 180)) for leg in to + away]
     products = [(leg, draw.randint(100, 400), [leg]) for leg in to + away]
     products += [(f"{a}-{b}", draw.randint(250, 700), [a, b]) for a in to for b in away]
-    return network(draw, 8, 4, legs, products, 6)
+    return network(draw, 8, 4, legs, products, 6, [400, 250, 150])
 
 
 def limits():
@@ -31,21 +31,23 @@ def long_path():
     return Network(1, 1, legs, products, {name: [[9]] for name, _, _ in products})
 
 
-def network(draw, histories, periods, legs, products, most):
+def network(draw, histories, periods, legs, products, most, thresholds=()):
     demand = {name: [[draw.randint(0, most) for _ in range(periods)] for _ in range(histories)] for name, _, _ in products}
-    return Network(histories, periods, legs, products, demand)
+    return Network(histories, periods, legs, products, demand, thresholds)
 
 
 class Network:
-    """Legs with their seats, products with their fares and legs, and demand by product, history and period."""
+    """Legs with their seats, products with their fares and legs, demand by product, history and period, and the thresholds of
+    every leg."""
 
-    def __init__(self, histories, periods, legs, products, demand):
+    def __init__(self, histories, periods, legs, products, demand, thresholds=()):
         self.histories, self.periods, self.legs, self.products, self.demand = histories, periods, legs, products, demand
+        self.thresholds = list(thresholds)
 
     def write(self, path):
         """The network file."""
         rows = [["periods", self.histories, self.periods]]
-        rows += [["leg", name, seats] for name, seats in self.legs]
+        rows += [["leg", name, seats] + self.thresholds for name, seats in self.legs]
         rows += [["product", name, fare] + legs for name, fare, legs in self.products]
         rows += [["demand", name, h] + seats for name in self.demand for h, seats in enumerate(self.demand[name], 1)]
         with open(path, "w") as file:

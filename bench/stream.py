@@ -19,7 +19,7 @@ import networks
 TOP = os.path.dirname(os.path.dirname(os.path.abspath(__file__)))
 RUNS = 9
 LINES = 1_000_000
-MODES = ["first", "bid"]
+MODES = ["first", "bid", "davn"]
 
 
 def line(draw, products, legs, at):

@@ -8,14 +8,15 @@
     tests/reference.py stream MODE FILE SEED N
                                               a made stream of N mixed lines for the network of FILE; a seed gives one stream
 
-MODE is `first` or `bid`. It was written from the rules alone and shares nothing with the program. It keeps no counters:
-seats are summed anew from the list of bookings at each line. A certificate is checked on exact fractions, which are
-brought to no common denominator. A plan's prices are worked out on the whole tableau, a row at a time, in whole numbers
-of any size; only then is it asked whether one is too large.
+MODE is `first`, `bid` or `davn`. It was written from the rules alone and shares nothing with the program. It keeps no
+counters: seats are summed anew from the list of bookings at each line. A certificate is checked on exact fractions, which
+are brought to no common denominator. A plan's prices are worked out on the whole tableau, a row at a time, in whole
+numbers of any size; only then is it asked whether one is too large. Buckets are worked out anew for each product, and a
+protection level by trying one number of seats after the other.
 
 The words but `stream`, the texts and the statuses are those of the program, so `tests/run --program tests/reference.py`
-takes it as the program for the cases. The cases `session-mixed-lines` and `bid-mixed-lines` have a stream of `stream` and the
-replies of `run`.
+takes it as the program for the cases. The cases `session-mixed-lines`, `bid-mixed-lines` and `davn-mixed-lines` have a
+stream of `stream` and the replies of `run`.
 """
 import os
 import random
@@ -424,17 +425,96 @@ def solved(program):
         raise Ended(f"overflow after {pivots} pivots at {large}", 7)
 
 
+# Virtual nests
+
+
+class Nests:
+    """What prices make of the legs: the adjusted fares and the buckets of their products, and protection levels."""
+
+    def __init__(self, network, p, period):
+        self.network, self.p, self.period = network, p, period
+        self.levels = {leg: self.levels_of(leg) for leg in network.legs}
+
+    def adjusted(self, leg, product):
+        """What a product brings on one of its legs: its fare, less the prices of its other legs."""
+        fare, legs = self.network.products[product]
+        return fare - sum(self.p[other] for other in legs if other != leg)
+
+    def bucket(self, leg, product):
+        return 1 + sum(1 for threshold in self.network.legs[leg][1] if threshold > self.adjusted(leg, product))
+
+    def products_in(self, leg, buckets):
+        return [product for product, (_, legs) in self.network.products.items()
+                if leg in legs and self.bucket(leg, product) in buckets]
+
+    def demand(self, products):
+        """The demand to come for some products together, in each history."""
+        return [sum(sum(self.network.demand.get((product, history + 1), [])[self.period - 1:]) for product in products)
+                for history in range(self.network.histories)]
+
+    def fare(self, leg, buckets):
+        """The mean of the adjusted fares in some buckets, each as often as there is demand to come for it."""
+        weights = {product: sum(self.demand([product])) for product in self.products_in(leg, buckets)}
+        thresholds, total = self.network.legs[leg][1], sum(weights.values())
+        if total > 0:
+            mean = sum(self.adjusted(leg, product) * weight for product, weight in weights.items()) / Fraction(total)
+            return max(mean, Fraction(0)) if buckets == [len(thresholds) + 1] else mean
+        return Fraction(thresholds[buckets[0] - 1]) if buckets[0] <= len(thresholds) else Fraction(0)
+
+    def computed(self, leg, bucket):
+        """The least number of seats that is enough for this bucket and those above it, or the leg's seats if it is more."""
+        above = list(range(1, bucket + 1))
+        demand = self.demand(self.products_in(leg, above))
+        if sum(demand) == 0:
+            return 0
+        fare, next_fare, seats = self.fare(leg, above), self.fare(leg, [bucket + 1]), self.network.legs[leg][0]
+        for y in range(seats):
+            if len([1 for it in demand if it > y]) * fare <= self.network.histories * next_fare:
+                return y
+        return seats
+
+    def levels_of(self, leg):
+        """The seats that are kept for no bucket, for bucket 1, for buckets 1 and 2, and so on but for the last."""
+        levels = [0]
+        for bucket in range(1, len(self.network.legs[leg][1]) + 1):
+            levels.append(max(levels[-1], self.computed(leg, bucket)))
+        return levels
+
+    def protected(self, leg, product):
+        """The seats of a leg that a product may not have."""
+        return self.levels[leg][self.bucket(leg, product) - 1]
+
+    def text(self):
+        nests = [b"nest %s %s " % it + b"%s %d\n" % (fraction(Fraction(self.adjusted(*it))), self.bucket(*it))
+                 for it in [(leg, product) for leg in self.network.legs
+                            for product, (_, legs) in self.network.products.items() if leg in legs]]
+        return b"".join(nests + [b" ".join([b"protect", leg] + [b"%d" % level for level in levels[1:]]) + b"\n"
+                                 for leg, levels in self.levels.items()])
+
+
 # The session
 
 
 class Session:
-    """The surviving bookings, the number of the next one, and under `bid` the certificate in force."""
+    """The surviving bookings, the number of the next one, and the plan in force.
+
+    The plan is, under `bid`, a certificate, and under `davn` a certificate and the nests of its prices.
+    """
 
     def __init__(self, network, mode):
-        self.network = network
-        self.certificate = solved(Program(network)) if mode == "bid" else None
+        self.network, self.mode = network, mode
+        self.certificate = self.nests = None
         self.book = []  # (number, product, party), in the order in which they were made
         self.next = 1
+        if mode != "first":
+            self.optimise(1)
+
+    def optimise(self, period):
+        """Makes a plan of the seats left; where it is too large, the one in force stays."""
+        left = {leg: self.left(leg) for leg in self.network.legs}
+        self.certificate = solved(Program(self.network, left, period))
+        if self.mode == "davn":
+            self.nests = Nests(self.network, self.certificate.p, period)
 
     def sold(self, leg, product=None):
         """The seats sold on a leg, in all or by one product."""
@@ -448,9 +528,9 @@ class Session:
         if product not in self.network.products:
             return b"unknown\n"
         for leg in self.network.products[product][1]:
-            if self.left(leg) < party:
+            if self.left(leg) < party + (self.nests.protected(leg, product) if self.mode == "davn" else 0):
                 return b"no %s\n" % leg
-        if self.is_too_cheap(product):
+        if self.mode == "bid" and self.is_too_cheap(product):
             return b"no fare\n"
         self.book.append((self.next, product, party))
         self.next += 1
@@ -458,7 +538,7 @@ class Session:
 
     def is_too_cheap(self, product):
         fare, legs = self.network.products[product]
-        return self.certificate is not None and fare < sum(self.certificate.p[leg] for leg in legs)
+        return fare < sum(self.certificate.p[leg] for leg in legs)
 
     def cancel(self, number):
         for booking in self.book:
@@ -470,16 +550,18 @@ class Session:
     def reoptimise(self, period):
         if period > self.network.periods:
             return b"unknown\n"
-        if self.certificate is None:
+        if self.mode == "first":
             return b"optimised none\n"
         try:
-            self.certificate = solved(Program(self.network, {leg: self.left(leg) for leg in self.network.legs}, period))
+            self.optimise(period)
         except Ended:
             return b"overflow\n"
         return b"optimised %s\n" % fraction(self.certificate.value / self.network.histories)
 
     def plan(self):
-        return b"first\n" if self.certificate is None else certificate_text(self.network, self.certificate)
+        if self.mode == "first":
+            return b"first\n"
+        return certificate_text(self.network, self.certificate) + (self.nests.text() if self.mode == "davn" else b"")
 
     def report(self, leg):
         if leg not in self.network.legs:
@@ -576,10 +658,10 @@ USAGE = "usage: nrm run MODE FILE, plan MODE FILE, check FILE CERT, print FILE, 
 def told(words):
     """The text that is written, and the status."""
     match words:
-        case ["run", "first" | "bid" as mode, path]:
+        case ["run", "first" | "bid" | "davn" as mode, path]:
             session = Session(network_in(path), mode)
             return replies(session, stream_given()), 0
-        case ["plan", "first" | "bid" as mode, path]:
+        case ["plan", "first" | "bid" | "davn" as mode, path]:
             return Session(network_in(path), mode).plan(), 0
         case ["check", path, certificate]:
             network = network_in(path)
@@ -588,7 +670,7 @@ def told(words):
             return text, 0 if text == b"optimal\n" else 1
         case ["print", path]:
             return canonical(network_in(path)), 0
-        case ["stream", "first" | "bid" as mode, path, seed, count]:
+        case ["stream", "first" | "bid" | "davn" as mode, path, seed, count]:
             return made_stream(Session(network_in(path), mode), int(seed), int(count)), 0
     raise Ended(USAGE, 2)
 
