@@ -1,0 +1,73 @@
+#!/usr/bin/env python3
+"""What a line costs, by the number of bookings that stand.
+
+    bench/bookings.py [PROGRAM]
+
+`nrm run first` on 64 legs of 999 seats and 256 products, one leg each. A stream books one seat at a time until so many bookings
+stand, and then goes on with lines of one kind: a booking and the cancellation of the oldest one, in turn, or reports of legs. The
+cost of a line is the time that they add to the bookings alone, divided by their number; of each stream the least of nine
+runs, which take turns.
+"""
+import os
+import subprocess
+import sys
+import tempfile
+import time
+
+import networks
+
+TOP = os.path.dirname(os.path.dirname(os.path.abspath(__file__)))
+RUNS = 9
+STANDING = [100, 10_000, 60_000]
+LINES = 100_000
+LEGS, PRODUCTS = 64, 256
+
+
+def book(at):
+    return f"book P{at % PRODUCTS:03} 1"
+
+
+def turns(standing):
+    """The booking of the next product, and the cancellation of the oldest booking that stands."""
+    for at in range(LINES // 2):
+        yield f"cancel {at + 1}"
+        yield book(standing + at)
+
+
+def reports(_):
+    for at in range(LINES):
+        yield f"leg L{at % LEGS:02}"
+
+
+KINDS = {"book, cancel the oldest": turns, "leg": reports}
+
+
+def timed(program, folder, path):
+    with open(path, "rb") as given:
+        begun = time.perf_counter()
+        subprocess.run([program, "run", "first", "NETWORK"], cwd=folder, stdin=given, stdout=subprocess.DEVNULL, check=True)
+        return time.perf_counter() - begun
+
+
+def main():
+    program = os.path.abspath(sys.argv[1]) if len(sys.argv) > 1 else os.path.join(TOP, "crates", "nrm", "out", "nrm")
+    legs = [(f"L{n:02}", 999) for n in range(LEGS)]
+    products = [(f"P{j:03}", 100 + j, [f"L{j % LEGS:02}"]) for j in range(PRODUCTS)]
+    with tempfile.TemporaryDirectory() as folder:
+        networks.Network(1, 1, legs, products, {}).write(os.path.join(folder, "NETWORK"))
+        streams = {}
+        for standing in STANDING:
+            for kind in [None, *KINDS]:
+                path = os.path.join(folder, f"STREAM-{len(streams)}")
+                streams[standing, kind] = path
+                with open(path, "w") as file:
+                    print(*map(book, range(standing)), *(KINDS[kind](standing) if kind else ()), sep="\n", file=file)
+        rounds = [{key: timed(program, folder, path) for key, path in streams.items()} for _ in range(RUNS)]
+        least = {key: min(times[key] for times in rounds) for key in streams}
+        for kind in KINDS:
+            for standing in STANDING:
+                cost = (least[standing, kind] - least[standing, None]) / LINES
+                print(f"{kind}, {standing:,} standing: {cost * 1e6:.2f} microseconds a line")
+
+
+main()
