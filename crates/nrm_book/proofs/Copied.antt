@@ -1,7 +1,8 @@
 -- What is copied out of a network, place by place, and the empty book of it.
-use Rattle.std.proofs.Common.{ℕ, ◌≡◌, ◌≢◌, ◌∙◌, ◌+◌, ◌<◌, ◌≤◌, All, AllPairs, List, [], ◌∷◌, ◌++◌, length, get_or, map, take, slice_get, Some, sym, ap, subst, arith}
+use Rattle.std.proofs.Common.{ℕ, ◌≡◌, ◌≢◌, ◌∙◌, ◌+◌, ◌<◌, ◌≤◌, All, AllPairs, List, [], ◌∷◌, ◌++◌, length, get_or, map, take, slice_get, sum, Some, sym, ap, subst, arith}
 use Rattle.std.proofs.lemmas.List.{length-map, map-append, take_more}
 use Rattle.std.proofs.lemmas.List.Elements.{All-map}
+use Rattle.std.proofs.lemmas.List.Sums.{sum_by-le}
 use Rattle.std.proofs.lemmas.Option.{get_or_from_slice_get}
 use Rattle.nrm_model.specs.declared.leg.Leg.{Leg}
 use Rattle.nrm_model.specs.declared.product.Product.{Product}
@@ -36,6 +37,13 @@ IsInventory-of net is =
       legs = All-map (λ (numbers : List ℕ). All (λ i. i < length (inventory_of net).seats) numbers) (λ (product : Product). product.legs) net.products
           (λ k d short. subst (λ n. All (λ i. i < n) (get_or net.products k d).legs) (sym seats) (is.products k d short).legs);
     }
+
+-- so there are at most 999 seats on each of 64 legs
+pub seats-within : (net : NetworkValue) → IsNetwork net → (seats : List ℕ) → seats ≡ (inventory_of net).seats → sum seats ≤ 63936
+seats-within net is seats are =
+    let own = IsInventory-of net is in
+    let all = sum_by-le (λ (seats : ℕ). seats) 999 (inventory_of net).seats own.seats in
+    omega (arith, own.leg_count, all, ap sum are)
 
 -- an empty book
 pub IsBook-empty : (inventory : Inventory) → IsInventory inventory → IsBook (record { inventory = inventory; bookings = []; next = 1 })

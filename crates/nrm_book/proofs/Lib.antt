@@ -7,3 +7,4 @@ pub mod Searched
 pub mod Pairs
 pub mod Counted
 pub mod Moved
+pub mod Rows

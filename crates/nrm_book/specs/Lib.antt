@@ -1,4 +1,5 @@
 pub mod Book
 pub mod Bookings
 pub mod Seats
+pub mod Standing
 pub mod Stored

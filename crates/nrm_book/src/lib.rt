@@ -4,6 +4,7 @@
 mod book;
 mod booking;
 mod seats;
+mod standing;
 
 pub use book::Book;
 pub use booking::Booking;

@@ -1,11 +1,14 @@
-//! The book of a network of two legs, AB with 3 seats and BC with 2, and of one with five products, worked by hand.
-ghost use Rattle.std.specs.Prelude.{◌≡◌, [], IfOk};
+//! The book of a network of two legs, AB with 3 seats and BC with 2, and of one with five products, and five bookings alone,
+//! worked by hand.
+ghost use Rattle.std.specs.Prelude.{◌≡◌, [], IfOk, length};
 ghost use Rattle.nrm_model.specs.Inventory.{inventory_of};
 ghost use Rattle.nrm_samples.specs.Networks.{two_legs, two_legs_five_products};
 
+use crate::standing::Standing;
 use crate::{Book, Booking};
 use nrm_samples::{two_legs, two_legs_five_products};
 use std::alloc::{AllocError, Global};
+use std::process::Abort;
 use std::test::Fail;
 
 // The empty book of the network.
@@ -75,5 +78,66 @@ fn counts_a_leg_by_hand(rt: HostRuntime) -> Result<(), Fail> {
     assert_eq!(rt; products.get_index(1), Some((&1, &3)));
     assert_eq!(rt; products.get_index(2), Some((&2, &0)));
     assert_eq!(rt; products.get_index(3), Some((&4, &0)));
+    Ok(())
+}
+
+// The bookings have these numbers, in this order.
+fn assert_numbers(rt: &impl Abort, bookings: &[Booking], numbers: &[u64]) {
+    assert_eq!(rt; bookings.len(), numbers.len());
+    for (booking, number) in bookings.iter().zip(numbers) {
+        assert_eq!(rt; booking.number, *number);
+    }
+}
+
+// Five bookings, with the numbers 1 to 5.
+fn five_standing(alloc: Global) -> Result<Standing, AllocError>
+    ensures { IfOk result (λ standing. length standing.items ≡ 5) }
+{
+    let mut standing = Standing::with_room(alloc, 5)?;
+    for before in 0..5 {
+        standing.push(Booking {
+            number: before + 1,
+            product: 0,
+            party: 1,
+        });
+    }
+    Ok(standing)
+}
+
+#[test]
+fn keeps_the_order_whichever_is_taken_out(rt: HostRuntime) -> Result<(), Fail> {
+    let mut standing = five_standing(rt.alloc())?;
+    assert_eq!(rt; standing.remove(0).number, 1);
+    assert_numbers(&rt, standing.as_slice(), &[2, 3, 4, 5]);
+    assert_eq!(rt; standing.remove(1).number, 3);
+    assert_numbers(&rt, standing.as_slice(), &[2, 4, 5]);
+    assert_eq!(rt; standing.remove(1).number, 4);
+    assert_numbers(&rt, standing.as_slice(), &[2, 5]);
+    assert_eq!(rt; standing.remove(1).number, 5);
+    assert_numbers(&rt, standing.as_slice(), &[2]);
+    Ok(())
+}
+
+// Books a seat of the local product on AB, where there is one.
+fn sell_local(rt: &impl Abort, book: &mut Book)
+    requires { book.old.inventory ≡ inventory_of two_legs }
+    ensures { book.new.inventory ≡ inventory_of two_legs }
+{
+    assert!(rt; book.left(0) > 0);
+    assert!(rt; book.next() < 100);
+    book.add(1, 1);
+}
+
+// Five seats in all, so room for ten bookings, through which these go twice.
+#[test]
+fn books_again_behind_the_oldest_that_was_cancelled(rt: HostRuntime) -> Result<(), Fail> {
+    let mut book = empty_book(rt.alloc())?;
+    sell_local(&rt, &mut book);
+    sell_local(&rt, &mut book);
+    for oldest in 1..=20 {
+        sell_local(&rt, &mut book);
+        assert!(rt; book.remove(oldest).is_some());
+    }
+    assert_numbers(&rt, book.bookings(), &[21, 22]);
     Ok(())
 }

@@ -5,28 +5,28 @@ use Rattle.nrm_book.proofs.Kept.{IsBook-sold, room-left}
 use Rattle.nrm_book.proofs.Totals.{revenue-more, revenue-within}
 use Rattle.nrm_book.proofs.book.Book.add.Goals as goal
 
-pub push_reserved-requires : goal.push_reserved-requires
-push_reserved-requires c =
+pub push-requires : goal.push-requires
+push-requires c =
     let left = room-left _ c.args.self.now c.args.product c.args.party c.self.view_is c.self.invariant.kept c.requires.product c.requires.party c.requires.seats c.requires.next in
     let room = c.self.invariant.room in
-    omega (arith, c.self.inside.bookings.ok.0)
+    omega arith
 
 pub invariant_of-self : goal.invariant_of-self
 invariant_of-self c = record {
-  kept = IsBook-sold _ c.args.self.now c.args.product c.args.party _ c.self.view_is c.self.invariant.kept c.requires.product c.requires.party c.requires.seats c.requires.next c.push_reserved.ensures.items;
+  kept = IsBook-sold _ c.args.self.now c.args.product c.args.party _ c.self.view_is c.self.invariant.kept c.requires.product c.requires.party c.requires.seats c.requires.next c.push.ensures.items;
   distinct = c.self.invariant.distinct;
   seats =
       let short = subst (λ (book : BookValue). c.args.product < length book.inventory.legs) (sym c.self.view_is) c.requires.product in
       let legs = legs-read c.deref.result.now c.legs_of.result.now c.args.product c.deref.ensures.value c.legs_of.ensures in
-      sold-next _ c.self.inside.sold c.sell.new.self c.args.product c.args.party c.legs_of.result.now _ c.self.invariant.kept c.self.invariant.seats c.self.invariant.distinct short legs c.sell.ensures c.push_reserved.ensures.items;
-  room = omega (arith, c.self.invariant.room, c.push_reserved.ensures.capacity);
-  worth = revenue-more _ _ _ _ _ _ c.self.invariant.kept c.self.invariant.worth c.push_reserved.ensures.items c.deref-2.ensures.value c.worth.ensures;
+      sold-next _ c.self.inside.sold c.sell.new.self c.args.product c.args.party c.legs_of.result.now _ c.self.invariant.kept c.self.invariant.seats c.self.invariant.distinct short legs c.sell.ensures c.push.ensures.items;
+  room = omega (arith, c.self.invariant.room, c.push.ensures.room);
+  worth = revenue-more _ _ _ _ _ _ c.self.invariant.kept c.self.invariant.worth c.push.ensures.items c.deref-2.ensures.value c.worth.ensures;
 }
 
 pub overflow_add-self-2 : goal.overflow_add-self-2
 overflow_add-self-2 c =
-    let after = IsBook-sold _ c.args.self.now c.args.product c.args.party _ c.self.view_is c.self.invariant.kept c.requires.product c.requires.party c.requires.seats c.requires.next c.push_reserved.ensures.items in
-    let more = revenue-more _ _ _ _ _ _ c.self.invariant.kept c.self.invariant.worth c.push_reserved.ensures.items c.deref-2.ensures.value c.worth.ensures in
+    let after = IsBook-sold _ c.args.self.now c.args.product c.args.party _ c.self.view_is c.self.invariant.kept c.requires.product c.requires.party c.requires.seats c.requires.next c.push.ensures.items in
+    let more = revenue-more _ _ _ _ _ _ c.self.invariant.kept c.self.invariant.worth c.push.ensures.items c.deref-2.ensures.value c.worth.ensures in
     let within = revenue-within _ after in
     omega arith
 

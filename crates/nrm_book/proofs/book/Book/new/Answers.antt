@@ -1,7 +1,7 @@
 use Rattle.std.proofs.Common.{◌∙◌, length, sum, refl, ap, arith}
 use Rattle.std.proofs.lemmas.List.{length-map}
 use Rattle.nrm_model.specs.declared.leg.Leg.{Leg}
-use Rattle.nrm_book.proofs.Copied.{IsBook-of, counts-of, distinct-of}
+use Rattle.nrm_book.proofs.Copied.{IsBook-of, counts-of, distinct-of, seats-within}
 use Rattle.nrm_book.proofs.book.Book.new.Goals as goal
 
 pub seats_in_all-requires : goal.seats_in_all-requires
@@ -10,6 +10,11 @@ seats_in_all-requires c =
     let count = c.n.ensures.limits.leg_count in
     omega (arith, length-map c.args.net.now.legs (λ (leg : Leg). leg.seats))
 
+pub with_room-requires : goal.with_room-requires
+with_room-requires c =
+    let within = seats-within c.args.net.now c.n.ensures.limits c.deref.result.now (c.deref.ensures.value ∙ c.in_ok-seats.ensures) in
+    omega (arith, c.seats_in_all.ensures)
+
 pub invariant_of-result : goal.invariant_of-result
 invariant_of-result c = record {
   kept = IsBook-of c.args.net.now _ _ _ _ c.n.ensures.limits c.in_ok-seats.ensures c.in_ok-fares.ensures c.in_ok-legs.ensures c.in_ok-bookings.ensures.items;
@@ -17,8 +22,7 @@ invariant_of-result c = record {
   seats = counts-of c.args.net.now _ _ _ _ c.in_ok-sold.sold c.in_ok-seats.ensures c.in_ok-fares.ensures c.in_ok-legs.ensures c.in_ok-bookings.ensures.items c.in_ok-sold.ensures;
   room =
       let seats = c.seats_in_all.ensures ∙ ap sum c.deref.ensures.value in
-      let exact = c.in_ok-bookings.ensures.exact in
-      omega arith;
+      omega (arith, c.in_ok-bookings.ensures.room);
   worth = rw c.in_ok-bookings.ensures.items refl;
 }
 

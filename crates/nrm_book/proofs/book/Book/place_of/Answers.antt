@@ -9,4 +9,4 @@ pub returns : goal.returns
 returns c =
     let facts = c.binary_search_by_key.ensures in
     let by_key = facts.position (λ (booking : Booking). booking.number) (answers_always _ _ _ (λ f a r g called. search rules)) in
-    c.ok.ensures.value ∙ rw (← c.self.view_is, ← c.deref.ensures.value) (searched c.deref.result.now c.args.number c.binary_search_by_key.result (rw c.deref.ensures.value c.self.invariant.kept.rising) facts.bound by_key)
+    c.ok.ensures.value ∙ rw (← c.self.view_is, ← c.as_slice.ensures) (searched c.as_slice.result.now c.args.number c.binary_search_by_key.result (rw c.as_slice.ensures c.self.invariant.kept.rising) facts.bound by_key)

@@ -40,7 +40,7 @@ invariant_of-self c = record {
       let own = legs-read c.deref.result.now c.legs_of.result.now c.remove-booking.result.product c.deref.ensures.value c.legs_of.ensures in
       let left = (IsBook-removed _ c.args.self.now c.args.number c.in_ok-place.place _ c.self.view_is c.self.invariant.kept (sym c.in_ok-place.ensures) c.remove-booking.ensures.items).products in
       given_back-next _ c.self.inside.sold c.in_ok-place.place c.remove-booking.result c.legs_of.result.now _ c.self.invariant.kept c.self.invariant.seats c.self.invariant.distinct at c.remove-booking.ensures.value own c.remove-booking.ensures.items left c.give_back.new.self c.give_back.ensures;
-  room = omega (arith, c.self.invariant.room, c.remove-booking.ensures.capacity);
+  room = omega (arith, c.self.invariant.room, c.remove-booking.ensures.room);
   worth =
       let items = ap (λ (book : BookValue). book.bookings) c.self.view_is in
       let short = (position-Some (λ (booking : Booking). booking.number == c.args.number) c.args.self.now.bookings c.in_ok-place.place c.remove-booking.result (sym c.in_ok-place.ensures)).0 in
