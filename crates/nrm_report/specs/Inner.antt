@@ -1,2 +1,3 @@
 -- What private functions serve.
+pub mod Leg
 pub mod Nests

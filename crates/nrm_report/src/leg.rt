@@ -1,10 +1,11 @@
 //! The leg text: a line for the leg, and one for each product on it with a seat sold.
-ghost use Rattle.std.specs.Prelude.{◌≡◌, ◌<◌, ◌∷◌, [], codes, decimal, flat_map, length, OnErr, OnOk, true};
+ghost use Rattle.std.specs.Prelude.{◌≡◌, ◌<◌, ◌∷◌, [], codes, decimal, flat_map, length, OnErr, OnOk};
 ghost use Rattle.std.specs.Io.KnownBytes.{Appends};
 ghost use Rattle.nrm_edge.specs.Causes.{HasCause};
 ghost use Rattle.nrm_edge.specs.Pieces.{AppendsFront};
 ghost use Rattle.nrm_text.specs.Words.{text_line};
-ghost use Rattle.nrm_model.specs.Inventory.{inventory_of, products_on, uses_leg};
+ghost use Rattle.nrm_model.specs.Inventory.{inventory_of, products_on};
+ghost use Rattle.nrm_report.specs.Inner.Leg.{sold_line};
 ghost use Rattle.nrm_report.specs.Texts.{leg_line, leg_text, on_line};
 
 use nrm_book::Book;
@@ -46,36 +47,25 @@ fn line_of_product(leg: &Name, product: &Name, sold: u16) -> Line
     line
 }
 
-// Puts the line of a product that uses the leg, where it has sold a seat.
+// Puts the line of a product on a leg, where it has sold a seat.
 fn put_product<K: Sink>(
     net: &Network,
-    book: &Book,
     leg: u8,
     product: u16,
+    sold: u16,
     sink: &mut K,
 ) -> Result<(), Failed>
-    requires book { book.now.inventory ≡ inventory_of net.now }
     requires leg { leg < length net.now.legs }
     requires product { product < length net.now.products }
-    requires uses { uses_leg (inventory_of net.now) leg product ≡ true }
-    ensures whole { OnOk result (Appends (K.held sink.old) (K.held sink.new) (on_line net.now book.now.bookings leg product)) }
-    ensures cut { OnErr result (AppendsFront (K.held sink.old) (K.held sink.new) (on_line net.now book.now.bookings leg product)) }
+    ensures whole { OnOk result (Appends (K.held sink.old) (K.held sink.new) (sold_line net.now leg product sold)) }
+    ensures cut { OnErr result (AppendsFront (K.held sink.old) (K.held sink.new) (sold_line net.now leg product sold)) }
     ensures cause { HasCause (K.faults sink.old) (K.faults sink.new) result }
 {
-    let sold = book.sold(leg, product);
     if sold == 0 {
         return Ok(());
     }
     let line = line_of_product(&net.leg_at(leg).name, &net.product_at(product).name, sold);
     put_all(sink, line.bytes())
-}
-
-// Whether a product uses a leg.
-fn uses(net: &Network, leg: u8, product: u16) -> bool
-    requires { product < length net.now.products }
-    ensures { result ≡ uses_leg (inventory_of net.now) leg product }
-{
-    net.product_at(product).legs.as_slice().contains(&leg)
 }
 
 // The line of the leg.
@@ -97,10 +87,8 @@ fn put_products<K: Sink>(net: &Network, book: &Book, leg: u8, sink: &mut K) -> R
     ensures cut { OnErr result (AppendsFront (K.held sink.old) (K.held sink.new) (flat_map (on_line net.now book.now.bookings leg) (products_on (inventory_of net.now) leg))) }
     ensures cause { HasCause (K.faults sink.old) (K.faults sink.new) result }
 {
-    for product in 0..net.product_count() as u16 {
-        if uses(net, leg, product) {
-            put_product(net, book, leg, product, sink)?;
-        }
+    for (product, sold) in book.on_leg(leg) {
+        put_product(net, leg, *product, *sold, sink)?;
     }
     Ok(())
 }
