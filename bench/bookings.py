@@ -4,9 +4,9 @@
     bench/bookings.py [PROGRAM]
 
 `nrm run first` on 64 legs of 999 seats and 256 products, one leg each. A stream books one seat at a time until so many bookings
-stand, and then goes on with lines of one kind: a booking and the cancellation of the oldest one, in turn, or reports of legs. The
-cost of a line is the time that they add to the bookings alone, divided by their number; of each stream the least of nine
-runs, which take turns.
+stand, and then goes on with lines of one kind: a booking and the cancellation of the oldest one, in turn, the same with one from
+the middle, or reports of legs. The cost of a line is the time that they add to the bookings alone, divided by their number; of
+each stream the least of nine runs, which take turns.
 """
 import os
 import subprocess
@@ -27,11 +27,15 @@ def book(at):
     return f"book P{at % PRODUCTS:03} 1"
 
 
-def turns(standing):
-    """The booking of the next product, and the cancellation of the oldest booking that stands."""
+def turns(standing, before=0):
+    """The cancellation of the booking that has so many of those that stand before it, and the booking of the next product."""
     for at in range(LINES // 2):
-        yield f"cancel {at + 1}"
+        yield f"cancel {before + at + 1}"
         yield book(standing + at)
+
+
+def middle_turns(standing):
+    return turns(standing, standing // 2)
 
 
 def reports(_):
@@ -39,7 +43,7 @@ def reports(_):
         yield f"leg L{at % LEGS:02}"
 
 
-KINDS = {"book, cancel the oldest": turns, "leg": reports}
+KINDS = {"book, cancel the oldest": turns, "book, cancel one from the middle": middle_turns, "leg": reports}
 
 
 def timed(program, folder, path):
