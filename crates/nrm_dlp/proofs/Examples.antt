@@ -1,8 +1,10 @@
 -- The programs of two networks, which a reader can check by hand.
 use Rattle.std.specs.Prelude.{◌≡◌, [], ◌∷◌, refl}
+use Rattle.std.proofs.Common.{arith}
 use Rattle.nrm_samples.specs.Networks.{two_legs_five_products, two_legs_last_first}
 use Rattle.nrm_samples.specs.Programs.{two_legs_five_products_program}
-use Rattle.nrm_dlp.specs.Programs.{opening_program, program_at, program_of}
+use Rattle.nrm_dlp.specs.Hindsight.{AreTallies}
+use Rattle.nrm_dlp.specs.Programs.{hindsight_program, opening_program, program_at, program_of}
 
 -- at opening: 3 and 2 seats in two histories, and the demand of both periods in both
 at_opening : opening_program two_legs_last_first
@@ -18,6 +20,18 @@ later = refl
 alone : program_of two_legs_last_first (3 ∷ 2 ∷ []) (3 ∷ 6 ∷ [])
     ≡ record { caps = 3 ∷ 2 ∷ []; bounds = 3 ∷ 6 ∷ []; fares = 500 ∷ 200 ∷ []; legs = (1 ∷ 0 ∷ []) ∷ (0 ∷ []) ∷ [] }
 alone = refl
+
+-- hindsight: each leg has its seats once, and the tallies are the bounds
+by_hindsight : hindsight_program two_legs_last_first (2 ∷ 3 ∷ [])
+    ≡ record { caps = 3 ∷ 2 ∷ []; bounds = 2 ∷ 3 ∷ []; fares = 500 ∷ 200 ∷ []; legs = (1 ∷ 0 ∷ []) ∷ (0 ∷ []) ∷ [] }
+by_hindsight = refl
+
+-- of the first product no more than the 2 seats of its second leg
+above_the_least_seats : AreTallies two_legs_last_first (3 ∷ 3 ∷ []) → ⊥
+above_the_least_seats are = absurd (omega (arith, are.seats 0 (omega arith)))
+
+one_tally_short : AreTallies two_legs_last_first (2 ∷ []) → ⊥
+one_tally_short are = absurd (omega (arith, are.products))
 
 -- ---- two legs of 10 seats, five products, and four histories of one period
 ten_seats_each : opening_program two_legs_five_products ≡ two_legs_five_products_program

@@ -1,3 +1,5 @@
+pub mod Bounds
 pub mod Copied
 pub mod Examples
+pub mod Hindsights
 pub mod Limited

@@ -1,9 +1,11 @@
--- The programs of a network are within the limits.
-use Rattle.std.specs.Prelude.{ℕ, ◌≡◌, ◌<◌, ◌≤◌, List, length, get_or, All}
+-- The programs of a network are within the limits, and hindsight has one value that no allocation exceeds.
+use Rattle.std.specs.Prelude.{ℕ, ℤ, ◌≡◌, ◌<◌, ◌≤◌, ◌⊎◌, List, length, get_or, All}
+use Rattle.nrm_fraction.specs.Fraction.{Fraction}
 use Rattle.nrm_model.specs.Network.{NetworkValue, leg_of}
 use Rattle.nrm_model.specs.Limits.{IsNetwork}
 use Rattle.nrm_lp.specs.Limits.{IsLimited}
-use Rattle.nrm_dlp.specs.Programs.{program_of, program_at, opening_program}
+use Rattle.nrm_dlp.specs.Hindsight.{AreTallies, BoundsAllocations, HindsightOverflows, IsHindsight}
+use Rattle.nrm_dlp.specs.Programs.{hindsight_program, program_of, program_at, opening_program}
 
 -- with a cap for each leg and a bound for each product, none of them above 31,968
 abbrev pub ProgramsAreLimited : Type 0
@@ -19,3 +21,26 @@ SeatsLeftAreLimited = (net : NetworkValue) (left : List ℕ) (k : ℕ) → IsNet
 -- and before anything is sold
 abbrev pub OpeningsAreLimited : Type 0
 OpeningsAreLimited = (net : NetworkValue) → IsNetwork net → IsLimited (opening_program net)
+
+-- and with tallies as bounds
+abbrev pub HindsightsAreLimited : Type 0
+HindsightsAreLimited = (net : NetworkValue) (tallies : List ℕ) → IsNetwork net → AreTallies net tallies → IsLimited (hindsight_program net tallies)
+
+-- no allocation of the program of hindsight gains more than its value, as fractions
+abbrev pub HindsightBounds : Type 0
+HindsightBounds = (net : NetworkValue) (tallies : List ℕ) (value : Fraction) → IsNetwork net → AreTallies net tallies → IsHindsight net tallies value
+    → BoundsAllocations (hindsight_program net tallies) value
+
+-- tallies have a value of hindsight, or its program is Large
+abbrev pub EachHasAHindsight : Type 0
+EachHasAHindsight = (net : NetworkValue) (tallies : List ℕ)
+    → ((value : Fraction) × IsHindsight net tallies value) ⊎ ((n : ℕ) × (number : ℤ) × HindsightOverflows net tallies n number)
+
+-- they have one value, or their program is Large in one place, and not both
+pub record HasOneHindsight (net : NetworkValue) (tallies : List ℕ) : Type 0 where
+  pub value : (value other : Fraction) → IsHindsight net tallies value → IsHindsight net tallies other → other ≡ value
+  pub overflow : (n n' : ℕ) (number number' : ℤ) → HindsightOverflows net tallies n number → HindsightOverflows net tallies n' number' → (n' ≡ n) × (number' ≡ number)
+  pub apart : (value : Fraction) (n : ℕ) (number : ℤ) → IsHindsight net tallies value → HindsightOverflows net tallies n number → ⊥
+
+abbrev pub HindsightsAreDetermined : Type 0
+HindsightsAreDetermined = (net : NetworkValue) (tallies : List ℕ) → HasOneHindsight net tallies

@@ -1,2 +1,3 @@
-pub mod Programs
+pub mod Hindsight
 pub mod Laws
+pub mod Programs

@@ -1,10 +1,34 @@
-//! A law over the definitions. It is the contract of a function that does nothing.
-ghost use Rattle.nrm_dlp.specs.Laws.{OpeningsAreLimited, ProgramsAreLimited, SeatsLeftAreLimited};
+//! Laws over the definitions. Each is the contract of a function that does nothing.
+ghost use Rattle.nrm_dlp.specs.Laws.{
+  EachHasAHindsight,
+  HindsightBounds,
+  HindsightsAreDetermined,
+  HindsightsAreLimited,
+  OpeningsAreLimited,
+  ProgramsAreLimited,
+  SeatsLeftAreLimited,
+};
 
 /// The programs of a network are within the limits of programs: with caps and bounds of at most 31,968, at seats left
-/// of which no leg has more than its own, and before anything is sold.
+/// of which no leg has more than its own, before anything is sold, and with tallies as bounds.
 pub fn programs_are_limited()
     ensures made { ProgramsAreLimited }
     ensures left { SeatsLeftAreLimited }
     ensures opening { OpeningsAreLimited }
+    ensures hindsight { HindsightsAreLimited }
+{}
+
+/// No allocation of the program of hindsight gains more than the value of hindsight.
+pub fn hindsight_bounds()
+    ensures { HindsightBounds }
+{}
+
+/// Each list of tallies has a value of hindsight, or its program is Large.
+pub fn each_has_a_hindsight()
+    ensures { EachHasAHindsight }
+{}
+
+/// It is one value, or Large in one place; never both.
+pub fn hindsights_are_determined()
+    ensures { HindsightsAreDetermined }
 {}

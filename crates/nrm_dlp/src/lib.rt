@@ -1,5 +1,6 @@
 //! The deterministic linear programs of a network: the seats left and the demand to come, summed over the demand
-//! histories, as the data of a program; and what solving one gives.
+//! histories, as the data of a program, and the seats and the past requests as those of hindsight; and what solving one
+//! gives.
 #![tactic(auto)]
 
 mod laws;
@@ -8,6 +9,8 @@ mod programs;
 #[cfg(test)]
 mod tests;
 
-pub use laws::programs_are_limited;
-pub use optimised::{mean_value, prices};
-pub use programs::{opening_program, program_at, program_of};
+pub use laws::{
+    each_has_a_hindsight, hindsight_bounds, hindsights_are_determined, programs_are_limited,
+};
+pub use optimised::{hindsight, mean_value, prices};
+pub use programs::{hindsight_program, opening_program, program_at, program_of};

@@ -1,5 +1,5 @@
 //! What is optimised of a network: bid prices with their allocation, and what they are worth in a history.
-ghost use Rattle.std.specs.Prelude.{ℕ, ◌≡◌, ◌<◌, ◌≤◌, IfOk, MatchResult, get_or, length, pos};
+ghost use Rattle.std.specs.Prelude.{ℕ, ◌≡◌, ◌<◌, ◌≤◌, IfErr, IfOk, MatchResult, get_or, length, pos};
 ghost use Rattle.std.specs.Int.{IsInRange};
 ghost use Rattle.nrm_number.specs.Gcd.{gcd};
 ghost use Rattle.nrm_fraction.specs.Fraction.{◌over◌};
@@ -9,9 +9,10 @@ ghost use Rattle.nrm_lp.specs.Means.{mean_value};
 ghost use Rattle.nrm_lp.specs.Shape.{HasShape};
 ghost use Rattle.nrm_model.specs.Network.{leg_of};
 ghost use Rattle.nrm_simplex.specs.Solving.{IsClosing, IsSolveFault};
-ghost use Rattle.nrm_dlp.specs.Programs.{program_at};
+ghost use Rattle.nrm_dlp.specs.Hindsight.{AreTallies, BoundsAllocations, IsHindsight};
+ghost use Rattle.nrm_dlp.specs.Programs.{hindsight_program, program_at};
 
-use crate::programs::program_at;
+use crate::programs::{hindsight_program, program_at};
 use nrm_lp::Certificate;
 use nrm_model::Network;
 use nrm_number::short_gcd;
@@ -62,4 +63,23 @@ pub fn mean_value(net: &Network, certificate: &Certificate) -> (u64, u64)
     let value = certificate.value.unsigned_abs();
     let den = certificate.den.unsigned_abs() * u64::from(net.n());
     reduced(value, den)
+}
+
+/// The value of hindsight: the most that any choice of past requests could have earned, were parts of seats for sale, in
+/// whole currency units, as a numerator and a denominator in lowest terms. `tallies` has the tallies product by product, in
+/// seats, none above the least seats among the product's legs.
+///
+/// # Errors
+/// `Overflow` exactly where a number on the path of its program or of its closing reaches the limit in size; `NoMemory`.
+pub fn hindsight(alloc: Global, net: &Network, tallies: &[u16]) -> Result<(u64, u64), SolveFault>
+    requires { AreTallies net.now tallies.now }
+    ensures value { IfOk result (λ value. IsHindsight net.now tallies.now (pos value.0 over value.1)) }
+    ensures some { IfOk result (λ value. 0 < value.1) }
+    ensures lowest { IfOk result (λ value. gcd value.0 value.1 ≡ 1) }
+    ensures bounds { IfOk result (λ value. BoundsAllocations (hindsight_program net.now tallies.now) (pos value.0 over value.1)) }
+    ensures fault { IfErr result (IsSolveFault (hindsight_program net.now tallies.now)) }
+{
+    let program = hindsight_program(alloc, net, tallies)?;
+    let made = solve(alloc, &program)?;
+    Ok(reduced(made.value.unsigned_abs(), made.den.unsigned_abs()))
 }

@@ -7,7 +7,8 @@ ghost use Rattle.nrm_model.specs.Network.{leg_of};
 ghost use Rattle.nrm_model.specs.Demand.{total_to_come};
 ghost use Rattle.nrm_model.specs.Inventory.{inventory_of};
 ghost use Rattle.nrm_model.specs.Limits.{IsNetwork};
-ghost use Rattle.nrm_dlp.specs.Programs.{opening_program, program_at, program_of};
+ghost use Rattle.nrm_dlp.specs.Hindsight.{AreTallies};
+ghost use Rattle.nrm_dlp.specs.Programs.{hindsight_program, opening_program, program_at, program_of};
 
 use nrm_lp::Program;
 use nrm_model::Network;
@@ -66,6 +67,36 @@ pub fn opening_program(alloc: Global, net: &Network) -> Result<Program, AllocErr
 {
     let left = full_seats(alloc, net)?;
     program_at(alloc, net, &left, 1)
+}
+
+/// The program of hindsight: a leg's cap is its seats, and a product's bound its tally of past requests, once and not for
+/// each history. `tallies` has the tallies product by product, in seats, none above the least seats among the product's
+/// legs.
+///
+/// # Errors
+/// Want of memory.
+pub fn hindsight_program(
+    alloc: Global,
+    net: &Network,
+    tallies: &[u16],
+) -> Result<Program, AllocError>
+    requires { AreTallies net.now tallies.now }
+    ensures { IfOk result (λ program. program ≡ hindsight_program net.now tallies.now) }
+{
+    let seats = full_seats(alloc, net)?;
+    let caps = widened(alloc, &seats)?;
+    let bounds = widened(alloc, tallies)?;
+    program_of(alloc, net, caps, bounds)
+}
+
+// These numbers, as caps or bounds.
+fn widened(alloc: Global, numbers: &[u16]) -> Result<Vec<u32>, AllocError>
+    ensures { IfOk result (λ wide. wide.items ≡ numbers.now) }
+{
+    numbers
+        .iter()
+        .map(|number| u32::from(*number))
+        .collect(alloc)
 }
 
 // The seats of each leg, in file order: what is left before anything is sold.

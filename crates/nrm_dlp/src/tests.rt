@@ -4,7 +4,9 @@ ghost use Rattle.std.specs.Prelude.{IfOk};
 ghost use Rattle.nrm_fraction.specs.Large.{size_limit};
 ghost use Rattle.nrm_lp.specs.Shape.{HasShape};
 
-use crate::{mean_value, opening_program, prices, program_at, program_of};
+use crate::{
+    hindsight, hindsight_program, mean_value, opening_program, prices, program_at, program_of,
+};
 use nrm_lp::{Certificate, Numbers, Program};
 use nrm_samples::{two_legs, two_legs_last_first};
 use nrm_simplex::SolveFault;
@@ -108,5 +110,30 @@ fn mean_of_quarters(alloc: Global) -> Result<(u64, u64), AllocError> {
 #[test]
 fn mean_values_are_in_lowest_terms(rt: HostRuntime) -> Result<(), Fail> {
     assert_eq!(rt; mean_of_quarters(rt.alloc())?, (2401, 2));
+    Ok(())
+}
+
+// Hindsight with requests for two seats of the through product and three of the local one.
+fn program_by_hindsight(alloc: Global) -> Result<Program, AllocError> {
+    let net = two_legs_last_first(alloc)?;
+    hindsight_program(alloc, &net, &[2, 3])
+}
+
+#[test]
+fn by_hindsight(rt: HostRuntime) -> Result<(), Fail> {
+    let program = program_by_hindsight(rt.alloc())?;
+    assert_program(&rt, &program, &[3, 2], &[2, 3]);
+    Ok(())
+}
+
+fn value_of_hindsight(alloc: Global) -> Result<(u64, u64), SolveFault> {
+    let net = two_legs_last_first(alloc)?;
+    hindsight(alloc, &net, &[2, 3])
+}
+
+// Both through requests, and the local fare for the seat that they leave.
+#[test]
+fn looks_back_by_hand(rt: HostRuntime) -> Result<(), Fail> {
+    assert!(rt; value_of_hindsight(rt.alloc()) == Ok((1200, 1)));
     Ok(())
 }
