@@ -1,0 +1,46 @@
+-- The laws of hindsight: its value bounds each selection of past requests, and capped tallies suffice for it.
+use Rattle.std.specs.Prelude.{ℕ, ◌≡◌, ◌+◌, ◌<◌, ◌≤◌, ◌==◌, List, [], ◌∷◌, ◌++◌, length, get_or, min, if◌then◌else◌}
+use Rattle.nrm_fraction.specs.Fraction.{Fraction}
+use Rattle.nrm_model.specs.Inventory.{inventory_of, seats_of}
+use Rattle.nrm_model.specs.Limits.{IsNetwork}
+use Rattle.nrm_model.specs.Network.{NetworkValue, least_seats_of}
+use Rattle.nrm_lp.specs.Program.{IsAllocation, gain}
+use Rattle.nrm_dlp.specs.Hindsight.{AreTallies, IsHindsight}
+use Rattle.nrm_dlp.specs.Programs.{hindsight_program}
+use Rattle.nrm_book.specs.declared.booking.Booking.{Booking}
+use Rattle.nrm_book.specs.Bookings.{revenue_of, sold_of, sold_on}
+use Rattle.nrm_hindsight.specs.Requests.{Request, requests_of, tallies_of, tally_of}
+use Rattle.nrm_hindsight.specs.Selections.{BoundsSelections, ChosenFrom, IsSelection, earned_by, taken_of_each}
+
+-- every selection is a whole allocation of the program of hindsight, which gains what the selection earns
+abbrev pub SelectionsAllocate : Type 0
+SelectionsAllocate = (net : NetworkValue) (requests chosen : List Request) → IsNetwork net → IsSelection net requests chosen
+    → IsAllocation (hindsight_program net (tallies_of net requests)) 1 (taken_of_each net chosen)
+    × (gain (hindsight_program net (tallies_of net requests)) (taken_of_each net chosen) ≡ earned_by net chosen)
+
+-- so the value of hindsight bounds what every selection earns
+abbrev pub SelectionsAreBounded : Type 0
+SelectionsAreBounded = (net : NetworkValue) (requests : List Request) (value : Fraction) → IsNetwork net
+    → IsHindsight net (tallies_of net requests) value → BoundsSelections net requests value
+
+-- bookings that are among the requests and oversell no leg are a selection, which earns their revenue
+abbrev pub BookingsAreSelected : Type 0
+BookingsAreSelected = (net : NetworkValue) (requests : List Request) (bookings : List Booking) → ChosenFrom requests (requests_of bookings)
+    → ((i : ℕ) → i < length net.legs → sold_on (inventory_of net) bookings i ≤ seats_of (inventory_of net) i)
+    → IsSelection net requests (requests_of bookings) × (earned_by net (requests_of bookings) ≡ revenue_of (inventory_of net) bookings)
+
+-- the tallies of requests are tallies of the network's products
+abbrev pub TalliesAreCapped : Type 0
+TalliesAreCapped = (net : NetworkValue) (requests : List Request) → AreTallies net (tallies_of net requests)
+
+-- a request adds its party to the tally of its product, up to the least seats among the product's legs
+abbrev pub TalliesGrow : Type 0
+TalliesGrow = (net : NetworkValue) (requests : List Request) (request : Request) (j : ℕ)
+    → tally_of net (requests ++ request ∷ []) j ≡ min (tally_of net requests j + (if request.product == j then request.party else 0)) (least_seats_of net j)
+
+-- tallies that are at least what is booked of each product, and at most the least seats, are those of some requests, of which the
+-- bookings are a choice
+abbrev pub SomeRequestsStand : Type 0
+SomeRequestsStand = (net : NetworkValue) (bookings : List Booking) (tallies : List ℕ) → AreTallies net tallies
+    → ((j : ℕ) → j < length net.products → sold_of bookings j ≤ get_or tallies j 0)
+    → (requests : List Request) × (tallies_of net requests ≡ tallies) × ChosenFrom requests (requests_of bookings)
