@@ -1,6 +1,8 @@
 -- A session from the opening: what it wrote is the output of a run.
-use Rattle.std.proofs.Common.{◌≡◌, ℕ, List, [], ap, refl, subst, sym}
+use Rattle.std.proofs.Common.{◌≡◌, ◌∙◌, ℕ, List, [], ap, refl, subst, sym}
 use Rattle.nrm_model.specs.Network.{NetworkValue}
+use Rattle.nrm_hindsight.specs.Requests.{tallies_of}
+use Rattle.nrm_hindsight.specs.Selections.ChosenFrom.{none}
 use Rattle.nrm_control.specs.State.{opening}
 use Rattle.nrm_control.specs.Standing.{ControlValue, StandsFor}
 use Rattle.nrm_stream.specs.Commands.{commands_of}
@@ -9,9 +11,15 @@ use Rattle.nrm_session.specs.Serving.{Refines, RefinesCut, WritesCut}
 use Rattle.nrm_cli.specs.Ends.{RunWrites, RunWritesCut}
 
 -- a controller that has just begun stands for the opening with its plan
-module _ (start new : ControlValue) (net : NetworkValue) (stream output : List ℕ) (begun : start ≡ record { net = net; plan = start.plan; bookings = []; next = 1 }) where
+module _ (start new : ControlValue) (net : NetworkValue) (stream output : List ℕ) (begun : start ≡ record { net = net; plan = start.plan; bookings = []; next = 1; tallies = tallies_of net [] }) where
   opened : StandsFor start (opening start.plan)
-  opened = record { plan = refl; bookings = sym (ap (λ (c : ControlValue). c.bookings) begun); next = sym (ap (λ (c : ControlValue). c.next) begun) }
+  opened = record {
+    plan = refl;
+    bookings = sym (ap (λ (c : ControlValue). c.bookings) begun);
+    next = sym (ap (λ (c : ControlValue). c.next) begun);
+    tallies = ap (λ (n : NetworkValue). tallies_of n []) (ap (λ (c : ControlValue). c.net) begun) ∙ sym (ap (λ (c : ControlValue). c.tallies) begun);
+    choice = none;
+  }
 
   pub run-writes : Refines start new (commands_of stream) output → RunWrites net start.plan stream output
   run-writes refines =

@@ -2,6 +2,7 @@
 use Rattle.std.proofs.Common.{ℕ, ◌≡◌, List, [], Some, inl}
 use Rattle.nrm_model.specs.declared.mode.Mode.{Mode}
 use Rattle.nrm_model.specs.Network.{NetworkValue}
+use Rattle.nrm_hindsight.specs.Requests.{tallies_of}
 use Rattle.nrm_control.specs.Standing.{ControlValue}
 use Rattle.nrm_opening.specs.Outside.{Outside}
 use Rattle.nrm_plan.specs.Plans.{IsOpeningPlan}
@@ -20,7 +21,7 @@ module _ (mode : Mode) (file : List ℕ) (net : NetworkValue) (start new : Contr
   abbrev starts : Opens (Some (run_file mode file)) (run_file mode file) before net → IsOpeningPlan net mode start.plan → Starts (Some (run_file mode file)) before
   starts opens planned = record { mode = mode; file = file; net = net; plan = start.plan; opens = opens; planned = planned }
 
-  pub served-ends : start ≡ record { net = net; plan = start.plan; bookings = []; next = 1 } → Opens (Some (run_file mode file)) (run_file mode file) before net → IsOpeningPlan net mode start.plan
+  pub served-ends : start ≡ record { net = net; plan = start.plan; bookings = []; next = 1; tallies = tallies_of net [] } → Opens (Some (run_file mode file)) (run_file mode file) before net → IsOpeningPlan net mode start.plan
       → (s : Status) → Answers s → Ends (Some (run_file mode file)) before after s
   served-ends begun opens planned status.Done (all, took, sank) = inl (record {
     starts = starts opens planned;

@@ -1,6 +1,7 @@
 //! The top call.
 ghost use Rattle.std.specs.Prelude.{map, option_map, string_bytes};
 ghost use Rattle.nrm_session.specs.Headline.{RequestsAreAnswered};
+ghost use Rattle.nrm_session.specs.Hindsight.{HindsightBounds};
 ghost use Rattle.nrm_session.specs.Laws.{EachListHasARun, PlansAreKept, RepliesAreDetermined, SeatsAreKept, StatesAreDetermined};
 ghost use Rattle.nrm_opening.specs.Outside.{Goes, outside};
 ghost use Rattle.nrm_cli.specs.Ends.{Completes, Ends, Failures};
@@ -63,6 +64,9 @@ fn run_asked<F: Files, S: Source, K: Sink>(
 /// them; else the first leg that is short is named, or the fare (`requests`). In no state of a session has a leg more seats sold
 /// than it has (`seats`), whatever the commands and from each state that has this. In every state of a session that solves programs, from its opening on, the plan in
 /// force has an optimal allocation and optimal bid prices for the program at the plan's seats left and period (`optimal`).
+/// At each line of hindsight that tells a value, no selection of the requests so far, sold or not, cancelled or not, each whole and at
+/// most once, that fits the seats earns more; and the bookings that stand are such a selection, which earns the revenue beside it
+/// (`hindsight`).
 /// A network, a state and commands have one list of replies and one last state where no line wants for memory
 /// (`determined`), and such a list (`there`); with the replies given the states are one (`states`). The text of the
 /// certificate that the solver finds for a network passes the check (`own`): so where the bytes of CERT are what a call with
@@ -86,6 +90,7 @@ pub fn run<F: Files, S: Source, K: Sink>(
     ensures requests { RequestsAreAnswered }
     ensures seats { SeatsAreKept }
     ensures optimal { PlansAreKept }
+    ensures hindsight { HindsightBounds }
     ensures determined { RepliesAreDetermined }
     ensures states { StatesAreDetermined }
     ensures there { EachListHasARun }

@@ -1,13 +1,16 @@
 -- What a controller stands for, and its verdicts, by hand.
-use Rattle.std.specs.Prelude.{◌≡◌, [], ◌∷◌, pos, List, Some, None, refl}
-use Rattle.std.proofs.Common.{ap}
+use Rattle.std.specs.Prelude.{◌≡◌, [], ◌∷◌, pos, ℕ, List, Some, None, get_or, refl}
+use Rattle.std.proofs.Common.{ap, arith}
 use Rattle.nrm_fraction.specs.Fraction.{◌over◌, ◌*ᶠ◌, less, whole}
 use Rattle.nrm_model.specs.Network.{NetworkValue}
 use Rattle.nrm_model.specs.declared.mode.Mode.TheVariants as modes
 use Rattle.nrm_samples.specs.Networks.{two_legs_five_products}
 use Rattle.nrm_plan.specs.Plans.{PlanValue}
 use Rattle.nrm_book.specs.declared.booking.Booking.{Booking}
-use Rattle.nrm_control.specs.Standing.{ControlValue, StandsFor}
+use Rattle.nrm_hindsight.specs.Requests.{Request, requests_of, tallies_of}
+use Rattle.nrm_hindsight.specs.Selections.{ChosenFrom}
+use Rattle.nrm_hindsight.specs.Selections.ChosenFrom.{none, left_out, taken}
+use Rattle.nrm_control.specs.Standing.{ControlValue, StandsFor, with_request}
 use Rattle.nrm_control.specs.State.{opening, seats_left}
 use Rattle.nrm_control.specs.Verdict.{verdict_of}
 use Rattle.nrm_control.specs.declared.answer.Answer.TheVariants as answer
@@ -30,13 +33,45 @@ nested = record bid { mode = modes.Davn }
 
 -- one that has just begun
 abbrev begun : NetworkValue → PlanValue → ControlValue
-begun net plan = record { net = net; plan = plan; bookings = []; next = 1 }
+begun net plan = record { net = net; plan = plan; bookings = []; next = 1; tallies = tallies_of net [] }
 
 stands_for_its_opening : (net : NetworkValue) (plan : PlanValue) → StandsFor (begun net plan) (opening plan)
-stands_for_its_opening net plan = record { plan = refl; bookings = refl; next = refl }
+stands_for_its_opening net plan = record { plan = refl; bookings = refl; next = refl; tallies = refl; choice = none }
 
-any_requests : (net : NetworkValue) (plan : PlanValue) → StandsFor (begun net plan) (record (opening plan) { requests = record { product = 0; party = 2 } ∷ [] })
-any_requests net plan = record { plan = refl; bookings = refl; next = refl }
+-- with a tally of ten for the first product, the seats of its leg, it stands for a request of ten and for one of eleven, and not for one of nine
+abbrev tallied : PlanValue → ControlValue
+tallied plan = record (begun two_legs_five_products plan) { tallies = 10 ∷ 0 ∷ 0 ∷ 0 ∷ 0 ∷ [] }
+
+ten_asked : (plan : PlanValue) → StandsFor (tallied plan) (record (opening plan) { requests = record { product = 0; party = 10 } ∷ [] })
+ten_asked plan = record { plan = refl; bookings = refl; next = refl; tallies = refl; choice = left_out none }
+
+eleven_asked : (plan : PlanValue) → StandsFor (tallied plan) (record (opening plan) { requests = record { product = 0; party = 11 } ∷ [] })
+eleven_asked plan = record { plan = refl; bookings = refl; next = refl; tallies = refl; choice = left_out none }
+
+nine_asked : (plan : PlanValue) → StandsFor (tallied plan) (record (opening plan) { requests = record { product = 0; party = 9 } ∷ [] }) → ⊥
+nine_asked plan stands = let first = ap (λ (tallies : List ℕ). get_or tallies 0 0) stands.tallies in omega (arith, first)
+
+-- a booking was asked for
+abbrev first_party : List Request → ℕ
+first_party [] = 0
+first_party (r ∷ rs) = r.party
+
+never_asked : (plan : PlanValue) → StandsFor (record (tallied plan) { bookings = record { number = 1; product = 0; party = 2 } ∷ [] }) (record (opening plan) { bookings = record { number = 1; product = 0; party = 2 } ∷ []; requests = record { product = 0; party = 10 } ∷ [] }) → ⊥
+never_asked plan stands = by (record { product = 0; party = 10 } ∷ []) (requests_of (record { number = 1; product = 0; party = 2 } ∷ [])) refl refl stands.choice
+  where
+    by : (requests chosen : List Request) → requests ≡ record { product = 0; party = 10 } ∷ [] → chosen ≡ record { product = 0; party = 2 } ∷ [] → ChosenFrom requests chosen → ⊥
+    by requests chosen e f none = cc
+    by requests chosen e f (left_out none) = cc
+    by requests chosen e f (left_out (left_out choice)) = cc
+    by requests chosen e f (left_out (taken choice)) = cc
+    by requests chosen e f (taken choice) = let ten = ap first_party e in let two = ap first_party f in omega (arith, ten, two)
+
+-- a request is tallied whatever the answer, up to the least seats
+tallied_twice : with_request two_legs_five_products (3 ∷ 0 ∷ 0 ∷ 0 ∷ 0 ∷ []) 2 4 ≡ 3 ∷ 0 ∷ 4 ∷ 0 ∷ 0 ∷ []
+tallied_twice = refl
+
+tallied_full : with_request two_legs_five_products (3 ∷ 0 ∷ 0 ∷ 0 ∷ 0 ∷ []) 0 8 ≡ 10 ∷ 0 ∷ 0 ∷ 0 ∷ 0 ∷ []
+tallied_full = refl
 
 another_plan : (net : NetworkValue) → StandsFor (begun net first) (opening bid) → ⊥
 another_plan net stands = let mode = ap (λ (plan : PlanValue). plan.mode) stands.plan in cc

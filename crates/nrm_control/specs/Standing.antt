@@ -1,10 +1,15 @@
 -- What callers see of a controller, and the states that it stands for.
-use Rattle.std.specs.Prelude.{ℕ, ◌≡◌, ◌<◌, ◌+◌, List, ◌∷◌, [], ◌++◌, length, ⊤}
+use Rattle.std.specs.Prelude.{ℕ, ◌≡◌, ◌<◌, ◌≤◌, ◌+◌, List, ◌∷◌, [], ◌++◌, get_or, length, min, slice_index, slice_set, ⊤}
+use Rattle.nrm_fraction.specs.Fraction.{Fraction}
 use Rattle.nrm_model.specs.Inventory.{inventory_of}
-use Rattle.nrm_model.specs.Network.{NetworkValue}
+use Rattle.nrm_model.specs.Network.{NetworkValue, least_seats_of}
 use Rattle.nrm_model.specs.Limits.{IsNetwork}
+use Rattle.nrm_dlp.specs.Hindsight.{AreTallies}
 use Rattle.nrm_book.specs.declared.booking.Booking.{Booking}
 use Rattle.nrm_book.specs.Book.{BookValue, IsBook}
+use Rattle.nrm_book.specs.Bookings.{sold_of}
+use Rattle.nrm_hindsight.specs.Requests.{requests_of, tallies_of}
+use Rattle.nrm_hindsight.specs.Selections.{BoundsSelections, ChosenFrom, IsSelection}
 use Rattle.nrm_model.specs.declared.mode.Mode.{Mode}
 use Rattle.nrm_simplex.specs.declared.fault.SolveFault.{SolveFault}
 use Rattle.nrm_simplex.specs.declared.fault.SolveFault.TheVariants as fault
@@ -13,45 +18,66 @@ use Rattle.nrm_control.specs.State.{SeatState}
 use Rattle.nrm_control.specs.declared.answer.Answer.{Answer}
 use Rattle.nrm_control.specs.declared.answer.Answer.TheVariants as answer
 
--- the network, the plan in force, the bookings that stand and the next number
+-- the network, the plan in force, the bookings that stand, the next number, and the tallies of the past requests, product by product
 pub record ControlValue : Type 0 where
   pub net : NetworkValue
   pub plan : PlanValue
   pub bookings : List Booking
   pub next : ℕ
+  pub tallies : List ℕ
 
 -- the controller's book
 abbrev pub book_of : ControlValue → BookValue
 book_of control = record { inventory = inventory_of control.net; bookings = control.bookings; next = control.next }
 
--- A controller stands for each state that has its plan, its bookings and its number. It doesn't keep the requests, so they may be any.
+-- A controller stands for each state that has its plan, its bookings and its number, and requests with its tallies, of which the bookings
+-- are a choice. It keeps the tallies and not the requests, so they may be any such.
 pub record StandsFor (control : ControlValue) (s : SeatState) : Type 0 where
   pub plan : s.plan ≡ control.plan
   pub bookings : s.bookings ≡ control.bookings
   pub next : s.next ≡ control.next
+  pub tallies : tallies_of control.net s.requests ≡ control.tallies
+  pub choice : ChosenFrom s.requests (requests_of s.bookings)
 
--- a network within the limits, and a plan and a book of it
-pub record IsInForce (net : NetworkValue) (plan : PlanValue) (book : BookValue) : Type 0 where
+-- tallies of a network beside bookings: of no product more is booked than its tally
+pub record AreTalliesBeside (net : NetworkValue) (bookings : List Booking) (tallies : List ℕ) : Type 0 where
+  pub capped : AreTallies net tallies
+  pub booked : (j : ℕ) → j < length net.products → sold_of bookings j ≤ get_or tallies j 0
+
+-- a network within the limits, and a plan, a book and tallies of it
+pub record IsInForce (net : NetworkValue) (plan : PlanValue) (book : BookValue) (tallies : List ℕ) : Type 0 where
   pub network : IsNetwork net
   pub planned : IsPlanOf net plan
   pub inventory : book.inventory ≡ inventory_of net
   pub kept : IsBook book
+  pub tallied : AreTalliesBeside net book.bookings tallies
 
--- its network is within the limits, its book is one of that network, so that no leg has more seats sold than it has, and its plan is the
--- network's, at the plan's own seats left and period
+-- its network is within the limits, its book is one of that network, so that no leg has more seats sold than it has, its plan is the
+-- network's, at the plan's own seats left and period, and of no product more is booked than its tally
 pub record IsControl (control : ControlValue) : Type 0 where
   pub network : IsNetwork control.net
   pub book : IsBook (book_of control)
   pub planned : IsPlanOf control.net control.plan
+  pub tallied : AreTalliesBeside control.net control.bookings control.tallies
 
--- the controller after a request was answered: what was sold is booked, and a refusal changes nothing
+-- the tallies after a request: its party is added to its product's, up to the least seats among the product's legs
+abbrev pub with_request : NetworkValue → List ℕ → ℕ → ℕ → List ℕ
+with_request net tallies j party = slice_set tallies j (min (slice_index tallies j + party) (least_seats_of net j))
+
+-- the controller after a request was answered: it is tallied, whatever the answer; and one that was sold is booked
 abbrev pub with_answer : ControlValue → ℕ → ℕ → Answer → ControlValue
 with_answer control j party (answer.Sold number) = record control {
   bookings = control.bookings ++ record { number = number; product = j; party = party } ∷ [];
   next = number + 1;
+  tallies = with_request control.net control.tallies j party;
 }
-with_answer control j party (answer.Leg i) = control
-with_answer control j party answer.Fare = control
+with_answer control j party (answer.Leg i) = record control { tallies = with_request control.net control.tallies j party }
+with_answer control j party answer.Fare = record control { tallies = with_request control.net control.tallies j party }
+
+-- a fraction bounds what every selection of past requests earns, of each state that a controller stands for; and the bookings that stand
+-- are one of them
+abbrev pub BoundsRequests : ControlValue → Fraction → Type 0
+BoundsRequests control bound = (s : SeatState) → StandsFor control s → BoundsSelections control.net s.requests bound × IsSelection control.net s.requests (requests_of s.bookings)
 
 -- a leg that refuses is one of the network
 abbrev pub IsOnNetwork : NetworkValue → Answer → Type 0

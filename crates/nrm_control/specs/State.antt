@@ -5,15 +5,11 @@ use Rattle.nrm_model.specs.Inventory.{inventory_of}
 use Rattle.nrm_model.specs.Network.{NetworkValue}
 use Rattle.nrm_book.specs.declared.booking.Booking.{Booking}
 use Rattle.nrm_book.specs.Bookings.{left_on, without}
+use Rattle.nrm_hindsight.specs.Requests.{Request}
 use Rattle.nrm_plan.specs.Plans.{PlanValue}
 use Rattle.nrm_control.specs.Verdict.{verdict_of}
 use Rattle.nrm_control.specs.declared.answer.Answer.{Answer}
 use Rattle.nrm_control.specs.declared.answer.Answer.TheVariants as answer
-
--- a past request: a product and a party
-pub record Request : Type 0 where
-  pub product : ℕ
-  pub party : ℕ
 
 -- the plan in force, the bookings that stand, the next number, and the requests so far, sold or not
 pub record SeatState : Type 0 where

@@ -1,9 +1,11 @@
-//! The controller: a network, the plan in force, and the book of what was sold of it.
-ghost use Rattle.std.specs.Prelude.{◌≡◌, ◌<◌, [], All, IfErr, IfNone, IfOk, IfSome, OnErr, OnOk, find, length, option_map, pos, true};
+//! The controller: a network, the plan in force, the book of what was sold of it, and tallies of what was asked.
+ghost use Rattle.std.specs.Prelude.{◌≡◌, ◌<◌, ◌≤◌, ◌+◌, [], All, IfErr, IfNone, IfOk, IfSome, OnErr, OnOk, find, length, min, option_map, pos, slice_index, true};
 ghost use Rattle.std.specs.Int.{IsInRange};
 ghost use Rattle.nrm_fraction.specs.Fraction.{◌over◌};
 ghost use Rattle.nrm_model.specs.Inventory.{inventory_of, uses_leg};
+ghost use Rattle.nrm_model.specs.Network.{least_seats_of};
 ghost use Rattle.nrm_book.specs.Bookings.{booking_numbered, without, worth_of};
+ghost use Rattle.nrm_hindsight.specs.Requests.{tallies_of};
 ghost use Rattle.nrm_plan.specs.Plans.{IsPlanFault, IsPlanFor, IsPlanOf};
 ghost use Rattle.nrm_control.specs.State.{seats_left};
 ghost use Rattle.nrm_control.specs.Verdict.{leg_refuses};
@@ -13,7 +15,7 @@ use nrm_book::Book;
 use nrm_model::{Mode, Network};
 use nrm_plan::{Plan, SeatsLeft};
 use nrm_simplex::SolveFault;
-use std::alloc::Global;
+use std::alloc::{AllocError, Global};
 use std::marker::Model;
 
 /// A network under control.
@@ -22,6 +24,7 @@ pub struct Controller {
     network: Network,
     plan: Plan,
     book: Book,
+    tallies: Vec<u16>,
 }
 
 impl Model for Controller {
@@ -29,9 +32,9 @@ impl Model for Controller {
 
     ghost Value = { ControlValue };
 
-    ghost view = { λ c. record { net = c.network; plan = c.plan; bookings = c.book.bookings; next = c.book.next } };
+    ghost view = { λ c. record { net = c.network; plan = c.plan; bookings = c.book.bookings; next = c.book.next; tallies = c.tallies.items } };
 
-    ghost invariant = { λ c. IsInForce c.network c.plan c.book };
+    ghost invariant = { λ c. IsInForce c.network c.plan c.book c.tallies.items };
 }
 
 // Whether the seats left of a product's leg don't cover the party and the seats that are kept from the product.
@@ -99,9 +102,33 @@ fn plan_again(
     Plan::make(alloc, net, mode, left.as_slice(), period)
 }
 
+// The tallies before anything was asked.
+fn no_tallies(alloc: Global, net: &Network) -> Result<Vec<u16>, AllocError>
+    ensures { IfOk result (λ tallies. tallies.items ≡ tallies_of net.now []) }
+{
+    let mut tallies = Vec::new(alloc);
+    for _ in 0..net.product_count() as u16 {
+        tallies.push(0)?;
+    }
+    Ok(tallies)
+}
+
+// The tally of a product after a request for a party.
+fn tally_after(net: &Network, tally: u16, product: u16, party: u16) -> u16
+    requires product { product < length net.now.products }
+    requires tally { tally ≤ 999 }
+    requires party { party ≤ 999 }
+    ensures { result ≡ min (tally + party) (least_seats_of net.now product) }
+{
+    (tally + party).min(net.least_seats(product))
+}
+
 impl Controller {
+    ghost use Rattle.nrm_simplex.specs.Solving.{IsSolveFault};
+    ghost use Rattle.nrm_dlp.specs.Hindsight.{IsHindsight};
+    ghost use Rattle.nrm_dlp.specs.Programs.{hindsight_program};
     ghost use Rattle.nrm_plan.specs.Plans.{IsOpeningPlan, value_of};
-    ghost use Rattle.nrm_control.specs.Standing.{book_of, IsControl, IsOnNetwork, IsStartFault, StandsFor, with_answer};
+    ghost use Rattle.nrm_control.specs.Standing.{book_of, BoundsRequests, IsControl, IsOnNetwork, IsStartFault, StandsFor, with_answer};
     ghost use Rattle.nrm_control.specs.State.{after_cancellation, after_request, SeatState, with_plan};
     ghost use Rattle.nrm_control.specs.Verdict.{verdict_of};
 
@@ -111,21 +138,23 @@ impl Controller {
     /// `Overflow` exactly where the program of that plan is Large, which under first come, first served is never;
     /// `NoMemory`. The network is dropped.
     pub fn start(alloc: Global, net: Network, mode: Mode) -> Result<Controller, SolveFault>
-        ensures begins { IfOk result (λ controller. controller ≡ record { net = net; plan = controller.plan; bookings = []; next = 1 }) }
+        ensures begins { IfOk result (λ controller. controller ≡ record { net = net; plan = controller.plan; bookings = []; next = 1; tallies = tallies_of net [] }) }
         ensures plan { IfOk result (λ controller. IsOpeningPlan net mode controller.plan) }
         ensures kept { IfOk result IsControl }
         ensures fault { IfErr result (IsStartFault net mode) }
     {
         let plan = Plan::opening(alloc, &net, mode)?;
+        let tallies = no_tallies(alloc, &net)?;
         let book = Book::new(alloc, &net)?;
         Ok(Controller {
             network: net,
             plan,
             book,
+            tallies,
         })
     }
 
-    /// Asks for seats of a product for a party. A refusal changes nothing. It takes no memory.
+    /// Asks for seats of a product for a party. A refusal changes the product's tally alone. It takes no memory.
     pub fn request(&mut self, product: u16, party: u16) -> Answer
         requires product { product < length self.old.net.products }
         requires party { IsInRange 1 999 party }
@@ -137,6 +166,8 @@ impl Controller {
         ensures state { (s : SeatState) → StandsFor self.old s → StandsFor self.new (after_request self.old.net s product party) }
     {
         let net = &self.network;
+        let place = product as usize;
+        self.tallies[place] = tally_after(net, self.tallies[place], product, party);
         let legs = net.product_at(product).legs.as_slice();
         if let Some(leg) = refusing_leg(net, &self.plan, &self.book, legs, product, party) {
             return Answer::Leg(leg);
@@ -187,6 +218,30 @@ impl Controller {
         let mode = self.plan.mode();
         self.plan = plan_again(alloc, &self.network, mode, &self.book, period)?;
         Ok(self.plan.mean_value(&self.network))
+    }
+
+    /// The value of hindsight: no choice of the past requests, sold or not, each whole and at most once, that fits the seats
+    /// earns more, in whole currency units, as a numerator and a denominator in lowest terms. Nothing changes.
+    ///
+    /// # Errors
+    /// `Overflow` exactly where the program of hindsight is Large; `NoMemory`.
+    pub fn hindsight(&self, alloc: Global) -> Result<(u64, u64), SolveFault>
+        ensures value { IfOk result (λ value. IsHindsight self.now.net self.now.tallies (pos value.0 over value.1)) }
+        ensures some { IfOk result (λ value. 0 < value.1) }
+        ensures bounds { IfOk result (λ value. BoundsRequests self.now (pos value.0 over value.1)) }
+        ensures fault { IfErr result (IsSolveFault (hindsight_program self.now.net self.now.tallies)) }
+    {
+        nrm_dlp::hindsight(alloc, &self.network, &self.tallies)
+    }
+
+    /// The tally of a product: the seats that past requests asked for, sold or not, but no more than the least seats among
+    /// its legs.
+    pub fn tally(&self, product: u16) -> u16
+        requires { product < length self.now.net.products }
+        ensures tally { result ≡ slice_index self.now.tallies product }
+        ensures kept { IsControl self.now }
+    {
+        self.tallies[product as usize]
     }
 
     /// The network.

@@ -33,6 +33,7 @@ fn ask(controller: &mut Controller, product: u16, party: u16) -> Answer
 fn serve(rt: &impl Abort, controller: &mut Controller)
     requires products { length controller.old.net.products ≡ 2 }
     requires next { controller.old.next ≡ 1 }
+    ensures products { length controller.new.net.products ≡ 2 }
 {
     assert_eq!(rt; ask(controller, 0, 2), Answer::Sold { number: 1 });
     assert_eq!(rt; ask(controller, 0, 1), Answer::Leg(1));
@@ -43,12 +44,22 @@ fn serve(rt: &impl Abort, controller: &mut Controller)
     assert_eq!(rt; ask(controller, 1, 2), Answer::Sold { number: 3 });
 }
 
+// Sold or not, cancelled or not, three seats of the through product were asked for and four of the local one: no more than
+// its legs have. Both through seats and a local one would have earned 1,200.
+fn look_back(rt: &impl Abort, alloc: Global, controller: &Controller)
+    requires products { length controller.now.net.products ≡ 2 }
+{
+    assert_eq!(rt; (controller.tally(0), controller.tally(1)), (2, 3));
+    assert!(rt; controller.hindsight(alloc) == Ok((1200, 1)));
+}
+
 #[test]
 fn serves_by_hand(rt: HostRuntime) {
     match begun(rt.alloc(), Mode::FirstCome) {
         Ok(controller) => {
             let mut controller = controller;
             serve(&rt, &mut controller);
+            look_back(&rt, rt.alloc(), &controller);
         }
         Err(_) => assert!(rt; false),
     }

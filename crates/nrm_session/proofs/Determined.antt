@@ -3,16 +3,20 @@ use Rattle.std.proofs.Common.{ℕ, ◌≡◌, ◌≢◌, ◌⊎◌, ◌∙◌, B
 use Rattle.std.specs.Bool.{MatchBool}
 use Rattle.std.proofs.lemmas.List.Elements.{All-head, All-tail}
 use Rattle.nrm_fraction.specs.Fraction.{Fraction}
+use Rattle.nrm_model.specs.Inventory.{inventory_of}
 use Rattle.nrm_model.specs.Network.{NetworkValue, leg_named, product_named}
-use Rattle.nrm_book.specs.Bookings.{booking_numbered}
+use Rattle.nrm_dlp.specs.Laws.{HasOneHindsight}
+use Rattle.nrm_dlp.proofs.Hindsights.{one-hindsight}
+use Rattle.nrm_book.specs.Bookings.{booking_numbered, revenue_of}
+use Rattle.nrm_hindsight.specs.Requests.{tallies_of}
 use Rattle.nrm_plan.specs.Laws.{HasOnePlan}
 use Rattle.nrm_plan.specs.Plans.{PlanValue, value_of}
 use Rattle.nrm_plan.proofs.Plans.{one-plan}
 use Rattle.nrm_control.specs.State.{SeatState, seats_left, with_plan}
 use Rattle.nrm_stream.specs.declared.command.Command.{Command}
 use Rattle.nrm_stream.specs.declared.command.Command.TheVariants as command
-use Rattle.nrm_session.specs.Replies.{Reply, memory, optimised_at, overflow, unknown}
-use Rattle.nrm_session.specs.Step.{Gives, Reoptimises, Step, optimises, overflows, wants_memory}
+use Rattle.nrm_session.specs.Replies.{Reply, hindsight_told, memory, optimised_at, overflow, unknown}
+use Rattle.nrm_session.specs.Step.{Gives, LooksBack, Reoptimises, Step, is_large, lacks_memory, optimises, overflows, tells, wants_memory}
 use Rattle.nrm_session.specs.Run.{Run}
 use Rattle.nrm_session.specs.Laws.{RepliesAreDetermined, StatesAreDetermined}
 
@@ -65,12 +69,30 @@ module _ (net : NetworkValue) (s : SeatState) (k : ℕ) where
   period-same true reply other s' s'' first second agree = same-pair reply other unknown s' s'' s first second
   period-same false reply other s' s'' first second agree = again-same reply other s' s'' first second agree
 
+-- ---- what a line of hindsight may reply
+looks-same : (net : NetworkValue) (s : SeatState) (reply other : Reply) → LooksBack net s reply → LooksBack net s other → Agree reply other → other ≡ reply
+looks-same net s reply other first second agree = by reply other first second agree
+  where
+    once : HasOneHindsight net (tallies_of net s.requests)
+    once = one-hindsight net (tallies_of net s.requests)
+
+    by : (reply other : Reply) → LooksBack net s reply → LooksBack net s other → Agree reply other → other ≡ reply
+    by reply other (tells value is) (tells value' is') agree = ap (λ (v : Fraction). hindsight_told v (revenue_of (inventory_of net) s.bookings)) (once.value value value' is is')
+    by reply other (tells value is) (is_large n number large) agree = absurd (once.apart value n number is large)
+    by reply other (tells value is) lacks_memory agree = absurd (memory-alone (hindsight_told value (revenue_of (inventory_of net) s.bookings)) (λ e. cc) agree)
+    by reply other (is_large n number large) (tells value is) agree = absurd (once.apart value n number is large)
+    by reply other (is_large n number large) (is_large n' number' large') agree = refl
+    by reply other (is_large n number large) lacks_memory agree = absurd (memory-alone overflow (λ e. cc) agree)
+    by reply other lacks_memory (tells value is) agree = absurd (alone-memory (hindsight_told value (revenue_of (inventory_of net) s.bookings)) (λ e. cc) agree)
+    by reply other lacks_memory (is_large n number large) agree = absurd (alone-memory overflow (λ e. cc) agree)
+    by reply other lacks_memory lacks_memory agree = refl
+
 step-same : (net : NetworkValue) (s : SeatState) (c : Command) (reply other : Reply) (s' s'' : SeatState) → Step net s c reply s' → Step net s c other s'' → Agree reply other → (other ≡ reply) × (s'' ≡ s')
 step-same net s (command.Book name party) reply other s' s'' first second agree = same-option (product_named net name) reply other _ _ s' s'' s _ first second
 step-same net s (command.Cancel number) reply other s' s'' first second agree = same-option (booking_numbered s.bookings number) reply other _ _ s' s'' s _ first second
 step-same net s (command.Reoptimise k) reply other s' s'' first second agree = period-same net s k (nat_lt net.periods k) reply other s' s'' first second agree
 step-same net s (command.Leg name) reply other s' s'' first second agree = same-option (leg_named net name) reply other _ _ s' s'' s _ first second
-step-same net s command.Hindsight reply other s' s'' first second agree = same-pair reply other _ s' s'' s first second
+step-same net s command.Hindsight reply other s' s'' first second agree = (looks-same net s reply other first.0 second.0 agree, second.1 ∙ sym first.1)
 step-same net s command.Plan reply other s' s'' first second agree = same-pair reply other _ s' s'' s first second
 step-same net s command.Bad reply other s' s'' first second agree = same-pair reply other _ s' s'' s first second
 

@@ -14,10 +14,11 @@ use Rattle.nrm_control.specs.State.{SeatState, opening, after_request}
 use Rattle.nrm_control.specs.Standing.{ControlValue}
 use Rattle.nrm_stream.specs.declared.command.Command.TheVariants as command
 use Rattle.nrm_session.specs.Answering.{IsTellable, reply_in}
+use Rattle.nrm_session.specs.Hindsight.{requests_in}
 use Rattle.nrm_session.specs.Laws.{NoLegOversold}
-use Rattle.nrm_session.specs.Replies.{Reply, bad, unknown, sold, no_leg, no_fare, cancelled, memory, optimised, optimised_at, optimised_none, overflow, plan_told, text_of}
+use Rattle.nrm_session.specs.Replies.{Reply, bad, unknown, sold, no_leg, no_fare, cancelled, hindsight_told, memory, optimised, optimised_at, optimised_none, overflow, plan_told, text_of}
 use Rattle.nrm_session.specs.Run.{Run}
-use Rattle.nrm_session.specs.Step.{Reoptimises, Step, optimises, overflows, wants_memory}
+use Rattle.nrm_session.specs.Step.{LooksBack, Reoptimises, Step, is_large, lacks_memory, optimises, overflows, tells, wants_memory}
 use Rattle.nrm_session.specs.declared.reply.Reply.TheVariants as answered
 
 abbrev there_and_back : NetworkValue
@@ -78,9 +79,22 @@ never_wanting s made = by memory s refl made
     by reply s' e (overflows n number large) = cc
     by reply s' e (wants_memory solves) = solves refl
 
--- what isn't built yet is bad
-looks_back : (net : NetworkValue) (s : SeatState) → Step net s command.Hindsight bad s
-looks_back net s = (refl, refl)
+-- a line of hindsight tells a value, or it is too large, or memory is wanting; nothing else, and nothing changes
+never_bad : (net : NetworkValue) (s s' : SeatState) → Step net s command.Hindsight bad s' → ⊥
+never_bad net s s' step = by bad refl step.0
+  where
+    by : (reply : Reply) → reply ≡ bad → LooksBack net s reply → ⊥
+    by reply e (tells value is) = cc
+    by reply e (is_large n number large) = cc
+    by reply e lacks_memory = cc
+
+wants_for_memory : (net : NetworkValue) (s : SeatState) → Step net s command.Hindsight memory s
+wants_for_memory net s = (lacks_memory, refl)
+
+-- both requests are remembered, the refused one too; one for a product that isn't there is none
+both_asked : requests_in there_and_back (command.Book (codes "BACK") 1 ∷ command.Cancel 1 ∷ command.Book (codes "NONE") 1 ∷ command.Book (codes "LOC") 2 ∷ command.Hindsight ∷ [])
+    ≡ record { product = 0; party = 1 } ∷ record { product = 1; party = 2 } ∷ []
+both_asked = refl
 
 -- a leg may be full, and no more
 all_sold : NoLegOversold there_and_back (sold_once first)
@@ -96,7 +110,7 @@ sold_twice kept = let first = kept 0 (lit< tt) in omega (arith, first)
 
 -- what a reply means where the controller stands
 abbrev standing : ControlValue
-standing = record { net = there_and_back; plan = first; bookings = record { number = 1; product = 0; party = 1 } ∷ []; next = 2 }
+standing = record { net = there_and_back; plan = first; bookings = record { number = 1; product = 0; party = 1 } ∷ []; next = 2; tallies = 1 ∷ 0 ∷ [] }
 
 the_second_leg : reply_in standing (answered.NoLeg 1) ≡ no_leg (codes "BC")
 the_second_leg = refl
@@ -138,6 +152,10 @@ text_of_optimised_none = refl
 
 text_of_overflow : text_of overflow ≡ codes "overflow\n"
 text_of_overflow = refl
+
+text_of_hindsight : (value : Fraction) → value.num ≡ pos 301 → value.den ≡ 2 → text_of (hindsight_told value 101) ≡ codes "hindsight 301/2 revenue 101\n"
+unfolding digits
+text_of_hindsight value num den = rw (num, den) refl
 
 text_of_memory : text_of memory ≡ codes "memory\n"
 text_of_memory = refl

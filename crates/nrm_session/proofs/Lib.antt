@@ -1,5 +1,6 @@
 pub mod Determined
 pub mod Examples
+pub mod Hindsights
 pub mod InForce
 pub mod Runs
 pub mod Seats

@@ -3,8 +3,12 @@ use Rattle.std.proofs.Common.{ℕ, ℤ, ◌≡◌, ◌≢◌, ◌⊎◌, Bool, t
 use Rattle.std.specs.Bool.{MatchBool}
 use Rattle.std.proofs.lemmas.List.Elements.{All-cons, All-nil}
 use Rattle.nrm_fraction.specs.Fraction.{Fraction}
+use Rattle.nrm_model.specs.Inventory.{inventory_of}
 use Rattle.nrm_model.specs.Network.{NetworkValue, leg_named, product_named}
-use Rattle.nrm_book.specs.Bookings.{booking_numbered}
+use Rattle.nrm_dlp.specs.Hindsight.{HindsightOverflows, IsHindsight}
+use Rattle.nrm_dlp.proofs.Hindsights.{has-a-hindsight}
+use Rattle.nrm_book.specs.Bookings.{booking_numbered, revenue_of}
+use Rattle.nrm_hindsight.specs.Requests.{tallies_of}
 use Rattle.nrm_plan.specs.Plans.{IsPlanFor, PlanOverflows, PlanValue, value_of}
 use Rattle.nrm_plan.proofs.Plans.{has-a-plan}
 use Rattle.nrm_control.specs.State.{SeatState, answer_in, seats_left, with_plan}
@@ -13,8 +17,8 @@ use Rattle.nrm_control.specs.declared.answer.Answer.TheVariants as answer
 use Rattle.nrm_control.proofs.Inventories.{are-seats-left}
 use Rattle.nrm_stream.specs.declared.command.Command.{Command}
 use Rattle.nrm_stream.specs.declared.command.Command.TheVariants as command
-use Rattle.nrm_session.specs.Replies.{Reply, bad, memory, optimised_at, overflow, reply_to, unknown}
-use Rattle.nrm_session.specs.Step.{Gives, Reoptimises, Step, optimises, overflows}
+use Rattle.nrm_session.specs.Replies.{Reply, bad, hindsight_told, memory, optimised_at, overflow, reply_to, unknown}
+use Rattle.nrm_session.specs.Step.{Gives, LooksBack, Reoptimises, Step, is_large, optimises, overflows, tells}
 use Rattle.nrm_session.specs.Laws.{EachListHasARun}
 
 -- there is a reply and a state for each case of an option
@@ -46,12 +50,19 @@ module _ (net : NetworkValue) (s : SeatState) (k : ℕ) where
   in-period true = (unknown, s, (refl, refl), λ e. cc)
   in-period false = again
 
+look-back : (net : NetworkValue) (s : SeatState) → (reply : Reply) × LooksBack net s reply × (reply ≢ memory)
+look-back net s = by (has-a-hindsight net (tallies_of net s.requests))
+  where
+    by : ((value : Fraction) × IsHindsight net (tallies_of net s.requests) value) ⊎ ((n : ℕ) × (number : ℤ) × HindsightOverflows net (tallies_of net s.requests) n number) → (reply : Reply) × LooksBack net s reply × (reply ≢ memory)
+    by (inl (value, is)) = (hindsight_told value (revenue_of (inventory_of net) s.bookings), tells value is, λ e. cc)
+    by (inr (n, number, large)) = (overflow, is_large n number large, λ e. cc)
+
 step : (net : NetworkValue) (s : SeatState) (c : Command) → (reply : Reply) × (s' : SeatState) × Step net s c reply s' × (reply ≢ memory)
 step net s (command.Book name party) = for-option (product_named net name) _ _ _ _ (λ e. cc) (λ j. answered net (answer_in net s j party))
 step net s (command.Cancel number) = for-option (booking_numbered s.bookings number) _ _ _ _ (λ e. cc) (λ booking e. cc)
 step net s (command.Reoptimise k) = in-period net s k (nat_lt net.periods k)
 step net s (command.Leg name) = for-option (leg_named net name) _ _ _ _ (λ e. cc) (λ i e. cc)
-step net s command.Hindsight = (bad, s, (refl, refl), λ e. cc)
+step net s command.Hindsight = let (reply, looks, suffices) = look-back net s in (reply, s, (looks, refl), suffices)
 step net s command.Plan = (_, s, (refl, refl), λ e. cc)
 step net s command.Bad = (bad, s, (refl, refl), λ e. cc)
 

@@ -7,10 +7,11 @@ use Rattle.nrm_model.specs.Inventory.{inventory_of}
 use Rattle.nrm_model.specs.Network.{NetworkValue, leg_named, leg_of, product_named}
 use Rattle.nrm_model.specs.declared.mode.Mode.{Mode}
 use Rattle.nrm_model.specs.declared.mode.Mode.TheVariants as mode
+use Rattle.nrm_dlp.specs.Hindsight.{HindsightOverflows, IsHindsight}
 use Rattle.nrm_book.specs.declared.booking.Booking.{Booking}
-use Rattle.nrm_book.specs.Bookings.{booking_numbered, without, worth_of}
+use Rattle.nrm_book.specs.Bookings.{booking_numbered, revenue_of, without, worth_of}
 use Rattle.nrm_control.specs.State.{SeatState, after_cancellation, after_request, answer_in, seats_left, with_plan}
-use Rattle.nrm_control.specs.Standing.{ControlValue, StandsFor}
+use Rattle.nrm_control.specs.Standing.{ControlValue, StandsFor, with_answer}
 use Rattle.nrm_control.specs.Verdict.{verdict_of}
 use Rattle.nrm_control.specs.declared.answer.Answer.{Answer}
 use Rattle.nrm_control.specs.declared.answer.Answer.TheVariants as answer
@@ -18,19 +19,18 @@ use Rattle.nrm_plan.specs.Plans.{IsPlanFor, PlanOverflows, PlanValue, value_of}
 use Rattle.nrm_control.proofs.States.{answer-same}
 use Rattle.nrm_report.specs.Texts.{leg_text}
 use Rattle.nrm_stream.specs.declared.command.Command.TheVariants as command
-use Rattle.nrm_session.specs.Replies.{Reply, unknown, no_leg, no_fare, cancelled, overflow, memory, leg_told, optimised_at, reply_to}
-use Rattle.nrm_session.specs.Step.{Gives, Reoptimises, Step, optimises, overflows, wants_memory}
+use Rattle.nrm_session.specs.Replies.{Reply, unknown, no_leg, no_fare, cancelled, overflow, memory, hindsight_told, leg_told, optimised_at, reply_to}
+use Rattle.nrm_session.specs.Step.{Gives, LooksBack, Reoptimises, Step, is_large, lacks_memory, optimises, overflows, tells, wants_memory}
 use Rattle.nrm_session.specs.Answering.{Steps}
 
--- a request that was refused leaves the controller as it was
-refused-steps : (old new : ControlValue) (name : List ℕ) (j party : ℕ) (given : Answer) → Some j ≡ product_named old.net name → given ≡ verdict_of old.net old.plan old.bookings old.next j party → new ≡ old
+-- a request that was refused leaves the network and the next number
+refused-steps : (old new : ControlValue) (name : List ℕ) (j party : ℕ) (given : Answer) → Some j ≡ product_named old.net name → given ≡ verdict_of old.net old.plan old.bookings old.next j party → new.net ≡ old.net → new.next ≡ old.next
     → ((s : SeatState) → StandsFor old s → StandsFor new (after_request old.net s j party)) → Steps old new (command.Book name party) (reply_to new.net given)
-refused-steps old new name j party given found refuses same stay =
-    let net : new.net ≡ old.net = ap (λ (control : ControlValue). control.net) same in
+refused-steps old new name j party given found refuses net next stay =
     let reply : Reply = reply_to new.net given in
     record {
       network = net;
-      next = let next = ap (λ (control : ControlValue). control.next) same in omega (arith, next);
+      next = omega (arith, next);
       step = λ s stands.
           let after : SeatState = after_request old.net s j party in
           let told : reply ≡ reply_to old.net (answer_in old.net s j party) = ap (λ (net : NetworkValue). reply_to net given) net ∙ ap (reply_to old.net) (refuses ∙ sym (answer-same old s j party stands)) in (
@@ -41,13 +41,15 @@ refused-steps old new name j party given found refuses same stay =
     }
 
 -- by a leg, and by the fare
-pub leg-refuses : (old new : ControlValue) (name : List ℕ) (j party leg : ℕ) → Some j ≡ product_named old.net name → answer.Leg leg ≡ verdict_of old.net old.plan old.bookings old.next j party → new ≡ old
+pub leg-refuses : (old new : ControlValue) (name : List ℕ) (j party leg : ℕ) → Some j ≡ product_named old.net name → answer.Leg leg ≡ verdict_of old.net old.plan old.bookings old.next j party → new ≡ with_answer old j party (answer.Leg leg)
     → ((s : SeatState) → StandsFor old s → StandsFor new (after_request old.net s j party)) → Steps old new (command.Book name party) (no_leg (leg_of new.net leg).name)
-leg-refuses old new name j party leg = refused-steps old new name j party (answer.Leg leg)
+leg-refuses old new name j party leg found refuses changed =
+    refused-steps old new name j party (answer.Leg leg) found refuses (ap (λ (control : ControlValue). control.net) changed) (ap (λ (control : ControlValue). control.next) changed)
 
-pub fare-refuses : (old new : ControlValue) (name : List ℕ) (j party : ℕ) → Some j ≡ product_named old.net name → answer.Fare ≡ verdict_of old.net old.plan old.bookings old.next j party → new ≡ old
+pub fare-refuses : (old new : ControlValue) (name : List ℕ) (j party : ℕ) → Some j ≡ product_named old.net name → answer.Fare ≡ verdict_of old.net old.plan old.bookings old.next j party → new ≡ with_answer old j party answer.Fare
     → ((s : SeatState) → StandsFor old s → StandsFor new (after_request old.net s j party)) → Steps old new (command.Book name party) no_fare
-fare-refuses old new name j party = refused-steps old new name j party answer.Fare
+fare-refuses old new name j party found refuses changed =
+    refused-steps old new name j party answer.Fare found refuses (ap (λ (control : ControlValue). control.net) changed) (ap (λ (control : ControlValue). control.next) changed)
 
 -- a leg that was found is told of
 pub leg-steps : (control : ControlValue) (name : List ℕ) (i : ℕ) → Some i ≡ leg_named control.net name → Steps control control (command.Leg name) (leg_told (leg_text control.net control.bookings i))
@@ -80,6 +82,23 @@ cancel-steps old new number refund is removed stay =
             stay s stands,
           );
     }
+
+-- ---- a line of hindsight, which changes nothing
+module _ (control : ControlValue) where
+  looks : (reply : Reply) → ((s : SeatState) → StandsFor control s → LooksBack control.net s reply) → Steps control control command.Hindsight reply
+  looks reply told = record { network = refl; next = omega arith; step = λ s stands. (s, (told s stands, refl), stands) }
+
+  pub hindsight-steps : (value : Fraction) (revenue : ℕ) → IsHindsight control.net control.tallies value → revenue ≡ revenue_of (inventory_of control.net) control.bookings → Steps control control command.Hindsight (hindsight_told value revenue)
+  hindsight-steps value revenue is worth =
+      looks (hindsight_told value revenue)
+      (λ s stands. subst (λ (r : ℕ). LooksBack control.net s (hindsight_told value r)) (ap (revenue_of (inventory_of control.net)) stands.bookings ∙ sym worth)
+      (tells value (subst (λ (tallies : List ℕ). IsHindsight control.net tallies value) (sym stands.tallies) is)))
+
+  pub hindsight-overflows : (n : ℕ) (number : ℤ) → HindsightOverflows control.net control.tallies n number → Steps control control command.Hindsight overflow
+  hindsight-overflows n number large = looks overflow (λ s stands. is_large n number (subst (λ (tallies : List ℕ). HindsightOverflows control.net tallies n number) (sym stands.tallies) large))
+
+  pub hindsight-lacks-memory : Steps control control command.Hindsight memory
+  hindsight-lacks-memory = looks memory (λ s stands. lacks_memory)
 
 -- ---- an optimisation at a period that the network has
 module _ (old new : ControlValue) (k : ℕ) (within : k ≤ old.net.periods) where

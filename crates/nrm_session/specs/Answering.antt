@@ -6,7 +6,7 @@ use Rattle.nrm_control.specs.Standing.{ControlValue, StandsFor}
 use Rattle.nrm_fraction.specs.Fraction.{◌over◌}
 use Rattle.nrm_report.specs.Texts.{leg_text, plan_text}
 use Rattle.nrm_stream.specs.declared.command.Command.{Command}
-use Rattle.nrm_session.specs.Replies.{Reply, bad, unknown, sold, no_leg, no_fare, cancelled, optimised, optimised_none, overflow, memory, leg_told, plan_told}
+use Rattle.nrm_session.specs.Replies.{Reply, bad, unknown, sold, no_leg, no_fare, cancelled, optimised, optimised_none, overflow, memory, hindsight_told, leg_told, plan_told}
 use Rattle.nrm_session.specs.Step.{Step}
 use Rattle.nrm_session.specs.declared.reply.Reply.{Reply as Answered}
 use Rattle.nrm_session.specs.declared.reply.Reply.TheVariants as answered
@@ -29,6 +29,7 @@ reply_in control (answered.Optimised num den) = optimised (pos num over den)
 reply_in control answered.OptimisedNone = optimised_none
 reply_in control answered.Overflow = overflow
 reply_in control answered.Memory = memory
+reply_in control (answered.Hindsight num den revenue) = hindsight_told (pos num over den) revenue
 reply_in control (answered.Leg i) = leg_told (leg_text control.net control.bookings i)
 reply_in control answered.Plan = plan_told (plan_text control.net control.plan)
 
@@ -42,6 +43,7 @@ IsTellable net (answered.Sold number) = ⊤
 IsTellable net (answered.Cancelled number refund) = ⊤
 IsTellable net answered.NoFare = ⊤
 IsTellable net (answered.Optimised num den) = 1 ≤ den
+IsTellable net (answered.Hindsight num den revenue) = 1 ≤ den
 IsTellable net answered.OptimisedNone = ⊤
 IsTellable net answered.Overflow = ⊤
 IsTellable net answered.Memory = ⊤

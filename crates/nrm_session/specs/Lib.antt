@@ -1,5 +1,6 @@
 pub mod Answering
 pub mod Headline
+pub mod Hindsight
 pub mod Laws
 pub mod Replies
 pub mod Run

@@ -19,6 +19,7 @@ pub data Reply : Type 0 where
   optimised_none : Reply
   overflow : Reply
   memory : Reply
+  hindsight_told : Fraction → ℕ → Reply
   leg_told : List ℕ → Reply
   plan_told : List ℕ → Reply
 
@@ -34,6 +35,7 @@ text_of (optimised value) = text_line (codes "optimised" ∷ fraction_text value
 text_of optimised_none = text_line (codes "optimised" ∷ codes "none" ∷ [])
 text_of overflow = text_line (codes "overflow" ∷ [])
 text_of memory = text_line (codes "memory" ∷ [])
+text_of (hindsight_told value revenue) = text_line (codes "hindsight" ∷ fraction_text value ∷ codes "revenue" ∷ decimal revenue ∷ [])
 text_of (leg_told text) = text
 text_of (plan_told text) = text
 

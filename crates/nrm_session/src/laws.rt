@@ -1,5 +1,6 @@
 //! Laws of whole sessions. Each is the contract of a function that does nothing.
 ghost use Rattle.nrm_session.specs.Headline.{RequestsAreAnswered};
+ghost use Rattle.nrm_session.specs.Hindsight.{HindsightBounds, HindsightBoundsOn};
 ghost use Rattle.nrm_session.specs.Laws.{EachListHasARun, PlansAreKept, RepliesAreDetermined, SeatsAreKept, StatesAreDetermined};
 
 /// No leg has more seats sold than it has in an opening, and a run keeps that from any state.
@@ -32,4 +33,11 @@ pub fn plans_are_kept()
 /// reaches the sum of the bid prices; else the first leg that is short is named, or the fare.
 pub fn requests_are_answered()
     ensures { RequestsAreAnswered }
+{}
+
+/// At each line of hindsight that tells a value, no selection of the requests so far, sold or not, each whole and at most once, that
+/// fits the seats earns more; and the bookings that stand are such a selection, of the revenue that is told.
+pub fn hindsight_bounds()
+    ensures opening { HindsightBounds }
+    ensures on { HindsightBoundsOn }
 {}

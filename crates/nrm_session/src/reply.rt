@@ -9,7 +9,7 @@ ghost use Rattle.nrm_control.specs.Standing.{IsControl};
 ghost use Rattle.nrm_stream.specs.Commands.{IsCommand};
 ghost use Rattle.nrm_stream.specs.declared.command.Command.TheVariants as command;
 ghost use Rattle.nrm_session.specs.Answering.{IsTellable, reply_in, Steps};
-ghost use Rattle.nrm_session.specs.Replies.{cancelled, no_leg, optimised, sold, text_of};
+ghost use Rattle.nrm_session.specs.Replies.{cancelled, hindsight_told, no_leg, optimised, sold, text_of};
 
 use nrm_control::{Answer, Controller};
 use nrm_edge::{Failed, Sink, put_all};
@@ -22,7 +22,7 @@ use std::alloc::Global;
 /// What a line is answered. Legs are named by their numbers in the network.
 #[derive(Clone, Copy, Debug, PartialEq, Eq)]
 pub enum Reply {
-    /// No command, or one that isn't built yet.
+    /// No command.
     Bad,
     /// No product, booking or leg of this name or number, or a period beyond the last.
     Unknown,
@@ -38,10 +38,13 @@ pub enum Reply {
     Optimised { num: u64, den: u64 },
     /// A new plan is in force, for which no program was solved.
     OptimisedNone,
-    /// The program is too large, and the plan in force stays.
+    /// The program is too large, and nothing changes.
     Overflow,
-    /// Want of memory, and the plan in force stays.
+    /// Want of memory, and nothing changes.
     Memory,
+    /// No selection of the past requests that fits the seats earns more than this value, in whole currency units, in lowest
+    /// terms; the bookings that stand earn this revenue.
+    Hindsight { num: u64, den: u64, revenue: u64 },
     /// How this leg stands.
     Leg(u8),
     /// The plan in force.
@@ -96,6 +99,22 @@ fn reoptimise(alloc: Global, controller: &mut Controller, period: u8) -> Reply
     }
 }
 
+// Carries out a `hindsight` line.
+fn look_back(alloc: Global, controller: &Controller) -> Reply
+    ensures step { Steps controller.now controller.now command.Hindsight (reply_in controller.now result) }
+    ensures tellable { IsTellable controller.now.net result }
+{
+    match controller.hindsight(alloc) {
+        Ok((num, den)) => Reply::Hindsight {
+            num,
+            den,
+            revenue: controller.book().revenue(),
+        },
+        Err(SolveFault::Overflow { .. }) => Reply::Overflow,
+        Err(SolveFault::NoMemory) => Reply::Memory,
+    }
+}
+
 // Finds the leg of a `leg` line.
 fn tell_leg(controller: &Controller, name: &Name) -> Reply
     ensures step { Steps controller.now controller.now (command.Leg name.now) (reply_in controller.now result) }
@@ -107,8 +126,8 @@ fn tell_leg(controller: &Controller, name: &Name) -> Reply
     }
 }
 
-/// Carries out a command, and gives its reply. It takes memory for `reoptimise` alone, and there only where the mode solves
-/// programs.
+/// Carries out a command, and gives its reply. It takes memory for `hindsight`, and for `reoptimise` where the mode solves
+/// programs, and for no other.
 pub fn carry_out(alloc: Global, controller: &mut Controller, command: &Command) -> Reply
     requires command { IsCommand command.now }
     requires next { controller.old.next < 1000000000000 }
@@ -124,7 +143,8 @@ pub fn carry_out(alloc: Global, controller: &mut Controller, command: &Command) 
         Command::Reoptimise { period } => reoptimise(alloc, controller, *period),
         Command::Leg { name } => tell_leg(controller, name),
         Command::Plan => Reply::Plan,
-        Command::Hindsight | Command::Bad => Reply::Bad,
+        Command::Hindsight => look_back(alloc, controller),
+        Command::Bad => Reply::Bad,
     }
 }
 
@@ -174,6 +194,20 @@ fn write_optimised(line: &mut Line, num: u64, den: u64)
     line.push_bytes(b"\n");
 }
 
+// Writes the line of hindsight, with the revenue of the bookings that stand.
+#[tactic(auto, using(nrm_text::proofs::Fractions::short_fraction, nrm_text::proofs::Decimals::short_decimal))]
+fn write_hindsight(line: &mut Line, num: u64, den: u64, revenue: u64)
+    requires empty { line.old ≡ [] }
+    requires some { 1 ≤ den }
+    ensures { line.new ≡ text_of (hindsight_told (pos num over den) revenue) }
+{
+    line.push_bytes(b"hindsight ");
+    line.push_fraction(i128::from(num), u128::from(den));
+    line.push_bytes(b" revenue ");
+    line.push_whole(u128::from(revenue));
+    line.push_bytes(b"\n");
+}
+
 /// Puts the text of a reply: a line in one piece, and of a leg and of a plan as many lines as there are.
 ///
 /// # Errors
@@ -199,6 +233,7 @@ pub fn put_reply<K: Sink>(controller: &Controller, reply: Reply, sink: &mut K) -
         Reply::NoLeg(leg) => write_refused(&mut line, &net.leg_at(leg).name),
         Reply::Cancelled { number, refund } => write_cancelled(&mut line, number, refund),
         Reply::Optimised { num, den } => write_optimised(&mut line, num, den),
+        Reply::Hindsight { num, den, revenue } => write_hindsight(&mut line, num, den, revenue),
     }
     put_all(sink, line.bytes())
 }

@@ -53,11 +53,11 @@ fn lines_are_answered_by_hand(rt: HostRuntime) {
         session(
             rt.alloc(),
             Mode::FirstCome,
-            b"book THRU 2\ncancel 1\ncancel 1\nbook LOC 1\nleg AB\nplan\nreoptimise 2\nreoptimise 3\nhindsight\n",
+            b"book THRU 2\ncancel 1\ncancel 1\nbook LOC 1\nleg AB\nplan\nreoptimise 2\nreoptimise 3\nhindsight\nhind\n",
             &[],
         ),
         WholeEnd::Done,
-        b"ok 1\ncancelled 1 1000\nunknown\nok 2\nleg AB seats 3 sold 1 left 2\non AB LOC 1\nfirst\noptimised none\nunknown\nbad\n",
+        b"ok 1\ncancelled 1 1000\nunknown\nok 2\nleg AB seats 3 sold 1 left 2\non AB LOC 1\nfirst\noptimised none\nunknown\nhindsight 1200/1 revenue 200\nbad\n",
     );
 }
 
@@ -124,6 +124,14 @@ fn each_line_goes_out_in_one_put(rt: HostRuntime) {
         2,
         b"reoptimise 1\nplan\n",
         b"optimised none\n",
+    );
+    assert_cut(
+        &rt,
+        alloc,
+        first,
+        2,
+        b"hindsight\nhindsight\n",
+        b"hindsight 0/1 revenue 0\n",
     );
 }
 

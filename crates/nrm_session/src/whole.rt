@@ -1,6 +1,8 @@
 //! A session over a stream that was read whole.
 ghost use Rattle.std.specs.Prelude.{◌≡◌, ◌≤◌, ◌^◌, length};
-ghost use Rattle.nrm_control.specs.Standing.{IsControl};
+ghost use Rattle.nrm_control.specs.State.{SeatState};
+ghost use Rattle.nrm_control.specs.Standing.{IsControl, StandsFor};
+ghost use Rattle.nrm_session.specs.Hindsight.{BoundsFrom};
 ghost use Rattle.nrm_session.specs.Serving.{ServesWhole};
 ghost use Rattle.nrm_session.specs.declared.whole.WholeEnd.TheVariants as end;
 
@@ -21,7 +23,7 @@ pub enum WholeEnd {
 }
 
 /// Answers each line of a stream, in order, one line of reply a put; the texts of a leg and of a plan take one put a line. It
-/// takes memory for `reoptimise` lines alone.
+/// takes memory for lines of `reoptimise` and `hindsight` alone.
 pub fn serve_whole<K: Sink>(
     alloc: Global,
     controller: &mut Controller,
@@ -33,6 +35,7 @@ pub fn serve_whole<K: Sink>(
     ensures serves { ServesWhole controller.old controller.new stream.now (K.held sink.old) (K.held sink.new) (K.faults sink.old) (K.faults sink.new) result }
     ensures done { result ≡ end.Done → K.faults sink.new ≡ K.faults sink.old }
     ensures later { K.faults sink.old ≤ K.faults sink.new }
+    ensures hindsight { (s : SeatState) → StandsFor controller.old s → BoundsFrom controller.old.net s }
     ensures kept { IsControl controller.new }
 {
     // For its clause alone: this is a controller of a network within the limits.

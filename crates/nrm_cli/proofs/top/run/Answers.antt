@@ -1,4 +1,5 @@
 use Rattle.nrm_session.proofs.Determined.{determined, states-determined}
+use Rattle.nrm_session.proofs.Hindsights.{openings-bounded}
 use Rattle.nrm_session.proofs.InForce.{plans-kept}
 use Rattle.nrm_session.proofs.Runs.{runs}
 use Rattle.nrm_session.proofs.Seats.{kept}
@@ -13,6 +14,9 @@ returns-clause-seats g c = kept
 
 pub returns-clause-optimal : goal.returns-clause-optimal
 returns-clause-optimal g c = plans-kept
+
+pub returns-clause-hindsight : goal.returns-clause-hindsight
+returns-clause-hindsight g c = openings-bounded
 
 pub returns-clause-requests : goal.returns-clause-requests
 returns-clause-requests g c = requests-answered

@@ -1,6 +1,7 @@
 use Rattle.std.proofs.Common.{◌∷◌, ◌∙◌, ap, sym}
 use Rattle.nrm_stream.specs.Commands.{commands_of}
 use Rattle.nrm_session.specs.Answering.{reply_in}
+use Rattle.nrm_session.proofs.Hindsights.{control-bounds}
 use Rattle.nrm_session.proofs.SoFar.{nothing-so-far, commands-first, more-so-far, cut-so-far, rose-since}
 use Rattle.nrm_session.proofs.whole.serve_whole.Goals as goal
 
@@ -29,3 +30,9 @@ returns-in-Err-clause-serves g c =
     (faults c.args.sink.now) (faults l.sink) (faults c.put_reply.new.sink) c.command_of.result reply l.invariant
     (commands-first l.rest.now c.in-Some.line.now c.in-Some.after.now c.in-Some.ensures.0 ∙ ap (λ d. d ∷ commands_of c.in-Some.after.now) (sym c.command_of.ensures.command)) c.in-Some.ensures.1 carried.ensures.step c.in-Err.ensures.cut in
     (rose-since (faults c.args.sink.now) (faults l.sink) (faults c.put_reply.new.sink) l.invariant.count c.in-Err.ensures.cause.failed, output, written, refines)
+
+pub returns-in-Err-clause-hindsight : goal.returns-in-Err-clause-hindsight
+returns-in-Err-clause-hindsight g c = control-bounds c.args.controller.now c.network.ensures.kept
+
+pub returns-clause-hindsight : goal.returns-clause-hindsight
+returns-clause-hindsight g c = control-bounds c.args.controller.now c.network.ensures.kept

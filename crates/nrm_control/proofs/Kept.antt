@@ -1,0 +1,79 @@
+-- What a controller keeps through its calls.
+use Rattle.std.proofs.Common.{ℕ, ◌≡◌, ◌∙◌, ◌<◌, ◌≤◌, List, [], length, sym, ap, subst, arith}
+use Rattle.std.proofs.lemmas.List.{length-map}
+use Rattle.nrm_model.specs.declared.leg.Leg.{Leg}
+use Rattle.nrm_model.specs.Inventory.{Inventory, inventory_of, seats_of}
+use Rattle.nrm_model.specs.Limits.{IsNetwork}
+use Rattle.nrm_model.specs.Network.{NetworkValue}
+use Rattle.nrm_book.specs.declared.booking.Booking.{Booking}
+use Rattle.nrm_book.specs.Book.{BookValue, IsBook, with_booking}
+use Rattle.nrm_book.specs.Bookings.{sold_on, without}
+use Rattle.nrm_hindsight.specs.Requests.{tallies_of}
+use Rattle.nrm_plan.specs.Plans.{IsPlanOf, PlanValue}
+use Rattle.nrm_control.specs.Standing.{AreTalliesBeside, IsControl, IsInForce, with_request}
+use Rattle.nrm_control.proofs.Tallies.{beside-cancellation, beside-nothing, beside-refusal, beside-sale}
+
+-- what callers see of it
+pub control-of : (net : NetworkValue) (plan : PlanValue) (book : BookValue) (tallies : List ℕ) → IsInForce net plan book tallies → IsControl (record { net = net; plan = plan; bookings = book.bookings; next = book.next; tallies = tallies })
+control-of net plan book tallies is = record {
+  network = is.network;
+  book = subst IsBook (λ k. record { inventory = is.inventory k; bookings = book.bookings; next = book.next }) is.kept;
+  planned = is.planned;
+  tallied = is.tallied;
+}
+
+-- before anything is sold or asked
+pub kept-begun : (net : NetworkValue) (plan : PlanValue) (book : BookValue) (tallies : List ℕ) → IsNetwork net → IsPlanOf net plan → book ≡ record { inventory = inventory_of net; bookings = []; next = 1 } → IsBook book → tallies ≡ tallies_of net []
+    → IsInForce net plan book tallies
+kept-begun net plan book tallies is planned empty kept none = record {
+  network = is;
+  planned = planned;
+  inventory = ap (λ (b : BookValue). b.inventory) empty;
+  kept = kept;
+  tallied =
+      subst (λ (bookings : List Booking). AreTalliesBeside net bookings tallies) (sym (ap (λ (b : BookValue). b.bookings) empty))
+      (subst (λ (tallies : List ℕ). AreTalliesBeside net [] tallies) (sym none) (beside-nothing net));
+}
+
+-- no leg of the network has more seats sold than it has
+pub fits-of : (net : NetworkValue) (book : BookValue) → book.inventory ≡ inventory_of net → IsBook book → (i : ℕ) → i < length net.legs → sold_on (inventory_of net) book.bookings i ≤ seats_of (inventory_of net) i
+fits-of net book is kept i few =
+    let count : length book.inventory.seats ≡ length net.legs = ap (λ (v : Inventory). length v.seats) is ∙ length-map net.legs (λ (leg : Leg). leg.seats) in
+    subst (λ (v : Inventory). sold_on v book.bookings i ≤ seats_of v i) is (kept.seats i (omega (arith, few, count)))
+
+module _ (net : NetworkValue) (plan : PlanValue) (book : BookValue) (tallies : List ℕ) (is : IsInForce net plan book tallies) where
+  -- after a refusal
+  pub kept-refused : (j party : ℕ) → j < length net.products → IsInForce net plan book (with_request net tallies j party)
+  kept-refused j party short = record {
+    network = is.network;
+    planned = is.planned;
+    inventory = is.inventory;
+    kept = is.kept;
+    tallied = beside-refusal net book.bookings tallies j party short is.tallied;
+  }
+
+  -- after a sale
+  pub kept-sold : (new : BookValue) (j party : ℕ) → j < length net.products → new ≡ with_booking book j party → IsBook new → IsInForce net plan new (with_request net tallies j party)
+  kept-sold new j party short added kept =
+      let inventory = ap (λ (b : BookValue). b.inventory) added ∙ is.inventory in
+      let booked = ap (λ (b : BookValue). b.bookings) added in
+      record {
+        network = is.network;
+        planned = is.planned;
+        inventory = inventory;
+        kept = kept;
+        tallied =
+            subst (λ (bookings : List Booking). AreTalliesBeside net bookings (with_request net tallies j party)) (sym booked)
+            (beside-sale net book.bookings tallies book.next j party is.network short
+            (λ i few. subst (λ (bookings : List Booking). sold_on (inventory_of net) bookings i ≤ seats_of (inventory_of net) i) booked (fits-of net new inventory kept i few)) is.tallied);
+      }
+
+  -- after a cancellation
+  pub kept-cancelled : (new : BookValue) (number : ℕ) → new ≡ record book { bookings = without book.bookings number } → IsBook new → IsInForce net plan new tallies
+  kept-cancelled new number removed kept = record {
+    network = is.network;
+    planned = is.planned;
+    inventory = ap (λ (b : BookValue). b.inventory) removed ∙ is.inventory;
+    kept = kept;
+    tallied = subst (λ (bookings : List Booking). AreTalliesBeside net bookings tallies) (sym (ap (λ (b : BookValue). b.bookings) removed)) (beside-cancellation net book.bookings tallies number is.tallied);
+  }
