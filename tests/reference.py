@@ -117,6 +117,9 @@ class Network:
         self.products = {}  # name: (fare, leg names), in file order
         self.demand = {}  # (product, history): demand by period
 
+    def seats(self):
+        return {leg: seats for leg, (seats, _) in self.legs.items()}
+
     def allowed_fields(self, kind):
         return {b"periods": [3], b"leg": range(3, 13), b"product": range(4, 8), b"demand": [3 + self.periods]}[kind]
 
@@ -234,16 +237,20 @@ def without_return(line):
 
 
 class Program:
-    """Over all histories together: the seats left of each leg, and the fare, the legs and the demand to come of each product."""
+    """The seats of each leg, and the fare, the legs and the demand of each product."""
 
-    def __init__(self, network, left=None, period=1):
-        if left is None:
-            left = {leg: seats for leg, (seats, _) in network.legs.items()}
-        self.legs = {leg: network.histories * left[leg] for leg in network.legs}
+    def __init__(self, network, legs, demand):
+        self.legs, self.demand = legs, demand
         self.fares = {product: fare for product, (fare, _) in network.products.items()}
         self.uses = {product: legs for product, (_, legs) in network.products.items()}
-        self.demand = {product: sum(sum(network.demand.get((product, history + 1), [])[period - 1:])
-                                    for history in range(network.histories)) for product in network.products}
+
+    @staticmethod
+    def to_come(network, left=None, period=1):
+        """Over all histories together, with the demand to come."""
+        left = left or network.seats()
+        return Program(network, {leg: network.histories * left[leg] for leg in network.legs},
+                       {product: sum(sum(network.demand.get((product, history + 1), [])[period - 1:])
+                                     for history in range(network.histories)) for product in network.products})
 
     def sold(self, x, leg):
         return sum(x[product] for product in x if leg in self.uses[product])
@@ -496,7 +503,7 @@ class Nests:
 
 
 class Session:
-    """The surviving bookings, the number of the next one, and the plan in force.
+    """The surviving bookings, the number of the next one, the seats asked for, and the plan in force.
 
     The plan is, under `bid`, a certificate, and under `davn` a certificate and the nests of its prices.
     """
@@ -506,13 +513,14 @@ class Session:
         self.certificate = self.nests = None
         self.book = []  # (number, product, party), in the order in which they were made
         self.next = 1
+        self.asked = {product: 0 for product in network.products}  # the seats that were asked for, sold or not
         if mode != "first":
             self.optimise(1)
 
     def optimise(self, period):
         """Makes a plan of the seats left; where it is too large, the one in force stays."""
         left = {leg: self.left(leg) for leg in self.network.legs}
-        self.certificate = solved(Program(self.network, left, period))
+        self.certificate = solved(Program.to_come(self.network, left, period))
         if self.mode == "davn":
             self.nests = Nests(self.network, self.certificate.p, period)
 
@@ -527,6 +535,7 @@ class Session:
     def request(self, product, party):
         if product not in self.network.products:
             return b"unknown\n"
+        self.asked[product] += party
         for leg in self.network.products[product][1]:
             if self.left(leg) < party + (self.nests.protected(leg, product) if self.mode == "davn" else 0):
                 return b"no %s\n" % leg
@@ -558,6 +567,18 @@ class Session:
             return b"overflow\n"
         return b"optimised %s\n" % fraction(self.certificate.value / self.network.histories)
 
+    def hindsight(self):
+        """The most that the requests so far could have earned, were parts of seats sold, and what is earned."""
+        seats = self.network.seats()
+        tallies = {product: min([asked] + [seats[leg] for leg in self.network.products[product][1]])
+                   for product, asked in self.asked.items()}
+        try:
+            value = solved(Program(self.network, seats, tallies)).value
+        except Ended:
+            return b"overflow\n"
+        revenue = sum(party * self.network.products[product][0] for _, product, party in self.book)
+        return b"hindsight %s revenue %d\n" % (fraction(value), revenue)
+
     def plan(self):
         if self.mode == "first":
             return b"first\n"
@@ -584,6 +605,8 @@ class Session:
             return self.reoptimise(numbers[1])
         if words == [b"plan"]:
             return self.plan()
+        if words == [b"hindsight"]:
+            return self.hindsight()
         if len(words) == 2 and words[0] == b"leg" and NAME.fullmatch(words[1]):
             return self.report(words[1])
         return b"bad\n"
@@ -636,8 +659,8 @@ def made_line(session, draw):
         return b"leg %s" % draw.choice(products + [b"NONE"])
     if kind < 92:
         return b"reoptimise %d" % draw.choice([draw.randint(1, session.network.periods), draw.randint(1, 99)])
-    if draw.randrange(20) == 0:
-        return b"plan"
+    if draw.randrange(10) == 0:
+        return draw.choice([b"plan", b"hindsight"])
     line = draw.choice(BAD)
     return line % draw.choice(products) if b"%s" in line else line
 
@@ -666,7 +689,7 @@ def told(words):
         case ["check", path, certificate]:
             network = network_in(path)
             certificate = certificate_of(network, bytes_of(certificate, "refused certificate no file"))
-            text = verdict(Program(network), certificate)
+            text = verdict(Program.to_come(network), certificate)
             return text, 0 if text == b"optimal\n" else 1
         case ["print", path]:
             return canonical(network_in(path)), 0
