@@ -12,7 +12,7 @@ use Rattle.nrm_lp.proofs.Duality.{weak_duality}
 use Rattle.nrm_simplex.specs.Solving.{IsClosing}
 use Rattle.nrm_simplex.proofs.Walk.{closing_certifies}
 use Rattle.nrm_dlp.specs.Hindsight.{BoundsAllocations}
-use Rattle.nrm_dlp.specs.Laws.{HindsightBounds}
+use Rattle.nrm_dlp.specs.Laws.{HindsightsBoundAllocations}
 use Rattle.nrm_dlp.specs.Programs.{hindsight_program}
 use Rattle.nrm_dlp.proofs.Hindsights.{hindsight-limited}
 
@@ -44,5 +44,5 @@ closing-bounds a made value limits closes is q x allocates =
     bounded value.num value.den v d (gain a x) q worth.divides worth.worth below
 
 -- and so does the value of hindsight those of its program
-pub hindsight-bounds : HindsightBounds
+pub hindsight-bounds : HindsightsBoundAllocations
 hindsight-bounds net tallies value is are found = closing-bounds (hindsight_program net tallies) found.certificate value (hindsight-limited net tallies is are) found.closing found.value_is

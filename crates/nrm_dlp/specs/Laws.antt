@@ -27,8 +27,8 @@ abbrev pub HindsightsAreLimited : Type 0
 HindsightsAreLimited = (net : NetworkValue) (tallies : List ℕ) → IsNetwork net → AreTallies net tallies → IsLimited (hindsight_program net tallies)
 
 -- no allocation of the program of hindsight gains more than its value, as fractions
-abbrev pub HindsightBounds : Type 0
-HindsightBounds = (net : NetworkValue) (tallies : List ℕ) (value : Fraction) → IsNetwork net → AreTallies net tallies → IsHindsight net tallies value
+abbrev pub HindsightsBoundAllocations : Type 0
+HindsightsBoundAllocations = (net : NetworkValue) (tallies : List ℕ) (value : Fraction) → IsNetwork net → AreTallies net tallies → IsHindsight net tallies value
     → BoundsAllocations (hindsight_program net tallies) value
 
 -- tallies have a value of hindsight, or its program is Large

@@ -1,9 +1,9 @@
 //! Laws over the definitions. Each is the contract of a function that does nothing.
 ghost use Rattle.nrm_dlp.specs.Laws.{
   EachHasAHindsight,
-  HindsightBounds,
   HindsightsAreDetermined,
   HindsightsAreLimited,
+  HindsightsBoundAllocations,
   OpeningsAreLimited,
   ProgramsAreLimited,
   SeatsLeftAreLimited,
@@ -19,8 +19,8 @@ pub fn programs_are_limited()
 {}
 
 /// No allocation of the program of hindsight gains more than the value of hindsight.
-pub fn hindsight_bounds()
-    ensures { HindsightBounds }
+pub fn hindsights_bound_allocations()
+    ensures { HindsightsBoundAllocations }
 {}
 
 /// Each list of tallies has a value of hindsight, or its program is Large.

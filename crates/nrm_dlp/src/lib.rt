@@ -10,7 +10,8 @@ mod programs;
 mod tests;
 
 pub use laws::{
-    each_has_a_hindsight, hindsight_bounds, hindsights_are_determined, programs_are_limited,
+    each_has_a_hindsight, hindsights_are_determined, hindsights_bound_allocations,
+    programs_are_limited,
 };
 pub use optimised::{hindsight, mean_value, prices};
 pub use programs::{hindsight_program, opening_program, program_at, program_of};
