@@ -83,10 +83,18 @@ pub fn hindsight_program(
     requires { AreTallies net.now tallies.now }
     ensures { IfOk result (λ program. program ≡ hindsight_program net.now tallies.now) }
 {
-    let seats = full_seats(alloc, net)?;
-    let caps = widened(alloc, &seats)?;
+    let caps = caps_once(alloc, net)?;
     let bounds = widened(alloc, tallies)?;
     program_of(alloc, net, caps, bounds)
+}
+
+// The seats of each leg, once and not for each history.
+fn caps_once(alloc: Global, net: &Network) -> Result<Vec<u32>, AllocError>
+    ensures caps { IfOk result (λ caps. caps.items ≡ (inventory_of net.now).seats) }
+    ensures limits { IsNetwork net.now }
+{
+    let seats = full_seats(alloc, net)?;
+    widened(alloc, &seats)
 }
 
 // These numbers, as caps or bounds.
