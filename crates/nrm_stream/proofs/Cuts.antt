@@ -5,7 +5,7 @@ use Rattle.std.proofs.lemmas.Bool.{cases_Bool, ltb-true, ltb-false}
 use Rattle.std.proofs.lemmas.List.{length-take, get_or-take, take_rest}
 use Rattle.std.proofs.lemmas.List.Splits.{slice_split_none, slice_split_at}
 use Rattle.std.proofs.lemmas.List.Sums.{split_at_first, fails_before_first, passes_at_first}
-use Rattle.nrm_stream.specs.Lines.{parts_of, all_but_last, last_part, lines_of, as_line}
+use Rattle.nrm_stream.specs.Lines.{parts_of, all_but_last, last_part, whole_lines, unfinished_line, lines_of, as_line}
 
 -- a place that was found is the first, and within
 found : (p : ℕ → Bool) (xs : List ℕ) (i : ℕ) → position p xs ≡ Some i → (position_or_len p xs ≡ i) × (i < length xs)
@@ -26,15 +26,20 @@ missing p xs is = by (nat_lt (position_or_len p xs) (length xs)) refl
     by true e = let some : Some (position_or_len p xs) ≡ None = rw e at is in cc
     by false e = ltb-false (position_or_len p xs) (length xs) e
 
+-- no byte before the first that passes is one
+pub fails-front : (p : ℕ → Bool) (xs : List ℕ) → All (λ c. p c ≡ false) (take (position_or_len p xs) xs)
+fails-front p xs = λ k d short.
+    let at : ℕ = position_or_len p xs in
+    let within : k < at = omega (arith, length-take at xs) in
+    rw (get_or-take at xs k d within) (fails_before_first p xs k d within)
+
 -- the first part ends at the place that was found
 pub split-found : (p : ℕ → Bool) (xs : List ℕ) (i : ℕ) → position p xs ≡ Some i
     → (slice_split p xs ≡ take i xs ∷ slice_split p (take (length xs - (i + 1)) (drop (i + 1) xs))) × (length (take (length xs - (i + 1)) (drop (i + 1) xs)) < length xs)
 split-found p xs i is =
     let (place, within) = found p xs i is in
     let short : position_or_len p xs < length xs = omega arith in
-    let front : All (λ c. p c ≡ false) (take (position_or_len p xs) xs) =
-    λ k d few. let below : k < position_or_len p xs = omega (arith, length-take (position_or_len p xs) xs) in rw (get_or-take (position_or_len p xs) xs k d below) (fails_before_first p xs k d below) in
-    let cut = ap (slice_split p) (split_at_first p xs 0 short) ∙ slice_split_at p (take (position_or_len p xs) xs) (get_or xs (position_or_len p xs) 0) (drop (position_or_len p xs + 1) xs) front (passes_at_first p xs 0 short) in
+    let cut = ap (slice_split p) (split_at_first p xs 0 short) ∙ slice_split_at p (take (position_or_len p xs) xs) (get_or xs (position_or_len p xs) 0) (drop (position_or_len p xs + 1) xs) (fails-front p xs) (passes_at_first p xs 0 short) in
     let rest = take_rest xs (i + 1) in
     (rw rest (cut ∙ ap (λ n. take n xs ∷ slice_split p (drop (n + 1) xs)) place), rw rest (omega (arith, length-drop (i + 1) xs)))
 
@@ -54,14 +59,21 @@ some-parts p (x ∷ xs) =
       | inr e ↦ rw e (some-onto_first x (slice_split p xs))
     ]
 
--- a part before others is a line before theirs
-before-others : (first : List ℕ) (parts : List (List ℕ)) → 1 ≤ length parts
-    → all_but_last (first ∷ parts) ++ as_line (last_part (first ∷ parts)) ≡ first ∷ (all_but_last parts ++ as_line (last_part parts))
+-- a part before others
+pub before-others : (first : List ℕ) (parts : List (List ℕ)) → 1 ≤ length parts → (all_but_last (first ∷ parts) ≡ first ∷ all_but_last parts) × (last_part (first ∷ parts) ≡ last_part parts)
 before-others first [] some = absurd (omega arith)
-before-others first (part ∷ more) some = refl
+before-others first (part ∷ more) some = (refl, refl)
+
+-- a part before those of the rest is a whole line before theirs
+pub ended-lines : (bytes line rest : List ℕ) → parts_of bytes ≡ line ∷ parts_of rest → (whole_lines bytes ≡ line ∷ whole_lines rest) × (unfinished_line bytes ≡ unfinished_line rest)
+ended-lines bytes line rest cut =
+    let (front, last) = before-others line (parts_of rest) (some-parts (λ c. c == 10) rest) in
+    (ap (λ (p : List (List ℕ)). all_but_last p) cut ∙ front, ap (λ (p : List (List ℕ)). last_part p) cut ∙ last)
 
 pub line-first : (bytes line rest : List ℕ) → parts_of bytes ≡ line ∷ parts_of rest → lines_of bytes ≡ line ∷ lines_of rest
-line-first bytes line rest cut = ap (λ parts. all_but_last parts ++ as_line (last_part parts)) cut ∙ before-others line (parts_of rest) (some-parts (λ c. c == 10) rest)
+line-first bytes line rest cut =
+    let (whole, last) = ended-lines bytes line rest cut in
+    ap (λ (w : List (List ℕ)). w ++ as_line (unfinished_line bytes)) whole ∙ ap (λ (l : List ℕ). line ∷ (whole_lines rest ++ as_line l)) last
 
 pub line-last : (bytes : List ℕ) → parts_of bytes ≡ bytes ∷ [] → 0 < length bytes → lines_of bytes ≡ bytes ∷ []
 line-last [] cut some = absurd (omega arith)

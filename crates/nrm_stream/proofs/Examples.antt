@@ -1,7 +1,8 @@
 -- Lines, and what they ask for.
-use Rattle.std.proofs.Common.{◌≡◌, [], ◌∷◌, codes, refl, replicate, arith}
+use Rattle.std.proofs.Common.{◌≡◌, [], ◌∷◌, codes, refl, replicate, length, arith, Some, None}
 use Rattle.nrm_stream.specs.Lines.{lines_of, whole_lines}
-use Rattle.nrm_stream.specs.Commands.{command_of, commands_of, IsCommand}
+use Rattle.nrm_stream.specs.Commands.{command_of, commands_of, whole_commands, IsCommand}
+use Rattle.nrm_stream.specs.Splitting.{Feeds, finished, kept_of}
 use Rattle.nrm_stream.specs.declared.command.Command.TheVariants as command
 
 longest_name : command_of (codes "book ABCDEFGHIJKL 999") ≡ command.Book (codes "ABCDEFGHIJKL") 999
@@ -91,3 +92,43 @@ ended = refl
 
 asked : commands_of (codes "book THRU 2\nbook X 1") ≡ command.Book (codes "THRU") 2 ∷ command.Book (codes "X") 1 ∷ []
 asked = refl
+
+asked_by_whole_lines : whole_commands (codes "plan\nbook X 1") ≡ command.Plan ∷ []
+asked_by_whole_lines = refl
+
+-- a line in two pieces
+first_piece : Feeds [] (codes "book AB") (7, None) (kept_of (codes "book AB"))
+first_piece = (refl, refl)
+
+second_piece : Feeds (codes "book AB") (codes "L 1\nplan") (4, Some (command.Book (codes "ABL") 1)) (kept_of [])
+second_piece = (refl, refl)
+
+-- a carriage return at the end of a piece, and its line feed in the next
+return_at_a_cut : Feeds (codes "pl") (codes "an\r") (3, None) (kept_of (codes "plan\r"))
+return_at_a_cut = (refl, refl)
+
+feed_after_the_cut : Feeds (codes "plan\r") (codes "\nplan") (1, Some command.Plan) (kept_of [])
+feed_after_the_cut = (refl, refl)
+
+-- the longest good line, and one that is longer by a byte
+longest_line : kept_of (codes "book ABCDEFGHIJKL 999\r") ≡ Some (codes "book ABCDEFGHIJKL 999\r")
+longest_line = refl
+
+longest_length : length (codes "book ABCDEFGHIJKL 999\r") ≡ 22
+longest_length = refl
+
+longest_asked : command_of (codes "book ABCDEFGHIJKL 999\r") ≡ command.Book (codes "ABCDEFGHIJKL") 999
+longest_asked = refl
+
+longer_line : kept_of (replicate 23 120) ≡ None
+longer_line = refl
+
+-- the end of the stream
+nothing_left : finished [] ≡ None
+nothing_left = refl
+
+one_byte_left : finished (codes "x") ≡ Some command.Bad
+one_byte_left = refl
+
+left_without_a_line_feed : finished (codes "leg AB") ≡ Some (command.Leg (codes "AB"))
+left_without_a_line_feed = refl

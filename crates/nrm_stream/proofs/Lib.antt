@@ -1,3 +1,7 @@
+pub mod Calls
 pub mod Cuts
 pub mod Examples
+pub mod JoinedLines
+pub mod LongLines
+pub mod Pieces
 pub mod Words

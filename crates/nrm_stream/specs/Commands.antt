@@ -6,7 +6,7 @@ use Rattle.std.specs.List.{slice_split}
 use Rattle.std.specs.Str.Lines.{strip_carriage_return}
 use Rattle.nrm_text.specs.Names.{name_in}
 use Rattle.nrm_text.specs.Numbers.{whole_between}
-use Rattle.nrm_stream.specs.Lines.{lines_of}
+use Rattle.nrm_stream.specs.Lines.{lines_of, whole_lines}
 use Rattle.nrm_stream.specs.declared.command.Command.{Command}
 use Rattle.nrm_stream.specs.declared.command.Command.TheVariants as command
 
@@ -55,6 +55,10 @@ IsCommand (command.Leg name) = ⊤
 IsCommand command.Hindsight = ⊤
 IsCommand command.Plan = ⊤
 IsCommand command.Bad = ⊤
+
+-- the commands of the whole lines of the bytes
+abbrev pub whole_commands : List ℕ → List Command
+whole_commands bytes = map command_of (whole_lines bytes)
 
 -- the commands of a stream
 abbrev pub commands_of : List ℕ → List Command

@@ -1,2 +1,4 @@
 pub mod Commands
+pub mod Cuts
 pub mod Lines
+pub mod Splitting
