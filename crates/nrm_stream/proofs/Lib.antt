@@ -2,6 +2,7 @@ pub mod Calls
 pub mod Cuts
 pub mod Examples
 pub mod JoinedLines
+pub mod Kept
 pub mod LongLines
 pub mod Pieces
 pub mod Words

@@ -3,7 +3,7 @@ ghost use Rattle.std.specs.Prelude.{◌≡◌, ◌==◌, ◌<◌, ◌∷◌, [],
 ghost use Rattle.std.specs.List.{slice_split};
 
 // The place of the first such byte.
-fn first_at(bytes: &[u8], wanted: u8) -> Option<usize>
+pub(crate) fn first_at(bytes: &[u8], wanted: u8) -> Option<usize>
     ensures { result ≡ position (λ c. c == wanted) bytes.now }
 {
     bytes.iter().position(|c| *c == wanted)
