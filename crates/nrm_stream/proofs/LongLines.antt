@@ -165,7 +165,7 @@ command_of-long line long =
 kept-long : (u : List ℕ) → nat_le (length u) 22 ≡ false → 22 < length u
 kept-long u h = grind arith
 
--- so a line of which only its length is kept is bad
+-- so a line is bad of which only that it is longer is kept
 pub command_of-longer : (line : List ℕ) → kept_of line ≡ None → command_of line ≡ command.Bad
 command_of-longer line longer =
     elim (cases_Bool (nat_le (length line) 22)) [
