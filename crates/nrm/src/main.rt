@@ -20,17 +20,13 @@ fn words_given(rt: &HostRuntime) -> io::Result<Vec<String>> {
     }
 }
 
-// The program, around its words: what it wrote is sent on before it ends.
+// The program, around its words.
 fn status_of(rt: &HostRuntime) -> io::Result<Status> {
     let words = words_given(rt)?;
     let mut files = DirFiles::new(rt);
     let mut source = StdSource::new(rt.stdin());
     let mut sink = StdSink::new(BufWriter::with_capacity(rt.alloc(), GATHERED, io::writer(rt))?);
-    let status = run(rt.alloc(), &words, &mut files, &mut source, &mut sink);
-    match sink.flush() {
-        Ok(()) => Ok(status),
-        Err(_) => Ok(Status::WriteFault),
-    }
+    Ok(run(rt.alloc(), &words, &mut files, &mut source, &mut sink))
 }
 
 fn main(rt: HostRuntime) -> ExitCode {

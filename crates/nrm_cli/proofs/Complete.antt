@@ -45,14 +45,14 @@ folder-same : (x y : Folder) → Some x ≡ Some y → x ≡ y
 folder-same x y e = cc
 
 -- a run over the lines of a stream is there, so its output is
-some-run : (net : NetworkValue) (plan : PlanValue) (stream : List ℕ) → (output : List ℕ) × RunWrites net plan stream output
+some-run : (net : NetworkValue) (plan : PlanValue) (stream : List ℕ) → (output : List ℕ) × RunWrites net plan (commands_of stream) output
 some-run net plan stream =
     let (replies, last, run, suffices) = runs net (opening plan) (commands_of stream) in
     (output_of replies, (last, record { replies = replies; run = run; output = refl }))
 
 -- want of memory is one of the ends that a good job may have
 ran-complete : (job : Job) (net : NetworkValue) (before after : Outside) → RanOut (Some job) before after → CompletesJob job net before after status.NoMemory
-ran-complete (run_file m file) net before after kept = (
+ran-complete (run_file m file) net before after (kept, left) = (
   (λ n number large. inr (refl, kept)),
   (λ plan stream planned coming short. let (output, writes) = some-run net plan stream in (output, writes, inr (refl, kept))),
 )
@@ -185,15 +185,16 @@ module _ (asked : Option Job) (before after : Outside) (job : Job) (files : Fold
   complete-told s text (file_fault other is rose) wrote = absurd (no_file_fault rose)
 
   pub complete : (s : Status) → Ends asked before after s → CompletesJob job net before after s
-  complete status.Done (inl served) =
-      let st = served.starts in
+  complete status.Done (inl ran) =
+      let st = ran.starts in
+      let (few, ended, writes) = ran.writes_it in
       subst (Complete status.Done) (same-job (run_file st.mode st.file) st.opens.0) (
         planned-apart st.mode st.plan (started st) status.Done,
         (λ plan stream is coming short.
-            let all : served.stream ≡ stream = all-taken stream served.stream after.coming (rw coming at served.read.taken) served.read.ended in
-            let of_net = subst (λ (n : NetworkValue). RunWrites n st.plan served.stream served.output) (same-net (run_file st.mode st.file) st.net st.opens) served.writes_it in
-            let of_plan = subst (λ (p : PlanValue). RunWrites net p served.stream served.output) (opening-same st.mode plan st.plan is (started st)) of_net in
-            (served.output, subst (λ (t : List ℕ). RunWrites net plan t served.output) all of_plan, inl (refl, served.wrote))),
+            let all : ran.taken ≡ stream = all-taken stream ran.taken after.coming (rw coming at ran.took) ended in
+            let of_net = subst (λ (n : NetworkValue). RunWrites n st.plan (commands_of ran.taken) ran.output) (same-net (run_file st.mode st.file) st.net st.opens) writes in
+            let of_plan = subst (λ (p : PlanValue). RunWrites net p (commands_of ran.taken) ran.output) (opening-same st.mode plan st.plan is (started st)) of_net in
+            (ran.output, subst (λ (t : List ℕ). RunWrites net plan (commands_of t) ran.output) all of_plan, inl (refl, ran.wrote))),
       )
   complete status.Done (inr t) = complete-told status.Done t.text t.tells t.wrote
   complete status.Wrong t = complete-told status.Wrong t.text t.tells t.wrote
@@ -203,12 +204,13 @@ module _ (asked : Option Job) (before after : Outside) (job : Job) (files : Fold
   complete status.ReadFault ends = absurd (no_source_fault ends.0)
   complete status.WriteFault ends = absurd (no_sink_fault ends.0)
   complete status.NoMemory ends = ran-complete job net before after (rw asks at ends)
-  complete status.TooLong (taken, long, stopped) =
-      let st = stopped.starts in
+  complete status.TooLong ran =
+      let st = ran.starts in
+      let (long, writes) = ran.writes_it in
       subst (Complete status.TooLong) (same-job (run_file st.mode st.file) st.opens.0) (
         planned-apart st.mode st.plan (started st) status.TooLong,
         (λ plan stream is coming short.
-            let few = no-more stream taken after.coming (rw coming at stopped.took) in
+            let few = no-more stream ran.taken after.coming (rw coming at ran.took) in
             absurd (omega (arith, few, long, short))),
       )
   complete status.Overflow t = complete-told status.Overflow t.text t.tells t.wrote

@@ -9,6 +9,7 @@ use Rattle.nrm_network.specs.declared.fault.Why.TheVariants as why
 use Rattle.nrm_network.proofs.OnLiterals.{network_on_literals}
 use Rattle.nrm_plan.specs.Plans.{IsOpeningPlan, PlanValue}
 use Rattle.nrm_control.specs.State.{SeatState, opening, after_request, after_cancellation}
+use Rattle.nrm_stream.specs.Commands.{commands_of}
 use Rattle.nrm_session.specs.Replies.{bad, unknown, sold, no_leg, cancelled, leg_told, plan_told}
 use Rattle.nrm_dual.specs.Refusals.{too_long, bad_line, large_line, no_value, no_product, no_leg, too_fine}
 use Rattle.nrm_dual.specs.declared.verdict.Verdict.TheVariants as verdict
@@ -69,7 +70,7 @@ after_three_seats = after_request two_legs after_refusal 1 1
 abbrev after_requests : SeatState
 after_requests = after_request two_legs after_three_seats 1 1
 
-answered : RunWrites two_legs first requests (codes "ok 1\nno BC\nok 2\nno AB\nunknown\n")
+answered : RunWrites two_legs first (commands_of requests) (codes "ok 1\nno BC\nok 2\nno AB\nunknown\n")
 unfolding digits
 answered = (
   after_requests,
@@ -90,7 +91,7 @@ after_cancel = after_cancellation after_two_seats 1
 abbrev after_mixed : SeatState
 after_mixed = after_request two_legs after_cancel 1 1
 
-answered_mixed : RunWrites two_legs first mixed (codes "ok 1\ncancelled 1 1000\nunknown\nleg AB seats 3 sold 0 left 3\nfirst\nbad\nbad\nok 2\n")
+answered_mixed : RunWrites two_legs first (commands_of mixed) (codes "ok 1\ncancelled 1 1000\nunknown\nleg AB seats 3 sold 0 left 3\nfirst\nbad\nbad\nok 2\n")
 unfolding digits
 answered_mixed = (
   after_mixed,
@@ -188,8 +189,8 @@ usage = refl
 words_of_a_check : job_of (codes "check" ∷ codes "F" ∷ codes "C" ∷ []) ≡ Some (check_file (codes "F") (codes "C"))
 words_of_a_check = refl
 
--- 16 MiB
-limit : stream_limit ≡ 16777216
+-- 4 GiB
+limit : stream_limit ≡ 4294967296
 limit = refl
 
 -- ---- a stream of 21 bytes is short enough, so its replies are written, or memory ran out
@@ -198,6 +199,6 @@ over coming held = record { files = Some (λ name. Some two_legs_file); coming =
 
 completed : (s : Status) (after : Outside) → Completes (Some (run_file mode.FirstCome (codes "F"))) (over (Some (codes "book LOC 1\nbook X 1\n")) (Some [])) after s
     → (FilesFailed (over (Some (codes "book LOC 1\nbook X 1\n")) (Some [])) after → ⊥) → (SourceFailed (over (Some (codes "book LOC 1\nbook X 1\n")) (Some [])) after → ⊥) → (SinkFailed (over (Some (codes "book LOC 1\nbook X 1\n")) (Some [])) after → ⊥)
-    → (output : List ℕ) × RunWrites two_legs first (codes "book LOC 1\nbook X 1\n") output × OrRanOut (over (Some (codes "book LOC 1\nbook X 1\n")) (Some [])) after s status.Done output
+    → (output : List ℕ) × RunWrites two_legs first (commands_of (codes "book LOC 1\nbook X 1\n")) output × OrRanOut (over (Some (codes "book LOC 1\nbook X 1\n")) (Some [])) after s status.Done output
 completed s after completes files source sink =
     (completes (run_file mode.FirstCome (codes "F")) (λ name. Some two_legs_file) two_legs refl refl opened files source sink).1 first (codes "book LOC 1\nbook X 1\n") first_planned refl (omega arith)

@@ -10,7 +10,7 @@ use Rattle.nrm_control.specs.Standing.{IsStartFault}
 use Rattle.nrm_report.specs.Texts.{plan_text}
 use Rattle.nrm_opening.specs.Outside.{LeftStream, Outside}
 use Rattle.nrm_cli.specs.Ends.{Ends, Failures}
-use Rattle.nrm_cli.specs.Jobs.{Job, run_file, plan_file, check_file, print_file, mode_of_job, overflow_line, told_pivots}
+use Rattle.nrm_cli.specs.Jobs.{Job, plan_file, mode_of_job, overflow_line, told_pivots}
 use Rattle.nrm_cli.specs.Inner.Parts.{PutsLine, PutsPlan, PutsUnplanned}
 use Rattle.nrm_cli.specs.Tells.{Opens, overflow, planned}
 use Rattle.nrm_cli.specs.declared.status.Status.{Status}
@@ -24,17 +24,11 @@ start-fault net m fault.NoMemory is = tt
 
 module _ (job : Job) (m : Mode) (net : NetworkValue) (before after : Outside) (has : mode_of_job job ≡ Some m) (opens : Opens (Some job) job before net) (left : LeftStream before after) where
   -- ---- no plan
-  none-some : None ≡ Some m → ⊥
-  none-some e = cc
-
-  ran-out : (asked : Job) → mode_of_job asked ≡ Some m → (s : Status) → PutsUnplanned fault.NoMemory before.held after.held before.sink_faults after.sink_faults s → Ends (Some asked) before after s
-  ran-out (run_file mode file) is s (told, kept, same) = rw told kept
-  ran-out (plan_file mode file) is s (told, kept, same) = rw told (kept, left)
-  ran-out (check_file file certificate) is s puts = absurd (none-some is)
-  ran-out (print_file file) is s puts = absurd (none-some is)
+  ran-out : (s : Status) → PutsUnplanned fault.NoMemory before.held after.held before.sink_faults after.sink_faults s → Ends (Some job) before after s
+  ran-out s (told, kept, same) = rw told (kept, left)
 
   pub unplanned-ends : (why : SolveFault) (s : Status) → IsStartFault net m why → PutsUnplanned why before.held after.held before.sink_faults after.sink_faults s → Ends (Some job) before after s
-  unplanned-ends fault.NoMemory s is puts = ran-out job has s puts
+  unplanned-ends fault.NoMemory s is puts = ran-out s puts
   unplanned-ends (fault.Overflow pivots number) s (n, large, counted) puts =
       told-ends (Some job) before after status.Overflow s (overflow_line (told_pivots n) number) (overflow job m net n number has opens large)
       (subst (λ (k : ℕ). PutsLine (overflow_line k number) status.Overflow before.held after.held before.sink_faults after.sink_faults s) counted puts) left

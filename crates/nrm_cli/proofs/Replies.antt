@@ -5,13 +5,13 @@ use Rattle.nrm_hindsight.specs.Requests.{tallies_of}
 use Rattle.nrm_hindsight.specs.Selections.ChosenFrom.{none}
 use Rattle.nrm_control.specs.State.{opening}
 use Rattle.nrm_control.specs.Standing.{ControlValue, StandsFor}
-use Rattle.nrm_stream.specs.Commands.{commands_of}
+use Rattle.nrm_stream.specs.declared.command.Command.{Command}
 use Rattle.nrm_session.specs.Run.{Writes}
 use Rattle.nrm_session.specs.Serving.{Refines, RefinesCut, WritesCut}
 use Rattle.nrm_cli.specs.Ends.{RunWrites, RunWritesCut}
 
 -- a controller that has just begun stands for the opening with its plan
-module _ (start new : ControlValue) (net : NetworkValue) (stream output : List ℕ) (begun : start ≡ record { net = net; plan = start.plan; bookings = []; next = 1; tallies = tallies_of net [] }) where
+module _ (start new : ControlValue) (net : NetworkValue) (commands : List Command) (output : List ℕ) (begun : start ≡ record { net = net; plan = start.plan; bookings = []; next = 1; tallies = tallies_of net [] }) where
   opened : StandsFor start (opening start.plan)
   opened = record {
     plan = refl;
@@ -21,12 +21,12 @@ module _ (start new : ControlValue) (net : NetworkValue) (stream output : List �
     choice = none;
   }
 
-  pub run-writes : Refines start new (commands_of stream) output → RunWrites net start.plan stream output
+  pub run-writes : Refines start new commands output → RunWrites net start.plan commands output
   run-writes refines =
       let (last, stands, writes) = refines.run (opening start.plan) opened in
-      (last, subst (λ (n : NetworkValue). Writes n (opening start.plan) (commands_of stream) output last) (ap (λ (c : ControlValue). c.net) begun) writes)
+      (last, subst (λ (n : NetworkValue). Writes n (opening start.plan) commands output last) (ap (λ (c : ControlValue). c.net) begun) writes)
 
-  pub run-writes-cut : RefinesCut start new (commands_of stream) output → RunWritesCut net start.plan stream output
+  pub run-writes-cut : RefinesCut start new commands output → RunWritesCut net start.plan commands output
   run-writes-cut refines =
       let (last, stands, writes) = refines.run (opening start.plan) opened in
-      (last, subst (λ (n : NetworkValue). WritesCut n (opening start.plan) (commands_of stream) output last) (ap (λ (c : ControlValue). c.net) begun) writes)
+      (last, subst (λ (n : NetworkValue). WritesCut n (opening start.plan) commands output last) (ap (λ (c : ControlValue). c.net) begun) writes)

@@ -6,7 +6,7 @@ use Rattle.nrm_opening.specs.Refusals.{no_file, at_row, refusal_line, file_fault
 use Rattle.nrm_opening.specs.declared.opening.NoNetwork.{NoNetwork}
 use Rattle.nrm_opening.specs.declared.opening.NoNetwork.TheVariants as none
 use Rattle.nrm_cli.specs.Ends.{Ends, Failures}
-use Rattle.nrm_cli.specs.Jobs.{Job, run_file, plan_file, check_file, print_file, file_of_job}
+use Rattle.nrm_cli.specs.Jobs.{Job, file_of_job}
 use Rattle.nrm_cli.specs.Inner.Parts.{PutsReason}
 use Rattle.nrm_cli.specs.Tells.{refused, file_fault}
 use Rattle.nrm_cli.specs.declared.status.Status.{Status}
@@ -15,10 +15,7 @@ use Rattle.nrm_cli.proofs.Telling.{told-ends}
 
 -- nothing was written and the stream was left
 ran-out : (job : Job) (before after : Outside) (s : Status) → PutsReason none.NoMemory before.held after.held before.sink_faults after.sink_faults s → LeftStream before after → Ends (Some job) before after s
-ran-out (run_file mode file) before after s (told, kept, same) left = rw told kept
-ran-out (plan_file mode file) before after s (told, kept, same) left = rw told (kept, left)
-ran-out (check_file file certificate) before after s (told, kept, same) left = rw told (kept, left)
-ran-out (print_file file) before after s (told, kept, same) left = rw told (kept, left)
+ran-out job before after s (told, kept, same) left = rw told (kept, left)
 
 pub without-network : (job : Job) (before after : Outside) (reason : NoNetwork) (s : Status)
     → OpensFile before.files (file_of_job job) (Err reason) → CountsOpening before.file_faults after.file_faults (Err reason)

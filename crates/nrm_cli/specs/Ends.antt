@@ -1,12 +1,13 @@
 -- How the program ends: what each status says of the words, the files, the stream and what was written.
-use Rattle.std.specs.Prelude.{ℕ, ℤ, ◌≡◌, ◌<◌, ◌≤◌, ◌⊎◌, List, length, Option, Some, None, Ok}
+use Rattle.std.specs.Prelude.{ℕ, ℤ, ◌≡◌, ◌+◌, ◌≤◌, ◌⊎◌, List, length, take, Option, Some, None, Ok}
 use Rattle.std.specs.Io.KnownBytes.{Consumes, IsAtEnd}
 use Rattle.nrm_edge.specs.Fetch.{Folder}
 use Rattle.nrm_model.specs.declared.mode.Mode.{Mode}
 use Rattle.nrm_model.specs.Network.{NetworkValue}
 use Rattle.nrm_network.specs.Canonical.{canonical_file}
 use Rattle.nrm_control.specs.State.{SeatState, opening}
-use Rattle.nrm_stream.specs.Commands.{commands_of}
+use Rattle.nrm_stream.specs.Commands.{commands_of, whole_commands}
+use Rattle.nrm_stream.specs.declared.command.Command.{Command}
 use Rattle.nrm_session.specs.Run.{Writes}
 use Rattle.nrm_session.specs.Serving.{WritesCut}
 use Rattle.nrm_lp.specs.declared.certificate.Certificate.{Certificate}
@@ -26,24 +27,14 @@ use Rattle.nrm_cli.specs.declared.status.Status.TheVariants as status
 
 -- the most bytes of a stream
 abbrev pub stream_limit : ℕ
-stream_limit = 16777216
+stream_limit = 4294967296
 
--- these bytes of the stream were taken
-abbrev pub Took : Outside → Outside → List ℕ → Type 0
-Took before after stream = Consumes before.coming after.coming stream
+-- the output of a run from the opening with a plan, over commands, and of a run that was cut in a reply
+abbrev pub RunWrites : NetworkValue → PlanValue → List Command → List ℕ → Type 0
+RunWrites net plan commands output = (last : SeatState) × Writes net (opening plan) commands output last
 
--- the stream was read to its end: these are its bytes, no more than may be read
-pub record ReadToEnd (before after : Outside) (stream : List ℕ) : Type 0 where
-  pub taken : Took before after stream
-  pub ended : IsAtEnd after.coming
-  pub short : length stream ≤ stream_limit
-
--- the output of a run from the opening with a plan, over the commands of the stream's lines, and of a run that was cut in a reply
-abbrev pub RunWrites : NetworkValue → PlanValue → List ℕ → List ℕ → Type 0
-RunWrites net plan stream output = (last : SeatState) × Writes net (opening plan) (commands_of stream) output last
-
-abbrev pub RunWritesCut : NetworkValue → PlanValue → List ℕ → List ℕ → Type 0
-RunWritesCut net plan stream output = (last : SeatState) × WritesCut net (opening plan) (commands_of stream) output last
+abbrev pub RunWritesCut : NetworkValue → PlanValue → List Command → List ℕ → Type 0
+RunWritesCut net plan commands output = (last : SeatState) × WritesCut net (opening plan) commands output last
 
 -- the words ask for a run in a mode, the file gives a network, and this is its opening plan
 pub record Starts (asked : Option Job) (before : Outside) : Type 0 where
@@ -54,46 +45,47 @@ pub record Starts (asked : Option Job) (before : Outside) : Type 0 where
   pub opens : Opens asked (run_file mode file) before net
   pub planned : IsOpeningPlan net mode plan
 
--- a stream was served: a run was started, the stream was read to its end, and such output was written
-pub record ServedSo (asked : Option Job) (before after : Outside) (writes : NetworkValue → PlanValue → List ℕ → List ℕ → Type 0) : Type 0 where
+-- a run was started, these bytes of the stream were taken, and such output was written
+pub record Ran (asked : Option Job) (before after : Outside) (writes : NetworkValue → PlanValue → List ℕ → List ℕ → Type 0) : Type 0 where
   pub starts : Starts asked before
-  pub stream : List ℕ
+  pub taken : List ℕ
   pub output : List ℕ
-  pub read : ReadToEnd before after stream
-  pub writes_it : writes starts.net starts.plan stream output
+  pub took : Consumes before.coming after.coming taken
+  pub writes_it : writes starts.net starts.plan taken output
   pub wrote : Wrote before after output
 
--- the replies to all lines of the stream were written, or those before a put that failed and a front of one more
-abbrev pub Served : Option Job → Outside → Outside → Type 0
-Served asked before after = ServedSo asked before after RunWrites
+-- the stream was taken to its end, and the replies to all its lines were written
+abbrev pub RanThrough : Option Job → Outside → Outside → Type 0
+RanThrough asked before after = Ran asked before after (λ net plan taken output. (length taken ≤ stream_limit) × IsAtEnd after.coming × RunWrites net plan (commands_of taken) output)
 
-abbrev pub ServedCut : Option Job → Outside → Outside → Type 0
-ServedCut asked before after = ServedSo asked before after RunWritesCut
+-- those to the whole lines that were taken
+abbrev pub RanSoFar : Option Job → Outside → Outside → Type 0
+RanSoFar asked before after = Ran asked before after (λ net plan taken output. (length taken ≤ stream_limit) × RunWrites net plan (whole_commands taken) output)
 
--- a run ended before it answered: it was started, so many bytes of the stream were taken, and nothing was written
-pub record Stopped (asked : Option Job) (before after : Outside) (taken : List ℕ) : Type 0 where
-  pub starts : Starts asked before
-  pub took : Took before after taken
-  pub wrote : WroteNothing before after
+-- those before one line and a front of its own: a whole line of those that were taken, or the last one of a stream that was taken to its end
+abbrev pub RanCut : Option Job → Outside → Outside → Type 0
+RanCut asked before after = Ran asked before after (λ net plan taken output. (length taken ≤ stream_limit)
+    × (RunWritesCut net plan (whole_commands taken) output ⊎ (IsAtEnd after.coming × RunWritesCut net plan (commands_of taken) output)))
 
--- memory ran out before anything was written; only a run may have taken bytes of the stream
+-- one byte more was taken than a stream may have, and the replies to the whole lines before that byte were written
+abbrev pub RanTooLong : Option Job → Outside → Outside → Type 0
+RanTooLong asked before after = Ran asked before after (λ net plan taken output. (length taken ≡ stream_limit + 1) × RunWrites net plan (whole_commands (take stream_limit taken)) output)
+
+-- memory ran out before anything was written, and before a byte of the stream was taken
 abbrev pub RanOut : Option Job → Outside → Outside → Type 0
-RanOut (Some (run_file mode file)) before after = WroteNothing before after
-RanOut (Some (plan_file mode file)) before after = WroteNothing before after × LeftStream before after
-RanOut (Some (check_file file certificate)) before after = WroteNothing before after × LeftStream before after
-RanOut (Some (print_file file)) before after = WroteNothing before after × LeftStream before after
+RanOut (Some job) before after = WroteNothing before after × LeftStream before after
 RanOut None before after = ⊥
 
 -- what each status says
 abbrev pub Ends : Option Job → Outside → Outside → Status → Type 0
-Ends asked before after status.Done = Served asked before after ⊎ Told asked before after status.Done
+Ends asked before after status.Done = RanThrough asked before after ⊎ Told asked before after status.Done
 Ends asked before after status.Wrong = Told asked before after status.Wrong
 Ends asked before after status.Usage = Told asked before after status.Usage
 Ends asked before after status.Refused = Told asked before after status.Refused
-Ends asked before after status.ReadFault = SourceFailed before after × (taken : List ℕ) × (length taken ≤ stream_limit) × Stopped asked before after taken
-Ends asked before after status.WriteFault = SinkFailed before after × (ServedCut asked before after ⊎ ToldCut asked before after)
+Ends asked before after status.ReadFault = SourceFailed before after × RanSoFar asked before after
+Ends asked before after status.WriteFault = SinkFailed before after × (RanCut asked before after ⊎ ToldCut asked before after)
 Ends asked before after status.NoMemory = RanOut asked before after
-Ends asked before after status.TooLong = (taken : List ℕ) × (stream_limit < length taken) × Stopped asked before after taken
+Ends asked before after status.TooLong = RanTooLong asked before after
 Ends asked before after status.FileFault = Told asked before after status.FileFault
 Ends asked before after status.Overflow = Told asked before after status.Overflow
 
@@ -134,7 +126,7 @@ abbrev pub CompletesJob : Job → NetworkValue → Outside → Outside → Statu
 CompletesJob (run_file m file) net before after s =
     TellsOverflow net m before after s
     × ((plan : PlanValue) (stream : List ℕ) → IsOpeningPlan net m plan → before.coming ≡ Some stream → length stream ≤ stream_limit
-    → (output : List ℕ) × RunWrites net plan stream output × OrRanOut before after s status.Done output)
+    → (output : List ℕ) × RunWrites net plan (commands_of stream) output × OrRanOut before after s status.Done output)
 CompletesJob (plan_file m file) net before after s =
     TellsOverflow net m before after s × ((plan : PlanValue) → IsOpeningPlan net m plan → OrRanOut before after s status.Done (plan_text net plan))
 CompletesJob (check_file file certificate) net before after s =

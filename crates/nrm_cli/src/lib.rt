@@ -8,7 +8,6 @@ mod printed;
 mod put;
 mod served;
 mod status;
-mod stream;
 #[cfg(test)]
 mod tests;
 mod top;

@@ -1,5 +1,10 @@
 //! Writes the opening plan of a network.
-ghost use Rattle.std.specs.Prelude.{ℕ, List, Option, Some, ◌≤◌};
+ghost use Rattle.std.specs.Prelude.{ℕ, List, OnErr, OnOk, Option, Some, ◌≤◌};
+ghost use Rattle.std.specs.Io.KnownBytes.{Appends};
+ghost use Rattle.nrm_edge.specs.Causes.{HasCause};
+ghost use Rattle.nrm_edge.specs.Pieces.{AppendsFront};
+ghost use Rattle.nrm_plan.specs.Plans.{IsPlanOf};
+ghost use Rattle.nrm_report.specs.Texts.{plan_text};
 ghost use Rattle.nrm_opening.specs.Outside.{Goes, outside};
 ghost use Rattle.nrm_cli.specs.Ends.{Ends, Failures};
 ghost use Rattle.nrm_cli.specs.Jobs.{plan_file as plan_job};
@@ -7,12 +12,23 @@ ghost use Rattle.nrm_cli.specs.Inner.Parts.{PutsPlan};
 
 use crate::Status;
 use crate::put::{put_reason, put_unplanned};
-use nrm_edge::{Files, Sink};
+use nrm_edge::{Failed, Files, Sink};
 use nrm_model::{Mode, Network};
 use nrm_opening::open_network;
 use nrm_plan::Plan;
 use nrm_report::plan_text;
 use std::alloc::Global;
+
+// Puts the text of a plan, and sends it on.
+fn send_plan<K: Sink>(net: &Network, plan: &Plan, sink: &mut K) -> Result<(), Failed>
+    requires { IsPlanOf net.now plan.now }
+    ensures whole { OnOk result (Appends (K.held sink.old) (K.held sink.new) (plan_text net.now plan.now)) }
+    ensures cut { OnErr result (AppendsFront (K.held sink.old) (K.held sink.new) (plan_text net.now plan.now)) }
+    ensures cause { HasCause (K.faults sink.old) (K.faults sink.new) result }
+{
+    plan_text(net, plan, sink)?;
+    sink.flush()
+}
 
 // Makes the opening plan of a network and puts its text.
 fn put_plan<K: Sink>(alloc: Global, net: &Network, mode: Mode, sink: &mut K) -> Status
@@ -20,7 +36,7 @@ fn put_plan<K: Sink>(alloc: Global, net: &Network, mode: Mode, sink: &mut K) -> 
     ensures later { K.faults sink.old ≤ K.faults sink.new }
 {
     match Plan::opening(alloc, net, mode) {
-        Ok(plan) => match plan_text(net, &plan, sink) {
+        Ok(plan) => match send_plan(net, &plan, sink) {
             Ok(()) => Status::Done,
             Err(_) => Status::WriteFault,
         },

@@ -1,21 +1,34 @@
 //! One line, put with the status that goes with it.
-ghost use Rattle.std.specs.Prelude.{◌≡◌, ◌≤◌, ◌++◌, decimal, length, nat_abs};
+ghost use Rattle.std.specs.Prelude.{◌≡◌, ◌≤◌, ◌++◌, decimal, length, nat_abs, OnErr, OnOk};
+ghost use Rattle.std.specs.Io.KnownBytes.{Appends};
+ghost use Rattle.nrm_edge.specs.Causes.{HasCause};
+ghost use Rattle.nrm_edge.specs.Pieces.{AppendsFront};
 ghost use Rattle.nrm_text.specs.Fractions.{sign_of};
 ghost use Rattle.nrm_cli.specs.Jobs.{overflow_line};
 ghost use Rattle.nrm_cli.specs.Inner.Parts.{PutsLine, PutsReason, PutsUnplanned, status_for};
 
 use crate::Status;
-use nrm_edge::{Sink, put_all};
+use nrm_edge::{Failed, Sink, put_all};
 use nrm_opening::NoNetwork;
 use nrm_simplex::SolveFault;
 use nrm_text::Line;
+
+// Puts a whole line, and sends it on.
+fn send<K: Sink>(sink: &mut K, line: &[u8]) -> Result<(), Failed>
+    ensures whole { OnOk result (Appends (K.held sink.old) (K.held sink.new) line.now) }
+    ensures cut { OnErr result (AppendsFront (K.held sink.old) (K.held sink.new) line.now) }
+    ensures cause { HasCause (K.faults sink.old) (K.faults sink.new) result }
+{
+    put_all(sink, line)?;
+    sink.flush()
+}
 
 /// Puts a line that goes with a status.
 pub(crate) fn put_line<K: Sink>(sink: &mut K, line: &[u8], told: Status) -> Status
     ensures puts { PutsLine line.now told (K.held sink.old) (K.held sink.new) (K.faults sink.old) (K.faults sink.new) result }
     ensures later { K.faults sink.old ≤ K.faults sink.new }
 {
-    match put_all(sink, line) {
+    match send(sink, line) {
         Ok(()) => told,
         Err(_) => Status::WriteFault,
     }

@@ -1,48 +1,35 @@
 //! Serves the stream: the controller of a network file answers each line.
-ghost use Rattle.std.specs.Prelude.{◌≤◌, Some};
+ghost use Rattle.std.specs.Prelude.{◌≡◌, Some};
 ghost use Rattle.nrm_opening.specs.Outside.{Goes, outside};
 ghost use Rattle.nrm_cli.specs.Ends.{Ends, Failures};
 ghost use Rattle.nrm_cli.specs.Jobs.{run_file as run_job};
-ghost use Rattle.nrm_cli.specs.Inner.Parts.{AnswersStream};
+ghost use Rattle.nrm_cli.specs.Inner.Parts.{status_at};
 
 use crate::Status;
 use crate::put::{put_reason, put_unplanned};
-use crate::stream::{StreamFault, read_stream};
 use nrm_control::Controller;
 use nrm_edge::{Files, Sink, Source};
 use nrm_model::Mode;
 use nrm_opening::open_network;
-use nrm_session::{WholeEnd, serve_whole};
+use nrm_session::{End, serve};
 use std::alloc::Global;
 
 // The most bytes of a stream.
-const STREAM_LIMIT: usize = 16_777_216;
+const STREAM_LIMIT: u64 = 4_294_967_296;
 
-// Reads the stream whole and answers its lines.
-fn answer_stream<S: Source, K: Sink>(
-    alloc: Global,
-    controller: &mut Controller,
-    source: &mut S,
-    sink: &mut K,
-) -> Status
-    requires { controller.old.next ≤ 100000000000 }
-    ensures answers { AnswersStream controller.old controller.new (S.coming source.old) (S.coming source.new) (S.faults source.old) (S.faults source.new) (K.held sink.old) (K.held sink.new) (K.faults sink.old) (K.faults sink.new) result }
-    ensures taken_later { S.faults source.old ≤ S.faults source.new }
-    ensures put_later { K.faults sink.old ≤ K.faults sink.new }
+// The status that goes with the end of a session.
+fn status_at(end: End) -> Status
+    ensures { result ≡ status_at end }
 {
-    let stream = match read_stream(alloc, source, STREAM_LIMIT) {
-        Ok(stream) => stream,
-        Err(StreamFault::Failed) => return Status::ReadFault,
-        Err(StreamFault::TooLong) => return Status::TooLong,
-        Err(StreamFault::NoMemory) => return Status::NoMemory,
-    };
-    match serve_whole(alloc, controller, &stream, sink) {
-        WholeEnd::Done => Status::Done,
-        WholeEnd::WriteFault => Status::WriteFault,
+    match end {
+        End::Done => Status::Done,
+        End::ReadFault => Status::ReadFault,
+        End::WriteFault => Status::WriteFault,
+        End::TooLong => Status::TooLong,
     }
 }
 
-/// Opens a network, makes its opening plan, reads the stream whole and answers its lines.
+/// Opens a network, makes its opening plan, and answers the lines of the stream.
 pub(crate) fn run_file<F: Files, S: Source, K: Sink>(
     alloc: Global,
     mode: Mode,
@@ -65,7 +52,7 @@ pub(crate) fn run_file<F: Files, S: Source, K: Sink>(
     match Controller::start(alloc, net, mode) {
         Ok(controller) => {
             let mut controller = controller;
-            answer_stream(alloc, &mut controller, source, sink)
+            status_at(serve(alloc, &mut controller, source, sink, STREAM_LIMIT))
         }
         Err(why) => put_unplanned(sink, why),
     }

@@ -55,7 +55,7 @@ fn run_asked<F: Files, S: Source, K: Sink>(
 /// words get the usage line.
 ///
 /// `ends` says for each status what the words, the files, the stream and the written bytes were; `complete`, that good
-/// words, valid files, no fault, an opening that isn't Large and, for a run, a stream of at most 16,777,216 bytes give the
+/// words, valid files, no fault, an opening that isn't Large and, for a run, a stream of at most 4,294,967,296 bytes give the
 /// whole output, an opening that is Large the line that says so, or else want of memory with nothing written; `failures`,
 /// that a count of faults rises only with the status of its fault; `goes`, that no count falls and the files stay.
 ///

@@ -76,24 +76,6 @@ impl<W: Write> StdSink<W> {
     {
         StdSink { writer, faults: 0 }
     }
-
-    /// Sends on what the writer still keeps back.
-    ///
-    /// # Errors
-    /// The writer failed; the count of faults rose.
-    pub fn flush(&mut self) -> Result<(), Failed>
-        ensures bytes { Keeps (W.contents self.old.stream) (W.contents self.new.stream) }
-        ensures cause { HasCause self.old.faults self.new.faults result }
-        ensures counts { self.new.faults ≡ counted (is_err result) self.old.faults }
-    {
-        match self.writer.flush() {
-            Ok(()) => Ok(()),
-            Err(_) => {
-                self.faults = self.faults.saturating_add(1);
-                Err(Failed)
-            }
-        }
-    }
 }
 
 impl<W: Write> Sink for StdSink<W> {
@@ -115,6 +97,20 @@ impl<W: Write> Sink for StdSink<W> {
                 Err(Failed)
             }
             Ok(count) => Ok(count),
+            Err(_) => {
+                self.faults = self.faults.saturating_add(1);
+                Err(Failed)
+            }
+        }
+    }
+
+    fn flush(&mut self) -> Result<(), Failed>
+        ensures bytes { Keeps (W.contents self.old.stream) (W.contents self.new.stream) }
+        ensures cause { HasCause self.old.faults self.new.faults result }
+        ensures counts { self.new.faults ≡ counted (is_err result) self.old.faults }
+    {
+        match self.writer.flush() {
+            Ok(()) => Ok(()),
             Err(_) => {
                 self.faults = self.faults.saturating_add(1);
                 Err(Failed)

@@ -87,6 +87,7 @@ fn a_sink_in_memory_takes_pieces(rt: HostRuntime) -> Result<(), Fail> {
     assert!(rt; sink.put(b"de").is_err(), "the third put fails");
     assert!(rt; put_in_memory(&mut sink, b"defgh").is_ok());
     assert!(rt; put_in_memory(&mut sink, b"i").is_err(), "no room is left");
+    assert!(rt; sink.flush().is_ok(), "nothing is kept back");
     assert_eq!(rt; sink.held(), b"abcdefgh".as_slice());
     Ok(())
 }

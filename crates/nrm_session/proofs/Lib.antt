@@ -1,9 +1,11 @@
+pub mod Answered
 pub mod Determined
 pub mod Examples
 pub mod Hindsights
 pub mod InForce
+pub mod Pieces
 pub mod Runs
 pub mod Seats
-pub mod SoFar
 pub mod Steps
+pub mod Taken
 pub mod Verdicts

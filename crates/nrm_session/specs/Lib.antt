@@ -1,6 +1,7 @@
 pub mod Answering
 pub mod Headline
 pub mod Hindsight
+pub mod Inner
 pub mod Laws
 pub mod Replies
 pub mod Run

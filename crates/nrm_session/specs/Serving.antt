@@ -1,17 +1,17 @@
 -- How a session over a stream ends.
-use Rattle.std.specs.Prelude.{ℕ, ◌≡◌, ◌≤◌, List, ◌∷◌, ◌++◌, length, take, Option}
-use Rattle.std.specs.Io.KnownBytes.{Appends}
+use Rattle.std.specs.Prelude.{ℕ, ◌≡◌, ◌+◌, ◌≤◌, ◌⊎◌, List, ◌∷◌, ◌++◌, length, take, Option}
+use Rattle.std.specs.Io.KnownBytes.{Appends, Consumes, IsAtEnd}
 use Rattle.nrm_edge.specs.Causes.{Rose}
 use Rattle.nrm_model.specs.Network.{NetworkValue}
 use Rattle.nrm_control.specs.State.{SeatState}
 use Rattle.nrm_control.specs.Standing.{ControlValue, StandsFor}
-use Rattle.nrm_stream.specs.Commands.{commands_of}
+use Rattle.nrm_stream.specs.Commands.{commands_of, whole_commands}
 use Rattle.nrm_stream.specs.declared.command.Command.{Command}
 use Rattle.nrm_session.specs.Replies.{Reply, text_of}
 use Rattle.nrm_session.specs.Step.{Step}
 use Rattle.nrm_session.specs.Run.{Run, Writes, output_of}
-use Rattle.nrm_session.specs.declared.whole.WholeEnd.{WholeEnd}
-use Rattle.nrm_session.specs.declared.whole.WholeEnd.TheVariants as end
+use Rattle.nrm_session.specs.declared.serving.End.{End}
+use Rattle.nrm_session.specs.declared.serving.End.TheVariants as end
 
 -- Of these commands one was cut: the replies to those before it stand whole, then a front of its own reply, and s' is the state after it.
 pub record WritesCut (net : NetworkValue) (s : SeatState) (commands : List Command) (bytes : List ℕ) (s' : SeatState) : Type 0 where
@@ -38,9 +38,48 @@ pub record RefinesCut (old new : ControlValue) (commands : List Command) (output
   pub network : new.net ≡ old.net
   pub run : (s : SeatState) → StandsFor old s → (s' : SeatState) × StandsFor new s' × WritesCut old.net s commands output s'
 
--- What each end says: the replies to all lines were written, or a put failed and the replies up to a front of one of them were.
-abbrev pub ServesWhole : ControlValue → ControlValue → List ℕ → Option (List ℕ) → Option (List ℕ) → ℕ → ℕ → WholeEnd → Type 0
-ServesWhole old new stream held held' faults faults' end.Done =
-    (output : List ℕ) × Appends held held' output × Refines old new (commands_of stream) output
-ServesWhole old new stream held held' faults faults' end.WriteFault =
-    Rose faults faults' × (output : List ℕ) × Appends held held' output × RefinesCut old new (commands_of stream) output
+-- What stands outside a session: the bytes to come and the bytes that were put, where they are told, and how often each side has failed.
+pub record Streams : Type 0 where
+  pub coming : Option (List ℕ)
+  pub held : Option (List ℕ)
+  pub source_faults : ℕ
+  pub sink_faults : ℕ
+
+-- the streams that a source and a sink show by what each tells of itself
+abbrev pub streams : {S K : Type 0} → (S → Option (List ℕ)) → (S → ℕ) → (K → Option (List ℕ)) → (K → ℕ) → S → K → Streams
+streams coming source_faults held sink_faults source sink = record {
+  coming = coming source;
+  held = held sink;
+  source_faults = source_faults source;
+  sink_faults = sink_faults sink;
+}
+
+-- these bytes were taken, no more than the limit, and this was written
+pub record TookAndWrote (before after : Streams) (limit : ℕ) (taken output : List ℕ) : Type 0 where
+  pub consumed : Consumes before.coming after.coming taken
+  pub short : length taken ≤ limit
+  pub written : Appends before.held after.held output
+
+-- What each end says. Done: the input was taken to its end, and the replies to all its lines were written. ReadFault: the replies to the whole
+-- lines that were taken. WriteFault: one line was cut, a whole one of those taken, or the last one of an input that was taken to its end.
+-- TooLong: one byte more than the limit was taken, and the replies to the whole lines before that byte were written.
+abbrev pub Serves : ControlValue → ControlValue → Streams → Streams → ℕ → End → Type 0
+Serves old new before after limit end.Done =
+    (taken : List ℕ) × (output : List ℕ) × TookAndWrote before after limit taken output × IsAtEnd after.coming × Refines old new (commands_of taken) output
+Serves old new before after limit end.ReadFault =
+    (taken : List ℕ) × (output : List ℕ) × TookAndWrote before after limit taken output × Refines old new (whole_commands taken) output
+Serves old new before after limit end.WriteFault =
+    (taken : List ℕ) × (output : List ℕ) × TookAndWrote before after limit taken output
+    × (RefinesCut old new (whole_commands taken) output ⊎ (IsAtEnd after.coming × RefinesCut old new (commands_of taken) output))
+Serves old new before after limit end.TooLong =
+    (taken : List ℕ) × (output : List ℕ) × Consumes before.coming after.coming taken × (length taken ≡ limit + 1)
+    × Appends before.held after.held output × Refines old new (whole_commands (take limit taken)) output
+
+-- which counts of faults each end lets rise: the source's alone, the sink's alone, or none
+abbrev pub CountsFaults : Streams → Streams → End → Type 0
+CountsFaults before after end.Done = (after.source_faults ≡ before.source_faults) × (after.sink_faults ≡ before.sink_faults)
+CountsFaults before after end.ReadFault =
+    Rose before.source_faults after.source_faults × (before.source_faults ≤ after.source_faults) × (after.sink_faults ≡ before.sink_faults)
+CountsFaults before after end.WriteFault =
+    Rose before.sink_faults after.sink_faults × (before.sink_faults ≤ after.sink_faults) × (after.source_faults ≡ before.source_faults)
+CountsFaults before after end.TooLong = (after.source_faults ≡ before.source_faults) × (after.sink_faults ≡ before.sink_faults)

@@ -3,13 +3,13 @@
 
 mod laws;
 mod reply;
+mod serving;
 #[cfg(test)]
 mod tests;
-mod whole;
 
 pub use laws::{
     each_list_has_a_run, hindsight_bounds, plans_are_kept, replies_are_determined,
     requests_are_answered, seats_are_kept, states_are_determined,
 };
 pub use reply::{Reply, carry_out, put_reply};
-pub use whole::{WholeEnd, serve_whole};
+pub use serving::{End, serve};

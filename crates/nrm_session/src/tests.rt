@@ -1,9 +1,9 @@
 //! Sessions worked by hand: legs AB with 3 seats and BC with 2, a through product for 500 and a local one for 200.
-ghost use Rattle.std.specs.Prelude.{◌≡◌, ◌≤◌, ◌^◌, IfOk, length};
+ghost use Rattle.std.specs.Prelude.{◌≡◌, ◌≤◌, ◌^◌, IfOk};
 
-use crate::{WholeEnd, serve_whole};
+use crate::{End, serve};
 use nrm_control::Controller;
-use nrm_edge::MemSink;
+use nrm_edge::{MemSink, MemSource};
 use nrm_model::Mode;
 use nrm_samples::two_legs;
 use nrm_simplex::SolveFault;
@@ -16,27 +16,54 @@ fn begin(alloc: Global, mode: Mode) -> Result<Controller, SolveFault>
     Controller::start(alloc, two_legs(alloc)?, mode)
 }
 
-// How a session over a stream ends where the puts of these numbers fail, and the sink that it wrote to.
+// A session over a stream: the most bytes of each take, the takes and the puts that fail, and the limit.
+#[derive(Clone, Copy)]
+struct Asked<'a> {
+    stream: &'a [u8],
+    cuts: &'a [usize],
+    failing_takes: &'a [u64],
+    failing_puts: &'a [u64],
+    limit: u64,
+}
+
+// How a session ends, and the sink that it wrote to.
+fn session_as(alloc: Global, mode: Mode, asked: &Asked<'_>) -> Result<(End, MemSink), SolveFault>
+    requires { asked.now.limit ≤ 2 ^ 32 }
+{
+    let mut controller = begin(alloc, mode)?;
+    let mut source = MemSource::new(
+        asked.stream.to_vec(alloc)?,
+        asked.cuts.to_vec(alloc)?,
+        asked.failing_takes.to_vec(alloc)?,
+    );
+    let mut sink = MemSink::new(
+        alloc,
+        512,
+        Vec::new(alloc),
+        asked.failing_puts.to_vec(alloc)?,
+    )?;
+    let end = serve(alloc, &mut controller, &mut source, &mut sink, asked.limit);
+    Ok((end, sink))
+}
+
+// The same with a stream that is taken whole, and a limit that is not reached.
 fn session(
     alloc: Global,
     mode: Mode,
     stream: &[u8],
     failing: &[u64],
-) -> Result<(WholeEnd, MemSink), SolveFault>
-    requires { length stream.now ≤ 2 ^ 32 }
-{
-    let mut controller = begin(alloc, mode)?;
-    let mut sink = MemSink::new(alloc, 512, Vec::new(alloc), failing.to_vec(alloc)?)?;
-    let end = serve_whole(alloc, &mut controller, stream, &mut sink);
-    Ok((end, sink))
+) -> Result<(End, MemSink), SolveFault> {
+    let asked = Asked {
+        stream,
+        cuts: &[],
+        failing_takes: &[],
+        failing_puts: failing,
+        limit: 512,
+    };
+    session_as(alloc, mode, &asked)
 }
 
-fn assert_ends(
-    rt: &impl Abort,
-    given: Result<(WholeEnd, MemSink), SolveFault>,
-    end: WholeEnd,
-    text: &[u8],
-) {
+fn assert_ends(rt: &impl Abort, given: Result<(End, MemSink), SolveFault>, end: End, text: &[u8]) {
     match given {
         Ok((ended, sink)) => {
             assert_eq!(rt; ended, end);
@@ -56,7 +83,7 @@ fn lines_are_answered_by_hand(rt: HostRuntime) {
             b"book THRU 2\ncancel 1\ncancel 1\nbook LOC 1\nleg AB\nplan\nreoptimise 2\nreoptimise 3\nhindsight\nhind\n",
             &[],
         ),
-        WholeEnd::Done,
+        End::Done,
         b"ok 1\ncancelled 1 1000\nunknown\nok 2\nleg AB seats 3 sold 1 left 2\non AB LOC 1\nfirst\noptimised none\nunknown\nhindsight 1200/1 revenue 200\nbad\n",
     );
 }
@@ -72,17 +99,22 @@ fn lines_are_answered_at_bid_prices_by_hand(rt: HostRuntime) {
             b"book LOC 2\nbook LOC 2\nreoptimise 1\nbook LOC 1\nplan\nbook THRU 1\n",
             &[],
         ),
-        WholeEnd::Done,
+        End::Done,
         b"ok 1\nno AB\noptimised 500/1\nno fare\nvalue 500/1\nproduct THRU 1/1\nproduct LOC 0/1\nleg AB 500/1\nleg BC 0/1\nok 2\n",
     );
 }
 
 // The put of this number fails: so much was written before it.
-fn assert_cut(rt: &impl Abort, alloc: Global, mode: Mode, failing: u64, stream: &[u8], held: &[u8])
-    requires { length stream.now ≤ 2 ^ 32 }
-{
+fn assert_cut(
+    rt: &impl Abort,
+    alloc: Global,
+    mode: Mode,
+    failing: u64,
+    stream: &[u8],
+    held: &[u8],
+) {
     let given = session(alloc, mode, stream, &[failing]);
-    assert_ends(rt, given, WholeEnd::WriteFault, held);
+    assert_ends(rt, given, End::WriteFault, held);
 }
 
 #[test]
@@ -163,5 +195,83 @@ fn each_line_of_a_plan_goes_out_in_one_put(rt: HostRuntime) {
         4,
         b"book LOC 2\nreoptimise 1\nbook LOC 1\nplan\n",
         b"ok 1\noptimised 500/1\nno fare\n",
+    );
+}
+
+// Two bytes a take, so that words, line ends and a carriage return are cut.
+#[test]
+fn a_cut_stream_is_answered_alike(rt: HostRuntime) {
+    let asked = Asked {
+        stream: b"book THRU 2\r\nbook THRU 1\nbook LOC 1",
+        cuts: &[2, 2, 2, 2, 2, 2, 2, 2, 2, 2, 2, 2, 2, 2, 2, 2, 2, 2],
+        failing_takes: &[],
+        failing_puts: &[],
+        limit: 512,
+    };
+    assert_ends(
+        &rt,
+        session_as(rt.alloc(), Mode::FirstCome, &asked),
+        End::Done,
+        b"ok 1\nno BC\nok 2\n",
+    );
+}
+
+// The third take fails, in the second line.
+#[test]
+fn whole_lines_are_answered_before_a_take_fails(rt: HostRuntime) {
+    let asked = Asked {
+        stream: b"book LOC 1\nbook LOC 1\n",
+        cuts: &[11, 4],
+        failing_takes: &[3],
+        failing_puts: &[],
+        limit: 512,
+    };
+    assert_ends(
+        &rt,
+        session_as(rt.alloc(), Mode::FirstCome, &asked),
+        End::ReadFault,
+        b"ok 1\n",
+    );
+}
+
+#[test]
+fn a_byte_past_the_limit_is_too_many(rt: HostRuntime) {
+    let mut asked = Asked {
+        stream: b"book LOC 1\n",
+        cuts: &[],
+        failing_takes: &[],
+        failing_puts: &[],
+        limit: 11,
+    };
+    assert_ends(
+        &rt,
+        session_as(rt.alloc(), Mode::FirstCome, &asked),
+        End::Done,
+        b"ok 1\n",
+    );
+    asked.stream = b"book LOC 1\nb";
+    assert_ends(
+        &rt,
+        session_as(rt.alloc(), Mode::FirstCome, &asked),
+        End::TooLong,
+        b"ok 1\n",
+    );
+}
+
+// The second put fails, and the third line of the piece has no reply.
+#[test]
+fn no_line_behind_a_cut_one_is_answered(rt: HostRuntime) {
+    let asked = Asked {
+        stream: b"book LOC 1\nbook LOC 1\nbook LOC 1\n",
+        cuts: &[],
+        failing_takes: &[],
+        failing_puts: &[2],
+        limit: 512,
+    };
+    assert_ends(
+        &rt,
+        session_as(rt.alloc(), Mode::FirstCome, &asked),
+        End::WriteFault,
+        b"ok 1\n",
     );
 }

@@ -1,6 +1,6 @@
 -- What the parts of the top call promise one another.
-use Rattle.std.specs.Prelude.{ℕ, ◌≡◌, ◌≢◌, ◌<◌, ◌≤◌, ◌⊎◌, List, length, Option, Some, None, Result, Ok, Err, MatchResult, IfSome, option_map, ⊤}
-use Rattle.std.specs.Io.KnownBytes.{Appends, Consumes, IsAtEnd, Keeps}
+use Rattle.std.specs.Prelude.{ℕ, ◌≡◌, ◌≢◌, ◌≤◌, ◌⊎◌, List, Option, Some, None, Result, Ok, Err, MatchResult, IfSome, option_map, ⊤}
+use Rattle.std.specs.Io.KnownBytes.{Appends, Keeps}
 use Rattle.nrm_edge.specs.Causes.{Rose}
 use Rattle.nrm_edge.specs.Fetch.{Folder}
 use Rattle.nrm_edge.specs.Pieces.{AppendsFront}
@@ -26,10 +26,9 @@ use Rattle.nrm_opening.specs.Refusals.{file_fault_line}
 use Rattle.nrm_opening.specs.declared.opening.NoNetwork.{NoNetwork}
 use Rattle.nrm_opening.specs.declared.opening.NoNetwork.TheVariants as none
 use Rattle.nrm_cli.specs.Certificates.{certificate_under, lacking_line, no_certificate, refused_for, verdict_line}
-use Rattle.nrm_control.specs.Standing.{ControlValue}
-use Rattle.nrm_stream.specs.Commands.{commands_of}
-use Rattle.nrm_session.specs.Serving.{Refines, RefinesCut}
-use Rattle.nrm_cli.specs.Ends.{status_of, stream_limit}
+use Rattle.nrm_session.specs.declared.serving.End.{End}
+use Rattle.nrm_session.specs.declared.serving.End.TheVariants as end
+use Rattle.nrm_cli.specs.Ends.{status_of}
 use Rattle.nrm_cli.specs.Jobs.{Job, run_file, plan_file, check_file, print_file, overflow_line}
 use Rattle.nrm_cli.specs.declared.status.Status.{Status}
 use Rattle.nrm_cli.specs.declared.status.Status.TheVariants as status
@@ -37,8 +36,6 @@ use Rattle.nrm_cli.specs.declared.words.Asked.{Asked}
 use Rattle.nrm_cli.specs.declared.words.Asked.TheVariants as asked
 use Rattle.nrm_cli.specs.declared.certificate.NoCertificate.{NoCertificate}
 use Rattle.nrm_cli.specs.declared.certificate.NoCertificate.TheVariants as lacking
-use Rattle.nrm_cli.specs.declared.stream.StreamFault.{StreamFault}
-use Rattle.nrm_cli.specs.declared.stream.StreamFault.TheVariants as stream
 
 -- a job as the code holds it
 abbrev pub job_in : Asked → Job
@@ -46,20 +43,6 @@ job_in (asked.Run mode file) = run_file mode file.now
 job_in (asked.Plan mode file) = plan_file mode file.now
 job_in (asked.Check file certificate) = check_file file.now certificate.now
 job_in (asked.Print file) = print_file file.now
-
--- a stream that was read to its end, at most so many bytes, or in which more came, or a take failed, or memory ran out
-abbrev pub ReadsWhole : {V : Type 0} → (V → List ℕ) → Option (List ℕ) → Option (List ℕ) → ℕ → Result V StreamFault → Type 0
-ReadsWhole items coming after limit (Ok v) = Consumes coming after (items v) × IsAtEnd after × (length (items v) ≤ limit)
-ReadsWhole items coming after limit (Err stream.TooLong) = (taken : List ℕ) × Consumes coming after taken × (limit < length taken)
-ReadsWhole items coming after limit (Err stream.Failed) = (taken : List ℕ) × Consumes coming after taken × (length taken ≤ limit)
-ReadsWhole items coming after limit (Err stream.NoMemory) = ⊤
-
--- the source's count rose with a failed take, and else it stays
-abbrev pub CountsReading : {V : Type 0} → ℕ → ℕ → Result V StreamFault → Type 0
-CountsReading before now (Ok v) = now ≡ before
-CountsReading before now (Err stream.TooLong) = now ≡ before
-CountsReading before now (Err stream.Failed) = (before ≤ now) × Rose before now
-CountsReading before now (Err stream.NoMemory) = now ≡ before
 
 -- a line was put and its status answered, or the put failed and a front of the line went out
 abbrev pub PutsLine : List ℕ → Status → Option (List ℕ) → Option (List ℕ) → ℕ → ℕ → Status → Type 0
@@ -149,30 +132,9 @@ pub record ChecksFile (net : NetworkValue) (files : Option Folder) (name : List 
   pub counts : CountsCertificate before now opened
   pub puts : MatchResult opened (λ given. PutsVerdict net given held held' sunk sunk' result) (λ reason. PutsIfSome (lack_line net reason) (lack_status reason) held held' sunk sunk' result)
 
--- a stream was read to its end, and such output was written
-pub record AnswersAll (coming after : Option (List ℕ)) (held held' : Option (List ℕ)) (refines : List ℕ → List ℕ → Type 0) : Type 0 where
-  pub stream : List ℕ
-  pub output : List ℕ
-  pub taken : Consumes coming after stream
-  pub ended : IsAtEnd after
-  pub short : length stream ≤ stream_limit
-  pub refines_it : refines stream output
-  pub wrote : Appends held held' output
-
--- how a controller's serving of a stream ends: the replies to all lines of the stream were written, or those before a put that failed
--- and a front of one more; or a take failed, or it was too long, or memory ran out, and nothing was written
-abbrev pub AnswersStream : ControlValue → ControlValue → Option (List ℕ) → Option (List ℕ) → ℕ → ℕ → Option (List ℕ) → Option (List ℕ) → ℕ → ℕ → Status → Type 0
-AnswersStream old new coming after took took' held held' sunk sunk' status.Done =
-    AnswersAll coming after held held' (λ stream output. Refines old new (commands_of stream) output) × (took' ≡ took) × (sunk' ≡ sunk)
-AnswersStream old new coming after took took' held held' sunk sunk' status.WriteFault =
-    AnswersAll coming after held held' (λ stream output. RefinesCut old new (commands_of stream) output) × (took' ≡ took) × Rose sunk sunk'
-AnswersStream old new coming after took took' held held' sunk sunk' status.ReadFault =
-    (taken : List ℕ) × Consumes coming after taken × (length taken ≤ stream_limit) × Rose took took' × Keeps held held' × (sunk' ≡ sunk)
-AnswersStream old new coming after took took' held held' sunk sunk' status.TooLong =
-    (taken : List ℕ) × Consumes coming after taken × (stream_limit < length taken) × (took' ≡ took) × Keeps held held' × (sunk' ≡ sunk)
-AnswersStream old new coming after took took' held held' sunk sunk' status.NoMemory = (took' ≡ took) × Keeps held held' × (sunk' ≡ sunk)
-AnswersStream old new coming after took took' held held' sunk sunk' status.Wrong = ⊥
-AnswersStream old new coming after took took' held held' sunk sunk' status.Usage = ⊥
-AnswersStream old new coming after took took' held held' sunk sunk' status.Refused = ⊥
-AnswersStream old new coming after took took' held held' sunk sunk' status.Overflow = ⊥
-AnswersStream old new coming after took took' held held' sunk sunk' status.FileFault = ⊥
+-- the status that goes with the end of a session
+abbrev pub status_at : End → Status
+status_at end.Done = status.Done
+status_at end.ReadFault = status.ReadFault
+status_at end.WriteFault = status.WriteFault
+status_at end.TooLong = status.TooLong

@@ -1,0 +1,48 @@
+use Rattle.std.proofs.Common.{refl}
+use Rattle.std.proofs.KnownBytes.{Keeps-refl}
+use Rattle.nrm_session.proofs.Pieces.{line-answered, line-cut, nothing-answered, no-command, nothing-more, on-err, piece-unsent, some-left}
+use Rattle.nrm_session.proofs.serving.answer_piece.Goals as goal
+
+pub loop-rest-init : goal.loop-rest-init
+loop-rest-init g c = nothing-answered c.args.controller.now c.args.splitter.now c.args.piece.now _ (g.K.Sink.held c.args.sink.now) (g.K.Sink.faults c.args.sink.now) (λ no. cc) c.requires.kept
+
+pub returns-in_err-answer-clause-cut : goal.returns-in_err-answer-clause-cut
+returns-in_err-answer-clause-cut g c =
+    let held = g.K.Sink.held in
+    let faults = g.K.Sink.faults in
+    let l = c.loop-rest in
+    let fed = c.feed-used in
+    on-err c.from_residual.result
+    (line-cut c.args.controller.now l.controller c.answer.new.controller c.args.splitter.now l.splitter fed.new.self c.args.piece.now l.rest.now l.answered
+    (held c.args.sink.now) (held l.sink) (held c.answer.new.sink) (faults c.args.sink.now) (faults l.sink) (faults c.answer.new.sink) l.invariant fed.result.0 fed.result.1 fed.ensures.feeds
+    c.in-Some.command c.in-Some.is c.in_err-answer.ensures.cut)
+
+pub loop-rest-preserved-in-Some : goal.loop-rest-preserved-in-Some
+loop-rest-preserved-in-Some g c =
+    let held = g.K.Sink.held in
+    let faults = g.K.Sink.faults in
+    let l = c.loop-rest in
+    let fed = c.feed-used in
+    let (line, stands) = fed.ensures.stands in
+    line-answered c.args.controller.now l.controller c.answer.new.controller c.args.splitter.now l.splitter fed.new.self c.args.piece.now l.rest.now l.answered
+    (held c.args.sink.now) (held l.sink) (held c.answer.new.sink) (faults c.args.sink.now) (faults l.sink) (faults c.answer.new.sink) l.invariant fed.result.0 fed.result.1 fed.ensures.feeds
+    c.in-Some.command c.in-Some.is line stands (some-left l.rest.now c.loop-rest-test.ensures) c.in_ok-answer.ensures.whole
+
+pub loop-rest-preserved : goal.loop-rest-preserved
+loop-rest-preserved g c =
+    let l = c.loop-rest in
+    let fed = c.feed-used in
+    let (line, stands) = fed.ensures.stands in
+    nothing-more c.args.controller.now l.controller c.args.splitter.now l.splitter fed.new.self c.args.piece.now l.rest.now l.answered
+    (g.K.Sink.held c.args.sink.now) (g.K.Sink.held l.sink) (g.K.Sink.faults c.args.sink.now) (g.K.Sink.faults l.sink) l.invariant fed.result.0 fed.result.1 fed.ensures.feeds (no-command fed.result.1 c.in_default.not-Some)
+    line stands (some-left l.rest.now c.loop-rest-test.ensures) l.invariant.so_far.answers.kept
+
+pub returns-in_err-flush-clause-cut : goal.returns-in_err-flush-clause-cut
+returns-in_err-flush-clause-cut g c =
+    let held = g.K.Sink.held in
+    let faults = g.K.Sink.faults in
+    let l = c.loop-rest in
+    on-err c.from_residual-in_err-flush.result
+    (piece-unsent c.args.controller.now l.controller c.args.splitter.now l.splitter c.args.piece.now l.rest.now l.answered
+    (held c.args.sink.now) (held l.sink) (held c.flush.new.self) (faults c.args.sink.now) (faults l.sink) (faults c.flush.new.self) l.invariant c.loop-rest-test.ensures c.if-answered.true
+    c.in_err-flush.ensures.bytes c.in_err-flush.ensures.cause.failed c.in_err-flush.ensures.cause.later)

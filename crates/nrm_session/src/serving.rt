@@ -1,0 +1,178 @@
+//! A session over a stream: each whole line of a piece is answered, and its reply sent on, before the next piece is taken.
+ghost use Rattle.std.specs.Prelude.{◌≡◌, ◌+◌, ◌<◌, ◌≤◌, ◌^◌, ◌∷◌, [], length, IfOk, IfSome, OnOk, OnErr};
+ghost use Rattle.std.specs.Io.KnownBytes.{Consumes, IsAtEnd, ReadConsumes};
+ghost use Rattle.nrm_edge.specs.Causes.{HasCause};
+ghost use Rattle.std.specs.Option.{option_to_list};
+ghost use Rattle.nrm_control.specs.State.{SeatState};
+ghost use Rattle.nrm_control.specs.Standing.{IsControl, StandsFor};
+ghost use Rattle.nrm_stream.specs.Commands.{IsCommand};
+ghost use Rattle.nrm_session.specs.Hindsight.{BoundsFrom};
+ghost use Rattle.nrm_session.specs.Serving.{CountsFaults, Serves, streams};
+ghost use Rattle.nrm_session.specs.Inner.Answers.{Answers, AnswersCut, AnswersPiece, CutsPiece, EndsInput};
+
+use crate::reply::{carry_out, put_reply};
+use nrm_control::Controller;
+use nrm_edge::{Failed, Sink, Source};
+use nrm_stream::{Command, Splitter};
+use std::alloc::Global;
+
+// The most bytes that are taken at once.
+const PIECE: usize = 65_536;
+
+/// How a session over a stream ended.
+#[derive(Clone, Copy, Debug, PartialEq, Eq)]
+pub enum End {
+    /// The input was taken to its end, and the replies to all its lines were written.
+    Done,
+    /// A take failed. The replies to the whole lines that were taken were written; the unfinished line has none.
+    ReadFault,
+    /// A put failed, or sending on what was put. The replies to the lines before one were written, and a front of its own; the
+    /// controller stands for the state after that line.
+    WriteFault,
+    /// There are more bytes than the limit. The replies to the whole lines up to it were written.
+    TooLong,
+}
+
+// Takes the next bytes to the front of a buffer, no more than so many.
+fn take_front<S: Source>(source: &mut S, buffer: &mut [u8], most: u64) -> Result<usize, Failed>
+    requires some { 0 < most }
+    requires room { 0 < length buffer.old }
+    ensures few { IfOk result (λ count. count ≤ most) }
+    ensures within { IfOk result (λ count. count ≤ length buffer.new) }
+    ensures bytes { ReadConsumes (S.coming source.old) (S.coming source.new) result buffer.new }
+    ensures end { IfOk result (λ count. count ≡ 0 → Consumes (S.coming source.old) (S.coming source.new) [] × IsAtEnd (S.coming source.new)) }
+    ensures cause { HasCause (S.faults source.old) (S.faults source.new) result }
+{
+    let room = most.min(buffer.len() as u64) as usize;
+    source.take(&mut buffer[..room])
+}
+
+// Carries a command out, and puts its reply.
+fn answer<K: Sink>(
+    alloc: Global,
+    controller: &mut Controller,
+    command: &Command,
+    sink: &mut K,
+) -> Result<(), Failed>
+    requires command { IsCommand command.now }
+    requires next { controller.old.next < 1000000000000 }
+    ensures whole { OnOk result (Answers controller.old controller.new (command.now ∷ []) (K.held sink.old) (K.held sink.new) (K.faults sink.old) (K.faults sink.new)) }
+    ensures cut { OnErr result (AnswersCut controller.old controller.new (command.now ∷ []) (K.held sink.old) (K.held sink.new) (K.faults sink.old) (K.faults sink.new)) }
+{
+    let reply = carry_out(alloc, controller, command);
+    put_reply(controller, reply, sink)
+}
+
+// Answers each line that a piece ends, and sends the replies on, where there are some.
+fn answer_piece<K: Sink>(
+    alloc: Global,
+    controller: &mut Controller,
+    splitter: &mut Splitter,
+    piece: &[u8],
+    sink: &mut K,
+) -> Result<(), Failed>
+    requires next { controller.old.next + length piece.now < 1000000000000 }
+    requires kept { IsControl controller.old }
+    ensures whole { OnOk result (AnswersPiece controller.old controller.new splitter.old splitter.new piece.now (K.held sink.old) (K.held sink.new) (K.faults sink.old) (K.faults sink.new)) }
+    ensures cut { OnErr result (CutsPiece controller.old controller.new splitter.old piece.now (K.held sink.old) (K.held sink.new) (K.faults sink.old) (K.faults sink.new)) }
+{
+    let mut rest = piece;
+    let mut answered = false;
+    while !rest.is_empty() {
+        let (used, command) = splitter.feed(rest);
+        rest = &rest[used..];
+        if let Some(command) = command {
+            answer(alloc, controller, &command, sink)?;
+            answered = true;
+        }
+    }
+    if answered {
+        sink.flush()?;
+    }
+    Ok(())
+}
+
+// Answers the unfinished line at the end of the input, if it isn't empty, and sends the reply on.
+fn answer_last<K: Sink>(
+    alloc: Global,
+    controller: &mut Controller,
+    last: Option<Command>,
+    sink: &mut K,
+) -> Result<(), Failed>
+    requires within { IfSome last IsCommand }
+    requires next { controller.old.next < 1000000000000 }
+    requires kept { IsControl controller.old }
+    ensures whole { OnOk result (Answers controller.old controller.new (option_to_list last) (K.held sink.old) (K.held sink.new) (K.faults sink.old) (K.faults sink.new)) }
+    ensures cut { OnErr result (AnswersCut controller.old controller.new (option_to_list last) (K.held sink.old) (K.held sink.new) (K.faults sink.old) (K.faults sink.new)) }
+{
+    match last {
+        None => Ok(()),
+        Some(command) => {
+            answer(alloc, controller, &command, sink)?;
+            sink.flush()
+        }
+    }
+}
+
+// Ends a session at the end of its input.
+fn end_input<K: Sink>(
+    alloc: Global,
+    controller: &mut Controller,
+    last: Option<Command>,
+    sink: &mut K,
+) -> End
+    requires within { IfSome last IsCommand }
+    requires next { controller.old.next < 1000000000000 }
+    requires kept { IsControl controller.old }
+    ensures { EndsInput controller.old controller.new (option_to_list last) (K.held sink.old) (K.held sink.new) (K.faults sink.old) (K.faults sink.new) result }
+{
+    match answer_last(alloc, controller, last, sink) {
+        Ok(()) => End::Done,
+        Err(_) => End::WriteFault,
+    }
+}
+
+/// Answers each line of a stream of at most `limit` bytes, in order: every whole line of a piece before the next piece is taken, one line of
+/// reply a put; the texts of a leg and of a plan take one put a line. Before it takes again it sends on what it put. A byte more than the
+/// limit is taken only when all lines up to the limit are answered. It takes memory for lines of `reoptimise` and `hindsight` alone.
+pub fn serve<S: Source, K: Sink>(
+    alloc: Global,
+    controller: &mut Controller,
+    source: &mut S,
+    sink: &mut K,
+    limit: u64,
+) -> End
+    requires limit { limit ≤ 2 ^ 32 }
+    requires next { controller.old.next ≤ 100000000000 }
+    ensures serves { let at = streams S.coming S.faults K.held K.faults in
+        Serves controller.old controller.new (at source.old sink.old) (at source.new sink.new) limit result }
+    ensures counts { let at = streams S.coming S.faults K.held K.faults in
+        CountsFaults (at source.old sink.old) (at source.new sink.new) result }
+    ensures hindsight { (s : SeatState) → StandsFor controller.old s → BoundsFrom controller.old.net s }
+    ensures kept { IsControl controller.new }
+{
+    // For its clause alone: this is a controller of a network within the limits.
+    let _ = controller.network();
+    let mut buffer = [0; PIECE];
+    let mut splitter = Splitter::new();
+    let mut taken = 0;
+    while taken < limit {
+        let count = match take_front(source, &mut buffer, limit - taken) {
+            Ok(count) => count,
+            Err(_) => return End::ReadFault,
+        };
+        if count == 0 {
+            return end_input(alloc, controller, splitter.finish(), sink);
+        }
+        taken += count as u64;
+        match answer_piece(alloc, controller, &mut splitter, &buffer[..count], sink) {
+            Ok(()) => {}
+            Err(_) => return End::WriteFault,
+        }
+    }
+    match take_front(source, &mut buffer, 1) {
+        Ok(0) => end_input(alloc, controller, splitter.finish(), sink),
+        Ok(_) => End::TooLong,
+        Err(_) => End::ReadFault,
+    }
+}
