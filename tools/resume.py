@@ -8,10 +8,11 @@ over the stream, and what was kept must be a front of what it answers: otherwise
 What is told is the first line without a whole reply, and how many bytes the whole replies before it have.
 
 With --go-on that is told on standard error. Then the program is run over the lines before that one, whose replies are compared and
-not written again, and goes on with the lines of standard input; its replies and its status are passed on.
+not written again, and goes on with the lines of standard input; its replies and its status are passed on. Of the lines before, it
+is given those alone that can have changed something: what they were answered begins with `ok`, `no`, `cancelled` or `optimised`.
 
-A line that was answered `memory` changed nothing, and isn't given to the program again. With no --program it is the script `nrm`
-at the top of the repository.
+A line that was answered `memory` changed nothing, and may be answered otherwise another time, so it is never given again. With no
+--program it is the script `nrm` at the top of the repository.
 """
 import argparse
 import itertools
@@ -23,7 +24,8 @@ import threading
 
 TOP = os.path.dirname(os.path.dirname(os.path.realpath(__file__)))
 PIECE = 65_536
-MEMORY = b"memory\n"
+WANTED_MEMORY = re.compile(rb"memory\n")
+CHANGED_SOMETHING = re.compile(rb"(ok|no|cancelled|optimised) ")
 FURTHER = re.compile(rb"(on|product|nest|protect) |leg [^ ]+ [0-9]+/")  # a line of the text of a leg or a plan, but its first
 
 
@@ -39,26 +41,27 @@ def replies_of(lines):
         yield reply
 
 
-class Session:
-    """A run of the program on the lines of the stream before one, and then on standard input if it goes on there."""
+def replies_kept(given):
+    """The replies that were kept; the last one may be cut."""
+    with open(given.replies, "rb") as kept:
+        yield from replies_of(kept)
 
-    def __init__(self, given, before=None, goes_on=False):
-        self.before, self.goes_on, self.stream, self.fault = before, goes_on, given.stream, None
-        with open(given.replies, "rb") as kept:
-            self.left_out = {number for number, reply in enumerate(replies_of(kept), 1) if reply == MEMORY}
+
+class Session:
+    """A run of the program on the stream, or on its lines before one and then on standard input."""
+
+    def __init__(self, given, before=None):
+        self.given, self.before, self.fault = given, before, None
         words = [*given.program, "run", given.mode, given.network]
         self.process = subprocess.Popen(words, stdin=subprocess.PIPE, stdout=subprocess.PIPE)
         threading.Thread(target=self.feed, daemon=True).start()
 
     def feed(self):
-        end = self.process.stdin
         try:
-            with open(self.stream, "rb") as stream, end:
-                for number, line in enumerate(itertools.islice(stream, self.before), 1):
-                    if number not in self.left_out:
-                        end.write(line if line.endswith(b"\n") or not self.goes_on else line + b"\n")
+            with self.process.stdin as end:
+                end.writelines(self.lines_again())
                 end.flush()
-                while self.goes_on and (piece := os.read(0, PIECE)):
+                while self.before is not None and (piece := os.read(0, PIECE)):
                     end.write(piece)
                     end.flush()
         except BrokenPipeError:
@@ -67,14 +70,24 @@ class Session:
             self.fault = 4
             self.process.kill()  # an unfinished line must not be taken for a whole one
 
+    def lines_again(self):
+        """The lines of the stream that are given to the program."""
+        kept = itertools.chain(replies_kept(self.given), itertools.repeat(b""))
+        with open(self.given.stream, "rb") as stream:
+            if self.before is None:
+                yield from (line for line, reply in zip(stream, kept) if not WANTED_MEMORY.match(reply))
+            else:
+                before = itertools.islice(zip(stream, kept), self.before - 1)
+                yield from (line.rstrip(b"\n") + b"\n" for line, reply in before if CHANGED_SOMETHING.match(reply))
+
     def replies(self):
-        """The number of each line, and its reply."""
+        """The replies to all lines."""
         made = replies_of(self.process.stdout)
-        for number in itertools.count(1):
-            reply = MEMORY if number in self.left_out else next(made, None)
+        for kept in itertools.chain(replies_kept(self.given), itertools.repeat(b"")):
+            reply = kept if WANTED_MEMORY.match(kept) else next(made, None)
             if reply is None:
                 return
-            yield number, reply
+            yield reply
 
     def left(self):
         """Ends a run of which no more is wanted."""
@@ -90,7 +103,7 @@ def line_to_go_on_at(given):
     """The first line without a whole reply, and how many bytes the replies before it have."""
     session, number, size = Session(given), 0, 0
     with open(given.replies, "rb") as kept:
-        for number, reply in session.replies():
+        for number, reply in enumerate(session.replies(), 1):
             front = kept.read(len(reply))
             if front != reply:
                 if not reply.startswith(front):
@@ -98,8 +111,8 @@ def line_to_go_on_at(given):
                 session.left()
                 return number, size
             size += len(reply)
-        if session.process.wait():
-            sys.exit(f"after line {number} the program ended with status {session.process.returncode}")
+        if (status := session.process.wait()) not in (0, 8):
+            sys.exit(f"after line {number} the program ended with status {status}")
         if more := kept.read(PIECE):
             parted(number + 1, more, b"")
     return number + 1, size
@@ -107,11 +120,10 @@ def line_to_go_on_at(given):
 
 def go_on(given, before):
     """Answers the lines of standard input as the session does that has answered those before a line of the stream."""
-    session = Session(given, before - 1, goes_on=True)
-    with open(given.replies, "rb") as kept:
-        for number, reply in enumerate(itertools.islice(replies_of(kept), before - 1), 1):
-            if number not in session.left_out and (again := session.process.stdout.read(len(reply))) != reply:
-                parted(number, reply, again)
+    session = Session(given, before)
+    for number, reply in enumerate(itertools.islice(replies_kept(given), before - 1), 1):
+        if CHANGED_SOMETHING.match(reply) and (again := session.process.stdout.read(len(reply))) != reply:
+            parted(number, reply, again)
     try:
         while piece := session.process.stdout.read1(PIECE):
             sys.stdout.buffer.write(piece)
