@@ -27,7 +27,9 @@ from math import gcd, lcm
 
 LONGEST_FILE = 4_194_304
 LONGEST_CERTIFICATE = 65_536
-LONGEST_STREAM = 16_777_216
+LONGEST_STREAM = 2**32
+LONGEST_LINE = 22  # of a good one, with its carriage return
+PIECE = 65_536
 MOST_LEGS, MOST_PRODUCTS = 64, 256
 MOST_MONEY = 99_999_999
 GREATEST = 2**63 - 1  # of a number in a certificate
@@ -39,7 +41,7 @@ FRACTION = re.compile(rb"(0|[1-9][0-9]*)/([1-9][0-9]*)")
 
 
 class Ended(Exception):
-    """The line that is written in place of the output, and the status."""
+    """The line that is written at the end, or none, and the status."""
 
     def __init__(self, line, status):
         self.line, self.status = line, status
@@ -307,7 +309,7 @@ def certificate_of(network, data):
 
 
 def verdict(program, certificate):
-    """The first condition that fails, with its first product or leg."""
+    """The first condition that fails, with its first product or leg, or nothing."""
     x, p = certificate.x, certificate.p
     sold = {leg: program.sold(x, leg) for leg in p}
     price = {product: program.price(p, product) for product in x}
@@ -321,8 +323,8 @@ def verdict(program, certificate):
     for kind, fails in conditions:
         for name in x if kind == b"product" else p:
             if fails(name):
-                return b"wrong %s %s\n" % (kind, name)
-    return b"optimal\n" if certificate.value == program.cost(p) else b"wrong value\n"
+                return f"wrong {kind.decode()} {name.decode()}"
+    return "" if certificate.value == program.cost(p) else "wrong value"
 
 
 def certificate_text(network, certificate):
@@ -612,19 +614,26 @@ class Session:
         return b"bad\n"
 
 
-def stream_given():
-    """Standard input, to its end or to where it is too long."""
+def piece_given():
+    """What there is of standard input, nothing at its end."""
     try:
-        stream = sys.stdin.buffer.read(LONGEST_STREAM + 1)
+        return os.read(0, PIECE)
     except OSError:
         raise Ended("", 4)
-    if len(stream) > LONGEST_STREAM:
-        raise Ended("", 8)
-    return stream
 
 
-def replies(session, stream):
-    return b"".join(session.reply(line) for line in lines_of(stream))
+def replies(session):
+    """The replies to standard input, those to the lines that end in one piece together."""
+    taken, line = 0, b""  # of a line that is too long, enough is kept to see that
+    while piece := piece_given():
+        *whole, line = (line + piece[:LONGEST_STREAM - taken]).split(b"\n")
+        line = line[:LONGEST_LINE + 1]
+        taken += len(piece)
+        yield b"".join(session.reply(it) for it in whole)
+        if taken > LONGEST_STREAM:
+            raise Ended("", 8)
+    if line:
+        yield session.reply(line)
 
 
 # A made stream
@@ -679,22 +688,22 @@ USAGE = "usage: nrm run MODE FILE, plan MODE FILE, check FILE CERT, print FILE, 
 
 
 def told(words):
-    """The text that is written, and the status."""
+    """The texts that are written, one after the other, where all is done."""
     match words:
         case ["run", "first" | "bid" | "davn" as mode, path]:
-            session = Session(network_in(path), mode)
-            return replies(session, stream_given()), 0
+            return replies(Session(network_in(path), mode))
         case ["plan", "first" | "bid" | "davn" as mode, path]:
-            return Session(network_in(path), mode).plan(), 0
+            return [Session(network_in(path), mode).plan()]
         case ["check", path, certificate]:
             network = network_in(path)
             certificate = certificate_of(network, bytes_of(certificate, "refused certificate no file"))
-            text = verdict(Program.to_come(network), certificate)
-            return text, 0 if text == b"optimal\n" else 1
+            if wrong := verdict(Program.to_come(network), certificate):
+                raise Ended(wrong, 1)
+            return [b"optimal\n"]
         case ["print", path]:
-            return canonical(network_in(path)), 0
+            return [canonical(network_in(path))]
         case ["stream", "first" | "bid" | "davn" as mode, path, seed, count]:
-            return made_stream(Session(network_in(path), mode), int(seed), int(count)), 0
+            return [made_stream(Session(network_in(path), mode), int(seed), int(count))]
     raise Ended(USAGE, 2)
 
 
@@ -711,17 +720,22 @@ def network_in(path):
     return network_of(bytes_of(path, "refused no file"))
 
 
-def main():
-    try:
-        text, status = told(words_given())
-    except Ended as ended:
-        text, status = f"{ended.line}\n".encode() if ended.line else b"", ended.status
+def put(text):
+    """Writes a text; where that fails, nothing more is written."""
     try:
         while text:
             text = text[os.write(1, text):]
     except OSError:
-        status = 5
-    sys.exit(status)
+        sys.exit(5)
+
+
+def main():
+    try:
+        for text in told(words_given()):
+            put(text)
+    except Ended as ended:
+        put(f"{ended.line}\n".encode() if ended.line else b"")
+        sys.exit(ended.status)
 
 
 if __name__ == "__main__":
