@@ -139,7 +139,8 @@ def ended(network, certificate):
 
 def main():
     if len(sys.argv) != 3:
-        sys.exit(__doc__)
+        print(__doc__)
+        return 2
     last, status = ended(*sys.argv[1:])
     print(last)
     return status

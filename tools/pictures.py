@@ -67,14 +67,16 @@ def plan_mark():
 
 def bid_prices(network, stream, seasons):
     """The bid price of each leg, under the modes that have prices."""
-    figure, axes = panels(len(network.seats), 5, 1.25, 1)
+    figure, axes = panels(len(network.seats), 5, 1.25 if len(network.seats) > 5 else 2, 1)
     for axis, leg in zip(axes, network.seats):
         mark_plans(axis, stream.points)
         for it in seasons[1:]:
             axis.plot([point.number for point in it.points], [float(point.prices[leg]) for point in it.points],
                       drawstyle="steps-post", **style(it.mode))
         axis.set_title(f"{leg}, {network.seats[leg]} seats")
-    told(figure, LINE, "bid price of a seat, currency units",
+    most = max(1, *[float(price) for it in seasons[1:] for point in it.points for price in point.prices.values()])
+    axes[0].set_ylim(-0.05 * most, 1.05 * most)
+    told(figure, LINE, "bid price, currency units",
          [*[Line2D([], [], **style(it.mode)) for it in seasons[1:]], plan_mark()])
     return figure
 
@@ -143,7 +145,7 @@ def refused(seasons):
     names = [name for name, asked in seasons[0].asked.items() if asked]
     size = min(-(-len(names) // 2), PRODUCTS_IN_A_PANEL)
     parts = [names[at:at + size] for at in range(0, len(names), size)]
-    figure, axes = panels(len(parts), 2, 0.2 * size, 1, left=1.35, across=1.35, share_y=False)
+    figure, axes = panels(len(parts), 2, max(0.2 * size, 1.5), 1, left=1.35, across=1.35, share_y=False)
     looks = {it.mode: {**style(it.mode), "linestyle": "", "markersize": 3.6} for it in seasons}
     for axis, part in zip(axes, parts):
         for at in range(0, len(part), 2):
@@ -165,7 +167,9 @@ def drawn(network, stream, seasons, leg, folder):
     os.makedirs(folder, exist_ok=True)
     with matplotlib.rc_context(SETTINGS):
         figures = {"bid-prices": bid_prices(network, stream, seasons), "seats": seats(network, stream, seasons, leg),
-                   "revenue": revenue(stream, seasons), "refused": refused(seasons)}
+                   "revenue": revenue(stream, seasons)}
+        if any(seasons[0].asked.values()):
+            figures["refused"] = refused(seasons)
         for name, figure in figures.items():
             for kind, metadata in (("png", {"Software": None}), ("svg", {"Date": None, "Creator": None})):
                 path = os.path.join(folder, f"{name}.{kind}")
