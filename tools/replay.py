@@ -79,7 +79,7 @@ def main():
     if histories < 2:
         sys.exit("replay.py: it takes two histories, one to play and one to know")
     line = "{:>8}{:>12}" + "{:>12}{:>6}" * 3
-    print(line.format("history", "bound", *[it for mode in MODES for it in (mode, "")]))
+    print(line.format("history", "bound", *[it for mode in MODES for it in (mode, "")]).rstrip())
     sums, bounds = [0, 0, 0], 0
     for history in range(1, histories + 1):
         bound, told = replayed(rows, history, given.seed, given.program)
@@ -89,6 +89,7 @@ def main():
 
 
 def row(line, name, bound, told):
+    """A line of the table: the bound, and the revenue of each mode with its share."""
     return line.format(name, f"{float(bound):,.0f}", *[it for revenue in told for it in (
         f"{revenue:,}", f"{float(100 * revenue / bound):.0f} %" if bound else "")])
 
