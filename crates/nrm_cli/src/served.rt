@@ -1,7 +1,8 @@
 //! Serves the stream: the controller of a network file answers each line.
-ghost use Rattle.std.specs.Prelude.{◌≡◌, Some};
+ghost use Rattle.std.specs.Prelude.{◌≡◌, ◌≤◌, Some};
+ghost use Rattle.nrm_session.specs.Serving.{CountsFaults, Serves, streams};
 ghost use Rattle.nrm_opening.specs.Outside.{Goes, outside};
-ghost use Rattle.nrm_cli.specs.Ends.{Ends, Failures};
+ghost use Rattle.nrm_cli.specs.Ends.{Ends, Failures, stream_limit};
 ghost use Rattle.nrm_cli.specs.Jobs.{run_file as run_job};
 ghost use Rattle.nrm_cli.specs.Inner.Parts.{status_at};
 
@@ -29,6 +30,22 @@ fn status_at(end: End) -> Status
     }
 }
 
+// Answers the lines of a stream, up to the most bytes that it may have.
+fn answer_stream<S: Source, K: Sink>(
+    alloc: Global,
+    controller: &mut Controller,
+    source: &mut S,
+    sink: &mut K,
+) -> End
+    requires { controller.old.next ≤ 100000000000 }
+    ensures serves { let at = streams S.coming S.faults K.held K.faults in
+        Serves controller.old controller.new (at source.old sink.old) (at source.new sink.new) stream_limit result }
+    ensures counts { let at = streams S.coming S.faults K.held K.faults in
+        CountsFaults (at source.old sink.old) (at source.new sink.new) result }
+{
+    serve(alloc, controller, source, sink, STREAM_LIMIT)
+}
+
 /// Opens a network, makes its opening plan, and answers the lines of the stream.
 pub(crate) fn run_file<F: Files, S: Source, K: Sink>(
     alloc: Global,
@@ -52,7 +69,7 @@ pub(crate) fn run_file<F: Files, S: Source, K: Sink>(
     match Controller::start(alloc, net, mode) {
         Ok(controller) => {
             let mut controller = controller;
-            status_at(serve(alloc, &mut controller, source, sink, STREAM_LIMIT))
+            status_at(answer_stream(alloc, &mut controller, source, sink))
         }
         Err(why) => put_unplanned(sink, why),
     }

@@ -1,6 +1,7 @@
 //! The controller: a network, the plan in force, the book of what was sold of it, and tallies of what was asked.
 ghost use Rattle.std.specs.Prelude.{◌≡◌, ◌<◌, ◌≤◌, ◌+◌, [], All, IfErr, IfNone, IfOk, IfSome, OnErr, OnOk, find, length, min, option_map, pos, slice_index, true};
 ghost use Rattle.std.specs.Int.{IsInRange};
+ghost use Rattle.nrm_number.specs.Gcd.{gcd};
 ghost use Rattle.nrm_fraction.specs.Fraction.{◌over◌};
 ghost use Rattle.nrm_model.specs.Inventory.{inventory_of, uses_leg};
 ghost use Rattle.nrm_model.specs.Network.{least_seats_of};
@@ -209,6 +210,7 @@ impl Controller {
         ensures plan { OnOk result (IsPlanFor self.old.net self.old.plan.mode (seats_left self.old.net self.old.bookings) period self.new.plan) }
         ensures value { IfOk result (λ told. option_map (λ value. pos value.0 over value.1) told ≡ value_of self.old.net self.new.plan) }
         ensures some { IfOk result (λ told. IfSome told (λ value. 0 < value.1)) }
+        ensures lowest { IfOk result (λ told. IfSome told (λ value. gcd value.0 value.1 ≡ 1)) }
         ensures fault { IfErr result (IsPlanFault self.old.net self.old.plan.mode (seats_left self.old.net self.old.bookings) period) }
         ensures unchanged { OnErr result (self.new ≡ self.old) }
         ensures rest { self.new ≡ record self.old { plan = self.new.plan } }
@@ -228,6 +230,7 @@ impl Controller {
     pub fn hindsight(&self, alloc: Global) -> Result<(u64, u64), SolveFault>
         ensures value { IfOk result (λ value. IsHindsight self.now.net self.now.tallies (pos value.0 over value.1)) }
         ensures some { IfOk result (λ value. 0 < value.1) }
+        ensures lowest { IfOk result (λ value. gcd value.0 value.1 ≡ 1) }
         ensures bounds { IfOk result (λ value. BoundsRequests self.now (pos value.0 over value.1)) }
         ensures fault { IfErr result (IsSolveFault (hindsight_program self.now.net self.now.tallies)) }
     {

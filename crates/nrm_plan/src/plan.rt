@@ -1,6 +1,7 @@
 //! A plan: the mode, the period and the seats left of one optimisation, and its certificate. A plan holds no network.
 ghost use Rattle.std.specs.Prelude.{ℕ, ℤ, ◌≡◌, ◌≢◌, ◌<◌, ◌≤◌, IfErr, IfOk, IfSome, Option, Some, get_or, length, option_map, pos, true, []};
 ghost use Rattle.std.specs.Int.{IsInRange};
+ghost use Rattle.nrm_number.specs.Gcd.{gcd};
 ghost use Rattle.nrm_fraction.specs.Fraction.{◌over◌};
 ghost use Rattle.nrm_lp.specs.declared.certificate.Certificate.{Certificate as CertificateValue};
 ghost use Rattle.nrm_model.specs.Inventory.{inventory_of, uses_leg};
@@ -177,6 +178,7 @@ impl Plan {
         requires { IsPlanOf net.now self.now }
         ensures value { option_map (λ value. pos value.0 over value.1) result ≡ value_of net.now self.now }
         ensures some { IfSome result (λ value. 0 < value.1) }
+        ensures lowest { IfSome result (λ value. gcd value.0 value.1 ≡ 1) }
     {
         // For its clause alone: a network is within its limits.
         let _ = net.n();

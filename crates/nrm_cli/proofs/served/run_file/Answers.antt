@@ -15,10 +15,10 @@ returns-in-Err-clause-failures g c = without-failures _ _ c.in-Err.reason c.put_
 pub returns-in-Ok-start-clause-ends : goal.returns-in-Ok-start-clause-ends
 returns-in-Ok-start-clause-ends g c =
     rw c.status_at.ensures
-    (served-ends c.args.mode c.args.name.now c.in-Ok.net c.in-Ok-start.controller c.serve.new.controller _ _ c.in-Ok-start.ensures.begins (refl, c.in-Ok.ensures.opens) c.in-Ok-start.ensures.plan c.serve.result c.serve.ensures.serves c.serve.ensures.counts)
+    (served-ends c.args.mode c.args.name.now c.in-Ok.net c.in-Ok-start.controller c.answer_stream.new.controller _ _ c.in-Ok-start.ensures.begins (refl, c.in-Ok.ensures.opens) c.in-Ok-start.ensures.plan c.answer_stream.result c.answer_stream.ensures.serves c.answer_stream.ensures.counts)
 
 pub returns-in-Ok-start-clause-failures : goal.returns-in-Ok-start-clause-failures
-returns-in-Ok-start-clause-failures g c = rw c.status_at.ensures (served-failures _ _ c.in-Ok.ensures.counts c.serve.result c.serve.ensures.counts)
+returns-in-Ok-start-clause-failures g c = rw c.status_at.ensures (served-failures _ _ c.in-Ok.ensures.counts c.answer_stream.result c.answer_stream.ensures.counts)
 
 pub returns-in-Err-start-clause-ends : goal.returns-in-Err-start-clause-ends
 returns-in-Err-start-clause-ends g c =
@@ -28,4 +28,4 @@ pub returns-in-Err-start-clause-failures : goal.returns-in-Err-start-clause-fail
 returns-in-Err-start-clause-failures g c = unplanned-failures _ _ c.in-Ok.ensures.counts refl c.in-Err-start.why c.put_unplanned.result c.put_unplanned.ensures.puts
 
 pub returns-in-Ok-start-clause-goes : goal.returns-in-Ok-start-clause-goes
-returns-in-Ok-start-clause-goes g c = served-goes _ _ c.in-Ok.ensures.stays c.in-Ok.ensures.counts c.serve.result c.serve.ensures.counts
+returns-in-Ok-start-clause-goes g c = served-goes _ _ c.in-Ok.ensures.stays c.in-Ok.ensures.counts c.answer_stream.result c.answer_stream.ensures.counts

@@ -1,0 +1,150 @@
+#!/usr/bin/env python3
+"""Audits a certificate against a network. It solves nothing: it reads two files and compares.
+
+    tools/audit.py NETWORK CERTIFICATE
+
+The files are those of docs/network-file.md and docs/certificate.md, and the network file is one that `nrm print` accepts.
+Of each condition it is told whether it holds, then what the allocation gains and what the prices cost, in a history on the
+mean. The last line and the status are those of `nrm check`: `optimal` and 0, the first condition that fails and 1, or why
+a file is refused and 3. Nothing of the program or of its tests is used, all numbers are exact fractions, and all are means
+of a history, where the program counts in whole numbers over all histories.
+"""
+import csv
+import re
+import sys
+from fractions import Fraction
+from math import lcm
+
+LONGEST_CERTIFICATE = 65_536
+GREATEST = 2**63 - 1  # of a number as it is written in a certificate
+LIMIT = 2**48  # no number of a certificate over its common denominators reaches it
+FRACTION = re.compile(rb"(0|[1-9][0-9]*)/([1-9][0-9]*)")
+
+
+class Refused(Exception):
+    """The line that says why a file is refused."""
+
+
+class Network:
+    """Seats and thresholds of each leg; fare, legs and demand, in all histories and periods together, of each product."""
+
+    def __init__(self, path):
+        self.histories, self.seats, self.thresholds, self.fare, self.legs, self.demand = 0, {}, {}, {}, {}, {}
+        with open(path, encoding="utf-8-sig", newline="") as file:  # a mark at the start is skipped, line ends are kept
+            try:
+                for row in filter(None, csv.reader(file)):  # a blank line is an empty row, and counts for nothing
+                    self.take(*row[:2], row[2:])
+                if not (self.histories and self.seats and self.fare and set().union(*self.legs.values()) <= self.seats.keys()):
+                    raise ValueError
+            except (ValueError, TypeError, LookupError, csv.Error):
+                raise Refused("refused: `nrm print` says why")
+
+    def take(self, kind, name, rest):
+        if kind == "periods":
+            self.histories, self.periods = int(name), int(rest[0])
+        elif kind == "leg":
+            self.seats[name], *self.thresholds[name] = map(int, rest)
+        elif kind == "product":
+            self.fare[name], self.legs[name], self.demand[name] = int(rest[0]), rest[1:], 0
+        else:
+            self.demand[name] += sum(map(int, rest[1:]))  # the first number is that of the history
+
+
+def bytes_of(path):
+    """The bytes of a certificate file."""
+    with open(path, "rb") as file:
+        data = file.read(LONGEST_CERTIFICATE + 1)
+    if len(data) > LONGEST_CERTIFICATE:
+        raise Refused("refused certificate long")
+    return data
+
+
+def is_large(digits):
+    return len(digits) > 19 or int(digits) > GREATEST
+
+
+class Certificate:
+    """The value, the seats of each product and the price of each leg, all as they are written."""
+
+    def __init__(self, path, network):
+        wanted = ["value"] + [f"product {it}" for it in network.fare] + [f"leg {it}" for it in network.seats]
+        lines, given = bytes_of(path).split(b"\n"), {}
+        for number, line in enumerate(lines if lines[-1] else lines[:-1], 1):
+            words, _, last = line.removesuffix(b"\r").rpartition(b" ")
+            what, found = words.decode("latin-1"), FRACTION.fullmatch(last)
+            if what not in wanted or what in given or not found:
+                raise Refused(f"refused certificate line {number}")
+            if any(map(is_large, found.groups())):
+                raise Refused(f"refused certificate line {number} large")
+            given[what] = Fraction(*map(int, found.groups()))
+        for what in wanted:
+            if what not in given:
+                raise Refused(f"refused certificate no {what}")
+        self.value = given["value"]
+        self.seats = {it: given[f"product {it}"] for it in network.fare}
+        self.price = {it: given[f"leg {it}"] for it in network.seats}
+        self.refuse_too_fine(network.histories)
+
+    def refuse_too_fine(self, histories):
+        totals = [histories * it for it in self.seats.values()]
+        for numbers in (totals, [histories * self.value, *self.price.values()]):
+            common = lcm(*[it.denominator for it in numbers])
+            if max(common, *[it * common for it in numbers]) >= LIMIT:
+                raise Refused("refused certificate too fine")
+
+
+def audit(network, certificate):
+    """Tells each condition, and gives the last line."""
+    bound = {it: Fraction(demand, network.histories) for it, demand in network.demand.items()}
+    worth = {it: sum(certificate.price[leg] for leg in legs) for it, legs in network.legs.items()}
+    sold = {leg: sum(seats for it, seats in certificate.seats.items() if leg in network.legs[it]) for leg in network.seats}
+    gain = sum(network.fare[it] * seats for it, seats in certificate.seats.items())
+    cost = sum(network.seats[leg] * price for leg, price in certificate.price.items())
+    cost += sum(bound[it] * max(network.fare[it] - worth[it], 0) for it in bound)
+    conditions = {
+        "2 no product has more seats than its demand":
+            [f"product {it}" for it, seats in certificate.seats.items() if seats > bound[it]],
+        "3 no leg gives more seats than it has":
+            [f"leg {leg}" for leg in sold if sold[leg] > network.seats[leg]],
+        "4 each leg with a price is full":
+            [f"leg {leg}" for leg, price in certificate.price.items() if price > 0 and sold[leg] < network.seats[leg]],
+        "5 each product that is worth more than its legs has all its demand":
+            [f"product {it}" for it, seats in certificate.seats.items() if seats < bound[it] and network.fare[it] > worth[it]],
+        "6 each product that has seats is worth its legs":
+            [f"product {it}" for it, seats in certificate.seats.items() if seats > 0 and network.fare[it] < worth[it]],
+        "7 the value is the cost":
+            ["value"] if certificate.value != cost else [],
+    }
+    for text, failing in conditions.items():
+        print(f"{text}: {f'fails at {failing[0]}' if failing else 'holds'}")
+    print(f"gain {gain.numerator}/{gain.denominator}\ncost {cost.numerator}/{cost.denominator}")
+    return next((f"wrong {failing[0]}" for failing in conditions.values() if failing), "optimal")
+
+
+def ended(network, certificate):
+    """The last line and the status, for the paths of two files."""
+    missing = "refused no file"
+    try:
+        network = Network(network)
+        missing = "refused certificate no file"
+        last = audit(network, Certificate(certificate, network))
+        return last, 0 if last == "optimal" else 1
+    except FileNotFoundError:
+        return missing, 3
+    except OSError:
+        return "file fault", 9
+    except Refused as refusal:
+        return str(refusal), 3
+
+
+def main():
+    if len(sys.argv) != 3:
+        print(__doc__)
+        return 2
+    last, status = ended(*sys.argv[1:])
+    print(last)
+    return status
+
+
+if __name__ == "__main__":
+    sys.exit(main())

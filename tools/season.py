@@ -1,0 +1,216 @@
+#!/usr/bin/env python3
+"""A season in the three modes: its numbers as tables, and four pictures of them.
+
+    tools/season.py NETWORK STREAM [--out FOLDER] [--leg LEG] [--program WORD...]
+
+`nrm` answers the lines of STREAM on NETWORK under `first`, `bid` and `davn`. Told are: the revenue of each mode beside the
+bound of hindsight, and the bid prices of each leg, at the opening, at each line `reoptimise` and at the end; the seats of one
+leg, sold, left and protected; and of how many requests each product was refused. The tables come on standard output; the
+pictures go to FOLDER, the current one where nothing is said, each as PNG and as SVG, and are the same each time. They
+need matplotlib (Debian's python3-matplotlib): without it there are the tables alone. LEG is the leg whose seats are drawn,
+by default the one of which most seats were asked for. With no --program it is the script `nrm` at the top of the repository.
+
+HOW REPLIES ARE TOLD APART. Before the first line, behind each line `reoptimise K` of a period that the network has, and
+behind the last line, the lines `plan`, `leg LEG` for each leg, and `hindsight` are put into the stream. None of them changes
+what any other line is answered. Each line has one line of reply, but for two: `plan`, which has one under `first`, one for
+the value, each product and each leg under `bid`, and under `davn` one more for each leg of each product and one more for
+each leg; and `leg LEG` for a leg of the network, which has one and those behind it that begin with `on LEG`. So the replies
+are dealt out to the lines in order, and those to the lines put in are taken away.
+"""
+import argparse
+import os
+import re
+import subprocess
+import sys
+from fractions import Fraction
+
+from audit import Network, Refused
+
+TOP = os.path.dirname(os.path.dirname(os.path.realpath(__file__)))
+MODES = ["first", "bid", "davn"]
+
+
+class Stop(Exception):
+    """Why there is nothing to tell."""
+
+
+class Stream:
+    """The lines of a stream, and the lines with what is put in: each with the number of the stream's line that it is or
+    follows, and whether it was put in."""
+
+    def __init__(self, data, network):
+        lines = data.split(b"\n")
+        self.lines = [it.removesuffix(b"\r").decode("latin-1") for it in (lines if lines[-1] else lines[:-1])]
+        looks = ["plan", *[f"leg {leg}" for leg in network.seats], "hindsight"]
+        self.points, self.asked = [(0, "opening")], [(0, look, True) for look in looks]
+        for number, line in enumerate(self.lines, 1):
+            self.asked.append((number, line, False))
+            found = re.fullmatch(r"reoptimise ([1-9][0-9]?)", line)
+            if found and int(found[1]) <= network.periods or number == len(self.lines):
+                self.points.append((number, f"period {found[1]}" if found else "end"))
+                self.asked += [(number, look, True) for look in looks]
+
+    def data(self):
+        return b"".join(line.encode("latin-1") + b"\n" for _, line, _ in self.asked)
+
+
+class Point:
+    """What is told at one place of a season: the prices and protections in force, the seats sold, the bound, the revenue."""
+
+    def __init__(self, number):
+        self.number = number
+        self.prices, self.protections, self.sold = {}, {}, {}
+        self.bound = self.revenue = None
+
+    def take(self, line, replies):
+        if line == "plan":
+            for words in map(str.split, replies):
+                if words[0] == "leg":
+                    self.prices[words[1]] = Fraction(words[2])
+                elif words[0] == "protect":
+                    self.protections[words[1]] = [int(it) for it in words[2:]]
+        elif line == "hindsight":
+            words = replies[0].split()
+            if words[0] == "hindsight":  # and not `overflow` or `memory`
+                self.bound, self.revenue = Fraction(words[1]), int(words[3])
+        else:
+            words = replies[0].split()
+            self.sold[words[1]] = int(words[5])
+
+
+class Season:
+    """What one mode answers: the points, the seats sold on one leg behind each line, and what was asked and refused."""
+
+    def __init__(self, mode, network, stream, leg, replies):
+        self.mode, self.network = mode, network
+        self.points, self.bookings = [], {}
+        self.asked = {it: 0 for it in network.fare}
+        self.refused = {it: 0 for it in network.fare}
+        self.sold, self.course = {it: 0 for it in network.seats}, [0]
+        for number, line, put_in in stream.asked:
+            reply = self.taken(line, replies)
+            if put_in:
+                self.look(number, line, reply)
+            else:
+                self.follow(line.split(" "), reply[0].split(" "))
+                self.course.append(self.sold[leg])
+
+    def look(self, number, line, reply):
+        """Takes the reply to a line that was put in."""
+        if line == "plan":
+            self.points.append(Point(number))
+        self.points[-1].take(line, reply)
+        if line == "hindsight" and self.points[-1].sold != self.sold:
+            raise Stop("the replies don't fit the lines")
+
+    def taken(self, line, replies):
+        """The lines of the reply to a line, taken from the front of those that are left."""
+        count, legs = 1, self.network.seats
+        if line == "plan" and self.mode != "first":
+            nests = len(legs) + sum(map(len, self.network.legs.values()))
+            count += len(legs) + len(self.network.fare) + (nests if self.mode == "davn" else 0)
+        elif line.startswith("leg ") and line[4:] in legs:
+            while len(replies) > count and replies[-count - 1].startswith(f"on {line[4:]} "):
+                count += 1
+        if len(replies) < count:
+            raise Stop("there are fewer replies than lines")
+        return [replies.pop() for _ in range(count)]
+
+    def follow(self, words, reply):
+        """Counts a line of the stream and its reply."""
+        if words[0] == "book" and reply[0] in ("ok", "no"):
+            self.asked[words[1]] += 1
+            self.refused[words[1]] += reply[0] == "no"
+            if reply[0] == "ok":
+                self.bookings[reply[1]] = words[1], int(words[2])
+                self.sell(words[1], int(words[2]))
+        elif reply[0] == "cancelled":
+            product, party = self.bookings.pop(reply[1])
+            self.sell(product, -party)
+
+    def sell(self, product, party):
+        for leg in self.network.legs[product]:
+            self.sold[leg] += party
+
+
+def season(mode, program, path, network, stream, leg):
+    """The season of one mode."""
+    done = subprocess.run([*program, "run", mode, path], input=stream.data(), stdout=subprocess.PIPE)
+    if done.returncode:
+        raise Stop(f"`run {mode}` ended with status {done.returncode}: {done.stdout.decode('latin-1').strip()}")
+    return Season(mode, network, stream, leg, done.stdout.decode("latin-1").splitlines()[::-1])
+
+
+def leg_most_asked_for(network, stream):
+    """The leg of which most seats were asked for, sold or not."""
+    seats = {leg: 0 for leg in network.seats}
+    for line in stream.lines:
+        found = re.fullmatch(r"book (\S+) ([1-9][0-9]{0,2})", line)
+        for leg in network.legs.get(found[1], []) if found else []:
+            seats[leg] += int(found[2])
+    return max(seats, key=seats.get)
+
+
+# Tables
+
+
+def table(title, heads, rows):
+    """A table of text, its columns to the right but for the first."""
+    rows = [[("" if it is None else str(it)) for it in row] for row in [heads, *rows]]
+    widths = [max(map(len, column)) for column in zip(*rows)]
+    print(f"\n{title}\n")
+    for row in rows:
+        print(f"  {row[0]:<{widths[0]}}", *[f"{it:>{width}}" for it, width in zip(row[1:], widths[1:])], sep="  ")
+
+
+def tables(network, stream, seasons, leg):
+    names = [name for _, name in stream.points]
+    print("Each point of the season is behind a line of the stream:",
+          *[f"{name} {number}" for number, name in stream.points], sep="\n  ")
+    rows = zip(names, *[[point.revenue for point in it.points] for it in seasons], [it.bound for it in seasons[0].points])
+    table("Revenue of the bookings that stand, and the bound of hindsight, in currency units", ["", *MODES, "bound"], rows)
+    for it in seasons[1:]:
+        rows = [[name, *[point.prices[name] for point in it.points]] for name in network.seats]
+        table(f"Bid prices under {it.mode}, in currency units", ["leg", *names], rows)
+    for it in seasons:
+        rows = [[name, point.sold[leg], network.seats[leg] - point.sold[leg],
+                 *(point.protections[leg] if it.mode == "davn" else [])] for name, point in zip(names, it.points)]
+        levels = [f"for 1 to {b}" if b > 1 else "for 1" for b in range(1, len(rows[0]) - 2)]
+        table(f"Seats of {leg} under {it.mode}: sold, left{', and protected for buckets' if levels else ''}",
+              ["", "sold", "left", *levels], rows)
+    rows = [[name, asked, *[it.refused[name] for it in seasons]] for name, asked in seasons[0].asked.items() if asked]
+    table("Requests for each product, and how many of them were refused", ["product", "requests", *MODES], rows)
+
+
+def main():
+    parser = argparse.ArgumentParser(usage=__doc__)
+    parser.add_argument("network")
+    parser.add_argument("stream")
+    parser.add_argument("--out", default=".")
+    parser.add_argument("--leg")
+    parser.add_argument("--program", nargs="+", default=[os.path.join(TOP, "nrm")])
+    given = parser.parse_args()
+    network = Network(given.network)
+    with open(given.stream, "rb") as file:
+        stream = Stream(file.read(), network)
+    leg = given.leg or leg_most_asked_for(network, stream)
+    if leg not in network.seats:
+        raise Stop(f"there is no leg {leg}")
+    seasons = [season(mode, given.program, given.network, network, stream, leg) for mode in MODES]
+    tables(network, stream, seasons, leg)
+    try:
+        import pictures
+    except ImportError:
+        print(f"No pictures: {sys.executable} has no matplotlib (Debian's python3-matplotlib, for /usr/bin/python3).",
+              file=sys.stderr)
+        return
+    print()
+    for path in pictures.drawn(network, stream, seasons, leg, given.out):
+        print(path)
+
+
+if __name__ == "__main__":
+    try:
+        main()
+    except (Stop, Refused, OSError) as stop:
+        sys.exit(f"season.py: {stop}")
