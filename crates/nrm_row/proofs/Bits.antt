@@ -1,7 +1,6 @@
 -- What the code's numbers are at 64 and at 128 bits.
-use Rattle.std.proofs.Common.{refl, sym, to_z-of_z, ◌≡◌, ℕ, zero, suc, ◌^◌, ◌<◌, ℤ, pos, negsuc, ◌-ℤ◌, ◌*ℤ◌, subst, ◌<ℤ◌, nat_abs, arith, ap, ◌∙◌, List, [], ◌∷◌, length, get_or, All}
-use Rattle.std.proofs.lemmas.List.{get_or_default}
-use Rattle.std.proofs.lemmas.Int.{ints, to_z_pos, unsigned_abs-mul}
+use Rattle.std.proofs.Common.{refl, sym, to_z-of_z, ◌≡◌, ◌^◌, ◌<◌, ℤ, pos, negsuc, ◌-ℤ◌, ◌*ℤ◌, subst, ◌<ℤ◌, nat_abs, arith, ap, ◌∙◌, [], ◌∷◌}
+use Rattle.std.proofs.lemmas.Int.{ints, unsigned_abs-mul}
 use Rattle.std.proofs.lemmas.Nat.{mul-lt}
 use mir.Syntax.{w64, w128}
 use mir.Val.{to_z, of_z, SFits}
@@ -11,14 +10,6 @@ use Rattle.nrm_number.proofs.Ring.Expr.{◌⊗◌}
 use Rattle.nrm_row.specs.Inner.Crossed.{IsShort}
 use Rattle.nrm_fraction.specs.Large.{size_limit, IsSmall}
 use Rattle.nrm_fraction.proofs.Sizes.{small_same}
-
--- a number read at a column, as the code has it
-pub read_at : (ns : List ℤ) (i col : ℕ) (n : ℤ) → All IsSmall ns → col < length ns → i ≡ col → n ≡ get_or ns i n → to_z w64 (of_z w64 n) ≡ get_or ns col (pos 0)
-read_at ns i col n smalls h e r =
-    ap (λ z. to_z w64 (of_z w64 z)) read ∙ small_same (get_or ns col (pos 0)) (smalls col (pos 0) h)
-  where
-    read : n ≡ get_or ns col (pos 0)
-    read = r ∙ ap (λ j. get_or ns j n) e ∙ get_or_default ns col n (pos 0) h
 
 -- a difference of two products, as the code has it at 128 bits
 pub difference_is : (p q : ℤ) → nat_abs p < 2 ^ 96 → nat_abs q < 2 ^ 96 → to_z w128 (of_z w128 (to_z w128 (of_z w128 p) -ℤ to_z w128 (of_z w128 q))) ≡ p -ℤ q
@@ -44,23 +35,16 @@ product_small x y h k =
     number : (n : ℤ) → IsSmall n → to_z w128 (of_z w128 (to_z w64 (of_z w64 n))) ≡ n
     number n l = ap (λ z. to_z w128 (of_z w128 z)) (small_same n l) ∙ wide_same n (omega arith)
 
-pub short_positive_bits : (g : ℤ) → pos 0 <ℤ g → 0 < of_z w64 g
-short_positive_bits (pos zero) h = absurd (omega (arith, ints))
-short_positive_bits (pos (suc n)) h = omega arith
-short_positive_bits (negsuc n) h = absurd (omega (arith, ints))
-
 pub one_from_bits : (g : ℤ) → pos 0 <ℤ g → of_z w64 g ≡ 1 → nat_abs g ≡ 1
 one_from_bits (pos n) h e = e
 one_from_bits (negsuc n) h e = absurd (omega (arith, ints))
 
-pub cast_small : (g : ℕ) → g < 2 ^ 96 → to_z w128 g ≡ pos g
-cast_small g h = to_z_pos w128 g (omega arith)
+-- a number that the code has for 0 has no bits
+pub zero_bits : (n : ℤ) → SFits w64 n → to_z w64 (of_z w64 n) ≡ pos 0 → of_z w64 n ≡ 0
+zero_bits n f e = ap (of_z w64) (sym (to_z-of_z f) ∙ e)
 
-pub zero_from_bits : (n : ℤ) → SFits w64 n → of_z w64 n ≡ 0 → n ≡ pos 0
-zero_from_bits n f e = sym (to_z-of_z f) ∙ ap (to_z w64) e
-
-pub wide_zero_from_bits : (n : ℤ) → SFits w128 n → of_z w128 n ≡ 0 → n ≡ pos 0
-wide_zero_from_bits n f e = sym (to_z-of_z f) ∙ ap (to_z w128) e
+pub wide_zero_bits : (n : ℤ) → SFits w128 n → to_z w128 (of_z w128 n) ≡ pos 0 → of_z w128 n ≡ 0
+wide_zero_bits n f e = ap (of_z w128) (sym (to_z-of_z f) ∙ e)
 
 -- ---- at 64 bits, where one factor is short
 short_same : (p : ℤ) → nat_abs p < 2 ^ 62 → to_z w64 (of_z w64 p) ≡ p

@@ -5,3 +5,8 @@ pub mod Combining
 pub mod RatioLaws
 pub mod Entries
 pub mod Filled
+pub mod Rising
+pub mod Merging
+pub mod Cutting
+pub mod Finishing
+mod Examples

@@ -12,12 +12,19 @@ use Rattle.nrm_number.proofs.GcdLaws.{nat_abs-shrink}
 use Rattle.nrm_fraction.specs.Fraction.{Fraction, ◌over◌}
 use Rattle.nrm_fraction.specs.Large.{fractions, gcd_all, first_reaching, common, numerators, large_number, size_limit, IsSmall}
 use Rattle.nrm_fraction.proofs.Lowest.{common_is, numerators_are}
-use Rattle.nrm_row.specs.Numbers.{IsRow}
 use Rattle.nrm_row.specs.Inner.Crossed.{shrunk}
 use Rattle.nrm_row.proofs.Divisors.{shrunk_same, shrunk_lowest, reduced_below}
 use Rattle.nrm_fraction.proofs.CommonDivisors.{gcd_all_pos, gcd_all-dvd, gcd_all-divides}
 use Rattle.nrm_fraction.proofs.Reaching.{reaching_no}
 use Rattle.nrm_fraction.proofs.Sizes.{positive_abs}
+
+-- one positive denominator and 1 to 577 numbers, in lowest terms and below the limit
+pub record IsLowest (den : ℤ) (nums : List ℤ) : Type 0 where
+  pub positive : pos 0 <ℤ den
+  pub small : IsSmall den
+  pub smalls : All IsSmall nums
+  pub lowest : gcd_all (nat_abs den) nums ≡ 1
+  pub width : IsInRange 1 577 (length nums)
 
 some_not_none : (n : ℤ) → Some n ≡ None → ⊥
 some_not_none n e = cc
@@ -50,7 +57,7 @@ pub divisor_positive : (d : ℤ) (ns : List ℤ) → pos 0 <ℤ d → pos 0 <ℤ
 divisor_positive d ns h = omega (arith, ints, gcd_all_pos (nat_abs d) ns (positive_abs d h).1)
 
 -- numbers over a denominator, divided by what they have in common, are a row if they are small
-pub lowest_is_row : (d : ℤ) (ns : List ℤ) → pos 0 <ℤ d → IsSmall (shrink d (gcd_all (nat_abs d) ns)) → All IsSmall (shrunk (gcd_all (nat_abs d) ns) ns) → IsInRange 1 577 (length ns) → IsRow (shrink d (gcd_all (nat_abs d) ns)) (shrunk (gcd_all (nat_abs d) ns) ns)
+pub lowest_is_row : (d : ℤ) (ns : List ℤ) → pos 0 <ℤ d → IsSmall (shrink d (gcd_all (nat_abs d) ns)) → All IsSmall (shrunk (gcd_all (nat_abs d) ns) ns) → IsInRange 1 577 (length ns) → IsLowest (shrink d (gcd_all (nat_abs d) ns)) (shrunk (gcd_all (nat_abs d) ns) ns)
 lowest_is_row d ns h small smalls w = record {
   positive = subst (λ z. pos 0 <ℤ z) (sym (lowest_parts d ns h).0) (omega (arith, ints, (lowest_parts d ns h).1));
   small = small;
@@ -63,7 +70,7 @@ shrink_small : (g : ℕ) (n : ℤ) → IsSmall n → IsSmall (shrink n g)
 shrink_small g n h = omega (arith, nat_abs-shrink n g, div-le_self (nat_abs n) g)
 
 -- numbers below the limit stay below it
-pub small_is_row : (d : ℤ) (ns : List ℤ) → pos 0 <ℤ d → IsSmall d → All IsSmall ns → IsInRange 1 577 (length ns) → IsRow (shrink d (gcd_all (nat_abs d) ns)) (shrunk (gcd_all (nat_abs d) ns) ns)
+pub small_is_row : (d : ℤ) (ns : List ℤ) → pos 0 <ℤ d → IsSmall d → All IsSmall ns → IsInRange 1 577 (length ns) → IsLowest (shrink d (gcd_all (nat_abs d) ns)) (shrunk (gcd_all (nat_abs d) ns) ns)
 small_is_row d ns h small smalls w =
     lowest_is_row d ns h (shrink_small (gcd_all (nat_abs d) ns) d small)
     (All-map IsSmall (λ n. shrink n (gcd_all (nat_abs d) ns)) ns (All-weaker IsSmall (λ n. IsSmall (shrink n (gcd_all (nat_abs d) ns))) (shrink_small (gcd_all (nat_abs d) ns)) ns smalls)) w
@@ -75,7 +82,7 @@ lowest_same d ns h =
     ∙ shrunk_same (nat_abs d) (gcd_all (nat_abs d) ns) ns (positive_abs d h).1 (lowest_parts d ns h).1 (div-mul_cancel (gcd_all (nat_abs d) ns) (gcd_all-dvd (nat_abs d) ns)) (gcd_all_pos (nat_abs d) ns (positive_abs d h).1) (gcd_all-divides (nat_abs d) ns)
 
 -- a row, by the tests of its numbers
-pub made_is_row : (d : ℤ) (ns : List ℤ) → pos 0 <ℤ d → leb size_limit (nat_abs (shrink d (gcd_all (nat_abs d) ns))) ≡ false → first_reaching size_limit (shrunk (gcd_all (nat_abs d) ns) ns) ≡ None → IsInRange 1 577 (length ns) → IsRow (shrink d (gcd_all (nat_abs d) ns)) (shrunk (gcd_all (nat_abs d) ns) ns)
+pub made_is_row : (d : ℤ) (ns : List ℤ) → pos 0 <ℤ d → leb size_limit (nat_abs (shrink d (gcd_all (nat_abs d) ns))) ≡ false → first_reaching size_limit (shrunk (gcd_all (nat_abs d) ns) ns) ≡ None → IsInRange 1 577 (length ns) → IsLowest (shrink d (gcd_all (nat_abs d) ns)) (shrunk (gcd_all (nat_abs d) ns) ns)
 made_is_row d ns h small none w = lowest_is_row d ns h (leb-false size_limit (nat_abs (shrink d (gcd_all (nat_abs d) ns))) small) (small_from_none (shrunk (gcd_all (nat_abs d) ns) ns) none) w
 
 -- the first number of the exact row that reaches a limit
@@ -95,7 +102,7 @@ large_is limit d ns h =
     common_here = common_is M N (lowest_parts d ns h).1 (shrunk_lowest (nat_abs d) ns (positive_abs d h).1)
 
 -- a row isn't Large
-pub row_not_large : (d : ℤ) (ns : List ℤ) → IsRow d ns → large_number size_limit (fractions (nat_abs d) ns) ≡ None
+pub row_not_large : (d : ℤ) (ns : List ℤ) → IsLowest d ns → large_number size_limit (fractions (nat_abs d) ns) ≡ None
 row_not_large d ns r =
     ap₂ (λ m ms. first_reaching size_limit (pos m ∷ ms)) common_here (ap (λ m. numerators m (fractions (nat_abs d) ns)) common_here ∙ numerators_are (nat_abs d) ns (positive_abs d r.positive).1)
     ∙ none_reaches (pos (nat_abs d) ∷ ns) (All-cons IsSmall (pos (nat_abs d)) ns r.small r.smalls)
@@ -104,11 +111,11 @@ row_not_large d ns r =
     common_here = common_is (nat_abs d) ns (positive_abs d r.positive).1 r.lowest
 
 -- ---- what a row's parts are of its fractions
-pub row_den : (d : ℤ) (ns : List ℤ) (row : List Fraction) → IsRow d ns → fractions (nat_abs d) ns ≡ row → d ≡ pos (common row)
+pub row_den : (d : ℤ) (ns : List ℤ) (row : List Fraction) → IsLowest d ns → fractions (nat_abs d) ns ≡ row → d ≡ pos (common row)
 row_den d ns row r e =
     (positive_abs d r.positive).0 ∙ ap pos (sym (common_is (nat_abs d) ns (positive_abs d r.positive).1 r.lowest)) ∙ ap (λ t. pos (common t)) e
 
-pub row_nums : (d : ℤ) (ns : List ℤ) (row : List Fraction) → IsRow d ns → fractions (nat_abs d) ns ≡ row → numerators (common row) row ≡ ns
+pub row_nums : (d : ℤ) (ns : List ℤ) (row : List Fraction) → IsLowest d ns → fractions (nat_abs d) ns ≡ row → numerators (common row) row ≡ ns
 row_nums d ns row r e =
     sym (ap (λ t. numerators (common t) t) e)
     ∙ ap (λ m. numerators m (fractions (nat_abs d) ns)) (common_is (nat_abs d) ns (positive_abs d r.positive).1 r.lowest)

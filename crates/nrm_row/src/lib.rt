@@ -4,6 +4,8 @@
 mod crossed;
 mod lowest;
 mod numbers;
+mod pairs;
+mod places;
 mod ratios;
 mod row;
 #[cfg(test)]

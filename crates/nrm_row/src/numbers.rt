@@ -42,7 +42,7 @@ pub fn is_short(n: i64) -> bool
     n.unsigned_abs() < SHORT_FACTOR
 }
 
-fn short_product(x: i64, y: i64) -> i64
+pub fn short_product(x: i64, y: i64) -> i64
     requires x_small { IsSmall x }
     requires y_short { IsShort y }
     ensures value { result ≡ x *ℤ y }
@@ -102,14 +102,6 @@ pub fn quotient(n: i64, g: i64) -> i64
     } else {
         0
     }
-}
-
-// The same, with no division by 1.
-pub fn short_quotient(n: i64, g: i64) -> i64
-    requires { pos 0 <ℤ g }
-    ensures { result ≡ shrink n (unsigned_abs g) }
-{
-    if g != 1 { quotient(n, g) } else { n }
 }
 
 // The same of a wide number, at 64 bits where both fit.

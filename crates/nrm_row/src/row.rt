@@ -1,49 +1,117 @@
 //! A row of fractions: whole numbers over one denominator, in lowest terms.
 #![tactic(auto)]
 
-ghost use Rattle.std.specs.Prelude.{◌≡◌, ◌+◌, ◌<◌, ◌≤◌, ◌^◌, ◌<ℤ◌, ◌*ℤ◌, pos, unsigned_abs, length, map, take, drop, All, IfOk, MatchResult, None, List, get_or, unwrap_or};
+ghost use Rattle.std.specs.Prelude.{◌≡◌, ◌≢◌, ◌+◌, ◌-◌, ◌<◌, ◌≤◌, ◌^◌, ◌<ℤ◌, ◌*ℤ◌, ℕ, ℤ, pos, unsigned_abs, length, map, take, drop, All, IfOk, MatchResult, None, List, get_or, unwrap_or};
 ghost use Rattle.std.specs.Int.{IsInRange};
-ghost use Rattle.std.specs.List.{range_with_len};
 ghost use Rattle.nrm_fraction.specs.Fraction.{Fraction, ◌<ᶠ◌, less, whole};
 ghost use Rattle.nrm_fraction.specs.Large.{fractions, common, numerators, large_number, size_limit, IsSmall};
 ghost use Rattle.nrm_fraction.specs.Lex.{lex_below};
-ghost use Rattle.nrm_fraction.specs.Rows.{at, number_at, row_of, unit_row, combine as combined, ratio_columns, ratios};
-ghost use Rattle.nrm_row.specs.Numbers.{AreEntries, IsRow};
-ghost use Rattle.nrm_row.specs.Inner.Crossed.{crossed};
+ghost use Rattle.nrm_fraction.specs.Rows.{at, row_of, unit_row, combine as combined, ratio_columns, ratios};
+ghost use Rattle.nrm_row.specs.Numbers.{AreEntries, IsRow, entries_of, numbers_of};
+ghost use Rattle.nrm_row.specs.Inner.Crossed.{crossed, kept};
 ghost use Rattle.nrm_fraction.specs.Fault.{IsFault};
 
-use crate::crossed::{crossed_divisor, crossed_numbers};
-use crate::lowest::{divided, divisor};
-use crate::numbers::{is_large, product, quotient, shared_divisor, wide_quotient};
+use crate::crossed::{first_large, short_entries, wide_divided, wide_divisor, wide_entries};
+use crate::lowest::{divide_in_place, divisor};
+use crate::numbers::{
+    is_large, is_short, is_short_large, product, quotient, shared_divisor, short_product,
+    wide_quotient,
+};
+use crate::places::{between, number};
 use crate::ratios::ratios_below;
 use nrm_fraction::RowFault;
 use std::alloc::{AllocError, Global};
 use std::marker::Model;
 
-// The numbers at these columns, and 0 elsewhere.
-fn filled(alloc: Global, width: u16, entries: &[(u16, i64)]) -> Result<Vec<i64>, AllocError>
-    requires { AreEntries width entries.now }
-    ensures { IfOk result (λ made. made.items ≡ map (λ c. number_at entries.now c) (range_with_len 0 width)) }
+// The entries whose number isn't 0.
+fn without_zeros(alloc: Global, entries: &[(u16, i64)]) -> Result<Vec<(u16, i64)>, AllocError>
+    ensures { IfOk result (λ made. made.items ≡ kept entries.now) }
 {
-    let mut made = vec![in alloc; 0i64; usize::from(width)]?;
+    let mut made = Vec::new(alloc);
     for (col, number) in entries {
-        made[usize::from(*col)] = *number;
+        if *number != 0 {
+            made.push((*col, *number))?;
+        }
     }
     Ok(made)
 }
 
-// The numbers over a denominator, as a row in lowest terms.
-fn lowest_row(alloc: Global, den: i64, nums: &[i64]) -> Result<Row, AllocError>
+// The entries of the columns from `from` on, each so many columns further left.
+fn moved(alloc: Global, entries: &[(u16, i64)], from: u16) -> Result<Vec<(u16, i64)>, AllocError>
+    requires { All (λ (e : ℕ × ℤ). from ≤ e.0) entries.now }
+    ensures { IfOk result (λ made. made.items ≡ map (λ (e : ℕ × ℤ). (e.0 - from, e.1)) entries.now) }
+{
+    let mut made = Vec::with_capacity(alloc, entries.len())?;
+    for (col, number) in entries {
+        made.push((*col - from, *number))?;
+    }
+    Ok(made)
+}
+
+// The entries over a denominator, as a row in lowest terms.
+fn lowest_row(den: i64, width: u16, mut entries: Vec<(u16, i64)>) -> Row
     requires positive { pos 0 <ℤ den }
     requires small { IsSmall den }
-    requires smalls { All IsSmall nums.now }
-    requires width { IsInRange 1 577 (length nums.now) }
-    ensures { IfOk result (λ row. row ≡ fractions (unsigned_abs den) nums.now) }
+    requires entries { AreEntries width entries.items }
+    requires no_zero { All (λ (e : ℕ × ℤ). e.1 ≢ pos 0) entries.items }
+    requires width { IsInRange 1 577 width }
+    ensures { result ≡ fractions (unsigned_abs den) (numbers_of width entries.items) }
 {
-    let common = divisor(den, nums);
-    Ok(Row {
+    let common = divisor(den, &entries);
+    divide_in_place(&mut entries, common);
+    Row {
         den: quotient(den, common),
-        nums: divided(alloc, nums, common)?,
+        width,
+        entries,
+    }
+}
+
+// The same where numbers may reach the limit, at 64 bits.
+fn short_row(den: i64, width: u16, mut entries: Vec<(u16, i64)>) -> Result<Row, RowFault>
+    requires positive { pos 0 <ℤ den }
+    requires entries { entries.items ≡ entries_of (numbers_of width entries.items) }
+    requires width { IsInRange 1 577 width }
+    ensures { let exact = fractions (unsigned_abs den) (numbers_of width entries.items) in
+        MatchResult result (λ r. (r ≡ exact) × (large_number size_limit exact ≡ None)) (λ f. IsFault f (large_number size_limit exact)) }
+{
+    let common = divisor(den, &entries);
+    let den = quotient(den, common);
+    if is_short_large(den) {
+        return Err(RowFault::Large {
+            number: i128::from(den),
+        });
+    }
+    divide_in_place(&mut entries, common);
+    match first_large(&entries) {
+        Some(number) => Err(RowFault::Large {
+            number: i128::from(number),
+        }),
+        None => Ok(Row {
+            den,
+            width,
+            entries,
+        }),
+    }
+}
+
+// The same at 128 bits.
+fn wide_row(alloc: Global, den: i128, width: u16, entries: &[(u16, i128)]) -> Result<Row, RowFault>
+    requires positive { pos 0 <ℤ den }
+    requires entries { entries.now ≡ entries_of (numbers_of width entries.now) }
+    requires width { IsInRange 1 577 width }
+    ensures { let exact = fractions (unsigned_abs den) (numbers_of width entries.now) in
+        MatchResult result (λ r. (r ≡ exact) × (large_number size_limit exact ≡ None)) (λ f. IsFault f (large_number size_limit exact)) }
+{
+    let common = wide_divisor(den.unsigned_abs(), entries) as i128;
+    let den = wide_quotient(den, common);
+    if is_large(den) {
+        return Err(RowFault::Large { number: den });
+    }
+    let entries = wide_divided(alloc, entries, common)?;
+    Ok(Row {
+        den: den as i64,
+        width,
+        entries,
     })
 }
 
@@ -51,30 +119,27 @@ fn lowest_row(alloc: Global, den: i64, nums: &[i64]) -> Result<Row, AllocError>
 fn crossed_row(
     alloc: Global,
     den: i64,
-    xs: &[i64],
+    width: u16,
+    xs: &[(u16, i64)],
     a: i64,
     e: i64,
-    us: &[i64],
+    us: &[(u16, i64)],
 ) -> Result<Row, RowFault>
-    requires row { IsRow den xs.now }
+    requires row { IsRow den width xs.now }
     requires positive { pos 0 <ℤ e }
     requires e_small { IsSmall e }
     requires a_small { IsSmall a }
-    requires us_small { All IsSmall us.now }
-    requires lengths { length us.now ≡ length xs.now }
-    ensures { let exact = fractions (unsigned_abs (den *ℤ e)) (crossed a e us.now xs.now) in
+    requires us_entries { AreEntries width us.now }
+    requires us_no_zero { All (λ (e : ℕ × ℤ). e.1 ≢ pos 0) us.now }
+    ensures { let exact = fractions (unsigned_abs (den *ℤ e)) (crossed a e (numbers_of width us.now) (numbers_of width xs.now)) in
         MatchResult result (λ r. (r ≡ exact) × (large_number size_limit exact ≡ None)) (λ f. IsFault f (large_number size_limit exact)) }
 {
-    let common = crossed_divisor(den, a, e, us, xs);
-    let wide = wide_quotient(product(den, e), common);
-    if is_large(wide) {
-        return Err(RowFault::Large { number: wide });
+    if is_short(a) && is_short(e) {
+        let made = short_entries(alloc, xs, us, a, e)?;
+        return short_row(short_product(den, e), width, made);
     }
-    let nums = crossed_numbers(alloc, xs, us, a, e, common)?;
-    Ok(Row {
-        den: wide as i64,
-        nums,
-    })
+    let made = wide_entries(alloc, xs, us, a, e)?;
+    wide_row(alloc, product(den, e), width, &made)
 }
 
 // The combined row, over the parts of two rows. An entry of 0 takes nothing away; else what the entry and the unit
@@ -82,42 +147,48 @@ fn crossed_row(
 fn combined_row(
     alloc: Global,
     den: i64,
-    nums: &[i64],
+    width: u16,
+    entries: &[(u16, i64)],
     unit_den: i64,
-    unit_nums: &[i64],
-    col: usize,
+    unit_entries: &[(u16, i64)],
+    col: u16,
 ) -> Result<Row, RowFault>
-    requires row { IsRow den nums.now }
-    requires unit { IsRow unit_den unit_nums.now }
-    requires widths { length unit_nums.now ≡ length nums.now }
-    requires within { col < length nums.now }
-    ensures { let exact = combined col (fractions (unsigned_abs unit_den) unit_nums.now) (fractions (unsigned_abs den) nums.now) in
+    requires row { IsRow den width entries.now }
+    requires unit { IsRow unit_den width unit_entries.now }
+    requires within { col < width }
+    ensures { let exact = combined col (fractions (unsigned_abs unit_den) (numbers_of width unit_entries.now)) (fractions (unsigned_abs den) (numbers_of width entries.now)) in
         MatchResult result (λ r. (r ≡ exact) × (large_number size_limit exact ≡ None)) (λ f. IsFault f (large_number size_limit exact)) }
 {
-    let entry = nums[col];
+    let entry = number(entries, col);
     if entry == 0 {
-        let nums = Vec::from_slice(alloc, nums)?;
-        return Ok(Row { den, nums });
+        let entries = Vec::from_slice(alloc, entries)?;
+        return Ok(Row {
+            den,
+            width,
+            entries,
+        });
     }
     let shared = shared_divisor(entry, unit_den);
     let a = quotient(entry, shared);
     let e = quotient(unit_den, shared);
-    crossed_row(alloc, den, nums, a, e, unit_nums)
+    crossed_row(alloc, den, width, entries, a, e, unit_entries)
 }
 
-/// A row of fractions: whole numbers over one denominator, in lowest terms.
+/// A row of fractions: whole numbers over one denominator, in lowest terms, each with its column. Those that are 0 are
+/// left out.
 #[derive(Drop)]
 pub struct Row {
     den: i64,
-    nums: Vec<i64>,
+    width: u16,
+    entries: Vec<(u16, i64)>,
 }
 
 impl Model for Row {
     ghost Value = { List Fraction };
 
-    ghost view = { λ r. fractions (unsigned_abs r.den) r.nums.items };
+    ghost view = { λ r. fractions (unsigned_abs r.den) (numbers_of r.width r.entries.items) };
 
-    ghost invariant = { λ r. IsRow r.den r.nums.items };
+    ghost invariant = { λ r. IsRow r.den r.width r.entries.items };
 }
 
 impl Row {
@@ -127,9 +198,11 @@ impl Row {
         requires entries { AreEntries width entries.now }
         ensures { IfOk result (λ row. row ≡ row_of width entries.now) }
     {
+        let entries = without_zeros(alloc, entries)?;
         Ok(Row {
             den: 1,
-            nums: filled(alloc, width, entries)?,
+            width,
+            entries,
         })
     }
 
@@ -147,7 +220,15 @@ impl Row {
         ensures num { result ≡ get_or (numerators (common self.now) self.now) col (pos 0) }
         ensures small { IsSmall result }
     {
-        self.nums[usize::from(col)]
+        number(&self.entries, col)
+    }
+
+    /// The columns whose number isn't 0, by rising column, each with its number over the least common denominator.
+    pub fn entries(&self) -> &[(u16, i64)]
+        ensures entries { result.now ≡ entries_of (numerators (common self.now) self.now) }
+        ensures small { All (λ (e : ℕ × ℤ). IsSmall e.1) result.now }
+    {
+        &self.entries
     }
 
     /// How many columns the row has, the right side counted: 1 to 577.
@@ -155,7 +236,7 @@ impl Row {
         ensures width { result ≡ length self.now }
         ensures within { IsInRange 1 577 result }
     {
-        self.nums.len() as u16
+        self.width
     }
 
     /// Whether the entry at a column is negative.
@@ -182,7 +263,8 @@ impl Row {
         ensures small { large_number size_limit (unit_row col self.now) ≡ None }
     {
         let pivot = self.num(col);
-        lowest_row(alloc, pivot, &self.nums)
+        let entries = Vec::from_slice(alloc, &self.entries)?;
+        Ok(lowest_row(pivot, self.width, entries))
     }
 
     /// The columns from `from` on, so many of them, as a row over their own least common denominator. It is never Large.
@@ -191,9 +273,9 @@ impl Row {
         requires within { from + width ≤ length self.now }
         ensures { IfOk result (λ row. row ≡ take width (drop from self.now)) }
     {
-        let start = usize::from(from);
-        let end = start + usize::from(width);
-        lowest_row(alloc, self.den, &self.nums[start..end])
+        let inner = between(&self.entries, from, from + width);
+        let entries = moved(alloc, inner, from)?;
+        Ok(lowest_row(self.den, width, entries))
     }
 
     /// Whether this row's list (the last column, then the columns from `from` to the one before it), divided by its
@@ -206,7 +288,7 @@ impl Row {
         requires other_positive { whole (pos 0) <ᶠ at other.now col }
         ensures { result ≡ lex_below (ratios (ratio_columns from (length self.now)) col self.now) (ratios (ratio_columns from (length self.now)) col other.now) }
     {
-        ratios_below(&self.nums, &other.nums, usize::from(col), usize::from(from))
+        ratios_below(&self.entries, &other.entries, self.width, col, from)
     }
 
     /// This row minus its entry at `col` times `unit`.
@@ -216,8 +298,15 @@ impl Row {
         ensures { let exact = combined col unit.now self.now in
             MatchResult result (λ r. (r ≡ exact) × (large_number size_limit exact ≡ None)) (λ f. IsFault f (large_number size_limit exact)) }
     {
-        let col = usize::from(col);
-        combined_row(alloc, self.den, &self.nums, unit.den, &unit.nums, col)
+        combined_row(
+            alloc,
+            self.den,
+            self.width,
+            &self.entries,
+            unit.den,
+            &unit.entries,
+            col,
+        )
     }
 
     /// The same, or `None` where this row's entry at `col` is 0: the row is then as it was.
@@ -227,9 +316,10 @@ impl Row {
         ensures { let exact = combined col unit.now self.now in
             MatchResult result (λ r. (unwrap_or r self.now ≡ exact) × (large_number size_limit exact ≡ None)) (λ f. IsFault f (large_number size_limit exact)) }
     {
-        // For the type's invariant alone.
+        // For the invariants of both rows alone.
+        let _ = &self.den;
         let _ = &unit.den;
-        if self.nums[usize::from(col)] == 0 {
+        if self.num(col) == 0 {
             return Ok(None);
         }
         let row = self.combine(alloc, unit, col)?;

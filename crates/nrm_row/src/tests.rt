@@ -51,6 +51,7 @@ fn is_combined_with_a_unit_row(rt: HostRuntime) -> Result<(), Fail> {
         numbers(rt.alloc(), &combined)?.as_slice(),
         [0, -1, 1, 2].as_slice()
     );
+    assert_eq!(rt; combined.entries(), [(1, -1), (2, 1), (3, 2)].as_slice());
     Ok(())
 }
 

@@ -6,3 +6,4 @@ pub mod Paths
 pub mod LastRows
 pub mod LastValue
 pub mod Changing
+pub mod Walks

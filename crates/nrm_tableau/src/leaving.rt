@@ -16,9 +16,10 @@ use nrm_row::Row;
 pub fn entering_column(value: &Row) -> Option<u16>
     ensures { result ≡ entering_from 0 value.now }
 {
-    for col in 0..value.width() - 1 {
-        if value.is_negative(col) {
-            return Some(col);
+    let end = value.width() - 1;
+    for (col, number) in value.entries() {
+        if *number < 0 && *col < end {
+            return Some(*col);
         }
     }
     None

@@ -1,20 +1,26 @@
-use Rattle.std.proofs.Common.{◌≡◌, ◌<◌, arith, ap, ap₂, sym, ◌∙◌, get_or, length, pos, to_z, of_z, w64}
+use Rattle.std.proofs.Common.{◌≡◌, ◌<◌, arith, ap, ap₂, sym, ◌∙◌, get_or, length, pos, to_z, w64}
 use Rattle.nrm_fraction.specs.Large.{large_number, size_limit}
 use Rattle.nrm_fraction.specs.Rows.{combine}
-use Rattle.nrm_row.proofs.Bits.{read_at}
-use Rattle.nrm_row.proofs.LowestTerms.{row_length, row_not_large}
+use Rattle.nrm_fraction.proofs.Sizes.{small_same}
+use Rattle.nrm_row.specs.Numbers.{numbers_of}
+use Rattle.nrm_row.proofs.LowestTerms.{row_length, row_nums, row_not_large}
+use Rattle.nrm_row.proofs.Finishing.{lowest_from_row}
 use Rattle.nrm_row.proofs.Combining.{uncombined_is}
 use Rattle.nrm_row.proofs.row.Row.changed.Goals as goal
 
-pub returns-then-index-eq0 : goal.returns-then-index-eq0
-returns-then-index-eq0 c =
-    let ns = c.self.inside.nums.items in
-    let within : c.args.col < length ns = omega (arith, c.requires.within, row_length c.self.inside.den ns c.args.self.now c.self.view_is) in
-    let lengths : length c.unit.inside.nums.items ≡ length ns = omega (arith, c.requires.widths, row_length c.self.inside.den ns c.args.self.now c.self.view_is, row_length c.unit.inside.den c.unit.inside.nums.items c.args.unit.now c.unit.view_is) in
-    let read : to_z w64 (of_z w64 c.index.result.now) ≡ get_or ns c.args.col (pos 0) = read_at ns c.from.result c.args.col c.index.result.now c.self.invariant.smalls within c.from.ensures c.index.ensures in
-    let nought : get_or ns c.args.col (pos 0) ≡ pos 0 = sym read ∙ ap (to_z w64) c.if-index-eq0.true in
-    let same = uncombined_is c.self.inside.den c.unit.inside.den c.unit.inside.nums.items ns c.args.col c.self.invariant.positive c.unit.invariant.positive lengths within nought in
-    let exact : c.args.self.now ≡ combine c.args.col c.args.unit.now c.args.self.now = sym c.self.view_is ∙ sym same ∙ ap₂ (λ us xs. combine c.args.col us xs) c.unit.view_is c.self.view_is in (
+pub returns-then-num-eq0 : goal.returns-then-num-eq0
+returns-then-num-eq0 c =
+    let r = c.self.inside in
+    let u = c.unit.inside in
+    let ns = numbers_of c.self.inside.width c.self.inside.entries.items in
+    let us = numbers_of c.unit.inside.width c.unit.inside.entries.items in
+    let lowest = lowest_from_row r.den r.width r.entries.items c.self.invariant in
+    let within : c.args.col < length (numbers_of c.self.inside.width c.self.inside.entries.items) = omega (arith, c.requires.within, row_length r.den ns c.args.self.now c.self.view_is) in
+    let lengths : length (numbers_of c.unit.inside.width c.unit.inside.entries.items) ≡ length (numbers_of c.self.inside.width c.self.inside.entries.items) = omega (arith, c.requires.widths, row_length r.den ns c.args.self.now c.self.view_is, row_length u.den us c.args.unit.now c.unit.view_is) in
+    let nought : get_or (numbers_of c.self.inside.width c.self.inside.entries.items) c.args.col (pos 0) ≡ pos 0 =
+    ap (λ t. get_or t c.args.col (pos 0)) (sym (row_nums r.den ns c.args.self.now lowest c.self.view_is)) ∙ sym (small_same c.num.result c.num.ensures.small ∙ c.num.ensures.num) ∙ ap (to_z w64) c.if-num-eq0.true in
+    let same = uncombined_is r.den u.den us ns c.args.col c.self.invariant.positive c.unit.invariant.positive lengths within nought in
+    let exact : c.args.self.now ≡ combine c.args.col c.args.unit.now c.args.self.now = sym c.self.view_is ∙ sym same ∙ ap₂ (λ vs xs. combine c.args.col vs xs) c.unit.view_is c.self.view_is in (
       exact,
-      ap (large_number size_limit) (sym exact ∙ sym c.self.view_is) ∙ row_not_large c.self.inside.den ns c.self.invariant,
+      ap (large_number size_limit) (sym exact ∙ sym c.self.view_is) ∙ row_not_large r.den ns lowest,
     )

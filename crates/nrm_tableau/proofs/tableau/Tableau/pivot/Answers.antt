@@ -145,3 +145,15 @@ returns-clause-small c =
     let last = subst (λ (us : List Fraction). large_number size_limit (combine c.args.col us c.self.inside.value) ≡ None) unit_is c.in_ok-value.ensures.1 in
     let small = small_all _ c.self.invariant c.args.col c.args.row enters left size_limit unit_small others_small last in
     subst (λ (s : TableauValue). pivot_large size_limit s.program s.table ≡ None) c.self.view_is small
+
+pub other_rows-requires-clause-within : goal.other_rows-requires-clause-within
+other_rows-requires-clause-within c =
+    let enters = subst (λ (s : TableauValue). entering s.table ≡ Some c.args.col) (sym c.self.view_is) c.requires.enters in
+    let left = subst (λ (s : TableauValue). option_map (λ found. found.0) (leaving s.program s.table c.args.col) ≡ Some c.args.row) (sym c.self.view_is) c.requires.leaves in
+    omega (arith, within _ c.self.invariant c.args.col c.args.row enters left, ap length c.deref-2.ensures.value)
+
+pub index_mut-requires : goal.index_mut-requires
+index_mut-requires c =
+    let enters = subst (λ (s : TableauValue). entering s.table ≡ Some c.args.col) (sym c.self.view_is) c.requires.enters in
+    let left = subst (λ (s : TableauValue). option_map (λ found. found.0) (leaving s.program s.table c.args.col) ≡ Some c.args.row) (sym c.self.view_is) c.requires.leaves in
+    omega (arith, within _ c.self.invariant c.args.col c.args.row enters left, c.from-place.ensures, c.self.inside.rows.ok.0)
