@@ -10,7 +10,7 @@ abbrev pub drawn : ℕ → ℕ → ℕ
 drawn m z = z / 65536 % m
 
 -- the state after so many draws from a number
-abbrev pub state_after : ℕ → ℕ → ℕ
+unfoldable pub state_after : ℕ → ℕ → ℕ
 state_after number zero = number % 2 ^ 31
 state_after number (suc n) = stirred (state_after number n)
 

@@ -23,7 +23,7 @@ command_at n z =
     else by_lot (drawn 20 (stirred z)) (stirred z)
 
 -- so many commands, after the first n, from a state on
-abbrev pub commands_from : ℕ → ℕ → ℕ → List Command
+unfoldable pub commands_from : ℕ → ℕ → ℕ → List Command
 commands_from zero n z = []
 commands_from (suc more) n z = (command_at (suc n) z).0 ∷ commands_from more (suc n) (command_at (suc n) z).1
 

@@ -1,5 +1,5 @@
 -- The network that is made of a number: a hub with six inbound and six outbound legs, local products on each and through products from each to each.
-use Rattle.std.specs.Prelude.{ℕ, ◌+◌, ◌-◌, ◌*◌, ◌/◌, ◌%◌, ◌==◌, ◌++◌, List, [], ◌∷◌, length, map, nat_lt, if◌then◌else◌}
+use Rattle.std.specs.Prelude.{ℕ, ◌+◌, ◌-◌, ◌/◌, ◌%◌, ◌==◌, ◌++◌, List, [], ◌∷◌, map, nat_lt, if◌then◌else◌}
 use Rattle.std.specs.List.{range_with_len}
 use Rattle.nrm_model.specs.Network.{NetworkValue}
 use Rattle.nrm_model.specs.declared.leg.Leg.{Leg}
@@ -33,10 +33,10 @@ abbrev pub made_product : ℕ → ℕ → Product
 made_product number j = record { name = product_name j; fare = product_fare number j; legs = product_legs j }
 
 -- the demand of product j, history h (from 0) and period t (from 0): 0 to 5, by the draws after all these, product by product, history by history, period by period
-abbrev pub made_demand : ℕ → List ℕ
+unfoldable pub made_demand : ℕ → List ℕ
 made_demand number = map (λ k. draw_of number (72 + k) 6) (range_with_len 0 1920)
 
-abbrev pub made_network : ℕ → NetworkValue
+unfoldable pub made_network : ℕ → NetworkValue
 made_network number = record {
   histories = 8;
   periods = 4;

@@ -9,7 +9,7 @@ const STATES: u64 = 2_147_483_648;
 
 /// The state of the draws.
 #[derive(Drop)]
-pub struct Draws {
+pub(crate) struct Draws {
     state: u32,
 }
 
@@ -25,7 +25,8 @@ impl Model for Draws {
 
 impl Draws {
     /// The draws of a number.
-    pub fn new(number: u32) -> Draws
+    #[tactic(auto, unfolding(crate::specs::Draws::state_after))]
+    pub(crate) fn new(number: u32) -> Draws
         ensures { result ≡ state_after number zero }
     {
         Draws {
@@ -34,7 +35,7 @@ impl Draws {
     }
 
     /// The next number, which is below the given one.
-    pub fn draw(&mut self, below: u32) -> u32
+    pub(crate) fn draw(&mut self, below: u32) -> u32
         requires { 0 < below }
         ensures state { self.new ≡ stirred self.old }
         ensures number { result ≡ drawn below self.new }

@@ -2,3 +2,10 @@
 #![tactic(auto)]
 
 mod draws;
+mod laws;
+mod maker;
+mod names;
+mod network;
+
+pub use laws::{made_networks_are_limited, products_use_one_leg_each_way};
+pub use maker::{Maker, made};
