@@ -1,0 +1,5 @@
+use Rattle.nrm_gen.proofs.Within.{one-leg-each-way}
+use Rattle.nrm_gen.proofs.laws.products_use_one_leg_each_way.Goals as goal
+
+pub returns : goal.returns
+returns c = one-leg-each-way

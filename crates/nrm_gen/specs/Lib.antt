@@ -1,0 +1,4 @@
+pub mod Draws
+pub mod Laws
+pub mod MadeCommands
+pub mod MadeNetwork
