@@ -1,4 +1,4 @@
-//! Rows of exact fractions: whole numbers over one denominator, in lowest terms, all below 2^48 in size.
+//! Rows of exact fractions: whole numbers over one denominator, in lowest terms, all below 2^48 in size. What is 0 is left out.
 #![tactic(auto)]
 
 mod crossed;

@@ -2,7 +2,7 @@
 //! denominators of the rows cancel.
 #![tactic(auto)]
 
-ghost use Rattle.std.specs.Prelude.{◌≡◌, ◌<◌, ℕ, ℤ, ◌*ℤ◌, List, pos, true, false, cond, Bool, int_lt, get_or, unwrap_or, All, ◌≢◌};
+ghost use Rattle.std.specs.Prelude.{◌≡◌, ◌<◌, ℕ, ℤ, ◌*ℤ◌, pos, true, false, cond, Bool, int_lt, get_or, unwrap_or, All, ◌≢◌};
 ghost use Rattle.nrm_fraction.specs.Rows.{ratio_columns};
 ghost use Rattle.nrm_row.specs.Numbers.{AreEntries, numbers_of};
 ghost use Rattle.nrm_row.specs.Inner.Crossed.{crossed_below, paired, pairs_below};
