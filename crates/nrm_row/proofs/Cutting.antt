@@ -1,8 +1,9 @@
 -- Entries cut at a column.
-use Rattle.std.proofs.Common.{◌≡◌, ℕ, zero, suc, ◌+◌, ◌-◌, ◌<◌, ◌≤◌, ℤ, pos, negsuc, arith, refl, sym, ap, ap₂, ◌∙◌, List, [], ◌∷◌, length, get_or, take, drop, map, cond, ltb, eq-eqb, ne_eqb, All}
+use Rattle.std.proofs.Common.{◌⊎◌, ⊎_elim, ◌≡◌, ℕ, zero, suc, ◌+◌, ◌-◌, ◌<◌, ◌≤◌, ℤ, pos, negsuc, arith, refl, sym, ap, ap₂, ◌∙◌, List, [], ◌∷◌, length, get_or, take, drop, map, cond, ltb, eq-eqb, ne_eqb, All}
 use Rattle.nrm_fraction.specs.Rows.{number_at}
-use Rattle.nrm_row.specs.Numbers.{with_entry, entries_from, entries_of}
-use Rattle.nrm_row.proofs.Rising.{Rises, ltb_yes, ltb_no, from_rises, number_below}
+use Rattle.std.proofs.lemmas.List.{get_or-take, get_or_default, length-drop, length-take-le}
+use Rattle.nrm_row.specs.Numbers.{AreEntries, with_entry, entries_from, entries_of}
+use Rattle.nrm_row.proofs.Rising.{Rises, rises_from_pairs, ltb_yes, ltb_no, from_rises, number_below}
 
 -- ---- the number at a column, by its place
 pub number_found : (es : List (ℕ × ℤ)) (k col : ℕ) → k < length es → (get_or es k (0, pos 0)).0 ≡ col → All (λ (e : ℕ × ℤ). e.0 < col) (take k es) → number_at es col ≡ (get_or es k (0, pos 0)).1
@@ -17,6 +18,35 @@ number_missing b ((c, n) ∷ es) zero col r h f g =
     number_below c col ((c, n) ∷ es) (omega (arith, g 0 (0, pos 0) (omega arith), h (omega arith))) (omega arith, r.1)
 number_missing b ((c, n) ∷ es) (suc k) col r h f g =
     ap (λ t. cond t n (number_at es col)) (ne_eqb c col (λ s. omega (arith, f 0 (0, pos 0) (omega arith)))) ∙ number_missing (c + 1) es k col r.1 (λ l. h (omega arith)) (λ j d l. f (suc j) d (omega arith)) g
+
+-- the last place is that of the last column, or it has no entry
+below_last : (es : List (ℕ × ℤ)) (width : ℕ) → AreEntries width es → (k : ℕ) (d : ℕ × ℤ) → k + 1 < length es → (get_or es k d).0 < (get_or es (length es - 1) d).0
+below_last es width a k d h = a.rising k (length es - 1) d (omega arith) (omega arith)
+
+pub last_found : (es : List (ℕ × ℤ)) (width : ℕ) → AreEntries width es → 0 < length es → (get_or es (length es - 1) (0, pos 0)).0 ≡ width - 1 → number_at es (width - 1) ≡ (get_or es (length es - 1) (0, pos 0)).1
+last_found es width a h e =
+    number_found es (length es - 1) (width - 1) (omega arith) e (λ k d l. omega (
+      arith,
+      below_last es width a k d (omega (arith, length-take-le (length es - 1) es (omega arith))),
+      ap (λ (t : ℕ × ℤ). t.0) (get_or-take (length es - 1) es k d (omega (arith, length-take-le (length es - 1) es (omega arith)))),
+      ap (λ (t : ℕ × ℤ). t.0) (get_or_default es (length es - 1) d (0, pos 0) (omega arith)),
+    ))
+
+pub last_missing : (es : List (ℕ × ℤ)) (width : ℕ) → AreEntries width es → (0 < length es → ¬ ((get_or es (length es - 1) (0, pos 0)).0 ≡ width - 1)) → number_at es (width - 1) ≡ pos 0
+last_missing es width a h =
+    number_missing 0 es (length es) (width - 1) (rises_from_pairs 0 es a.rising (λ k d l. omega arith)) (λ l. absurd (omega arith))
+    (λ k d l. below k d (omega (arith, length-take-le (length es) es (omega arith))) (omega (arith, ap (λ (t : ℕ × ℤ). t.0) (get_or-take (length es) es k d (omega (arith, length-take-le (length es) es (omega arith)))))))
+    (λ k d l. absurd (omega (arith, length-drop (length es) es)))
+  where
+    below : (k : ℕ) (d : ℕ × ℤ) → k < length es → (get_or (take (length es) es) k d).0 ≡ (get_or es k d).0 → (get_or (take (length es) es) k d).0 < width - 1
+    below k d l same =
+        ⊎_elim
+        (λ before. omega (arith, below_last es width a k d before, a.within (length es - 1) d (omega arith)))
+        (λ at_end. omega (arith, h (omega arith), a.within (length es - 1) d (omega arith), ap (λ (t : ℕ × ℤ). t.0) (get_or_default es (length es - 1) d (0, pos 0) (omega arith)), ap (λ j. (get_or es j d).0) at_end))
+        (before_or_last k (length es) l)
+      where
+        before_or_last : (k n : ℕ) → k < n → (k + 1 < n) ⊎ (k ≡ n - 1)
+        before_or_last k n l = grind arith
 
 -- ---- the entries before a column, and those from it on
 abbrev to_col : ℕ → List (ℕ × ℤ) → List (ℕ × ℤ)

@@ -2,7 +2,7 @@
 //! where the factors are short, and else at 128; then they are divided by what they have in common with the denominator.
 #![tactic(auto)]
 
-ghost use Rattle.std.specs.Prelude.{◌≡◌, ◌^◌, ℕ, ℤ, pos, ◌<ℤ◌, unsigned_abs, All, IfOk, MatchResult, None};
+ghost use Rattle.std.specs.Prelude.{◌≡◌, ℕ, ℤ, pos, ◌<ℤ◌, unsigned_abs, All, IfOk, MatchResult, None};
 ghost use Rattle.nrm_fraction.specs.Large.{gcd_all, first_reaching, size_limit, IsSmall};
 ghost use Rattle.nrm_row.specs.Inner.Crossed.{IsShort, crossed_pairs, each_shrunk, numbers_in, paired};
 ghost use Rattle.nrm_fraction.specs.Fault.{IsFault};

@@ -1,4 +1,5 @@
-//! Rows of exact fractions: whole numbers over one denominator, in lowest terms, all below 2^48 in size.
+//! Rows of exact fractions: whole numbers over one denominator, in lowest terms, all below 2^48 in size. Numbers
+//! that are 0 are left out.
 #![tactic(auto)]
 
 mod crossed;

@@ -1,7 +1,7 @@
 //! Two rows walked at once: at each column where one of them has an entry, the numbers of both.
 #![tactic(auto)]
 
-ghost use Rattle.std.specs.Prelude.{◌≡◌, ◌≤◌, ◌<◌, ◌∷◌, [], pos, ℕ, ℤ, length, drop, All, IfNone, IfSome};
+ghost use Rattle.std.specs.Prelude.{◌≡◌, ◌<◌, [], ℕ, ℤ, length, drop, All, IfNone, IfSome};
 ghost use Rattle.nrm_fraction.specs.Large.{IsSmall};
 ghost use Rattle.nrm_row.specs.Inner.Crossed.{paired};
 ghost use Rattle.nrm_row.specs.Inner.Pairs.{IsNext};

@@ -4,7 +4,7 @@
 ghost use Rattle.std.specs.Prelude.{◌≡◌, ◌<◌, ◌≤◌, ◌-◌, ℕ, ℤ, List, length, take, drop, All, AllPairs};
 ghost use Rattle.nrm_fraction.specs.Large.{IsSmall};
 ghost use Rattle.nrm_fraction.specs.Rows.{number_at};
-ghost use Rattle.nrm_row.specs.Numbers.{entries_from, entries_of};
+ghost use Rattle.nrm_row.specs.Numbers.{AreEntries, entries_from, entries_of};
 
 // How many entries stand before a column.
 fn place(entries: &[(u16, i64)], col: u16) -> usize
@@ -36,6 +36,21 @@ pub fn number(entries: &[(u16, i64)], col: u16) -> i64
     let i = place(entries, col);
     if i < entries.len() && entries[i].0 == col {
         entries[i].1
+    } else {
+        0
+    }
+}
+
+/// The number at the last column: 0 where it has no entry.
+pub fn last_number(entries: &[(u16, i64)], width: u16) -> i64
+    requires entries { AreEntries width entries.now }
+    requires width { 1 ≤ width }
+    ensures number { result ≡ number_at entries.now (width - 1) }
+    ensures small { IsSmall result }
+{
+    let count = entries.len();
+    if count > 0 && entries[count - 1].0 == width - 1 {
+        entries[count - 1].1
     } else {
         0
     }

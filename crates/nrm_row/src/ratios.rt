@@ -2,7 +2,7 @@
 //! denominators of the rows cancel.
 #![tactic(auto)]
 
-ghost use Rattle.std.specs.Prelude.{◌≡◌, ◌<◌, ℕ, ℤ, ◌*ℤ◌, List, pos, true, false, cond, Bool, int_lt, get_or, unwrap_or, All, ◌≢◌};
+ghost use Rattle.std.specs.Prelude.{◌≡◌, ◌<◌, ℕ, ℤ, ◌*ℤ◌, pos, true, false, cond, Bool, int_lt, get_or, unwrap_or, All, ◌≢◌};
 ghost use Rattle.nrm_fraction.specs.Rows.{ratio_columns};
 ghost use Rattle.nrm_row.specs.Numbers.{AreEntries, numbers_of};
 ghost use Rattle.nrm_row.specs.Inner.Crossed.{crossed_below, paired, pairs_below};
@@ -10,7 +10,7 @@ ghost use Rattle.nrm_fraction.specs.Large.{IsSmall};
 
 use crate::numbers::product;
 use crate::pairs::pair_at;
-use crate::places::{between, number};
+use crate::places::{between, last_number, number};
 
 // Whether the first of the ratios x / p and y / q is less: None where they are the same.
 fn ratio_below(x: i64, y: i64, p: i64, q: i64) -> Option<bool>
@@ -65,7 +65,7 @@ pub fn ratios_below(xs: &[(u16, i64)], ys: &[(u16, i64)], width: u16, col: u16, 
     let p = number(xs, col);
     let q = number(ys, col);
     let last = width - 1;
-    match ratio_below(number(xs, last), number(ys, last), p, q) {
+    match ratio_below(last_number(xs, width), last_number(ys, width), p, q) {
         Some(below) => below,
         None => entries_below(between(xs, from, last), between(ys, from, last), p, q),
     }

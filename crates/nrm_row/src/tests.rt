@@ -77,6 +77,23 @@ fn keeps_least_denominators(rt: HostRuntime) -> Result<(), Fail> {
 
 #[test]
 #[tactic(auto, using(nrm_fraction::proofs::Tests::less_true))]
+fn is_combined_by_a_factor_above_2_to_the_14(rt: HostRuntime) -> Result<(), Fail> {
+    let row = four(rt.alloc(), 2, 40_001, 3, 1)?;
+    assert!(rt; row.is_positive(0));
+    let halves = row.unit(rt.alloc(), 0)?;
+    assert_eq!(rt; halves.den(), 2);
+    let unit = four(rt.alloc(), 0, 1, 1, 1)?;
+    let combined = halves.combine(rt.alloc(), &unit, 1).expect(&rt, "a row");
+    assert_eq!(rt; combined.den(), 1);
+    assert_eq!(rt;
+        combined.entries(),
+        [(0, 1), (2, -19_999), (3, -20_000)].as_slice()
+    );
+    Ok(())
+}
+
+#[test]
+#[tactic(auto, using(nrm_fraction::proofs::Tests::less_true))]
 fn takes_a_part_in_its_own_lowest_terms(rt: HostRuntime) -> Result<(), Fail> {
     let row = four(rt.alloc(), 6, 1, 2, 3)?;
     assert!(rt; row.is_positive(0));

@@ -38,8 +38,8 @@ returns-in-Some c =
     let ms : List ℤ = numbers_of c.args.width c.args.ys.now in
     let p = read c.args.width c.args.xs.now c.args.col c.number-p.result c.requires.within c.number-p.ensures.number c.number-p.ensures.small in
     let q = read c.args.width c.args.ys.now c.args.col c.number-q.result c.requires.within c.number-q.ensures.number c.number-q.ensures.small in
-    let x = read c.args.width c.args.xs.now (c.args.width - 1) c.number.result (omega (arith, c.requires.within)) c.number.ensures.number c.number.ensures.small in
-    let y = read c.args.width c.args.ys.now (c.args.width - 1) c.number-2.result (omega (arith, c.requires.within)) c.number-2.ensures.number c.number-2.ensures.small in
+    let x = read c.args.width c.args.xs.now (c.args.width - 1) c.last_number.result (omega (arith, c.requires.within)) c.last_number.ensures.number c.last_number.ensures.small in
+    let y = read c.args.width c.args.ys.now (c.args.width - 1) c.last_number-2.result (omega (arith, c.requires.within)) c.last_number-2.ensures.number c.last_number-2.ensures.small in
     let rest : Bool = crossed_below (get_or (numbers_of c.args.width c.args.xs.now) c.args.col (pos 0)) (get_or (numbers_of c.args.width c.args.ys.now) c.args.col (pos 0)) (numbers_of c.args.width c.args.xs.now) (numbers_of c.args.width c.args.ys.now) (range_with_len c.args.from (c.args.width - 1 - c.args.from)) in
     sym (c.in-Some.ensures rest)
     ∙ (λ i. cond (int_lt (x i *ℤ q i) (y i *ℤ p i)) true (cond (int_lt (y i *ℤ p i) (x i *ℤ q i)) false rest))
@@ -51,8 +51,8 @@ returns-in-None c =
     let n : ℕ = c.args.width - 1 - c.args.from in
     let p = read c.args.width c.args.xs.now c.args.col c.number-p.result c.requires.within c.number-p.ensures.number c.number-p.ensures.small in
     let q = read c.args.width c.args.ys.now c.args.col c.number-q.result c.requires.within c.number-q.ensures.number c.number-q.ensures.small in
-    let x = read c.args.width c.args.xs.now (c.args.width - 1) c.number.result (omega (arith, c.requires.within)) c.number.ensures.number c.number.ensures.small in
-    let y = read c.args.width c.args.ys.now (c.args.width - 1) c.number-2.result (omega (arith, c.requires.within)) c.number-2.ensures.number c.number-2.ensures.small in
+    let x = read c.args.width c.args.xs.now (c.args.width - 1) c.last_number.result (omega (arith, c.requires.within)) c.last_number.ensures.number c.last_number.ensures.small in
+    let y = read c.args.width c.args.ys.now (c.args.width - 1) c.last_number-2.result (omega (arith, c.requires.within)) c.last_number-2.ensures.number c.last_number-2.ensures.small in
     let xs_inner = c.between.ensures (numbers_of c.args.width c.args.xs.now) (entries_are c.args.width c.args.xs.now c.requires.xs_entries c.requires.xs_no_zero) (omega (arith, numbers_length c.args.width c.args.xs.now)) in
     let ys_inner = c.between-in-None.ensures (numbers_of c.args.width c.args.ys.now) (entries_are c.args.width c.args.ys.now c.requires.ys_entries c.requires.ys_no_zero) (omega (arith, numbers_length c.args.width c.args.ys.now)) in
     let rest : Bool = crossed_below (get_or (numbers_of c.args.width c.args.xs.now) c.args.col (pos 0)) (get_or (numbers_of c.args.width c.args.ys.now) c.args.col (pos 0)) (numbers_of c.args.width c.args.xs.now) (numbers_of c.args.width c.args.ys.now) (range_with_len c.args.from (c.args.width - 1 - c.args.from)) in
