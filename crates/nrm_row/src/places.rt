@@ -13,17 +13,22 @@ fn place(entries: &[(u16, i64)], col: u16) -> usize
     ensures before { All (λ (e : ℕ × ℤ). e.0 < col) (take result entries.now) }
     ensures behind { All (λ (e : ℕ × ℤ). col ≤ e.0) (drop result entries.now) }
 {
-    let mut low = 0;
-    let mut high = entries.len();
-    while low < high {
-        let middle = low + (high - low) / 2;
-        if entries[middle].0 < col {
-            low = middle + 1;
+    let mut base = 0;
+    let mut size = entries.len();
+    while size > 1 {
+        let half = size / 2;
+        base = if entries[base + half].0 < col {
+            base + half
         } else {
-            high = middle;
-        }
+            base
+        };
+        size -= half;
     }
-    low
+    if size > 0 && entries[base].0 < col {
+        base + 1
+    } else {
+        base
+    }
 }
 
 /// The number at a column: 0 where it has no entry.

@@ -142,8 +142,8 @@ fn crossed_row(
     wide_row(alloc, product(den, e), width, &made)
 }
 
-// The combined row, over the parts of two rows. An entry of 0 takes nothing away; else what the entry and the unit
-// row's denominator have in common goes out before the products are made.
+// The combined row, over the parts of two rows and the first one's entry at the column. An entry of 0 takes nothing
+// away; else what the entry and the unit row's denominator have in common goes out before the products are made.
 fn combined_row(
     alloc: Global,
     den: i64,
@@ -151,15 +151,15 @@ fn combined_row(
     entries: &[(u16, i64)],
     unit_den: i64,
     unit_entries: &[(u16, i64)],
-    col: u16,
+    entry: i64,
 ) -> Result<Row, RowFault>
     requires row { IsRow den width entries.now }
     requires unit { IsRow unit_den width unit_entries.now }
-    requires within { col < width }
-    ensures { let exact = combined col (fractions (unsigned_abs unit_den) (numbers_of width unit_entries.now)) (fractions (unsigned_abs den) (numbers_of width entries.now)) in
+    requires entry_small { IsSmall entry }
+    ensures { (col : ℕ) → col < width → entry ≡ get_or (numbers_of width entries.now) col (pos 0) →
+        let exact = combined col (fractions (unsigned_abs unit_den) (numbers_of width unit_entries.now)) (fractions (unsigned_abs den) (numbers_of width entries.now)) in
         MatchResult result (λ r. (r ≡ exact) × (large_number size_limit exact ≡ None)) (λ f. IsFault f (large_number size_limit exact)) }
 {
-    let entry = number(entries, col);
     if entry == 0 {
         let entries = Vec::from_slice(alloc, entries)?;
         return Ok(Row {
@@ -298,15 +298,8 @@ impl Row {
         ensures { let exact = combined col unit.now self.now in
             MatchResult result (λ r. (r ≡ exact) × (large_number size_limit exact ≡ None)) (λ f. IsFault f (large_number size_limit exact)) }
     {
-        combined_row(
-            alloc,
-            self.den,
-            self.width,
-            &self.entries,
-            unit.den,
-            &unit.entries,
-            col,
-        )
+        let entry = self.num(col);
+        self.combine_entry(alloc, unit, entry)
     }
 
     /// The same, or `None` where this row's entry at `col` is 0: the row is then as it was.
@@ -319,10 +312,31 @@ impl Row {
         // For the invariants of both rows alone.
         let _ = &self.den;
         let _ = &unit.den;
-        if self.num(col) == 0 {
+        let entry = self.num(col);
+        if entry == 0 {
             return Ok(None);
         }
-        let row = self.combine(alloc, unit, col)?;
+        let row = self.combine_entry(alloc, unit, entry)?;
         Ok(Some(row))
+    }
+
+    // The combined row at a column where this row's number is `entry`, so that a caller that has it needn't look it up
+    // again.
+    fn combine_entry(&self, alloc: Global, unit: &Row, entry: i64) -> Result<Row, RowFault>
+        requires widths { length unit.now ≡ length self.now }
+        requires small { IsSmall entry }
+        ensures { (col : ℕ) → col < length self.now → entry ≡ get_or (numerators (common self.now) self.now) col (pos 0) →
+            let exact = combined col unit.now self.now in
+            MatchResult result (λ r. (r ≡ exact) × (large_number size_limit exact ≡ None)) (λ f. IsFault f (large_number size_limit exact)) }
+    {
+        combined_row(
+            alloc,
+            self.den,
+            self.width,
+            &self.entries,
+            unit.den,
+            &unit.entries,
+            entry,
+        )
     }
 }

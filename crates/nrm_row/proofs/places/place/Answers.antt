@@ -1,7 +1,8 @@
-use Rattle.std.proofs.Common.{◌≡◌, ◌+◌, ◌-◌, ◌/◌, ◌<◌, ◌≤◌, ◌⊎◌, ⊎_elim, ℕ, ℤ, List, length, get_or, pos, arith, subst, sym, ap}
+use Rattle.std.proofs.Common.{◌≡◌, ◌+◌, ◌/◌, ◌<◌, ◌≤◌, ◌⊎◌, ⊎_elim, ℕ, ℤ, List, length, get_or, pos, arith, subst, sym, ap}
 use Rattle.std.specs.List.{AllPairs}
 use Rattle.std.proofs.lemmas.List.{get_or_default}
 use Rattle.nrm_row.proofs.places.place.Goals as goal
+use Rattle.nrm_row.proofs.places.place.Goals.{then-entries-base, else-entries-base}
 
 below_or_at : (k m : ℕ) → (k < m) ⊎ (k ≡ m) ⊎ (m < k)
 below_or_at k m = grind arith
@@ -15,18 +16,17 @@ rear : (es : List (ℕ × ℤ)) (m col : ℕ) → AllPairs (λ (a b : ℕ × ℤ
 rear es m col r h l k d n w =
     ⊎_elim (λ s. absurd (omega arith)) (λ rest. ⊎_elim (λ s. subst (λ t. col ≤ (get_or es t d).0) (sym s) (omega (arith, ap (λ t. t.0) (get_or_default es m d (0, pos 0) h)))) (λ s. omega (arith, r m k d s w, ap (λ t. t.0) (get_or_default es m d (0, pos 0) h))) rest) (below_or_at k m)
 
-pub loop-low-preserved-then-entries-middle : goal.loop-low-preserved-then-entries-middle
-loop-low-preserved-then-entries-middle c = record {
-  order = omega arith;
-  within = c.loop-low.invariant.within;
-  before = front c.args.entries.now (c.loop-low.low + (c.loop-low.high - c.loop-low.low) / 2) c.args.col c.requires (omega arith) c.if-entries-middle.true;
-  behind = c.loop-low.invariant.behind;
-}
-
-pub loop-low-preserved : goal.loop-low-preserved
-loop-low-preserved c = record {
-  order = omega arith;
-  within = omega arith;
-  before = c.loop-low.invariant.before;
-  behind = rear c.args.entries.now (c.loop-low.low + (c.loop-low.high - c.loop-low.low) / 2) c.args.col c.requires (omega arith) c.if-entries-middle.false;
-}
+pub loop-size-preserved : goal.loop-size-preserved
+loop-size-preserved c =
+    elim c.if-entries-base.branch [
+      | then-entries-base w ↦ record {
+        within = omega arith;
+        before = λ k d n. front c.args.entries.now (c.loop-size.base + c.loop-size.size / 2) c.args.col c.requires (omega arith) w.if-entries-base.true k d (omega (arith, w.base-is));
+        behind = λ k d n m. c.loop-size.invariant.behind k d (omega (arith, w.base-is)) m;
+      }
+      | else-entries-base w ↦ record {
+        within = omega arith;
+        before = λ k d n. c.loop-size.invariant.before k d (omega (arith, w.base-is));
+        behind = λ k d n m. rear c.args.entries.now (c.loop-size.base + c.loop-size.size / 2) c.args.col c.requires (omega arith) w.if-entries-base.false k d (omega (arith, w.base-is)) m;
+      }
+    ]
