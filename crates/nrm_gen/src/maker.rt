@@ -4,7 +4,7 @@ ghost use Rattle.std.specs.Prelude.{◌≡◌, IfOk, IfSome};
 ghost use Rattle.nrm_stream.specs.Commands.{IsCommand};
 ghost use Rattle.nrm_gen.specs.Draws.{state_after, stirred, drawn};
 ghost use Rattle.nrm_gen.specs.MadeNetwork.{made_network};
-ghost use Rattle.nrm_gen.specs.MadeCommands.{after_next, by_lot, next_of};
+ghost use Rattle.nrm_gen.specs.MadeCommands.{after_next, by_lot, command_at, next_of};
 
 use crate::draws::Draws;
 use crate::names::{leg_name, product_name};
@@ -62,13 +62,21 @@ impl Maker {
             return None;
         }
         self.given += 1;
-        Some(match self.given {
-            2_500 => Command::Reoptimise { period: 2 },
-            5_000 => Command::Reoptimise { period: 3 },
-            7_500 => Command::Reoptimise { period: 4 },
-            COMMANDS => Command::Hindsight,
-            _ => by_lot(&mut self.draws),
-        })
+        Some(command_at(&mut self.draws, self.given))
+    }
+}
+
+// The command of a number, from 1.
+fn command_at(draws: &mut Draws, number: u16) -> Command
+    ensures command { (result, draws.new) ≡ command_at number draws.old }
+    ensures within { IsCommand result }
+{
+    match number {
+        2_500 => Command::Reoptimise { period: 2 },
+        5_000 => Command::Reoptimise { period: 3 },
+        7_500 => Command::Reoptimise { period: 4 },
+        COMMANDS => Command::Hindsight,
+        _ => by_lot(draws),
     }
 }
 

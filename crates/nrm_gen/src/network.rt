@@ -90,7 +90,7 @@ fn made_product(alloc: Global, draws: &mut Draws, product: u8) -> Result<Product
     })
 }
 
-// Through products are the dearest, and on a leg every other product is dear.
+// That of a through product, and on one leg that of the dear product and of the cheap one.
 #[tactic(auto, using(crate::proofs::DrawLemmas::state_after_more), unfolding(crate::specs::Draws::state_after))]
 fn product_fare(draws: &mut Draws, product: u8) -> u32
     ensures fare { (number : ℕ) → draws.old ≡ state_after number (12 + product) → result ≡ product_fare number product }
