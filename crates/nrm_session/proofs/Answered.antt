@@ -1,5 +1,5 @@
 -- Commands that were answered one after another, and one of them that was cut.
-use Rattle.std.proofs.Common.{ℕ, ◌≡◌, ◌∙◌, ◌+◌, ◌≤◌, List, [], ◌∷◌, ◌++◌, length, take, Option, Result, Ok, Err, refl, sym, ap, subst, arith, append-nil, append_assoc, length-append}
+use Rattle.std.proofs.Common.{ℕ, ◌≡◌, ◌∙◌, ◌≤◌, List, [], ◌∷◌, ◌++◌, length, take, Option, Result, Ok, Err, refl, sym, ap, subst, arith, append-nil, append_assoc, length-append}
 use Rattle.std.proofs.KnownBytes.{Appends-nil, Appends-trans, Appends-kept}
 use Rattle.std.proofs.lemmas.Grind.{flat_map-append}
 use Rattle.std.proofs.Math.Seq.{take-length}
@@ -14,12 +14,12 @@ use Rattle.nrm_stream.specs.declared.command.Command.{Command}
 use Rattle.nrm_session.specs.Answering.{Steps}
 use Rattle.nrm_session.specs.Replies.{Reply, text_of}
 use Rattle.nrm_session.specs.Run.{Run, Writes, output_of}
-use Rattle.nrm_session.specs.Serving.{Refines, RefinesCut, WritesCut}
+use Rattle.nrm_session.specs.Serving.{WritesCut}
 use Rattle.nrm_session.specs.Step.{Step}
 use Rattle.nrm_session.specs.Inner.Answers.{Answers, AnswersCut}
 
 -- a run goes on by another
-run-joined : (net : NetworkValue) (s : SeatState) (commands : List Command) (replies : List Reply) (mid : SeatState) (more : List Command) (others : List Reply) (s' : SeatState)
+pub run-joined : (net : NetworkValue) (s : SeatState) (commands : List Command) (replies : List Reply) (mid : SeatState) (more : List Command) (others : List Reply) (s' : SeatState)
     → Run net s commands replies mid → Run net mid more others s' → Run net s (commands ++ more) (replies ++ others) s'
 run-joined net s [] [] mid more others s' run rest = subst (λ (m : SeatState). Run net m more others s') run rest
 run-joined net s [] (r ∷ replies) mid more others s' run rest = absurd run

@@ -32,7 +32,7 @@ same-option None reply other none some s' s'' kept changed first second = same-p
 same-option (Some x) reply other none some s' s'' kept changed first second = same-pair reply other (some x) s' s'' (changed x) first second
 
 -- ---- what an optimisation may reply
-some-plan : (o : Option Fraction) → memory ≡ optimised_at o → ⊥
+pub some-plan : (o : Option Fraction) → memory ≡ optimised_at o → ⊥
 some-plan None e = cc
 some-plan (Some value) e = cc
 

@@ -3,6 +3,7 @@ pub mod Determined
 pub mod Examples
 pub mod Hindsights
 pub mod InForce
+pub mod OtherLines
 pub mod Pieces
 pub mod Runs
 pub mod Seats

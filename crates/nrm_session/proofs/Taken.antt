@@ -1,5 +1,5 @@
 -- The bytes of a stream that were taken so far, and how its session ends.
-use Rattle.std.proofs.Common.{ℕ, ◌≡◌, ◌∙◌, ◌+◌, ◌<◌, ◌≤◌, List, [], ◌∷◌, ◌++◌, length, take, Option, refl, sym, ap, subst, arith, inl, inr, append-nil, length-append}
+use Rattle.std.proofs.Common.{ℕ, ◌≡◌, ◌∙◌, ◌+◌, ◌≤◌, List, [], ◌++◌, length, take, Option, refl, sym, ap, subst, arith, inl, inr, append-nil, length-append}
 use Rattle.std.specs.Option.{option_to_list}
 use Rattle.std.specs.Io.KnownBytes.{Appends, Consumes, IsAtEnd}
 use Rattle.std.proofs.KnownBytes.{Consumes-nil, Consumes-trans}
@@ -11,10 +11,10 @@ use Rattle.nrm_stream.specs.Lines.{unfinished_line}
 use Rattle.nrm_stream.specs.Splitting.{kept_of}
 use Rattle.nrm_stream.specs.declared.command.Command.{Command}
 use Rattle.nrm_stream.proofs.Calls.{call-finish}
-use Rattle.nrm_session.specs.Serving.{CountsFaults, Refines, RefinesCut, Serves, Streams, TookAndWrote}
+use Rattle.nrm_session.specs.Serving.{CountsFaults, Refines, RefinesCut, Serves, Streams}
 use Rattle.nrm_session.specs.declared.serving.End.{End}
 use Rattle.nrm_session.specs.declared.serving.End.TheVariants as end
-use Rattle.nrm_session.specs.Inner.Answers.{Answers, AnswersCut, AnswersPiece, CutsPiece, EndsInput}
+use Rattle.nrm_session.specs.Inner.Answers.{Answers, AnswersPiece, CutsPiece, EndsInput}
 use Rattle.nrm_session.proofs.Answered.{answers-more, answers-nothing, cut-more}
 
 -- so many bytes were taken, the whole lines of them were answered, and this is kept of the unfinished one

@@ -8,8 +8,6 @@ use Rattle.nrm_model.specs.Network.{NetworkValue, leg_of, product_named, product
 use Rattle.nrm_model.specs.declared.mode.Mode.{Mode}
 use Rattle.nrm_model.specs.declared.mode.Mode.TheVariants as mode
 use Rattle.nrm_lp.specs.declared.certificate.Certificate.{Certificate}
-use Rattle.nrm_lp.specs.Certified.{sizes}
-use Rattle.nrm_lp.specs.Program.{price_sum}
 use Rattle.nrm_virtual.specs.Buckets.{bucket_of}
 use Rattle.nrm_emsr.specs.Protections.{protection_of}
 use Rattle.nrm_plan.specs.Plans.{PlanValue, fare_refuses, fare_refuses_by, kept_from, seats_kept}
@@ -18,7 +16,7 @@ use Rattle.nrm_control.specs.State.{SeatState, after_request, answer_in}
 use Rattle.nrm_control.specs.Verdict.{leg_refuses}
 use Rattle.nrm_control.specs.declared.answer.Answer.TheVariants as answer
 use Rattle.nrm_session.specs.Replies.{Reply, sold, no_leg, no_fare, reply_to, unknown}
-use Rattle.nrm_session.specs.Headline.{InForce, protection_above_bucket, bid_price_sum, SeatsCover, FareReaches, FirstLegShort, Headline, RequestsAreAnswered}
+use Rattle.nrm_session.specs.Headline.{InForce, bid_price_sum, SeatsCover, FareReaches, FirstLegShort, Headline, RequestsAreAnswered}
 
 -- the leg of this name is the first that doesn't cover
 pub record IsFirstFailing (net : NetworkValue) (Covers : ℕ → Type 0) (legs : List ℕ) (name : List ℕ) : Type 0 where

@@ -1,5 +1,5 @@
 -- Laws of whole sessions.
-use Rattle.std.specs.Prelude.{ℕ, ◌≡◌, ◌≢◌, ◌<◌, ◌≤◌, List, length, All}
+use Rattle.std.specs.Prelude.{ℕ, ◌≡◌, ◌≢◌, ◌<◌, ◌≤◌, List, length, All, ⊤}
 use Rattle.nrm_model.specs.Inventory.{inventory_of, seats_of}
 use Rattle.nrm_model.specs.Network.{NetworkValue}
 use Rattle.nrm_model.specs.Limits.{IsNetwork}
@@ -10,7 +10,9 @@ use Rattle.nrm_book.specs.Bookings.{sold_on}
 use Rattle.nrm_plan.specs.Plans.{HasOptimalPrices, IsOpeningPlan, IsPlanOf, PlanValue}
 use Rattle.nrm_control.specs.State.{SeatState, opening}
 use Rattle.nrm_stream.specs.declared.command.Command.{Command}
+use Rattle.nrm_stream.specs.declared.command.Command.TheVariants as command
 use Rattle.nrm_session.specs.Replies.{Reply, memory}
+use Rattle.nrm_session.specs.Step.{Step}
 use Rattle.nrm_session.specs.Run.{Run}
 
 -- no leg of the network has more seats sold than it has
@@ -36,6 +38,20 @@ MemorySuffices replies = All (λ reply. reply ≢ memory) replies
 abbrev pub RepliesAreDetermined : Type 0
 RepliesAreDetermined = (net : NetworkValue) (s : SeatState) (commands : List Command) (replies others : List Reply) (s' s'' : SeatState)
     → Run net s commands replies s' → Run net s commands others s'' → MemorySuffices replies → MemorySuffices others → (others ≡ replies) × (s'' ≡ s')
+
+-- a line for which a program may be solved
+abbrev pub MaySolve : Command → Type 0
+MaySolve (command.Reoptimise k) = ⊤
+MaySolve command.Hindsight = ⊤
+MaySolve (command.Book name party) = ⊥
+MaySolve (command.Cancel number) = ⊥
+MaySolve (command.Leg name) = ⊥
+MaySolve command.Plan = ⊥
+MaySolve command.Bad = ⊥
+
+-- memory is wanting at such lines alone, and then nothing changes: every other line has its reply whatever memory there is
+abbrev pub OtherLinesNeedNoMemory : Type 0
+OtherLinesNeedNoMemory = (net : NetworkValue) (s s' : SeatState) (c : Command) → Step net s c memory s' → MaySolve c × (s' ≡ s)
 
 -- the commands and the replies determine the state, whichever they are
 abbrev pub StatesAreDetermined : Type 0

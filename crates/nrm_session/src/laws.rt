@@ -1,7 +1,7 @@
 //! Laws of whole sessions. Each is the contract of a function that does nothing.
 ghost use Rattle.nrm_session.specs.Headline.{RequestsAreAnswered};
 ghost use Rattle.nrm_session.specs.Hindsight.{HindsightBounds, HindsightBoundsOn};
-ghost use Rattle.nrm_session.specs.Laws.{EachListHasARun, PlansAreKept, RepliesAreDetermined, SeatsAreKept, StatesAreDetermined};
+ghost use Rattle.nrm_session.specs.Laws.{EachListHasARun, OtherLinesNeedNoMemory, PlansAreKept, RepliesAreDetermined, SeatsAreKept, StatesAreDetermined};
 
 /// No leg has more seats sold than it has in an opening, and a run keeps that from any state.
 pub fn seats_are_kept()
@@ -11,6 +11,11 @@ pub fn seats_are_kept()
 /// The commands of a session determine its replies and its states, where no line wants for memory.
 pub fn replies_are_determined()
     ensures { RepliesAreDetermined }
+{}
+
+/// Memory is wanting at lines of `reoptimise` and of `hindsight` alone, and then nothing changes.
+pub fn other_lines_need_no_memory()
+    ensures { OtherLinesNeedNoMemory }
 {}
 
 /// The commands of a session and its replies determine its states.

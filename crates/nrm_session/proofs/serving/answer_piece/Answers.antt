@@ -1,5 +1,3 @@
-use Rattle.std.proofs.Common.{refl}
-use Rattle.std.proofs.KnownBytes.{Keeps-refl}
 use Rattle.nrm_session.proofs.Pieces.{line-answered, line-cut, nothing-answered, no-command, nothing-more, on-err, piece-unsent, some-left}
 use Rattle.nrm_session.proofs.serving.answer_piece.Goals as goal
 
