@@ -5,6 +5,7 @@
     tests/reference.py plan MODE FILE         the plan of the network of FILE at period 1, with every seat left
     tests/reference.py check FILE CERT        what the certificate CERT is for the network of FILE
     tests/reference.py print FILE             the canonical form of FILE
+    tests/reference.py gen MODE NUMBER        what becomes of the commands that are made of NUMBER, on the network made of it
     tests/reference.py stream MODE FILE SEED N
                                               a made stream of N mixed lines for the network of FILE; a seed gives one stream
 
@@ -57,7 +58,7 @@ class Refused(Ended):
 def bytes_of(path, refusal):
     try:
         with open(path, "rb") as file:
-            return file.read()
+            return file.read(LONGEST_FILE + 1)
     except FileNotFoundError:
         raise Refused(refusal)
     except OSError:
@@ -578,8 +579,10 @@ class Session:
             value = solved(Program(self.network, seats, tallies)).value
         except Ended:
             return b"overflow\n"
-        revenue = sum(party * self.network.products[product][0] for _, product, party in self.book)
-        return b"hindsight %s revenue %d\n" % (fraction(value), revenue)
+        return b"hindsight %s revenue %d\n" % (fraction(value), self.revenue())
+
+    def revenue(self):
+        return sum(party * self.network.products[product][0] for _, product, party in self.book)
 
     def plan(self):
         if self.mode == "first":
@@ -634,6 +637,77 @@ def replies(session):
             raise Ended("", 8)
     if line:
         yield session.reply(line)
+
+
+# A made network, and the commands after it
+
+
+class Draws:
+    """Numbers one after another; a network and its commands share one row of them."""
+
+    def __init__(self, number):
+        self.state = number % 2**31
+
+    def below(self, limit):
+        self.state = (self.state * 1_103_515_245 + 12_345) % 2**31
+        return self.state // 65_536 % limit
+
+
+def made_network(draws):
+    """A hub of six legs in and six out, with a dear and a cheap product on each and one from each leg in to each leg out."""
+    network = Network()
+    network.histories, network.periods = 8, 4
+    legs = [b"%s%d" % (side, number) for side in (b"I", b"O") for number in range(1, 7)]
+    for leg in legs:
+        network.legs[leg] = (40 + draws.below(40), [400, 200, 100])
+    for leg in legs:
+        network.products[leg + b"-H"] = (300 + draws.below(200), [leg])
+        network.products[leg + b"-L"] = (100 + draws.below(100), [leg])
+    for inbound in range(1, 7):
+        for outbound in range(1, 7):
+            name, over = b"T%d-%d" % (inbound, outbound), [b"I%d" % inbound, b"O%d" % outbound]
+            network.products[name] = (350 + draws.below(300), over)
+    for product in network.products:
+        for history in range(1, network.histories + 1):
+            network.demand[product, history] = [draws.below(6) for _ in range(network.periods)]
+    return network
+
+
+def made_lines(network, draws):
+    """The 10,000 lines: most are requests, and the last one is `hindsight`."""
+    products, legs = list(network.products), list(network.legs)
+    for number in range(1, 10_001):
+        if number == 10_000:
+            yield b"hindsight"
+        elif number % 2_500 == 0:
+            yield b"reoptimise %d" % (number // 2_500 + 1)
+        elif (lot := draws.below(20)) < 15:
+            product = products[draws.below(60)]
+            yield b"book %s %d" % (product, 1 + draws.below(3))
+        elif lot < 19:
+            yield b"cancel %d" % (1 + draws.below(400))
+        else:
+            yield b"leg %s" % legs[draws.below(12)]
+
+
+def summary(mode, number):
+    """How often each kind of reply came, and what is earned and could have been."""
+    draws = Draws(number)
+    network = made_network(draws)
+    session = Session(network, mode)
+    *rest, last = [session.reply(line) for line in made_lines(network, draws)]
+    kinds = {b"ok": 0, b"no": 0, b"fare": 0, b"cancelled": 0, b"unknown": 0, b"leg": 0, b"optimised": 0, b"overflow": 0}
+    for reply in rest:
+        words = reply.split()
+        kinds[b"fare" if words[:2] == [b"no", b"fare"] else words[0]] += 1
+    named = b" ".join(b"%s %d" % (b"legs" if kind == b"leg" else kind, count) for kind, count in kinds.items())
+    value = last.split()[1] if last.startswith(b"hindsight") else b"overflow"
+    return b"made lines %d %s revenue %d hindsight %s\n" % (len(rest) + 1, named, session.revenue(), value)
+
+
+def is_number(word):
+    """Whether a word is a whole number from which a network is made."""
+    return bool(WHOLE.fullmatch(word.encode())) and len(word) <= 10 and int(word) < 2**32
 
 
 # A made stream
@@ -702,6 +776,8 @@ def told(words):
             return [b"optimal\n"]
         case ["print", path]:
             return [canonical(network_in(path))]
+        case ["gen", "first" | "bid" | "davn" as mode, number] if is_number(number):
+            return [summary(mode, int(number))]
         case ["stream", "first" | "bid" | "davn" as mode, path, seed, count]:
             return [made_stream(Session(network_in(path), mode), int(seed), int(count))]
     raise Ended(USAGE, 2)

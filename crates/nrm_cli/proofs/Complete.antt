@@ -21,9 +21,12 @@ use Rattle.nrm_stream.specs.Commands.{commands_of}
 use Rattle.nrm_session.specs.Run.{output_of}
 use Rattle.nrm_session.proofs.Runs.{runs}
 use Rattle.nrm_cli.specs.Certificates.{LacksCertificate, certificate_under, verdict_line}
-use Rattle.nrm_cli.specs.Jobs.{Job, run_file, plan_file, check_file, print_file, file_of_job, mode_of_job, overflow_line, told_pivots}
+use Rattle.nrm_cli.specs.Jobs.{Job, run_file, plan_file, check_file, print_file, run_made, network_for, mode_of_job, overflow_line, told_pivots}
+use Rattle.nrm_gen.specs.MadeCommands.{made_commands}
+use Rattle.nrm_gen.specs.MadeNetwork.{made_network}
+use Rattle.nrm_cli.specs.Made.{MadeRun, summary_line}
 use Rattle.nrm_cli.specs.Ends.{Completes, CompletesJob, Ends, OrRanOut, RanOut, RunWrites, Starts, TellsOverflow, status_of}
-use Rattle.nrm_cli.specs.Tells.{Gives, Lacks, Opens, Reads, Refuses, Tells, usage, refused, lacking, optimal, wrong, planned, overflow, printed, file_fault}
+use Rattle.nrm_cli.specs.Tells.{Gives, GivesNetwork, Lacks, Opens, Reads, Refuses, RefusesNetwork, Tells, usage, refused, lacking, optimal, wrong, planned, overflow, summed, printed, file_fault}
 use Rattle.nrm_cli.specs.declared.status.Status.{Status}
 use Rattle.nrm_cli.specs.declared.status.Status.TheVariants as status
 
@@ -44,11 +47,32 @@ on-told told files name P is on = rw is at on
 folder-same : (x y : Folder) → Some x ≡ Some y → x ≡ y
 folder-same x y e = cc
 
+-- what gives the network of a job, or refuses its file, says what the network is
+gives-for : (job : Job) (told : Option Folder) (files : Folder) (net : NetworkValue) → told ≡ Some files → GivesNetwork job told net → network_for job files ≡ Ok net
+gives-for (run_file m file) told files net is has = on-told told files file (λ f. network_under f ≡ Ok net) is has
+gives-for (plan_file m file) told files net is has = on-told told files file (λ f. network_under f ≡ Ok net) is has
+gives-for (check_file file certificate) told files net is has = on-told told files file (λ f. network_under f ≡ Ok net) is has
+gives-for (print_file file) told files net is has = on-told told files file (λ f. network_under f ≡ Ok net) is has
+gives-for (run_made m number) told files net is has = ap (λ (n : NetworkValue). Ok n) (sym has)
+
+refuses-for : (job : Job) (told : Option Folder) (files : Folder) (refusal : Refusal) → told ≡ Some files → RefusesNetwork job told refusal → network_for job files ≡ Err refusal
+refuses-for (run_file m file) told files refusal is on = on-told told files file (λ f. network_under f ≡ Err refusal) is on
+refuses-for (plan_file m file) told files refusal is on = on-told told files file (λ f. network_under f ≡ Err refusal) is on
+refuses-for (check_file file certificate) told files refusal is on = on-told told files file (λ f. network_under f ≡ Err refusal) is on
+refuses-for (print_file file) told files refusal is on = on-told told files file (λ f. network_under f ≡ Err refusal) is on
+refuses-for (run_made m number) told files refusal is never = absurd never
+
 -- a run over the lines of a stream is there, so its output is
 some-run : (net : NetworkValue) (plan : PlanValue) (stream : List ℕ) → (output : List ℕ) × RunWrites net plan (commands_of stream) output
 some-run net plan stream =
     let (replies, last, run, suffices) = runs net (opening plan) (commands_of stream) in
     (output_of replies, (last, record { replies = replies; run = run; output = refl }))
+
+-- and a run over the commands that are made of a number, so its summary is
+some-made : (net : NetworkValue) (plan : PlanValue) (number : ℕ) → (text : List ℕ) × MadeRun net plan number text
+some-made net plan number =
+    let (replies, last, run, suffices) = runs net (opening plan) (made_commands number) in
+    (summary_line net replies last, record { replies = replies; last = last; run = run; suffices = suffices; summary = refl })
 
 -- want of memory is one of the ends that a good job may have
 ran-complete : (job : Job) (net : NetworkValue) (before after : Outside) → RanOut (Some job) before after → CompletesJob job net before after status.NoMemory
@@ -59,23 +83,25 @@ ran-complete (run_file m file) net before after (kept, left) = (
 ran-complete (plan_file m file) net before after (kept, left) = ((λ n number large. inr (refl, kept)), (λ plan planned. inr (refl, kept)))
 ran-complete (check_file file certificate) net before after (kept, left) = λ files given told valid. inr (refl, kept)
 ran-complete (print_file file) net before after (kept, left) = inr (refl, kept)
+ran-complete (run_made m number) net before after (kept, left) = (
+  (λ n large-number large. inr (refl, kept)),
+  (λ plan planned. let (text, sums) = some-made net plan number in (text, sums, inr (refl, kept))),
+)
 
 module _ (asked : Option Job) (before after : Outside) (job : Job) (files : Folder) (net : NetworkValue)
-    (asks : asked ≡ Some job) (told : before.files ≡ Some files) (valid : network_under (files (file_of_job job)) ≡ Ok net)
+    (asks : asked ≡ Some job) (told : before.files ≡ Some files) (valid : network_for job files ≡ Ok net)
     (no_file_fault : FilesFailed before after → ⊥) (no_source_fault : SourceFailed before after → ⊥) (no_sink_fault : SinkFailed before after → ⊥) where
   -- a job that opens its file is the one that the words ask for, and its network the file's
   same-job : (other : Job) → asked ≡ Some other → other ≡ job
   same-job other is = let e = sym is ∙ asks in cc
 
   same-net : (other : Job) (given : NetworkValue) → Opens asked other before given → given ≡ net
-  same-net other given (is, file) =
-      let gives : network_under (files (file_of_job other)) ≡ Ok given = on-told before.files files (file_of_job other) (λ f. network_under f ≡ Ok given) told file in
-      let same : Ok given ≡ Ok net = sym gives ∙ ap (λ j. network_under (files (file_of_job j))) (same-job other is) ∙ valid in cc
+  same-net other given (is, has) =
+      let same : Ok given ≡ Ok net = sym (gives-for other before.files files given told has) ∙ ap (λ j. network_for j files) (same-job other is) ∙ valid in cc
 
   not-refused : (refusal : Refusal) → Refuses asked before refusal → ⊥
   not-refused refusal r =
-      let gives : network_under (files (file_of_job r.job)) ≡ Err refusal = on-told before.files files (file_of_job r.job) (λ f. network_under f ≡ Err refusal) told r.refused in
-      let same : Err refusal ≡ Ok net = sym gives ∙ ap (λ j. network_under (files (file_of_job j))) (same-job r.job r.asks) ∙ valid in cc
+      let same : Err refusal ≡ Ok net = sym (refuses-for r.job before.files files refusal told r.refused) ∙ ap (λ j. network_for j files) (same-job r.job r.asks) ∙ valid in cc
 
   -- ---- the words ask for a certificate to be checked, which the second file gives
   module _ (file certificate : List ℕ) (shown : Certificate) (known : job ≡ check_file file certificate) (reads : certificate_under net (files certificate) ≡ Ok shown) where
@@ -155,6 +181,9 @@ module _ (asked : Option Job) (before after : Outside) (job : Job) (files : Fold
       (large-told k n number own wrote, (λ plan planned. absurd ((one-plan net k (inventory_of net).seats 1).apart plan n number planned own)))
   complete-large (check_file file certificate) m n number has large wrote = absurd (none-some m has)
   complete-large (print_file file) m n number has large wrote = absurd (none-some m has)
+  complete-large (run_made k made) m n number has large wrote =
+      let own = subst (λ (mode : Mode). OpeningOverflows net mode n number) (sym (mode-same k m has)) large in
+      (large-told k n number own wrote, (λ plan planned. absurd ((one-plan net k (inventory_of net).seats 1).apart plan n number planned own)))
 
   complete-told : (s : Status) (text : List ℕ) → Tells asked before after s text → Wrote before after text → CompletesJob job net before after s
   complete-told s text (usage none) wrote = let no : None ≡ Some job = sym none ∙ asks in cc
@@ -179,6 +208,12 @@ module _ (asked : Option Job) (before after : Outside) (job : Job) (files : Fold
   complete-told s text (overflow other m given-net n number has opens large) wrote =
       subst (Complete status.Overflow) (same-job other opens.0)
       (complete-large other m n number has (subst (λ (net' : NetworkValue). OpeningOverflows net' m n number) (same-net other given-net opens) large) wrote)
+  complete-told s text (summed m number plan sum asked-for is sums) wrote =
+      let of_net = same-net (run_made m number) (made_network number) (asked-for, refl) in
+      let own = subst (λ (n : NetworkValue). IsOpeningPlan n m plan) of_net is in
+      let own_sums = subst (λ (n : NetworkValue). MadeRun n plan number sum) of_net sums in
+      subst (Complete status.Done) (same-job (run_made m number) asked-for)
+      (planned-apart m plan own status.Done, (λ other is'. (sum, subst (λ (p : PlanValue). MadeRun net p number sum) (opening-same m other plan is' own) own_sums, inl (refl, wrote))))
   complete-told s text (printed file given-net opens) wrote =
       subst (Complete status.Done) (same-job (print_file file) opens.0)
       (inl (refl, subst (λ (n : NetworkValue). Wrote before after (canonical_file n)) (same-net (print_file file) given-net opens) wrote))

@@ -2,6 +2,8 @@
 use Rattle.std.specs.Prelude.{◌≡◌, ◌<◌, ◌≤◌, ℕ, zero, suc, pos, negsuc, get_or, List, [], ◌∷◌, map, codes, refl, Option, Some, None, Ok, Err}
 use Rattle.std.proofs.Common.{arith}
 use Rattle.std.specs.Fmt.{digits}
+use Rattle.nrm_text.specs.Words.{text_line}
+use Rattle.nrm_fraction.specs.Fraction.{whole}
 use Rattle.nrm_model.specs.Network.{NetworkValue, leg_of}
 use Rattle.nrm_model.specs.declared.mode.Mode.TheVariants as mode
 use Rattle.nrm_network.specs.Canonical.{canonical_file}
@@ -10,13 +12,15 @@ use Rattle.nrm_network.proofs.OnLiterals.{network_on_literals}
 use Rattle.nrm_plan.specs.Plans.{IsOpeningPlan, PlanValue}
 use Rattle.nrm_control.specs.State.{SeatState, opening, after_request, after_cancellation}
 use Rattle.nrm_stream.specs.Commands.{commands_of}
-use Rattle.nrm_session.specs.Replies.{bad, unknown, sold, no_leg, cancelled, leg_told, plan_told}
+use Rattle.nrm_session.specs.Replies.{Reply, bad, unknown, sold, no_leg, no_fare, cancelled, optimised_none, overflow, hindsight_told, leg_told, plan_told}
 use Rattle.nrm_dual.specs.Refusals.{too_long, bad_line, large_line, no_value, no_product, no_leg, too_fine}
 use Rattle.nrm_dual.specs.declared.verdict.Verdict.TheVariants as verdict
 use Rattle.nrm_opening.specs.Outside.{Outside, FilesFailed, SourceFailed, SinkFailed}
 use Rattle.nrm_cli.specs.Certificates.{lacking_line, no_certificate, refused_for, verdict_line}
 use Rattle.nrm_cli.specs.Ends.{Completes, OrRanOut, RunWrites, status_of, stream_limit}
-use Rattle.nrm_cli.specs.Jobs.{job_of, run_file, plan_file, check_file, print_file, usage_line, overflow_line, told_pivots}
+use Rattle.nrm_cli.specs.Jobs.{job_of, run_file, plan_file, check_file, print_file, run_made, usage_line, overflow_line, told_pivots}
+use Rattle.nrm_cli.specs.Made.{counts_from, hindsight_word, last_of, nothing_counted, summary_words}
+use Rattle.nrm_cli.specs.declared.counts.Counts.{Counts}
 use Rattle.nrm_cli.specs.Numbers.{number_of}
 use Rattle.nrm_cli.specs.declared.status.Status.{Status}
 use Rattle.nrm_cli.specs.declared.status.Status.TheVariants as status
@@ -143,6 +147,36 @@ plan_without_a_mode = refl
 
 words_of_a_run_by_nests : job_of (codes "run" ∷ codes "davn" ∷ codes "F" ∷ []) ≡ Some (run_file mode.Davn (codes "F"))
 words_of_a_run_by_nests = refl
+
+words_of_a_made_run : job_of (codes "gen" ∷ codes "davn" ∷ codes "4294967295" ∷ []) ≡ Some (run_made mode.Davn 4294967295)
+words_of_a_made_run = refl
+
+number_too_great : job_of (codes "gen" ∷ codes "bid" ∷ codes "4294967296" ∷ []) ≡ None
+number_too_great = refl
+
+number_with_a_nought_before_it : job_of (codes "gen" ∷ codes "bid" ∷ codes "01" ∷ []) ≡ None
+number_with_a_nought_before_it = refl
+
+-- a run is summed up by the counts of all its replies but the last, and by what the last one tells
+abbrev some_replies : List Reply
+some_replies =
+    sold 1 ∷ no_leg (codes "AB") ∷ sold 2 ∷ no_fare ∷ overflow ∷ optimised_none ∷ cancelled 2 200 ∷ unknown ∷ leg_told [] ∷ leg_told [] ∷ bad ∷ hindsight_told (whole (pos 1200)) 1000 ∷ []
+
+abbrev their_counts : Counts
+their_counts = record { sold = 2; no_leg = 1; no_fare = 1; cancelled = 1; unknown = 1; legs = 2; optimised = 1; overflow = 1 }
+
+counts : counts_from nothing_counted some_replies ≡ their_counts
+counts = refl
+
+last_told : last_of some_replies ≡ hindsight_told (whole (pos 1200)) 1000
+last_told = refl
+
+summed_up : text_line (summary_words their_counts 1000 (codes "1200/1")) ≡ codes "made lines 10000 ok 2 no 1 fare 1 cancelled 1 unknown 1 legs 2 optimised 1 overflow 1 revenue 1000 hindsight 1200/1\n"
+unfolding digits
+summed_up = refl
+
+without_a_value : hindsight_word overflow ≡ codes "overflow"
+without_a_value = refl
 
 other_mode : job_of (codes "run" ∷ codes "fast" ∷ codes "F" ∷ []) ≡ None
 other_mode = refl

@@ -1,6 +1,7 @@
 pub mod Checking
 pub mod Complete
 pub mod Examples
+pub mod Making
 pub mod OwnPasses
 pub mod Passing
 pub mod Places

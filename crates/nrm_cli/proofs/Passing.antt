@@ -25,9 +25,9 @@ use Rattle.nrm_opening.specs.Outside.{Outside}
 use Rattle.nrm_opening.specs.Refusals.{Refusal, network_in, network_under}
 use Rattle.nrm_cli.specs.Certificates.{certificate_under, verdict_line}
 use Rattle.nrm_cli.specs.Ends.{Completes, Ends, OrRanOut, status_of}
-use Rattle.nrm_cli.specs.Jobs.{Job, run_file, plan_file, check_file, print_file}
+use Rattle.nrm_cli.specs.Jobs.{Job, run_file, plan_file, check_file, print_file, run_made}
 use Rattle.nrm_cli.specs.Own.{PlannedPasses, WasPlanned}
-use Rattle.nrm_cli.specs.Tells.{Tells, usage, refused, lacking, optimal, wrong, planned, overflow, printed, file_fault}
+use Rattle.nrm_cli.specs.Tells.{Tells, usage, refused, lacking, optimal, wrong, planned, overflow, summed, printed, file_fault}
 use Rattle.nrm_cli.specs.declared.status.Status.{Status}
 use Rattle.nrm_cli.specs.declared.status.Status.TheVariants as status
 use Rattle.nrm_cli.proofs.OwnPasses.{own-passes}
@@ -93,6 +93,10 @@ module _ (file : List ℕ) (before after : Outside) (files : Folder) (told : bef
       parts : (m : Mode) (f : List ℕ) → plan_file mode.Bid file ≡ plan_file m f → (mode.Bid ≡ m) × (file ≡ f)
       parts m f e = (cc, cc)
   of-told s text done (overflow job m net n number has opens large) = cc
+  of-told s text done (summed m number plan sum asked-for is sums) = absurd (apart m number (other-job (run_made m number) asked-for))
+    where
+      apart : (m : Mode) (number : ℕ) → plan_file mode.Bid file ≡ run_made m number → ⊥
+      apart m number e = cc
   of-told s text done (printed f net opens) = absurd (apart f (other-job (print_file f) opens.0))
     where
       apart : (f : List ℕ) → plan_file mode.Bid file ≡ print_file f → ⊥

@@ -1,5 +1,5 @@
 -- How a job ends that has an opening plan, or none since its program is Large or memory ran out.
-use Rattle.std.proofs.Common.{ℕ, ◌≡◌, List, Some, None, inl, inr, refl, subst}
+use Rattle.std.proofs.Common.{ℕ, ◌≡◌, List, Some, inl, inr, refl, subst}
 use Rattle.nrm_model.specs.Inventory.{inventory_of}
 use Rattle.nrm_model.specs.Network.{NetworkValue}
 use Rattle.nrm_model.specs.declared.mode.Mode.{Mode}

@@ -4,7 +4,7 @@ use Rattle.nrm_opening.specs.Outside.{Outside, Wrote, LeftStream}
 use Rattle.nrm_cli.specs.Ends.{Ends}
 use Rattle.nrm_cli.specs.Jobs.{Job}
 use Rattle.nrm_cli.specs.Inner.Parts.{PutsLine}
-use Rattle.nrm_cli.specs.Tells.{Tells, Told, usage, refused, lacking, optimal, wrong, planned, overflow, printed, file_fault}
+use Rattle.nrm_cli.specs.Tells.{Tells, Told, usage, refused, lacking, optimal, wrong, planned, overflow, summed, printed, file_fault}
 use Rattle.nrm_cli.specs.declared.status.Status.{Status}
 
 module _ (asked : Option Job) (before after : Outside) where
@@ -19,6 +19,7 @@ module _ (asked : Option Job) (before after : Outside) where
   whole s text (wrong net given found gives is other shaped) wrote left = told s text (wrong net given found gives is other shaped) wrote left
   whole s text (planned m file net plan opens is) wrote left = inr (told s text (planned m file net plan opens is) wrote left)
   whole s text (overflow job m net n number has opens large) wrote left = told s text (overflow job m net n number has opens large) wrote left
+  whole s text (summed m number plan sum asks is runs) wrote left = inr (told s text (summed m number plan sum asks is runs) wrote left)
   whole s text (printed file net opens) wrote left = inr (told s text (printed file net opens) wrote left)
   whole s text (file_fault job is rose) wrote left = told s text (file_fault job is rose) wrote left
 

@@ -1,14 +1,15 @@
 -- How a job ends where its file gives no network.
-use Rattle.std.proofs.Common.{◌≡◌, Some, Err, inl, inr, refl}
+use Rattle.std.proofs.Common.{ℕ, ◌≡◌, List, Option, Some, Err, inl, inr, refl}
+use Rattle.nrm_edge.specs.Fetch.{Folder}
 use Rattle.nrm_opening.specs.Opening.{CountsOpening, OpensFile}
-use Rattle.nrm_opening.specs.Outside.{Outside, LeftStream}
-use Rattle.nrm_opening.specs.Refusals.{no_file, at_row, refusal_line, file_fault_line}
+use Rattle.nrm_opening.specs.Outside.{Outside, LeftStream, OnFile}
+use Rattle.nrm_opening.specs.Refusals.{Refusal, network_under, no_file, at_row, refusal_line, file_fault_line}
 use Rattle.nrm_opening.specs.declared.opening.NoNetwork.{NoNetwork}
 use Rattle.nrm_opening.specs.declared.opening.NoNetwork.TheVariants as none
 use Rattle.nrm_cli.specs.Ends.{Ends, Failures}
-use Rattle.nrm_cli.specs.Jobs.{Job, file_of_job}
+use Rattle.nrm_cli.specs.Jobs.{Job}
 use Rattle.nrm_cli.specs.Inner.Parts.{PutsReason}
-use Rattle.nrm_cli.specs.Tells.{refused, file_fault}
+use Rattle.nrm_cli.specs.Tells.{RefusesNetwork, refused, file_fault}
 use Rattle.nrm_cli.specs.declared.status.Status.{Status}
 use Rattle.nrm_cli.specs.declared.status.Status.TheVariants as status
 use Rattle.nrm_cli.proofs.Telling.{told-ends}
@@ -17,16 +18,20 @@ use Rattle.nrm_cli.proofs.Telling.{told-ends}
 ran-out : (job : Job) (before after : Outside) (s : Status) → PutsReason none.NoMemory before.held after.held before.sink_faults after.sink_faults s → LeftStream before after → Ends (Some job) before after s
 ran-out job before after s (told, kept, same) left = rw told (kept, left)
 
-pub without-network : (job : Job) (before after : Outside) (reason : NoNetwork) (s : Status)
-    → OpensFile before.files (file_of_job job) (Err reason) → CountsOpening before.file_faults after.file_faults (Err reason)
+-- a job whose network is that of a file is refused as the file is
+abbrev pub IsOfFile : Job → List ℕ → Type 0
+IsOfFile job file = (files : Option Folder) (refusal : Refusal) → OnFile files file (λ contents. network_under contents ≡ Err refusal) → RefusesNetwork job files refusal
+
+pub without-network : (job : Job) (file : List ℕ) → IsOfFile job file → (before after : Outside) (reason : NoNetwork) (s : Status)
+    → OpensFile before.files file (Err reason) → CountsOpening before.file_faults after.file_faults (Err reason)
     → PutsReason reason before.held after.held before.sink_faults after.sink_faults s → LeftStream before after → Ends (Some job) before after s
-without-network job before after none.Absent s file counts puts left =
-    told-ends (Some job) before after status.Refused s (refusal_line no_file) (refused no_file (record { job = job; asks = refl; refused = file })) puts left
-without-network job before after (none.Refused row cause) s file counts puts left =
-    told-ends (Some job) before after status.Refused s (refusal_line (at_row row cause)) (refused (at_row row cause) (record { job = job; asks = refl; refused = file })) puts left
-without-network job before after none.Fault s file counts puts left =
+without-network job name of_file before after none.Absent s file counts puts left =
+    told-ends (Some job) before after status.Refused s (refusal_line no_file) (refused no_file (record { job = job; asks = refl; refused = of_file before.files no_file file })) puts left
+without-network job name of_file before after (none.Refused row cause) s file counts puts left =
+    told-ends (Some job) before after status.Refused s (refusal_line (at_row row cause)) (refused (at_row row cause) (record { job = job; asks = refl; refused = of_file before.files (at_row row cause) file })) puts left
+without-network job name of_file before after none.Fault s file counts puts left =
     told-ends (Some job) before after status.FileFault s file_fault_line (file_fault job refl counts.1) puts left
-without-network job before after none.NoMemory s file counts puts left = ran-out job before after s puts left
+without-network job name of_file before after none.NoMemory s file counts puts left = ran-out job before after s puts left
 
 -- and which counts stay
 pub without-failures : (before after : Outside) (reason : NoNetwork) (s : Status) → CountsOpening before.file_faults after.file_faults (Err reason)

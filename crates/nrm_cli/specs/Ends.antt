@@ -18,9 +18,9 @@ use Rattle.nrm_dual.specs.declared.verdict.Verdict.TheVariants as verdict
 use Rattle.nrm_plan.specs.Plans.{IsOpeningPlan, OpeningOverflows, PlanValue}
 use Rattle.nrm_report.specs.Texts.{plan_text}
 use Rattle.nrm_opening.specs.Outside.{Outside, FilesFailed, SourceFailed, SinkFailed, NothingFailed, Wrote, WroteNothing, LeftStream}
-use Rattle.nrm_opening.specs.Refusals.{network_under}
 use Rattle.nrm_cli.specs.Certificates.{certificate_under, verdict_line}
-use Rattle.nrm_cli.specs.Jobs.{Job, run_file, plan_file, check_file, print_file, file_of_job, overflow_line, told_pivots}
+use Rattle.nrm_cli.specs.Jobs.{Job, run_file, plan_file, check_file, print_file, run_made, network_for, overflow_line, told_pivots}
+use Rattle.nrm_cli.specs.Made.{MadeRun}
 use Rattle.nrm_cli.specs.Tells.{Opens, Told, ToldCut}
 use Rattle.nrm_cli.specs.declared.status.Status.{Status}
 use Rattle.nrm_cli.specs.declared.status.Status.TheVariants as status
@@ -119,9 +119,9 @@ OrRanOut before after s wanted output = ((s ≡ wanted) × Wrote before after ou
 abbrev pub TellsOverflow : NetworkValue → Mode → Outside → Outside → Status → Type 0
 TellsOverflow net m before after s = (n : ℕ) (number : ℤ) → OpeningOverflows net m n number → OrRanOut before after s status.Overflow (overflow_line (told_pivots n) number)
 
--- what is written of a job whose file gives a network: of a run, where the network has an opening plan in the mode, and the stream is told
+-- what is written of a job that has a network: of a run, where the network has an opening plan in the mode, and the stream is told
 -- and short, the replies to all its lines; of a plan, the opening plan, where there is one; of a check, where the second file is told and
--- gives a certificate, the verdict on it; of a print, the canonical file
+-- gives a certificate, the verdict on it; of a print, the canonical file; of a made run, where there is an opening plan, its summary
 abbrev pub CompletesJob : Job → NetworkValue → Outside → Outside → Status → Type 0
 CompletesJob (run_file m file) net before after s =
     TellsOverflow net m before after s
@@ -133,11 +133,14 @@ CompletesJob (check_file file certificate) net before after s =
     (files : Folder) (given : Certificate) → before.files ≡ Some files → certificate_under net (files certificate) ≡ Ok given
     → let found = verdict_on (opening_program net) given in OrRanOut before after s (status_of found) (verdict_line net found)
 CompletesJob (print_file file) net before after s = OrRanOut before after s status.Done (canonical_file net)
+CompletesJob (run_made m number) net before after s =
+    TellsOverflow net m before after s
+    × ((plan : PlanValue) → IsOpeningPlan net m plan → (text : List ℕ) × MadeRun net plan number text × OrRanOut before after s status.Done text)
 
 -- where the words are good, the files are told and the file is valid, and nothing failed, the job is done
 abbrev pub Completes : Option Job → Outside → Outside → Status → Type 0
 Completes asked before after s =
     (job : Job) (files : Folder) (net : NetworkValue)
-    → asked ≡ Some job → before.files ≡ Some files → network_under (files (file_of_job job)) ≡ Ok net
+    → asked ≡ Some job → before.files ≡ Some files → network_for job files ≡ Ok net
     → (FilesFailed before after → ⊥) → (SourceFailed before after → ⊥) → (SinkFailed before after → ⊥)
     → CompletesJob job net before after s

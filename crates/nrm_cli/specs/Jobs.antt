@@ -1,24 +1,31 @@
 -- What the words of the command line ask for.
-use Rattle.std.specs.Prelude.{ℕ, ℤ, ◌-◌, ◌^◌, min, nat_abs, decimal, List, [], ◌∷◌, ◌++◌, bytes_eq, codes, Option, Some, None, option_map, if◌then◌else◌}
+use Rattle.std.specs.Prelude.{ℕ, ℤ, ◌-◌, ◌^◌, min, nat_abs, decimal, List, [], ◌∷◌, ◌++◌, bytes_eq, codes, Option, Some, None, option_map, Result, Ok, if◌then◌else◌}
+use Rattle.nrm_edge.specs.Fetch.{Folder}
+use Rattle.nrm_text.specs.Numbers.{whole_between}
 use Rattle.nrm_text.specs.Fractions.{sign_of}
 use Rattle.nrm_text.specs.Words.{text_line}
+use Rattle.nrm_model.specs.Network.{NetworkValue}
 use Rattle.nrm_model.specs.declared.mode.Mode.{Mode}
 use Rattle.nrm_model.specs.declared.mode.Mode.TheVariants as mode
+use Rattle.nrm_opening.specs.Refusals.{Refusal, network_under}
+use Rattle.nrm_gen.specs.MadeNetwork.{made_network}
 
--- to run the controller on a network file in a mode, to write its opening plan, to check a certificate against a network file, and to
--- print a network file
+-- to run the controller on a network file in a mode, to write its opening plan, to check a certificate against a network file, to print a
+-- network file, and to run the controller in a mode on the network that is made of a number, over the commands that are made of it
 pub data Job : Type 0 where
   run_file : Mode → List ℕ → Job
   plan_file : Mode → List ℕ → Job
   check_file : List ℕ → List ℕ → Job
   print_file : List ℕ → Job
+  run_made : Mode → ℕ → Job
 
--- the network file of a job
-abbrev pub file_of_job : Job → List ℕ
-file_of_job (run_file m file) = file
-file_of_job (plan_file m file) = file
-file_of_job (check_file file certificate) = file
-file_of_job (print_file file) = file
+-- the network of a job: that of a file, or made of a number
+abbrev pub network_for : Job → Folder → Result NetworkValue Refusal
+network_for (run_file m file) files = network_under (files file)
+network_for (plan_file m file) files = network_under (files file)
+network_for (check_file file certificate) files = network_under (files file)
+network_for (print_file file) files = network_under (files file)
+network_for (run_made m number) files = Ok (made_network number)
 
 -- the mode of a job that has an opening plan
 abbrev pub mode_of_job : Job → Option Mode
@@ -26,6 +33,7 @@ mode_of_job (run_file m file) = Some m
 mode_of_job (plan_file m file) = Some m
 mode_of_job (check_file file certificate) = None
 mode_of_job (print_file file) = None
+mode_of_job (run_made m number) = Some m
 
 -- the mode of a word
 abbrev pub mode_of : List ℕ → Option Mode
@@ -35,7 +43,14 @@ mode_of word =
     else if bytes_eq word (codes "davn") then Some mode.Davn
     else None
 
--- `run MODE FILE`, `plan MODE FILE`, `check FILE CERT` and `print FILE`; all other words ask for nothing that is built
+-- a made run, where its mode and its number are good
+abbrev pub made_run_of : Option Mode → Option ℕ → Option Job
+made_run_of (Some m) (Some number) = Some (run_made m number)
+made_run_of (Some m) None = None
+made_run_of None number = None
+
+-- `run MODE FILE`, `plan MODE FILE`, `check FILE CERT`, `print FILE` and `gen MODE NUMBER`, of a whole number up to 4,294,967,295; all other
+-- words ask for nothing
 abbrev pub job_of : List (List ℕ) → Option Job
 job_of [] = None
 job_of (verb ∷ []) = None
@@ -44,6 +59,7 @@ job_of (verb ∷ second ∷ third ∷ []) =
     if bytes_eq verb (codes "run") then option_map (λ m. run_file m third) (mode_of second)
     else if bytes_eq verb (codes "plan") then option_map (λ m. plan_file m third) (mode_of second)
     else if bytes_eq verb (codes "check") then Some (check_file second third)
+    else if bytes_eq verb (codes "gen") then made_run_of (mode_of second) (whole_between 0 4294967295 third)
     else None
 job_of (verb ∷ second ∷ third ∷ fourth ∷ more) = None
 

@@ -12,22 +12,41 @@ use Rattle.nrm_dual.specs.declared.verdict.Verdict.{Verdict}
 use Rattle.nrm_dual.specs.declared.verdict.Verdict.TheVariants as verdict
 use Rattle.nrm_plan.specs.Plans.{IsOpeningPlan, OpeningOverflows, PlanValue}
 use Rattle.nrm_report.specs.Texts.{plan_text}
+use Rattle.nrm_edge.specs.Fetch.{Folder}
+use Rattle.nrm_gen.specs.MadeNetwork.{made_network}
 use Rattle.nrm_opening.specs.Outside.{Outside, OnFile, FilesFailed, Wrote, WroteFront, LeftStream}
 use Rattle.nrm_opening.specs.Refusals.{Refusal, network_under, refusal_line, file_fault_line}
 use Rattle.nrm_cli.specs.Certificates.{LacksCertificate, certificate_under, lacking_line, verdict_line}
-use Rattle.nrm_cli.specs.Jobs.{Job, plan_file, check_file, print_file, file_of_job, mode_of_job, usage_line, overflow_line, told_pivots}
+use Rattle.nrm_cli.specs.Jobs.{Job, run_file, plan_file, check_file, print_file, run_made, mode_of_job, usage_line, overflow_line, told_pivots}
+use Rattle.nrm_cli.specs.Made.{MadeRun}
 use Rattle.nrm_cli.specs.declared.status.Status.{Status}
 use Rattle.nrm_cli.specs.declared.status.Status.TheVariants as status
 
--- the words ask for a job, and where the files are told, its file gives this network
-abbrev pub Opens : Option Job → Job → Outside → NetworkValue → Type 0
-Opens asked job before net = (asked ≡ Some job) × OnFile before.files (file_of_job job) (λ file. network_under file ≡ Ok net)
+-- where the files are told, the file of a job gives this network; and a number makes it
+abbrev pub GivesNetwork : Job → Option Folder → NetworkValue → Type 0
+GivesNetwork (run_file m file) files net = OnFile files file (λ contents. network_under contents ≡ Ok net)
+GivesNetwork (plan_file m file) files net = OnFile files file (λ contents. network_under contents ≡ Ok net)
+GivesNetwork (check_file file certificate) files net = OnFile files file (λ contents. network_under contents ≡ Ok net)
+GivesNetwork (print_file file) files net = OnFile files file (λ contents. network_under contents ≡ Ok net)
+GivesNetwork (run_made m number) files net = net ≡ made_network number
 
--- the words ask for a job, and where the files are told, its file is refused so
+-- the words ask for a job, and it has this network
+abbrev pub Opens : Option Job → Job → Outside → NetworkValue → Type 0
+Opens asked job before net = (asked ≡ Some job) × GivesNetwork job before.files net
+
+-- where the files are told, the file of a job is refused so; a made network never is
+abbrev pub RefusesNetwork : Job → Option Folder → Refusal → Type 0
+RefusesNetwork (run_file m file) files refusal = OnFile files file (λ contents. network_under contents ≡ Err refusal)
+RefusesNetwork (plan_file m file) files refusal = OnFile files file (λ contents. network_under contents ≡ Err refusal)
+RefusesNetwork (check_file file certificate) files refusal = OnFile files file (λ contents. network_under contents ≡ Err refusal)
+RefusesNetwork (print_file file) files refusal = OnFile files file (λ contents. network_under contents ≡ Err refusal)
+RefusesNetwork (run_made m number) files refusal = ⊥
+
+-- the words ask for a job whose file is refused so
 pub record Refuses (asked : Option Job) (before : Outside) (refusal : Refusal) : Type 0 where
   pub job : Job
   pub asks : asked ≡ Some job
-  pub refused : OnFile before.files (file_of_job job) (λ file. network_under file ≡ Err refusal)
+  pub refused : RefusesNetwork job before.files refusal
 
 -- the words ask for a certificate to be checked, the network file gives this network, and where the files are told, the second one
 -- answers so
@@ -59,6 +78,8 @@ pub data Tells (asked : Option Job) (before after : Outside) : Status → List �
       → Tells asked before after status.Done (plan_text net plan)
   overflow : (job : Job) (m : Mode) (net : NetworkValue) (n : ℕ) (number : ℤ) → mode_of_job job ≡ Some m → Opens asked job before net → OpeningOverflows net m n number
       → Tells asked before after status.Overflow (overflow_line (told_pivots n) number)
+  summed : (m : Mode) (number : ℕ) (plan : PlanValue) (text : List ℕ) → asked ≡ Some (run_made m number) → IsOpeningPlan (made_network number) m plan
+      → MadeRun (made_network number) plan number text → Tells asked before after status.Done text
   printed : (file : List ℕ) (net : NetworkValue) → Opens asked (print_file file) before net → Tells asked before after status.Done (canonical_file net)
   file_fault : (job : Job) → asked ≡ Some job → FilesFailed before after → Tells asked before after status.FileFault file_fault_line
 

@@ -3,6 +3,8 @@
 
 mod certificate;
 mod checked;
+mod counts;
+mod made;
 mod planned;
 mod printed;
 mod put;

@@ -38,32 +38,55 @@ fn files(alloc: Global, failing: &[u64]) -> Result<MemFiles, AllocError> {
     Ok(MemFiles::new(list, failing.to_vec(alloc)?))
 }
 
-fn source(alloc: Global) -> Result<MemSource, AllocError> {
+// What fails outside: the fetches, the takes and the puts of these numbers; the most bytes of each put, and the room for all.
+#[derive(Clone, Copy)]
+struct Outside<'a> {
+    fetches: &'a [u64],
+    takes: &'a [u64],
+    puts: &'a [u64],
+    put_cuts: &'a [usize],
+    room: usize,
+}
+
+// Nothing fails.
+const SOUND: Outside<'static> = Outside {
+    fetches: &[],
+    takes: &[],
+    puts: &[],
+    put_cuts: &[],
+    room: 256,
+};
+
+// The stream, a line for each take.
+fn source(alloc: Global, failing: &[u64]) -> Result<MemSource, AllocError> {
     let bytes = STREAM.to_vec(alloc)?;
-    Ok(MemSource::new(bytes, Vec::new(alloc), Vec::new(alloc)))
+    let cuts = Vec::from_array(alloc, [12, 12, 11, 11, 9])?;
+    Ok(MemSource::new(bytes, cuts, failing.to_vec(alloc)?))
 }
 
 // How the program ends that is called with these words, and the sink that it wrote to.
 fn outcome(alloc: Global, words: &[&str]) -> Result<(Status, MemSink), AllocError> {
-    outcome_over(alloc, words, &[])
+    outcome_over(alloc, words, &SOUND)
 }
 
-// The same, where the fetches with these numbers fail.
+// The same over an outside that fails.
 fn outcome_over(
     alloc: Global,
     words: &[&str],
-    failing: &[u64],
+    outside: &Outside<'_>,
 ) -> Result<(Status, MemSink), AllocError> {
     let mut given = Vec::new(alloc);
     for word in words {
         given.push(String::from_str(alloc, word)?)?;
     }
-    let mut sink = MemSink::new(alloc, 256, Vec::new(alloc), Vec::new(alloc))?;
+    let put_cuts = outside.put_cuts.to_vec(alloc)?;
+    let puts = outside.puts.to_vec(alloc)?;
+    let mut sink = MemSink::new(alloc, outside.room, put_cuts, puts)?;
     let status = run(
         alloc,
         &given,
-        &mut files(alloc, failing)?,
-        &mut source(alloc)?,
+        &mut files(alloc, outside.fetches)?,
+        &mut source(alloc, outside.takes)?,
         &mut sink,
     );
     Ok((status, sink))
@@ -159,15 +182,36 @@ fn a_certificate_is_refused(rt: HostRuntime) -> Result<(), Fail> {
 // The second file is not looked for where the first is refused, so its fault tells nothing then.
 #[test]
 fn a_fault_of_the_files_is_told_where_it_comes(rt: HostRuntime) -> Result<(), Fail> {
-    let (status, sink) = outcome_over(rt.alloc(), &["check", "OPTIMAL", "OPTIMAL"], &[2])?;
+    let (status, sink) = outcome_over(
+        rt.alloc(),
+        &["check", "OPTIMAL", "OPTIMAL"],
+        &Outside {
+            fetches: &[2],
+            ..SOUND
+        },
+    )?;
     assert_eq!(rt; status, Status::Refused);
     assert_eq!(rt; sink.held(), b"refused row 1 why 1 kind\n".as_slice());
 
-    let (status, sink) = outcome_over(rt.alloc(), &["check", "DEMANDED", "OPTIMAL"], &[2])?;
+    let (status, sink) = outcome_over(
+        rt.alloc(),
+        &["check", "DEMANDED", "OPTIMAL"],
+        &Outside {
+            fetches: &[2],
+            ..SOUND
+        },
+    )?;
     assert_eq!(rt; status, Status::FileFault);
     assert_eq!(rt; sink.held(), b"file fault\n".as_slice());
 
-    let (status, sink) = outcome_over(rt.alloc(), &["print", "F"], &[1])?;
+    let (status, sink) = outcome_over(
+        rt.alloc(),
+        &["print", "F"],
+        &Outside {
+            fetches: &[1],
+            ..SOUND
+        },
+    )?;
     assert_eq!(rt; status, Status::FileFault);
     assert_eq!(rt; sink.held(), b"file fault\n".as_slice());
     Ok(())
@@ -180,6 +224,96 @@ fn other_words_get_the_usage_line(rt: HostRuntime) -> Result<(), Fail> {
     assert_eq!(rt;
         sink.held(),
         b"usage: nrm run MODE FILE, plan MODE FILE, check FILE CERT, print FILE, gen MODE NUMBER\n".as_slice()
+    );
+    Ok(())
+}
+
+// The replies to the stream, one after the other.
+const REPLIES: &[u8] = b"ok 1\nno BC\nok 2\nno AB\nunknown\n";
+
+// The lengths of the replies to the first lines, none to all.
+const REPLIED: [usize; 6] = [0, 5, 11, 16, 22, 30];
+
+// The sixth take is the one that would tell the end.
+#[test]
+fn each_take_fails_once(rt: HostRuntime) -> Result<(), Fail> {
+    for (place, length) in REPLIED.iter().enumerate() {
+        let takes = [place as u64 + 1];
+        let outside = Outside {
+            takes: &takes,
+            ..SOUND
+        };
+        let (status, sink) = outcome_over(rt.alloc(), &["run", "first", "F"], &outside)?;
+        assert_eq!(rt; status, Status::ReadFault);
+        assert_eq!(rt; Some(sink.held()), REPLIES.get(..*length));
+    }
+    Ok(())
+}
+
+#[test]
+fn each_put_fails_once(rt: HostRuntime) -> Result<(), Fail> {
+    for (place, length) in REPLIED.iter().take(5).enumerate() {
+        let puts = [place as u64 + 1];
+        let outside = Outside {
+            puts: &puts,
+            ..SOUND
+        };
+        let (status, sink) = outcome_over(rt.alloc(), &["run", "first", "F"], &outside)?;
+        assert_eq!(rt; status, Status::WriteFault);
+        assert_eq!(rt; Some(sink.held()), REPLIES.get(..*length));
+    }
+    Ok(())
+}
+
+#[test]
+fn puts_may_be_short(rt: HostRuntime) -> Result<(), Fail> {
+    let outside = Outside {
+        put_cuts: &[1; 40],
+        ..SOUND
+    };
+    let (status, sink) = outcome_over(rt.alloc(), &["run", "first", "F"], &outside)?;
+    assert_eq!(rt; status, Status::Done);
+    assert_eq!(rt; sink.held(), REPLIES);
+
+    let outside = Outside { room: 5, ..SOUND };
+    let (status, sink) = outcome_over(rt.alloc(), &["run", "first", "F"], &outside)?;
+    assert_eq!(rt; status, Status::WriteFault);
+    assert_eq!(rt; sink.held(), b"ok 1\n".as_slice());
+    Ok(())
+}
+
+// The line that would tell why is what can't be written.
+#[test]
+fn a_cut_line_tells_no_other_status(rt: HostRuntime) -> Result<(), Fail> {
+    let outside = Outside {
+        fetches: &[1],
+        puts: &[1],
+        ..SOUND
+    };
+    let (status, sink) = outcome_over(rt.alloc(), &["print", "F"], &outside)?;
+    assert_eq!(rt; status, Status::WriteFault);
+    assert!(rt; sink.held().is_empty());
+
+    let (status, sink) = outcome_over(
+        rt.alloc(),
+        &["fly"],
+        &Outside {
+            puts: &[1],
+            ..SOUND
+        },
+    )?;
+    assert_eq!(rt; status, Status::WriteFault);
+    assert!(rt; sink.held().is_empty());
+    Ok(())
+}
+
+#[test]
+fn a_made_run_is_summed_up(rt: HostRuntime) -> Result<(), Fail> {
+    let (status, sink) = outcome(rt.alloc(), &["gen", "first", "1"])?;
+    assert_eq!(rt; status, Status::Done);
+    assert_eq!(rt;
+        sink.held(),
+        b"made lines 10000 ok 791 no 6721 fare 0 cancelled 397 unknown 1575 legs 512 optimised 3 overflow 0 revenue 193932 hindsight 299535/1\n".as_slice()
     );
     Ok(())
 }

@@ -2,7 +2,7 @@
 ghost use Rattle.std.specs.Prelude.{map, option_map, string_bytes};
 ghost use Rattle.nrm_session.specs.Headline.{RequestsAreAnswered};
 ghost use Rattle.nrm_session.specs.Hindsight.{HindsightBounds};
-ghost use Rattle.nrm_session.specs.Laws.{EachListHasARun, PlansAreKept, RepliesAreDetermined, SeatsAreKept, StatesAreDetermined};
+ghost use Rattle.nrm_session.specs.Laws.{EachListHasARun, OtherLinesNeedNoMemory, PlansAreKept, RepliesAreDetermined, SeatsAreKept, StatesAreDetermined};
 ghost use Rattle.nrm_opening.specs.Outside.{Goes, outside};
 ghost use Rattle.nrm_cli.specs.Ends.{Completes, Ends, Failures};
 ghost use Rattle.nrm_cli.specs.Jobs.{job_of};
@@ -11,6 +11,7 @@ ghost use Rattle.nrm_cli.specs.Inner.Parts.{job_in};
 
 use crate::Status;
 use crate::checked::check_file;
+use crate::made::run_made;
 use crate::planned::plan_file;
 use crate::printed::print_file;
 use crate::put::put_line;
@@ -45,14 +46,16 @@ fn run_asked<F: Files, S: Source, K: Sink>(
             check_file(alloc, name, certificate, files, sink)
         }
         Some(Asked::Print(name)) => print_file(alloc, name, files, sink),
+        Some(Asked::Made(mode, number)) => run_made(alloc, mode, number, sink),
         None => put_line(sink, USAGE, Status::Usage),
     }
 }
 
 /// Does what the words (without the program's own name) ask for: `run MODE FILE` answers the lines of the stream on the
 /// network of the file, `plan MODE FILE` writes its opening plan, `check FILE CERT` checks a certificate against the program
-/// of period 1 with every seat left, and `print FILE` writes a network's canonical form. MODE is `first`, `bid` or `davn`. All other
-/// words get the usage line.
+/// of period 1 with every seat left, `print FILE` writes a network's canonical form, and `gen MODE NUMBER` answers the 10,000 commands
+/// that are made of a number, up to 4,294,967,295, on the network that is made of it, and sums the replies up in one line. MODE is `first`,
+/// `bid` or `davn`. All other words get the usage line.
 ///
 /// `ends` says for each status what the words, the files, the stream and the written bytes were; `complete`, that good
 /// words, valid files, no fault, an opening that isn't Large and, for a run, a stream of at most 4,294,967,296 bytes give the
@@ -68,7 +71,8 @@ fn run_asked<F: Files, S: Source, K: Sink>(
 /// most once, that fits the seats earns more; and the bookings that stand are such a selection, which earns the revenue beside it
 /// (`hindsight`).
 /// A network, a state and commands have one list of replies and one last state where no line wants for memory
-/// (`determined`), and such a list (`there`); with the replies given the states are one (`states`). The text of the
+/// (`determined`), and such a list (`there`); with the replies given the states are one (`states`). Memory is wanting at lines of
+/// `reoptimise` and of `hindsight` alone, and then nothing changes (`free`). The text of the
 /// certificate that the solver finds for a network passes the check (`own`): so where the bytes of CERT are what a call with
 /// `plan bid FILE` wrote of the same network file, `check FILE CERT` writes `optimal`, want of memory and faults aside
 /// (`passes`). So does each certificate whose allocation and bid prices are optimal and whose value is their cost (`others`).
@@ -93,6 +97,7 @@ pub fn run<F: Files, S: Source, K: Sink>(
     ensures hindsight { HindsightBounds }
     ensures determined { RepliesAreDetermined }
     ensures states { StatesAreDetermined }
+    ensures free { OtherLinesNeedNoMemory }
     ensures there { EachListHasARun }
     ensures own { OwnCertificatesPass }
     ensures passes { let at = outside F.contents F.faults S.coming S.faults K.held K.faults in

@@ -1,9 +1,11 @@
 //! The words of the command line.
 ghost use Rattle.std.specs.Prelude.{◌≡◌, bytes_eq, map, option_map, string_bytes};
 ghost use Rattle.nrm_cli.specs.Inner.Parts.{job_in};
-ghost use Rattle.nrm_cli.specs.Jobs.{job_of, mode_of};
+ghost use Rattle.nrm_text.specs.Numbers.{whole_between};
+ghost use Rattle.nrm_cli.specs.Jobs.{job_of, made_run_of, mode_of};
 
 use nrm_model::Mode;
+use nrm_text::read_whole;
 
 /// What the words ask for.
 #[derive(Clone, Copy)]
@@ -12,6 +14,7 @@ pub(crate) enum Asked<'a> {
     Plan(Mode, &'a str),
     Check(&'a str, &'a str),
     Print(&'a str),
+    Made(Mode, u32),
 }
 
 // Whether a word is this one.
@@ -36,6 +39,17 @@ fn mode_in(word: &String) -> Option<Mode>
     }
 }
 
+// The made run of a mode and a number.
+fn made_run_in(mode: &String, number: &String) -> Option<Asked<'static>>
+    ensures { option_map job_in result ≡ made_run_of (mode_of (string_bytes mode.now)) (whole_between 0 4294967295 (string_bytes number.now)) }
+{
+    let mode = mode_in(mode)?;
+    match read_whole(number.as_bytes(), u64::from(u32::MAX)) {
+        Ok(number) => Some(Asked::Made(mode, number as u32)),
+        Err(_) => None,
+    }
+}
+
 /// The job that the words ask for, if they ask for one.
 pub(crate) fn asked_in(words: &[String]) -> Option<Asked<'_>>
     ensures { option_map job_in result ≡ job_of (map string_bytes words.now) }
@@ -53,6 +67,7 @@ pub(crate) fn asked_in(words: &[String]) -> Option<Asked<'_>>
         [verb, file, certificate] if is_word(verb, "check") => {
             Some(Asked::Check(file.as_str(), certificate.as_str()))
         }
+        [verb, mode, number] if is_word(verb, "gen") => made_run_in(mode, number),
         _ => None,
     }
 }

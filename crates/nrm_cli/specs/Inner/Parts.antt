@@ -1,5 +1,5 @@
 -- What the parts of the top call promise one another.
-use Rattle.std.specs.Prelude.{ℕ, ◌≡◌, ◌≢◌, ◌≤◌, ◌⊎◌, List, Option, Some, None, Result, Ok, Err, MatchResult, IfSome, option_map, ⊤}
+use Rattle.std.specs.Prelude.{ℕ, ◌≡◌, ◌≢◌, ◌+◌, ◌-◌, ◌≤◌, ◌⊎◌, List, [], length, Option, Some, None, Result, Ok, Err, MatchResult, IfSome, option_map, ⊤}
 use Rattle.std.specs.Io.KnownBytes.{Appends, Keeps}
 use Rattle.nrm_edge.specs.Causes.{Rose}
 use Rattle.nrm_edge.specs.Fetch.{Folder}
@@ -26,10 +26,22 @@ use Rattle.nrm_opening.specs.Refusals.{file_fault_line}
 use Rattle.nrm_opening.specs.declared.opening.NoNetwork.{NoNetwork}
 use Rattle.nrm_opening.specs.declared.opening.NoNetwork.TheVariants as none
 use Rattle.nrm_cli.specs.Certificates.{certificate_under, lacking_line, no_certificate, refused_for, verdict_line}
+use Rattle.nrm_hindsight.specs.Requests.{tallies_of}
+use Rattle.nrm_control.specs.Standing.{ControlValue, IsControl, StandsFor}
+use Rattle.nrm_control.specs.State.{SeatState}
+use Rattle.nrm_stream.specs.declared.command.Command.{Command}
+use Rattle.nrm_gen.specs.MadeCommands.{Making, command_count, commands_from}
+use Rattle.nrm_session.specs.Answering.{IsTellable, reply_in}
+use Rattle.nrm_session.specs.Laws.{MemorySuffices}
+use Rattle.nrm_session.specs.Replies.{Reply}
+use Rattle.nrm_session.specs.Run.{Run}
+use Rattle.nrm_session.specs.declared.reply.Reply.{Reply as Answered}
 use Rattle.nrm_session.specs.declared.serving.End.{End}
 use Rattle.nrm_session.specs.declared.serving.End.TheVariants as end
 use Rattle.nrm_cli.specs.Ends.{status_of}
-use Rattle.nrm_cli.specs.Jobs.{Job, run_file, plan_file, check_file, print_file, overflow_line}
+use Rattle.nrm_cli.specs.Made.{MadeRun, counts_from, last_of, nothing_counted}
+use Rattle.nrm_cli.specs.declared.counts.Counts.{Counts}
+use Rattle.nrm_cli.specs.Jobs.{Job, run_file, plan_file, check_file, print_file, run_made, overflow_line}
 use Rattle.nrm_cli.specs.declared.status.Status.{Status}
 use Rattle.nrm_cli.specs.declared.status.Status.TheVariants as status
 use Rattle.nrm_cli.specs.declared.words.Asked.{Asked}
@@ -43,6 +55,7 @@ job_in (asked.Run mode file) = run_file mode file.now
 job_in (asked.Plan mode file) = plan_file mode file.now
 job_in (asked.Check file certificate) = check_file file.now certificate.now
 job_in (asked.Print file) = print_file file.now
+job_in (asked.Made mode number) = run_made mode number
 
 -- a line was put and its status answered, or the put failed and a front of the line went out
 abbrev pub PutsLine : List ℕ → Status → Option (List ℕ) → Option (List ℕ) → ℕ → ℕ → Status → Type 0
@@ -138,3 +151,31 @@ status_at end.Done = status.Done
 status_at end.ReadFault = status.ReadFault
 status_at end.WriteFault = status.WriteFault
 status_at end.TooLong = status.TooLong
+
+-- how many replies were counted
+abbrev pub total_of : Counts → ℕ
+total_of c = c.sold + c.no_leg + c.no_fare + c.cancelled + c.unknown + c.legs + c.optimised + c.overflow
+
+-- the commands that a maker still gives
+abbrev pub rest_of : Making → List Command
+rest_of making = commands_from (command_count - making.given) making.given making.state
+
+-- these commands were answered, in each state that the controller stood for, with replies of which none wants for memory: all but the last
+-- were counted, and this is the last
+pub record AnswersMade (old new : ControlValue) (commands : List Command) (counts : Counts) (last : Answered) : Type 0 where
+  pub network : new.net ≡ old.net
+  pub tellable : IsTellable new.net last
+  pub run : (s : SeatState) → StandsFor old s → (s' : SeatState) × (replies : List Reply) × StandsFor new s' × Run old.net s commands replies s' × MemorySuffices replies
+      × (counts ≡ counts_from nothing_counted replies) × (last_of replies ≡ reply_in new last)
+  pub kept : IsControl new
+  pub few : total_of counts ≤ length commands
+
+-- a controller of a network that has just begun, with its plan
+abbrev pub HasBegun : NetworkValue → ControlValue → Type 0
+HasBegun net control = control ≡ record { net = net; plan = control.plan; bookings = []; next = 1; tallies = tallies_of net [] }
+
+-- the summary of a run from the opening is put, or nothing for want of memory
+abbrev pub PutsSummary : NetworkValue → PlanValue → ℕ → Option (List ℕ) → Option (List ℕ) → ℕ → ℕ → Status → Type 0
+PutsSummary net plan number held held' before now result =
+    ((result ≡ status.NoMemory) × Keeps held held' × (now ≡ before))
+    ⊎ ((text : List ℕ) × MadeRun net plan number text × PutsLine text status.Done held held' before now result)

@@ -12,7 +12,7 @@ returns-in-Ok-clause-failures g c coming faults = planned-failures c.args.mode c
 
 pub returns-in-Err-clause-ends : goal.returns-in-Err-clause-ends
 returns-in-Err-clause-ends g c coming faults =
-    without-network (plan_job c.args.mode c.args.name.now) _ _ c.in-Err.reason c.put_reason.result c.in-Err.ensures.opens c.in-Err.ensures.counts c.put_reason.ensures.puts refl
+    without-network (plan_job c.args.mode c.args.name.now) c.args.name.now (λ files refusal on. on) _ _ c.in-Err.reason c.put_reason.result c.in-Err.ensures.opens c.in-Err.ensures.counts c.put_reason.ensures.puts refl
 
 pub returns-in-Err-clause-failures : goal.returns-in-Err-clause-failures
 returns-in-Err-clause-failures g c coming faults = without-failures _ _ c.in-Err.reason c.put_reason.result c.in-Err.ensures.counts c.put_reason.ensures.puts refl

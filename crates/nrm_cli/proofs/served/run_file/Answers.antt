@@ -7,7 +7,7 @@ use Rattle.nrm_cli.proofs.served.run_file.Goals as goal
 
 pub returns-in-Err-clause-ends : goal.returns-in-Err-clause-ends
 returns-in-Err-clause-ends g c =
-    without-network (run_job c.args.mode c.args.name.now) _ _ c.in-Err.reason c.put_reason.result c.in-Err.ensures.opens c.in-Err.ensures.counts c.put_reason.ensures.puts refl
+    without-network (run_job c.args.mode c.args.name.now) c.args.name.now (λ files refusal on. on) _ _ c.in-Err.reason c.put_reason.result c.in-Err.ensures.opens c.in-Err.ensures.counts c.put_reason.ensures.puts refl
 
 pub returns-in-Err-clause-failures : goal.returns-in-Err-clause-failures
 returns-in-Err-clause-failures g c = without-failures _ _ c.in-Err.reason c.put_reason.result c.in-Err.ensures.counts c.put_reason.ensures.puts refl

@@ -1,6 +1,7 @@
 use Rattle.nrm_session.proofs.Determined.{determined, states-determined}
 use Rattle.nrm_session.proofs.Hindsights.{openings-bounded}
 use Rattle.nrm_session.proofs.InForce.{plans-kept}
+use Rattle.nrm_session.proofs.OtherLines.{other-lines}
 use Rattle.nrm_session.proofs.Runs.{runs}
 use Rattle.nrm_session.proofs.Seats.{kept}
 use Rattle.nrm_session.proofs.Verdicts.{requests-answered}
@@ -26,6 +27,9 @@ returns-clause-determined g c = determined
 
 pub returns-clause-states : goal.returns-clause-states
 returns-clause-states g c = states-determined
+
+pub returns-clause-free : goal.returns-clause-free
+returns-clause-free g c = other-lines
 
 pub returns-clause-there : goal.returns-clause-there
 returns-clause-there g c = runs

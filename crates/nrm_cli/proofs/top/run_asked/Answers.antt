@@ -53,6 +53,14 @@ returns-in-Some-Check-clause-goes g c = c.check_file.ensures.goes (g.S.Source.co
 pub returns-in-Some-Check-clause-failures : goal.returns-in-Some-Check-clause-failures
 returns-in-Some-Check-clause-failures g c = c.check_file.ensures.failures (g.S.Source.coming c.args.source.now) (g.S.Source.faults c.args.source.now)
 
+pub returns-in-Some-Made-clause-ends : goal.returns-in-Some-Made-clause-ends
+returns-in-Some-Made-clause-ends g c =
+    let made = c.in-Some-Made.field-0 in
+    let is = rw c.in-Some-Made.is at c.in-Some-Made.field-0-is in
+    of-words c.args.asked (Some made) _ _ c.run_made.result c.in-Some-Made.is
+    (of-words (Some made) _ _ _ c.run_made.result (ap Some is)
+    (c.run_made.ensures.ends (g.F.Files.contents c.args.files.now) (g.F.Files.faults c.args.files.now) (g.S.Source.coming c.args.source.now) (g.S.Source.faults c.args.source.now)))
+
 pub returns-in-None-clause-ends : goal.returns-in-None-clause-ends
 returns-in-None-clause-ends g c =
     of-words c.args.asked None _ _ c.put_line.result c.in-None.is (told-ends None _ _ status.Usage c.put_line.result usage_line (usage refl) c.put_line.ensures.puts refl)

@@ -1,0 +1,158 @@
+//! A made run: the controller of the network that is made of a number answers the commands that are made of it, and one line
+//! sums its replies up.
+ghost use Rattle.std.specs.Prelude.{ℕ, List, Option, Some, IfSome, ◌≡◌, ◌≤◌, ◌+◌, ◌++◌, ◌∷◌, length, decimal};
+ghost use Rattle.std.specs.List.{join_with_byte};
+ghost use Rattle.nrm_edge.specs.Fetch.{Folder};
+ghost use Rattle.nrm_opening.specs.Outside.{outside};
+ghost use Rattle.nrm_text.specs.Words.{text_line};
+ghost use Rattle.nrm_model.specs.Network.{NetworkValue};
+ghost use Rattle.nrm_control.specs.Standing.{ControlValue, IsControl};
+ghost use Rattle.nrm_session.specs.Answering.{IsTellable, reply_in};
+ghost use Rattle.nrm_gen.specs.MadeCommands.{made_commands};
+ghost use Rattle.nrm_cli.specs.Ends.{Ends, Failures};
+ghost use Rattle.nrm_cli.specs.Jobs.{run_made as made_job};
+ghost use Rattle.nrm_cli.specs.Made.{count_words, hindsight_word, summary_words};
+ghost use Rattle.nrm_cli.specs.Inner.Parts.{AnswersMade, HasBegun, PutsSummary, rest_of};
+
+use crate::Status;
+use crate::counts::Counts;
+use crate::put::{put_line, put_unplanned};
+use nrm_control::Controller;
+use nrm_edge::Sink;
+use nrm_gen::{Maker, made};
+use nrm_model::Mode;
+use nrm_session::{Reply, carry_out};
+use nrm_text::Line;
+use std::alloc::Global;
+
+// The replies to all commands that are left but the last one, counted, and that to the last. `None` where a line wants for memory.
+fn answer_all(
+    alloc: Global,
+    controller: &mut Controller,
+    maker: &mut Maker,
+) -> Option<(Counts, Reply)>
+    requires next { controller.old.next ≤ 100000000000 }
+    requires kept { IsControl controller.old }
+    requires within { maker.old.given ≤ 10000 }
+    ensures { IfSome result (λ made. AnswersMade controller.old controller.new (rest_of maker.old) made.0 made.1) }
+{
+    let mut counts = Counts::new();
+    let mut last = Reply::Bad;
+    while let Some(command) = maker.next() {
+        counts.count(last);
+        last = match carry_out(alloc, controller, &command) {
+            Reply::Memory => return None,
+            reply => reply,
+        };
+    }
+    Some((counts, last))
+}
+
+// Appends a word and a number, with a space before each.
+#[tactic(auto, using(nrm_text::proofs::Decimals::short_decimal))]
+fn push_count(line: &mut Line, word: &[u8], count: u32)
+    requires { length line.old + length word.now + 22 ≤ 512 }
+    ensures text { line.new ≡ (line.old ++ 32 ∷ word.now) ++ 32 ∷ decimal count }
+    ensures length { length line.new ≤ length line.old + length word.now + 22 }
+{
+    line.push_bytes(b" ");
+    line.push_bytes(word);
+    line.push_bytes(b" ");
+    line.push_whole(u128::from(count));
+}
+
+// The words of the counts.
+fn line_of_counts(counts: &Counts) -> Line
+    ensures text { result ≡ join_with_byte 32 (count_words counts.now) }
+    ensures length { length result ≤ 280 }
+{
+    let mut line = Line::new();
+    line.push_bytes(b"made lines 10000");
+    push_count(&mut line, b"ok", counts.sold);
+    push_count(&mut line, b"no", counts.no_leg);
+    push_count(&mut line, b"fare", counts.no_fare);
+    push_count(&mut line, b"cancelled", counts.cancelled);
+    push_count(&mut line, b"unknown", counts.unknown);
+    push_count(&mut line, b"legs", counts.legs);
+    push_count(&mut line, b"optimised", counts.optimised);
+    push_count(&mut line, b"overflow", counts.overflow);
+    line
+}
+
+// Appends the value that hindsight told, or that its program is Large.
+#[tactic(auto, using(nrm_text::proofs::Fractions::short_fraction))]
+fn push_hindsight(line: &mut Line, hindsight: Reply)
+    requires room { length line.old ≤ 400 }
+    requires tellable { (net : NetworkValue) × IsTellable net hindsight }
+    ensures text { (control : ControlValue) → line.new ≡ line.old ++ hindsight_word (reply_in control hindsight) }
+    ensures length { length line.new ≤ length line.old + 78 }
+{
+    match hindsight {
+        Reply::Hindsight { num, den, .. } => line.push_fraction(i128::from(num), u128::from(den)),
+        _ => line.push_bytes(b"overflow"),
+    }
+}
+
+// The line that sums a made run up.
+#[tactic(auto, using(nrm_text::proofs::Decimals::short_decimal))]
+fn line_of_summary(counts: &Counts, revenue: u64, hindsight: Reply) -> Line
+    requires { (net : NetworkValue) × IsTellable net hindsight }
+    ensures { (control : ControlValue) → result ≡ text_line (summary_words counts.now revenue (hindsight_word (reply_in control hindsight))) }
+{
+    let mut line = line_of_counts(counts);
+    line.push_bytes(b" revenue ");
+    line.push_whole(u128::from(revenue));
+    line.push_bytes(b" hindsight ");
+    push_hindsight(&mut line, hindsight);
+    line.push_bytes(b"\n");
+    line
+}
+
+// Answers the commands of a maker and puts the summary, or memory is wanting.
+fn put_summary<K: Sink>(
+    alloc: Global,
+    controller: &mut Controller,
+    maker: &mut Maker,
+    sink: &mut K,
+) -> Status
+    requires next { controller.old.next ≤ 100000000000 }
+    requires kept { IsControl controller.old }
+    requires within { maker.old.given ≤ 10000 }
+    ensures puts { (net : NetworkValue) (number : ℕ) → HasBegun net controller.old → rest_of maker.old ≡ made_commands number
+        → PutsSummary net controller.old.plan number (K.held sink.old) (K.held sink.new) (K.faults sink.old) (K.faults sink.new) result }
+    ensures later { K.faults sink.old ≤ K.faults sink.new }
+{
+    match answer_all(alloc, controller, maker) {
+        Some((counts, last)) => {
+            let revenue = controller.book().revenue();
+            put_line(
+                sink,
+                line_of_summary(&counts, revenue, last).bytes(),
+                Status::Done,
+            )
+        }
+        None => Status::NoMemory,
+    }
+}
+
+/// Makes the network and the commands of a number, has the controller of this mode answer them, and writes one line that sums the
+/// replies up. Where a line wants for memory nothing is written.
+pub(crate) fn run_made<K: Sink>(alloc: Global, mode: Mode, number: u32, sink: &mut K) -> Status
+    ensures ends { (files : Option Folder) (file_faults : ℕ) (coming : Option (List ℕ)) (faults : ℕ) → let at = outside {F = ℕ} {S = ℕ} (λ _. files) (λ _. file_faults) (λ _. coming) (λ _. faults) K.held K.faults in
+        Ends (Some (made_job mode number)) (at 0 0 sink.old) (at 0 0 sink.new) result }
+    ensures failures { (files : Option Folder) (file_faults : ℕ) (coming : Option (List ℕ)) (faults : ℕ) → let at = outside {F = ℕ} {S = ℕ} (λ _. files) (λ _. file_faults) (λ _. coming) (λ _. faults) K.held K.faults in
+        Failures result (at 0 0 sink.old) (at 0 0 sink.new) }
+    ensures later { K.faults sink.old ≤ K.faults sink.new }
+{
+    let Ok((net, maker)) = made(alloc, number) else {
+        return Status::NoMemory;
+    };
+    match Controller::start(alloc, net, mode) {
+        Ok(controller) => {
+            let mut controller = controller;
+            let mut maker = maker;
+            put_summary(alloc, &mut controller, &mut maker, sink)
+        }
+        Err(why) => put_unplanned(sink, why),
+    }
+}
