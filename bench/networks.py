@@ -31,6 +31,15 @@ def long_path():
     return Network(1, 1, legs, products, {name: [[9]] for name, _, _ in products})
 
 
+def random_legs():
+    """Every product takes a seat on four legs drawn at random, so that rows fill up: 1,296 pivots."""
+    draw = random.Random(4)
+    legs = [(f"L{n:02}", draw.randint(200, 999)) for n in range(64)]
+    names = [leg for leg, _ in legs]
+    products = [(f"P{n:03}", draw.randint(50, 999), draw.sample(names, 4)) for n in range(256)]
+    return network(draw, 4, 4, legs, products, 19)
+
+
 def network(draw, histories, periods, legs, products, most, thresholds=()):
     demand = {name: [[draw.randint(0, most) for _ in range(periods)] for _ in range(histories)] for name, _, _ in products}
     return Network(histories, periods, legs, products, demand, thresholds)

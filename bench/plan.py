@@ -1,17 +1,20 @@
 #!/usr/bin/env python3
 """How long it takes to plan by bid prices, beside a solver of linear programs.
 
-    bench/plan.py [PROGRAM]
+    bench/plan.py [PROGRAM] [--before PROGRAM]
 
-`nrm plan bid FILE` runs on three networks, and `glpsol`, where it is installed (Debian's glpk-utils), on their linear
-programs: exactly and in floating point. They are whole processes, which take turns, so that what else the machine does falls on
-each. Of each, the least of nine runs, and how many times as long as it the program takes; and whether the values agree.
+`nrm plan bid FILE` runs on four networks, and `glpsol`, where it is installed (Debian's glpk-utils), on their linear programs:
+exactly and in floating point; with --before another build of `nrm` too. They are whole processes, which take turns, so that
+what else the machine does falls on each. Of each, the least of nine runs, and how many times as long as it the program takes;
+and whether the values agree. The pivots are counted by `tests/reference.py`; a pivot's time is what `plan bid` takes longer than
+`plan first`, which reads the file and solves nothing, shared among them. Last, `gen davn 1`, which solves five programs.
 """
+import argparse
+import importlib.util
 import os
 import re
 import shutil
 import subprocess
-import sys
 import tempfile
 import time
 from fractions import Fraction
@@ -22,10 +25,32 @@ TOP = os.path.dirname(os.path.dirname(os.path.abspath(__file__)))
 RUNS = 9
 
 
+def reference():
+    spec = importlib.util.spec_from_file_location("reference", os.path.join(TOP, "tests", "reference.py"))
+    module = importlib.util.module_from_spec(spec)
+    spec.loader.exec_module(module)
+    return module
+
+
+def pivots_of(path, rules):
+    with open(path, "rb") as file:
+        tableau = rules.Tableau(rules.Program.to_come(rules.network_of(file.read())))
+    count = 0
+    while (column := tableau.entering()) is not None:
+        tableau.pivot(column)
+        count += 1
+    return count
+
+
 def timed(words, folder):
     begun = time.perf_counter()
     subprocess.run(words, cwd=folder, stdin=subprocess.DEVNULL, stdout=subprocess.DEVNULL, check=True)
     return time.perf_counter() - begun
+
+
+def least_of(commands, folder):
+    rounds = [{it: timed(words, folder) for it, words in commands.items()} for _ in range(RUNS)]
+    return {it: min(times[it] for times in rounds) for it in commands}
 
 
 def value_of_plan(program, folder, histories):
@@ -39,30 +64,41 @@ def value_of_solver(words, folder):
         return float(re.search(r"Objective: .* = (\S+)", file.read())[1])
 
 
-def compared(name, network, program, folder):
+def compared(name, network, programs, rules, folder):
     network.write(os.path.join(folder, "NETWORK"))
     network.write_program(os.path.join(folder, "PROGRAM"))
-    commands = {"nrm plan bid": [program, "plan", "bid", "NETWORK"]}
+    own, before = programs
+    commands = {"nrm plan bid": [own, "plan", "bid", "NETWORK"], "nrm plan first": [own, "plan", "first", "NETWORK"]}
+    if before:
+        commands["the build before"] = [before, "plan", "bid", "NETWORK"]
     if shutil.which("glpsol"):
         commands["glpsol --exact"] = ["glpsol", "--exact", "--lp", "PROGRAM"]
         commands["glpsol"] = ["glpsol", "--lp", "PROGRAM"]
-    value = value_of_plan(program, folder, network.histories)
+    value = value_of_plan(own, folder, network.histories)
+    pivots = pivots_of(os.path.join(folder, "NETWORK"), rules)
     print(f"{name}: legs {len(network.legs)}, products {len(network.products)}, histories {network.histories}, "
           f"periods {network.periods}, value of all histories {value}")
-    rounds = [{it: timed(words, folder) for it, words in commands.items()} for _ in range(RUNS)]
-    least = {it: min(times[it] for times in rounds) for it in commands}
-    own = least.pop("nrm plan bid")
-    print(f"    nrm plan bid: {own * 1e3:.1f} ms")
+    least = least_of(commands, folder)
+    whole, reading = least.pop("nrm plan bid"), least.pop("nrm plan first")
+    print(f"    nrm plan bid: {whole * 1e3:.1f} ms, of which {reading * 1e3:.1f} without solving; "
+          f"{pivots} pivots, {(whole - reading) / pivots * 1e6:.1f} microseconds each")
     for it, other in least.items():
-        agrees = abs(value_of_solver(commands[it], folder) - value) <= 1e-6 * max(1, value)
-        print(f"    {it}: {other * 1e3:.1f} ms, ratio {own / other:.2f}{'' if agrees else ', and another value'}")
+        agrees = it.startswith("the") or abs(value_of_solver(commands[it], folder) - value) <= 1e-6 * max(1, value)
+        print(f"    {it}: {other * 1e3:.1f} ms, ratio {whole / other:.2f}{'' if agrees else ', and another value'}")
 
 
 def main():
-    program = os.path.abspath(sys.argv[1]) if len(sys.argv) > 1 else os.path.join(TOP, "crates", "nrm", "out", "nrm")
-    for name, network in (("hub", networks.hub()), ("limits", networks.limits()), ("long path", networks.long_path())):
+    words = argparse.ArgumentParser()
+    words.add_argument("program", nargs="?", default=os.path.join(TOP, "crates", "nrm", "out", "nrm"))
+    words.add_argument("--before")
+    given = words.parse_args()
+    programs = [it and os.path.abspath(it) for it in (given.program, given.before)]
+    rules = reference()
+    for name, network in (("hub", networks.hub()), ("limits", networks.limits()), ("random legs", networks.random_legs()),
+                          ("long path", networks.long_path())):
         with tempfile.TemporaryDirectory() as folder:
-            compared(name, network, program, folder)
+            compared(name, network, programs, rules, folder)
+    print(f"gen davn 1: {least_of({'gen': [programs[0], 'gen', 'davn', '1']}, '.')['gen'] * 1e3:.1f} ms")
 
 
 main()
