@@ -12,10 +12,13 @@ stands : Rose 3 3 → ⊥
 stands rose = omega (arith, rose)
 
 rises : Rose 3 4
-rises = omega arith
+rises = refl
+
+rises_by_two : Rose 3 5 → ⊥
+rises_by_two rose = omega (arith, rose)
 
 stands_at_the_last : Rose (2 ^ 64 - 1) (2 ^ 64 - 1)
-stands_at_the_last = omega arith
+stands_at_the_last = refl
 
 -- a call that is done counted nothing, and one that failed counted something
 counted_though_done : {T E : Type 0} (value : T) → HasCause {T = T} {E = E} 3 4 (Ok value) → ⊥

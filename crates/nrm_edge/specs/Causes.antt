@@ -5,11 +5,12 @@ use Rattle.std.specs.Prelude.{ℕ, Bool, ◌+◌, ◌-◌, ◌^◌, ◌≤◌, �
 abbrev pub one_more : ℕ → ℕ
 one_more count = min (count + 1) (2 ^ 64 - 1)
 
--- a count of faults rose, or stands at the last value of u64, where no count can rise
+-- a count of faults rose by one, or stands at the last value of u64, where no count can rise
 abbrev pub Rose : ℕ → ℕ → Type 0
-Rose before now = one_more before ≤ now
+Rose before now = now ≡ one_more before
 
--- a call leaves the count of faults as it was where it is done, and it failed only where the count rose; the count never falls
+-- A call leaves the count of faults as it was if it is done, and one that failed counted one fault. So within a call nothing is tried again
+-- after a failure: what failed twice would have counted two. The count never falls.
 pub record HasCause {T E : Type 0} (before now : ℕ) (result : Result T E) : Type 0 where
   pub later : before ≤ now
   pub done : OnOk result (now ≡ before)

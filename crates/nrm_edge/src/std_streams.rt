@@ -1,6 +1,6 @@
 //! Real streams: a source over a reader of std and a sink over a writer, each with a count of its failures. What they
 //! tell of bytes is what their reader or writer tells.
-ghost use Rattle.std.specs.Prelude.{◌≡◌, ◌<◌, ◌≤◌, length, IfOk, is_err};
+ghost use Rattle.std.specs.Prelude.{◌≡◌, ◌<◌, ◌≤◌, [], length, IfOk, is_err};
 ghost use Rattle.std.specs.Io.KnownBytes.{Keeps, ReadConsumes, WriteAppends};
 ghost use Rattle.nrm_edge.specs.Causes.{HasCause, counted};
 
@@ -82,6 +82,9 @@ impl<W: Write> Sink for StdSink<W> {
     ghost held = { λ s. W.contents s.stream };
 
     ghost faults = { λ s. s.faults };
+
+    // It keeps nothing back. What its writer keeps back isn't told.
+    ghost unsent = { λ _. [] };
 
     fn put(&mut self, piece: &[u8]) -> Result<usize, Failed>
         requires { 0 < length piece.now }

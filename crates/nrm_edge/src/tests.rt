@@ -8,10 +8,11 @@ ghost use Rattle.nrm_edge.specs.Memory.{stored_under};
 ghost use Rattle.nrm_edge.specs.declared.files.FileFault.TheVariants as fault;
 
 use crate::{
-    DirFiles, Failed, Fetched, FileFault, Files, MemFiles, MemSink, MemSource, Sink, Source,
-    StdSink, StdSource, put_all,
+    DirFiles, Failed, Fetched, FileFault, Files, GatheringSink, MemFiles, MemSink, MemSource, Sink,
+    Source, StdSink, StdSource, put_all,
 };
 use std::alloc::{AllocError, Global};
+use std::io::{Read, Write};
 use std::test::Fail;
 use std::{env, fs};
 
@@ -20,9 +21,38 @@ fn put_in_memory(sink: &mut MemSink, piece: &[u8]) -> Result<(), Failed>
     ensures whole { OnOk result (sink.new.held ≡ sink.old.held ++ piece.now) }
     ensures cut { OnErr result ((count : ℕ) × (count ≤ length piece.now) × (sink.new.held ≡ sink.old.held ++ take count piece.now)) }
     ensures done { OnOk result (sink.new.faults ≡ sink.old.faults) }
-    ensures rose { OnErr result (one_more sink.old.faults ≤ sink.new.faults) }
+    ensures rose { OnErr result (sink.new.faults ≡ one_more sink.old.faults) }
 {
     put_all(sink, piece)
+}
+
+// Puts a whole piece into a real sink.
+fn put_into_real<W: Write>(sink: &mut StdSink<W>, piece: &[u8]) -> Result<(), Failed>
+    ensures whole { OnOk result (Appends (W.contents sink.old.stream) (W.contents sink.new.stream) piece.now) }
+    ensures done { OnOk result (sink.new.faults ≡ sink.old.faults) }
+    ensures rose { OnErr result (sink.new.faults ≡ one_more sink.old.faults) }
+{
+    put_all(sink, piece)
+}
+
+// Puts a whole piece into any sink, and has it sent on.
+fn send<K: Sink>(sink: &mut K, piece: &[u8]) -> Result<(), Failed>
+    ensures whole { OnOk result (Appends (K.held sink.old) (K.held sink.new) piece.now) }
+    ensures sent { OnOk result (K.unsent sink.new ≡ []) }
+    ensures cause { HasCause (K.faults sink.old) (K.faults sink.new) result }
+{
+    put_all(sink, piece)?;
+    sink.flush()
+}
+
+// Sends a whole piece through a sink that gathers, over one in memory.
+fn send_through(sink: &mut GatheringSink<MemSink>, piece: &[u8]) -> Result<(), Failed>
+    ensures whole { OnOk result (sink.new.sink.held ≡ (sink.old.sink.held ++ sink.old.gathered) ++ piece.now) }
+    ensures sent { OnOk result (sink.new.gathered ≡ []) }
+    ensures done { OnOk result (sink.new.sink.faults ≡ sink.old.sink.faults) }
+    ensures rose { OnErr result (sink.new.sink.faults ≡ one_more sink.old.sink.faults) }
+{
+    send(sink, piece)
 }
 
 // Takes from any source.
@@ -41,7 +71,17 @@ fn take_from_memory(source: &mut MemSource, into: &mut [u8]) -> Result<usize, Fa
     ensures end { IfOk result (λ count. count ≡ 0 → source.new.coming ≡ []) }
     ensures stays { OnErr result (source.new.coming ≡ source.old.coming) }
     ensures done { OnOk result (source.new.faults ≡ source.old.faults) }
-    ensures rose { OnErr result (one_more source.old.faults ≤ source.new.faults) }
+    ensures rose { OnErr result (source.new.faults ≡ one_more source.old.faults) }
+{
+    take_from(source, into)
+}
+
+// Takes from a real source.
+fn take_from_real<R: Read>(source: &mut StdSource<R>, into: &mut [u8]) -> Result<usize, Failed>
+    requires { 0 < length into.old }
+    ensures bytes { ReadConsumes (R.remaining source.old.stream) (R.remaining source.new.stream) result into.new }
+    ensures done { OnOk result (source.new.faults ≡ source.old.faults) }
+    ensures rose { OnErr result (source.new.faults ≡ one_more source.old.faults) }
 {
     take_from(source, into)
 }
@@ -72,7 +112,21 @@ fn fetch_from_memory(
     ensures answer { IfOk result (IsFetched (stored_under files.old.files name.now) room) }
     ensures stays { stored_under files.new.files name.now ≡ stored_under files.old.files name.now }
     ensures done { OnOk result (files.new.faults ≡ files.old.faults) }
-    ensures rose { result ≡ Err fault.Failed → one_more files.old.faults ≤ files.new.faults }
+    ensures rose { result ≡ Err fault.Failed → files.new.faults ≡ one_more files.old.faults }
+{
+    fetch_from(files, alloc, name, room)
+}
+
+// Fetches from real files.
+fn fetch_from_real<R: std::rt::Files>(
+    files: &mut DirFiles<'_, R>,
+    alloc: Global,
+    name: &str,
+    room: usize,
+) -> Result<Fetched, FileFault>
+    requires { room < 2 ^ 32 }
+    ensures done { OnOk result (files.new ≡ files.old) }
+    ensures rose { result ≡ Err fault.Failed → files.new ≡ one_more files.old }
 {
     fetch_from(files, alloc, name, room)
 }
@@ -89,6 +143,25 @@ fn a_sink_in_memory_takes_pieces(rt: HostRuntime) -> Result<(), Fail> {
     assert!(rt; put_in_memory(&mut sink, b"i").is_err(), "no room is left");
     assert!(rt; sink.flush().is_ok(), "nothing is kept back");
     assert_eq!(rt; sink.held(), b"abcdefgh".as_slice());
+    Ok(())
+}
+
+// Four bytes are gathered at most: a piece that has room goes out with what stood there, a longer one in parts, and what a failed put
+// of the other sink left is sent on by the next one.
+#[test]
+fn a_gathering_sink_sends_on_in_few_pieces(rt: HostRuntime) -> Result<(), Fail> {
+    let alloc = rt.alloc();
+    let failing = Vec::from_array(alloc, [3])?;
+    let inner = MemSink::new(alloc, 16, vec![in alloc; 4, 2]?, failing)?;
+    let mut sink = GatheringSink::new(alloc, inner, 4)?;
+    assert_eq!(rt; sink.put(b"ab").ok(), Some(2));
+    assert_eq!(rt; sink.put(b"cde").ok(), Some(3), "ab goes out before");
+    assert!(rt;
+        put_all(&mut sink, b"fgh").is_err(),
+        "two of cde go out, and the third put fails"
+    );
+    assert!(rt; send_through(&mut sink, b"ijklm").is_ok());
+    assert_eq!(rt; sink.sink().held(), b"abcdeijklm".as_slice());
     Ok(())
 }
 
@@ -135,11 +208,11 @@ fn files_in_memory_are_fetched(rt: HostRuntime) -> Result<(), Fail> {
 fn readers_and_writers_of_std(rt: HostRuntime) -> Result<(), Fail> {
     let mut source = StdSource::new(b"abc".as_slice());
     let mut into = [0; 2];
-    assert_eq!(rt; source.take(&mut into).ok(), Some(2));
+    assert_eq!(rt; take_from_real(&mut source, &mut into).ok(), Some(2));
     assert_eq!(rt; source.take(&mut into).ok(), Some(1));
     assert_eq!(rt; source.take(&mut into).ok(), Some(0));
     let mut sink = StdSink::new(Vec::new(rt.alloc()));
-    assert!(rt; put_all(&mut sink, b"abc").is_ok());
+    assert!(rt; put_into_real(&mut sink, b"abc").is_ok());
     assert!(rt; sink.flush().is_ok());
     Ok(())
 }
@@ -151,7 +224,7 @@ fn real_files_are_fetched(rt: HostRuntime) -> Result<(), Fail> {
     let name = format!(in rt.alloc(); "{folder}/nrm_edge_real_files")?;
     fs::write(&rt, name.as_str(), "abc")?;
     let mut files = DirFiles::new(&rt);
-    match files.fetch(rt.alloc(), name.as_str(), 3) {
+    match fetch_from_real(&mut files, rt.alloc(), name.as_str(), 3) {
         Ok(Fetched::Whole(bytes)) => assert_eq!(rt; bytes.as_slice(), b"abc".as_slice()),
         _ => return Err(Fail::from("not whole")),
     }
