@@ -17,15 +17,15 @@ Appends-more a b c piece sent more first next =
 pub AppendsFront-more : (a b : Option (List ℕ)) (text more : List ℕ) → AppendsFront a b text → AppendsFront a b (text ++ more)
 AppendsFront-more a b text more front = record {
   count = front.count;
-  within = omega (arith, front.within, length-append text more);
-  grown = rw (take-append-le front.count text more front.within) front.grown;
+  short = omega (arith, front.short, length-append text more);
+  grown = rw (take-append-le front.count text more (omega (arith, front.short))) front.grown;
 }
 
 -- a text went out, and then a front of more: a front of both
 pub AppendsFront-after : (a b c : Option (List ℕ)) (text more : List ℕ) → Appends a b text → AppendsFront b c more → AppendsFront a c (text ++ more)
 AppendsFront-after a b c text more whole front = record {
   count = length text + front.count;
-  within = omega (arith, front.within, length-append text more);
+  short = omega (arith, front.short, length-append text more);
   grown = rw (take-append-add text more front.count) (Appends-trans a b c text (take front.count more) whole front.grown);
 }
 

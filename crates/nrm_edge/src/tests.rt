@@ -19,7 +19,7 @@ use std::{env, fs};
 // Puts a whole piece into a sink in memory.
 fn put_in_memory(sink: &mut MemSink, piece: &[u8]) -> Result<(), Failed>
     ensures whole { OnOk result (sink.new.held ≡ sink.old.held ++ piece.now) }
-    ensures cut { OnErr result ((count : ℕ) × (count ≤ length piece.now) × (sink.new.held ≡ sink.old.held ++ take count piece.now)) }
+    ensures cut { OnErr result ((count : ℕ) × (count < length piece.now) × (sink.new.held ≡ sink.old.held ++ take count piece.now)) }
     ensures done { OnOk result (sink.new.faults ≡ sink.old.faults) }
     ensures rose { OnErr result (sink.new.faults ≡ one_more sink.old.faults) }
 {
