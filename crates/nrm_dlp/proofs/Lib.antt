@@ -1,3 +1,4 @@
+pub mod Attained
 pub mod Bounds
 pub mod Copied
 pub mod Examples

@@ -27,3 +27,10 @@ HindsightOverflows net tallies n number = Overflows size_limit (hindsight_progra
 -- no allocation of a program gains more than this fraction
 abbrev pub BoundsAllocations : ProgramValue → Fraction → Type 0
 BoundsAllocations a bound = (q : ℕ) (x : List ℕ) → IsAllocation a q x → pos (gain a x * bound.den) ≤ℤ (bound.num *ℤ pos q)
+
+-- some allocation of a program gains exactly this fraction
+pub record IsAttained (a : ProgramValue) (bound : Fraction) : Type 0 where
+  pub q : ℕ
+  pub x : List ℕ
+  pub allocation : IsAllocation a q x
+  pub gains : pos (gain a x * bound.den) ≡ bound.num *ℤ pos q

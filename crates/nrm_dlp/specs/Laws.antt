@@ -4,7 +4,7 @@ use Rattle.nrm_fraction.specs.Fraction.{Fraction}
 use Rattle.nrm_model.specs.Network.{NetworkValue, leg_of}
 use Rattle.nrm_model.specs.Limits.{IsNetwork}
 use Rattle.nrm_lp.specs.Limits.{IsLimited}
-use Rattle.nrm_dlp.specs.Hindsight.{AreTallies, BoundsAllocations, HindsightOverflows, IsHindsight}
+use Rattle.nrm_dlp.specs.Hindsight.{AreTallies, BoundsAllocations, HindsightOverflows, IsAttained, IsHindsight}
 use Rattle.nrm_dlp.specs.Programs.{hindsight_program, program_of, program_at, opening_program}
 
 -- with a cap for each leg and a bound for each product, none of them above 31,968
@@ -30,6 +30,11 @@ HindsightsAreLimited = (net : NetworkValue) (tallies : List ℕ) → IsNetwork n
 abbrev pub HindsightsBoundAllocations : Type 0
 HindsightsBoundAllocations = (net : NetworkValue) (tallies : List ℕ) (value : Fraction) → IsNetwork net → AreTallies net tallies → IsHindsight net tallies value
     → BoundsAllocations (hindsight_program net tallies) value
+
+-- and some allocation gains it: it is the least such bound
+abbrev pub HindsightsAreAttained : Type 0
+HindsightsAreAttained = (net : NetworkValue) (tallies : List ℕ) (value : Fraction) → IsNetwork net → AreTallies net tallies → IsHindsight net tallies value
+    → IsAttained (hindsight_program net tallies) value
 
 -- tallies have a value of hindsight, or its program is Large
 abbrev pub EachHasAHindsight : Type 0

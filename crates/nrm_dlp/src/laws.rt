@@ -1,6 +1,7 @@
 //! Laws over the definitions. Each is the contract of a function that does nothing.
 ghost use Rattle.nrm_dlp.specs.Laws.{
   EachHasAHindsight,
+  HindsightsAreAttained,
   HindsightsAreDetermined,
   HindsightsAreLimited,
   HindsightsBoundAllocations,
@@ -18,9 +19,10 @@ pub fn programs_are_limited()
     ensures hindsight { HindsightsAreLimited }
 {}
 
-/// No allocation of the program of hindsight gains more than the value of hindsight.
+/// No allocation of the program of hindsight gains more than the value of hindsight, and one gains it.
 pub fn hindsights_bound_allocations()
-    ensures { HindsightsBoundAllocations }
+    ensures bound { HindsightsBoundAllocations }
+    ensures attained { HindsightsAreAttained }
 {}
 
 /// Each list of tallies has a value of hindsight, or its program is Large.

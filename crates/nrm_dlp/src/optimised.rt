@@ -9,7 +9,7 @@ ghost use Rattle.nrm_lp.specs.Means.{mean_value};
 ghost use Rattle.nrm_lp.specs.Shape.{HasShape};
 ghost use Rattle.nrm_model.specs.Network.{leg_of};
 ghost use Rattle.nrm_simplex.specs.Solving.{IsClosing, IsSolveFault};
-ghost use Rattle.nrm_dlp.specs.Hindsight.{AreTallies, BoundsAllocations, IsHindsight};
+ghost use Rattle.nrm_dlp.specs.Hindsight.{AreTallies, BoundsAllocations, IsAttained, IsHindsight};
 ghost use Rattle.nrm_dlp.specs.Programs.{hindsight_program, program_at};
 
 use crate::programs::{hindsight_program, program_at};
@@ -77,6 +77,7 @@ pub fn hindsight(alloc: Global, net: &Network, tallies: &[u16]) -> Result<(u64, 
     ensures some { IfOk result (λ value. 0 < value.1) }
     ensures lowest { IfOk result (λ value. gcd value.0 value.1 ≡ 1) }
     ensures bounds { IfOk result (λ value. BoundsAllocations (hindsight_program net.now tallies.now) (pos value.0 over value.1)) }
+    ensures attained { IfOk result (λ value. IsAttained (hindsight_program net.now tallies.now) (pos value.0 over value.1)) }
     ensures fault { IfErr result (IsSolveFault (hindsight_program net.now tallies.now)) }
 {
     let program = hindsight_program(alloc, net, tallies)?;

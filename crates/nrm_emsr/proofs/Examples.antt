@@ -88,6 +88,20 @@ protected_pair : map (λ i. protections_of small_pair (prices_at 0 300) i 1) (0 
 unfolding ◌over◌ ◌*ᶠ◌ less whole gcd in_lowest_terms
 protected_pair = refl
 
+-- ---- behind the only bucket with demand, of four and eight seats, the last one is empty, and its fare is nought
+abbrev pub last_empty : NetworkValue
+last_empty = record {
+  histories = 2;
+  periods = 1;
+  legs = record { name = codes "AB"; seats = 10; cuts = 100 ∷ [] } ∷ [];
+  products = record { name = codes "TOP"; fare = 150; legs = 0 ∷ [] } ∷ [];
+  demand = 4 ∷ 8 ∷ [];
+}
+
+all_demand : protections_of last_empty (prices_at 0 0) 0 1 ≡ 8 ∷ []
+unfolding ◌over◌ ◌*ᶠ◌ less whole gcd in_lowest_terms
+all_demand = refl
+
 -- ---- a leg on which the second bucket alone would need fewer seats than the first, and one whose thresholds stand in
 -- for empty buckets, up to the seats
 abbrev pub edges : NetworkValue

@@ -1,3 +1,4 @@
+pub mod Examples
 pub mod Listed
 pub mod Nested
 pub mod Numbered

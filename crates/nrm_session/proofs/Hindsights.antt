@@ -9,7 +9,9 @@ use Rattle.nrm_model.specs.Inventory.{inventory_of, seats_of}
 use Rattle.nrm_model.specs.Network.{NetworkValue, leg_named, product_named}
 use Rattle.nrm_model.specs.declared.leg.Leg.{Leg}
 use Rattle.nrm_model.specs.declared.product.Product.{Product}
-use Rattle.nrm_dlp.specs.Hindsight.{IsHindsight}
+use Rattle.nrm_dlp.specs.Hindsight.{IsAttained, IsHindsight}
+use Rattle.nrm_dlp.specs.Programs.{hindsight_program}
+use Rattle.nrm_dlp.proofs.Attained.{attained}
 use Rattle.nrm_book.specs.declared.booking.Booking.{Booking}
 use Rattle.nrm_book.specs.Bookings.{booking_numbered, revenue_of, sold_on, worth_of}
 use Rattle.nrm_hindsight.specs.Requests.{Request, request_of, requests_of, tallies_of}
@@ -17,6 +19,7 @@ use Rattle.nrm_hindsight.specs.Selections.{BoundsSelections, ChosenFrom, IsSelec
 use Rattle.nrm_hindsight.specs.Selections.ChosenFrom.{none}
 use Rattle.nrm_hindsight.proofs.Choices.{chosen-push, kept-chosen, left-out-push}
 use Rattle.nrm_hindsight.proofs.Selections.{bookings-selected, selections-bounded}
+use Rattle.nrm_hindsight.proofs.Tallies.{tallies-capped}
 use Rattle.nrm_control.specs.Standing.{ControlValue, IsControl, StandsFor}
 use Rattle.nrm_control.specs.State.{SeatState, after_answer, after_cancellation, after_request, answer_in, opening}
 use Rattle.nrm_control.specs.declared.answer.Answer.{Answer}
@@ -117,6 +120,8 @@ bounded net s ok keeps choice commands replies mid after value revenue run step 
     let (selection, earned) = bookings-selected net mid.requests mid.bookings (remembers.choice choice) held.seats in
     record {
       bound = subst (λ (requests : List Request). BoundsSelections net requests value) remembers.requests (selections-bounded net mid.requests value ok is);
+      attained = subst (λ (requests : List Request). IsAttained (hindsight_program net (tallies_of net requests)) value) remembers.requests
+          (attained net (tallies_of net mid.requests) value ok (tallies-capped net mid.requests) is);
       selection = subst (λ (requests : List Request). IsSelection net requests (requests_of mid.bookings)) remembers.requests selection;
       earned = earned ∙ worth;
     }

@@ -1,10 +1,13 @@
 pub mod Answered
+pub mod Clerks
 pub mod Determined
 pub mod Examples
+pub mod FirstParts
 pub mod Hindsights
 pub mod InForce
 pub mod OtherLines
 pub mod Pieces
+pub mod PrintedPlans
 pub mod Runs
 pub mod Seats
 pub mod Steps

@@ -1,5 +1,5 @@
 -- The reply of the step is the one that the headline says, and no other.
-use Rattle.std.proofs.Common.{◌≡◌, ◌∙◌, ◌↔◌, ℕ, ◌+◌, ◌-◌, ◌*◌, ◌≤◌, ◌<◌, Bool, true, false, List, [], ◌∷◌, ◌++◌, find, Option, Some, None, MatchOption, All, if◌then◌else◌, refl, sym, ap, subst, arith, nat_abs}
+use Rattle.std.proofs.Common.{◌≡◌, ◌∙◌, ◌↔◌, ℕ, ◌+◌, ◌-◌, ◌*◌, ◌≤◌, ◌<◌, Bool, true, false, List, [], ◌∷◌, ◌++◌, find, Option, Some, None, MatchOption, All, if◌then◌else◌, inl, inr, refl, sym, ap, subst, arith, nat_abs}
 use Rattle.std.specs.Option.{option_map_or}
 use Rattle.std.proofs.lemmas.Bool.{ltb-false, ltb-true}
 use Rattle.std.proofs.lemmas.List.Elements.{All-nil, All-cons, All-head, All-tail}
@@ -8,15 +8,13 @@ use Rattle.nrm_model.specs.Network.{NetworkValue, leg_of, product_named, product
 use Rattle.nrm_model.specs.declared.mode.Mode.{Mode}
 use Rattle.nrm_model.specs.declared.mode.Mode.TheVariants as mode
 use Rattle.nrm_lp.specs.declared.certificate.Certificate.{Certificate}
-use Rattle.nrm_virtual.specs.Buckets.{bucket_of}
-use Rattle.nrm_emsr.specs.Protections.{protection_of}
 use Rattle.nrm_plan.specs.Plans.{PlanValue, fare_refuses, fare_refuses_by, kept_from, seats_kept}
 use Rattle.nrm_book.specs.Bookings.{left_on}
-use Rattle.nrm_control.specs.State.{SeatState, after_request, answer_in}
+use Rattle.nrm_control.specs.State.{SeatState, after_answer, after_request, answer_in}
 use Rattle.nrm_control.specs.Verdict.{leg_refuses}
 use Rattle.nrm_control.specs.declared.answer.Answer.TheVariants as answer
 use Rattle.nrm_session.specs.Replies.{Reply, sold, no_leg, no_fare, reply_to, unknown}
-use Rattle.nrm_session.specs.Headline.{InForce, bid_price_sum, SeatsCover, FareReaches, FirstLegShort, Headline, RequestsAreAnswered}
+use Rattle.nrm_session.specs.Headline.{bid_price_sum, BookingStands, FareReaches, FirstLegShort, Headline, IsOneOfThree, RequestIsAnswered, RequestsAreAnswered, SeatsCover}
 
 -- the leg of this name is the first that doesn't cover
 pub record IsFirstFailing (net : NetworkValue) (Covers : ℕ → Type 0) (legs : List ℕ) (name : List ℕ) : Type 0 where
@@ -136,27 +134,13 @@ module _ (net : NetworkValue) (Covers : ℕ → Type 0) (refuses : ℕ → Bool)
   only = only-by (find refuses legs) below refl refl
 
 -- the tests of the step are those of the headline
-kept-davn : (net : NetworkValue) (plan : PlanValue) (prices : Certificate) (i j : ℕ) → InForce plan mode.Davn prices → kept_from net plan i j ≡ protection_of net prices i plan.period (bucket_of net prices i j - 1)
-kept-davn net plan prices i j force = λ n. seats_kept net (force.in_mode n) plan.period (force.at_prices n) i j
-
 covers-passed : (net : NetworkValue) (s : SeatState) (j party i : ℕ) → leg_refuses net s.plan s.bookings j party i ≡ false → SeatsCover net s j party i
-covers-passed net s j party i e =
-    let enough : party + kept_from net s.plan i j ≤ left_on (inventory_of net) s.bookings i = ltb-false (left_on (inventory_of net) s.bookings i) (party + kept_from net s.plan i j) e in
-    record {
-      the_party = omega (arith, enough);
-      and_protection = λ prices force. subst (λ y. party + y ≤ left_on (inventory_of net) s.bookings i) (kept-davn net s.plan prices i j force) enough;
-    }
+covers-passed net s j party i e = ltb-false (left_on (inventory_of net) s.bookings i) (party + kept_from net s.plan i j) e
 
 covers-refused : (net : NetworkValue) (s : SeatState) (j party i : ℕ) → leg_refuses net s.plan s.bookings j party i ≡ true → ¬ (SeatsCover net s j party i)
-covers-refused net s j party i e covers = by s.plan.mode s.plan.certificate refl refl (ltb-true (left_on (inventory_of net) s.bookings i) (party + kept_from net s.plan i j) e)
-  where
-    by : (m : Mode) (o : Option Certificate) → s.plan.mode ≡ m → s.plan.certificate ≡ o → left_on (inventory_of net) s.bookings i < party + seats_kept net m s.plan.period o i j → ⊥
-    by mode.FirstCome o is has short = absurd (omega (arith, short, covers.the_party))
-    by mode.Bid o is has short = absurd (omega (arith, short, covers.the_party))
-    by mode.Davn None is has short = absurd (omega (arith, short, covers.the_party))
-    by mode.Davn (Some prices) is has short =
-        let covered = covers.and_protection prices (record { in_mode = is; at_prices = has }) in
-        absurd (omega (arith, short, covered))
+covers-refused net s j party i e covers =
+    let short = ltb-true (left_on (inventory_of net) s.bookings i) (party + kept_from net s.plan i j) e in
+    absurd (omega (arith, short, covers))
 
 fare-passed : (net : NetworkValue) (s : SeatState) (j : ℕ) → fare_refuses net s.plan j ≡ false → FareReaches net s j
 fare-passed net s j e prices force =
@@ -203,9 +187,32 @@ only-one net s j party reply says =
       names_fare = says.names_fare;
     })
 
+-- what is told, and what stands after it, by what refuses
+three : (net : NetworkValue) (s : SeatState) (refusing : Option ℕ) (below : Bool) → IsOneOfThree s (reply_by net s.next refusing below)
+three net s None true = inr (inr refl)
+three net s None false = inl refl
+three net s (Some i) below = inr (inl ((leg_of net i).name, refl))
+
+stands : (net : NetworkValue) (s : SeatState) (j party : ℕ) (refusing : Option ℕ) (below : Bool)
+    → BookingStands s j party (reply_by net s.next refusing below) (after_answer s j party (option_map_or answer.Leg refusing (if below then answer.Fare else answer.Sold s.next)))
+stands net s j party None true = record { booked = λ (is : no_fare ≡ sold s.next). cc; refused = λ other. refl }
+stands net s j party None false = record { booked = λ is. refl; refused = λ other. absurd (other refl) }
+stands net s j party (Some i) below = record { booked = λ (is : no_leg (leg_of net i).name ≡ sold s.next). cc; refused = λ other. refl }
+
+answers : (net : NetworkValue) (s : SeatState) (j party : ℕ) (reply : Reply) (s' : SeatState) → reply ≡ reply_to net (answer_in net s j party) → s' ≡ after_request net s j party
+    → RequestIsAnswered net s j party reply s'
+answers net s j party reply s' is after =
+    let refusing = find (leg_refuses net s.plan s.bookings j party) (product_of net j).legs in
+    let below = fare_refuses net s.plan j in
+    record {
+      headline = subst (Headline net s j party) (sym is) (holds net s j party);
+      no_other = subst (IsOneOfThree s) (sym is) (three net s refusing below);
+      stands = subst (λ (r : Reply). BookingStands s j party r s') (sym is) (subst (BookingStands s j party (reply_to net (answer_in net s j party))) (sym after) (stands net s j party refusing below));
+    }
+
 pub requests-answered : RequestsAreAnswered
 requests-answered net s name product party known = (
-  λ reply s' told. let (is, after) = of-product reply s' told in subst (Headline net s product party) (sym is) (holds net s product party),
+  λ reply s' told. let (is, after) = of-product reply s' told in answers net s product party reply s' is after,
   λ reply says. to-product reply (only-one net s product party reply says, refl),
 )
   where

@@ -4,7 +4,9 @@ use Rattle.std.specs.Option.{option_map_or}
 use Rattle.nrm_fraction.specs.Fraction.{Fraction}
 use Rattle.nrm_model.specs.Limits.{IsNetwork}
 use Rattle.nrm_model.specs.Network.{NetworkValue, product_named}
-use Rattle.nrm_hindsight.specs.Requests.{Request, requests_of}
+use Rattle.nrm_dlp.specs.Hindsight.{IsAttained}
+use Rattle.nrm_dlp.specs.Programs.{hindsight_program}
+use Rattle.nrm_hindsight.specs.Requests.{Request, requests_of, tallies_of}
 use Rattle.nrm_hindsight.specs.Selections.{BoundsSelections, ChosenFrom, IsSelection, earned_by}
 use Rattle.nrm_plan.specs.Plans.{PlanValue}
 use Rattle.nrm_control.specs.State.{SeatState, opening}
@@ -28,10 +30,12 @@ request_in net command.Bad = []
 abbrev pub requests_in : NetworkValue → List Command → List Request
 requests_in net commands = flat_map (request_in net) commands
 
--- No selection of these requests, each whole and at most once, that fits the seats earns more than the value. The bookings that stand are
--- such a selection, and the revenue is what they earn.
+-- No selection of these requests, each whole and at most once, that fits the seats earns more than the value, and an allocation of their program,
+-- which may sell parts of seats, gains just that: so it is the least bound that the program gives. The bookings that stand are such a selection, and
+-- the revenue is what they earn.
 pub record IsBounded (net : NetworkValue) (requests : List Request) (s : SeatState) (value : Fraction) (revenue : ℕ) : Type 0 where
   pub bound : BoundsSelections net requests value
+  pub attained : IsAttained (hindsight_program net (tallies_of net requests)) value
   pub selection : IsSelection net requests (requests_of s.bookings)
   pub earned : earned_by net (requests_of s.bookings) ≡ revenue
 

@@ -1,5 +1,5 @@
 -- Laws of whole sessions.
-use Rattle.std.specs.Prelude.{ℕ, ◌≡◌, ◌≢◌, ◌<◌, ◌≤◌, List, length, All, ⊤}
+use Rattle.std.specs.Prelude.{ℕ, ◌≡◌, ◌≢◌, ◌<◌, ◌≤◌, List, ◌++◌, length, All, ⊤}
 use Rattle.nrm_model.specs.Inventory.{inventory_of, seats_of}
 use Rattle.nrm_model.specs.Network.{NetworkValue}
 use Rattle.nrm_model.specs.Limits.{IsNetwork}
@@ -39,19 +39,20 @@ abbrev pub RepliesAreDetermined : Type 0
 RepliesAreDetermined = (net : NetworkValue) (s : SeatState) (commands : List Command) (replies others : List Reply) (s' s'' : SeatState)
     → Run net s commands replies s' → Run net s commands others s'' → MemorySuffices replies → MemorySuffices others → (others ≡ replies) × (s'' ≡ s')
 
--- a line for which a program may be solved
-abbrev pub MaySolve : Command → Type 0
-MaySolve (command.Reoptimise k) = ⊤
-MaySolve command.Hindsight = ⊤
-MaySolve (command.Book name party) = ⊥
-MaySolve (command.Cancel number) = ⊥
-MaySolve (command.Leg name) = ⊥
-MaySolve command.Plan = ⊥
-MaySolve command.Bad = ⊥
+-- a line for which a program is solved: one of hindsight, and one that optimises again from a period of the network, where the mode solves
+-- programs
+abbrev pub Solves : NetworkValue → SeatState → Command → Type 0
+Solves net s (command.Reoptimise k) = (s.plan.mode ≢ mode.FirstCome) × (k ≤ net.periods)
+Solves net s command.Hindsight = ⊤
+Solves net s (command.Book name party) = ⊥
+Solves net s (command.Cancel number) = ⊥
+Solves net s (command.Leg name) = ⊥
+Solves net s command.Plan = ⊥
+Solves net s command.Bad = ⊥
 
 -- memory is wanting at such lines alone, and then nothing changes: every other line has its reply whatever memory there is
 abbrev pub OtherLinesNeedNoMemory : Type 0
-OtherLinesNeedNoMemory = (net : NetworkValue) (s s' : SeatState) (c : Command) → Step net s c memory s' → MaySolve c × (s' ≡ s)
+OtherLinesNeedNoMemory = (net : NetworkValue) (s s' : SeatState) (c : Command) → Step net s c memory s' → Solves net s c × (s' ≡ s)
 
 -- the commands and the replies determine the state, whichever they are
 abbrev pub StatesAreDetermined : Type 0
@@ -75,3 +76,8 @@ abbrev pub PlansAreKept : Type 0
 PlansAreKept = ((net : NetworkValue) (m : Mode) (plan : PlanValue) → IsNetwork net → IsOpeningPlan net m plan → IsPlanned net m (opening plan))
     × ((net : NetworkValue) (m : Mode) (s s' : SeatState) (commands : List Command) (replies : List Reply)
     → IsNetwork net → IsPlanned net m s → Run net s commands replies s' → IsPlanned net m s')
+
+-- each first part of a run is a run, and the rest is one from where it came: so what holds after each run holds in every state on the way
+abbrev pub RunsHaveFirstParts : Type 0
+RunsHaveFirstParts = (net : NetworkValue) (s s' : SeatState) (first rest : List Command) (replies : List Reply) → Run net s (first ++ rest) replies s'
+    → (before : List Reply) × (later : List Reply) × (mid : SeatState) × (replies ≡ before ++ later) × Run net s first before mid × Run net mid rest later s'

@@ -1,7 +1,9 @@
 pub mod Answering
+pub mod Clerks
 pub mod Headline
 pub mod Hindsight
 pub mod Inner
+pub mod LastPlan
 pub mod Laws
 pub mod Replies
 pub mod Run

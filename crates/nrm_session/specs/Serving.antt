@@ -1,5 +1,5 @@
 -- How a session over a stream ends.
-use Rattle.std.specs.Prelude.{ℕ, ◌≡◌, ◌+◌, ◌≤◌, ◌⊎◌, List, ◌∷◌, ◌++◌, length, take, Option}
+use Rattle.std.specs.Prelude.{ℕ, ⊤, [], ◌≡◌, ◌+◌, ◌<◌, ◌≤◌, ◌⊎◌, List, ◌∷◌, ◌++◌, length, take, Option}
 use Rattle.std.specs.Io.KnownBytes.{Appends, Consumes, IsAtEnd}
 use Rattle.nrm_edge.specs.Causes.{Rose}
 use Rattle.nrm_model.specs.Network.{NetworkValue}
@@ -13,7 +13,8 @@ use Rattle.nrm_session.specs.Run.{Run, Writes, output_of}
 use Rattle.nrm_session.specs.declared.serving.End.{End}
 use Rattle.nrm_session.specs.declared.serving.End.TheVariants as end
 
--- Of these commands one was cut: the replies to those before it stand whole, then a front of its own reply, and s' is the state after it.
+-- Of these commands one was cut, since a put failed: the replies to those before it stand whole, then a front of its own reply, which isn't all of it,
+-- and s' is the state after it.
 pub record WritesCut (net : NetworkValue) (s : SeatState) (commands : List Command) (bytes : List ℕ) (s' : SeatState) : Type 0 where
   pub before : List Command
   pub cut : Command
@@ -25,7 +26,7 @@ pub record WritesCut (net : NetworkValue) (s : SeatState) (commands : List Comma
   pub reply : Reply
   pub step : Step net mid cut reply s'
   pub count : ℕ
-  pub front : count ≤ length (text_of reply)
+  pub short : count < length (text_of reply)
   pub output : bytes ≡ output_of replies ++ take count (text_of reply)
 
 -- The network stays. From each state that the controller stood for, a run over the commands gives this output, and the controller stands for the run's last state.
@@ -60,20 +61,25 @@ pub record TookAndWrote (before after : Streams) (limit : ℕ) (taken output : L
   pub short : length taken ≤ limit
   pub written : Appends before.held after.held output
 
--- What each end says. Done: the input was taken to its end, and the replies to all its lines were written. ReadFault: the replies to the whole
--- lines that were taken. WriteFault: one line was cut, a whole one of those taken, or the last one of an input that was taken to its end.
--- TooLong: one byte more than the limit was taken, and the replies to the whole lines before that byte were written.
-abbrev pub Serves : ControlValue → ControlValue → Streams → Streams → ℕ → End → Type 0
-Serves old new before after limit end.Done =
-    (taken : List ℕ) × (output : List ℕ) × TookAndWrote before after limit taken output × IsAtEnd after.coming × Refines old new (commands_of taken) output
-Serves old new before after limit end.ReadFault =
-    (taken : List ℕ) × (output : List ℕ) × TookAndWrote before after limit taken output × Refines old new (whole_commands taken) output
-Serves old new before after limit end.WriteFault =
+-- What each end says, by what it means that commands were answered with an output and that one of them was cut. Done: the input was taken to its end,
+-- and the replies to all its lines were written. ReadFault: the replies to the whole lines that were taken. WriteFault: one line was cut, or only
+-- sending on the replies to all failed: of the whole lines that were taken, or of all lines of an input that was taken to its end. TooLong: one byte more than the limit was taken, and the replies to the whole
+-- lines before that byte were written.
+abbrev pub ServesBy : (List Command → List ℕ → Type 0) → (List Command → List ℕ → Type 0) → Streams → Streams → ℕ → End → Type 0
+ServesBy whole cut before after limit end.Done =
+    (taken : List ℕ) × (output : List ℕ) × TookAndWrote before after limit taken output × IsAtEnd after.coming × whole (commands_of taken) output
+ServesBy whole cut before after limit end.ReadFault =
+    (taken : List ℕ) × (output : List ℕ) × TookAndWrote before after limit taken output × whole (whole_commands taken) output
+ServesBy whole cut before after limit end.WriteFault =
     (taken : List ℕ) × (output : List ℕ) × TookAndWrote before after limit taken output
-    × (RefinesCut old new (whole_commands taken) output ⊎ (IsAtEnd after.coming × RefinesCut old new (commands_of taken) output))
-Serves old new before after limit end.TooLong =
+    × ((cut (whole_commands taken) output ⊎ whole (whole_commands taken) output) ⊎ (IsAtEnd after.coming × (cut (commands_of taken) output ⊎ whole (commands_of taken) output)))
+ServesBy whole cut before after limit end.TooLong =
     (taken : List ℕ) × (output : List ℕ) × Consumes before.coming after.coming taken × (length taken ≡ limit + 1)
-    × Appends before.held after.held output × Refines old new (whole_commands (take limit taken)) output
+    × Appends before.held after.held output × whole (whole_commands (take limit taken)) output
+
+-- a controller alone
+abbrev pub Serves : ControlValue → ControlValue → Streams → Streams → ℕ → End → Type 0
+Serves old new = ServesBy (Refines old new) (RefinesCut old new)
 
 -- which counts of faults each end lets rise: the source's alone, the sink's alone, or none
 abbrev pub CountsFaults : Streams → Streams → End → Type 0
@@ -83,3 +89,11 @@ CountsFaults before after end.ReadFault =
 CountsFaults before after end.WriteFault =
     Rose before.sink_faults after.sink_faults × (before.sink_faults ≤ after.sink_faults) × (after.source_faults ≡ before.source_faults)
 CountsFaults before after end.TooLong = (after.source_faults ≡ before.source_faults) × (after.sink_faults ≡ before.sink_faults)
+
+-- From a sink that keeps nothing back nothing is kept back at the end, unless the sink failed. A take may fail each time, and the session then ends
+-- with nothing kept back: so all that was put is sent on before more is taken.
+abbrev pub SentOn : List ℕ → List ℕ → End → Type 0
+SentOn unsent unsent' end.Done = unsent ≡ [] → unsent' ≡ []
+SentOn unsent unsent' end.ReadFault = unsent ≡ [] → unsent' ≡ []
+SentOn unsent unsent' end.TooLong = unsent ≡ [] → unsent' ≡ []
+SentOn unsent unsent' end.WriteFault = ⊤

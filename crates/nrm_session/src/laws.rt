@@ -1,7 +1,8 @@
 //! Laws of whole sessions. Each is the contract of a function that does nothing.
 ghost use Rattle.nrm_session.specs.Headline.{RequestsAreAnswered};
 ghost use Rattle.nrm_session.specs.Hindsight.{HindsightBounds, HindsightBoundsOn};
-ghost use Rattle.nrm_session.specs.Laws.{EachListHasARun, OtherLinesNeedNoMemory, PlansAreKept, RepliesAreDetermined, SeatsAreKept, StatesAreDetermined};
+ghost use Rattle.nrm_session.specs.LastPlan.{PrintedPricesAreOptimal};
+ghost use Rattle.nrm_session.specs.Laws.{EachListHasARun, OtherLinesNeedNoMemory, PlansAreKept, RepliesAreDetermined, RunsHaveFirstParts, SeatsAreKept, StatesAreDetermined};
 
 /// No leg has more seats sold than it has in an opening, and a run keeps that from any state.
 pub fn seats_are_kept()
@@ -32,6 +33,17 @@ pub fn each_list_has_a_run()
 /// its bid prices are optimal duals of the program at the plan's seats left and period.
 pub fn plans_are_kept()
     ensures { PlansAreKept }
+{}
+
+/// What a `plan` line prints, after any commands from an opening, are optimal bid prices of the program at the seats left and from the period of the last
+/// line that was answered `optimised`, or of the opening.
+pub fn printed_prices_are_optimal()
+    ensures { PrintedPricesAreOptimal }
+{}
+
+/// Each first part of a run is a run, and the rest is one from where it came.
+pub fn runs_have_first_parts()
+    ensures { RunsHaveFirstParts }
 {}
 
 /// A request is sold exactly when on every leg the seats left cover the party plus the protection above its bucket, and its fare

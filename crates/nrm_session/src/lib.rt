@@ -1,15 +1,18 @@
 //! The session: lines to replies.
 #![tactic(auto)]
 
+mod clerk;
 mod laws;
 mod reply;
 mod serving;
 #[cfg(test)]
 mod tests;
 
+pub use clerk::{Alone, Clerk};
 pub use laws::{
     each_list_has_a_run, hindsight_bounds, other_lines_need_no_memory, plans_are_kept,
-    replies_are_determined, requests_are_answered, seats_are_kept, states_are_determined,
+    printed_prices_are_optimal, replies_are_determined, requests_are_answered,
+    runs_have_first_parts, seats_are_kept, states_are_determined,
 };
-pub use reply::{Reply, carry_out, put_reply};
-pub use serving::{End, serve};
+pub use reply::{Reply, answer_line, carry_out, put_reply};
+pub use serving::{End, serve, serve_by};

@@ -8,7 +8,7 @@ ghost use Rattle.nrm_fraction.specs.Fraction.{◌over◌};
 ghost use Rattle.nrm_control.specs.Standing.{IsControl};
 ghost use Rattle.nrm_stream.specs.Commands.{IsCommand};
 ghost use Rattle.nrm_stream.specs.declared.command.Command.TheVariants as command;
-ghost use Rattle.nrm_session.specs.Answering.{IsTellable, reply_in, Steps};
+ghost use Rattle.nrm_session.specs.Answering.{AnswersLine, CutsLine, IsTellable, reply_in, Steps};
 ghost use Rattle.nrm_session.specs.Replies.{cancelled, hindsight_told, no_leg, optimised, sold, text_of};
 
 use nrm_control::{Answer, Controller};
@@ -236,4 +236,25 @@ pub fn put_reply<K: Sink>(controller: &Controller, reply: Reply, sink: &mut K) -
         Reply::Hindsight { num, den, revenue } => write_hindsight(&mut line, num, den, revenue),
     }
     put_all(sink, line.bytes())
+}
+
+/// Carries a command out, and puts its reply.
+///
+/// # Errors
+/// A put failed; a front of the reply went out, and the state is the one after the line.
+pub fn answer_line<K: Sink>(
+    alloc: Global,
+    controller: &mut Controller,
+    command: &Command,
+    sink: &mut K,
+) -> Result<(), Failed>
+    requires command { IsCommand command.now }
+    requires next { controller.old.next < 1000000000000 }
+    ensures whole { OnOk result (AnswersLine controller.old controller.new command.now (K.held sink.old) (K.held sink.new)) }
+    ensures cut { OnErr result (CutsLine controller.old controller.new command.now (K.held sink.old) (K.held sink.new)) }
+    ensures cause { HasCause (K.faults sink.old) (K.faults sink.new) result }
+    ensures kept { IsControl controller.new }
+{
+    let reply = carry_out(alloc, controller, command);
+    put_reply(controller, reply, sink)
 }

@@ -7,10 +7,11 @@ ghost use Rattle.nrm_control.specs.State.{SeatState};
 ghost use Rattle.nrm_control.specs.Standing.{IsControl, StandsFor};
 ghost use Rattle.nrm_stream.specs.Commands.{IsCommand};
 ghost use Rattle.nrm_session.specs.Hindsight.{BoundsFrom};
-ghost use Rattle.nrm_session.specs.Serving.{CountsFaults, Serves, streams};
-ghost use Rattle.nrm_session.specs.Inner.Answers.{Answers, AnswersCut, AnswersPiece, CutsPiece, EndsInput};
+ghost use Rattle.nrm_session.specs.Clerks.{AreMeanings, Answers, AnswersCut, stopped};
+ghost use Rattle.nrm_session.specs.Serving.{CountsFaults, SentOn, Serves, ServesBy, streams};
+ghost use Rattle.nrm_session.specs.Inner.Answers.{AnswersPiece, CutsPiece, EndsInput};
 
-use crate::reply::{carry_out, put_reply};
+use crate::clerk::{Alone, Clerk};
 use nrm_control::Controller;
 use nrm_edge::{Failed, Sink, Source};
 use nrm_stream::{Command, Splitter};
@@ -47,34 +48,21 @@ fn take_front<S: Source>(source: &mut S, buffer: &mut [u8], most: u64) -> Result
     source.take(&mut buffer[..room])
 }
 
-// Carries a command out, and puts its reply.
-fn answer<K: Sink>(
-    alloc: Global,
-    controller: &mut Controller,
-    command: &Command,
-    sink: &mut K,
-) -> Result<(), Failed>
-    requires command { IsCommand command.now }
-    requires next { controller.old.next < 1000000000000 }
-    ensures whole { OnOk result (Answers controller.old controller.new (command.now ∷ []) (K.held sink.old) (K.held sink.new) (K.faults sink.old) (K.faults sink.new)) }
-    ensures cut { OnErr result (AnswersCut controller.old controller.new (command.now ∷ []) (K.held sink.old) (K.held sink.new) (K.faults sink.old) (K.faults sink.new)) }
-{
-    let reply = carry_out(alloc, controller, command);
-    put_reply(controller, reply, sink)
-}
-
 // Answers each line that a piece ends, and sends the replies on, where there are some.
-fn answer_piece<K: Sink>(
+fn answer_piece<C: Clerk<B>, B, K: Sink>(
     alloc: Global,
     controller: &mut Controller,
+    beside: &mut B,
     splitter: &mut Splitter,
     piece: &[u8],
     sink: &mut K,
 ) -> Result<(), Failed>
     requires next { controller.old.next + length piece.now < 1000000000000 }
-    requires kept { IsControl controller.old }
-    ensures whole { OnOk result (AnswersPiece controller.old controller.new splitter.old splitter.new piece.now (K.held sink.old) (K.held sink.new) (K.faults sink.old) (K.faults sink.new)) }
-    ensures cut { OnErr result (CutsPiece controller.old controller.new splitter.old piece.now (K.held sink.old) (K.held sink.new) (K.faults sink.old) (K.faults sink.new)) }
+    requires ready { C.ready (controller.old, beside.old) }
+    requires meanings { AreMeanings C.whole C.cut }
+    ensures whole { OnOk result (AnswersPiece C.whole C.ready (controller.old, beside.old) (controller.new, beside.new) splitter.old splitter.new piece.now (K.held sink.old) (K.held sink.new) (K.faults sink.old) (K.faults sink.new)) }
+    ensures cut { OnErr result (CutsPiece C.whole C.cut C.ready (controller.old, beside.old) (controller.new, beside.new) splitter.old piece.now (K.held sink.old) (K.held sink.new) (K.faults sink.old) (K.faults sink.new)) }
+    ensures sent { OnOk result (K.unsent sink.old ≡ [] → K.unsent sink.new ≡ []) }
 {
     let mut rest = piece;
     let mut answered = false;
@@ -82,7 +70,7 @@ fn answer_piece<K: Sink>(
         let (used, command) = splitter.feed(rest);
         rest = &rest[used..];
         if let Some(command) = command {
-            answer(alloc, controller, &command, sink)?;
+            C::answer(alloc, controller, beside, &command, sink)?;
             answered = true;
         }
     }
@@ -93,42 +81,93 @@ fn answer_piece<K: Sink>(
 }
 
 // Answers the unfinished line at the end of the input, if it isn't empty, and sends the reply on.
-fn answer_last<K: Sink>(
+fn answer_last<C: Clerk<B>, B, K: Sink>(
     alloc: Global,
     controller: &mut Controller,
+    beside: &mut B,
     last: Option<Command>,
     sink: &mut K,
 ) -> Result<(), Failed>
     requires within { IfSome last IsCommand }
     requires next { controller.old.next < 1000000000000 }
-    requires kept { IsControl controller.old }
-    ensures whole { OnOk result (Answers controller.old controller.new (option_to_list last) (K.held sink.old) (K.held sink.new) (K.faults sink.old) (K.faults sink.new)) }
-    ensures cut { OnErr result (AnswersCut controller.old controller.new (option_to_list last) (K.held sink.old) (K.held sink.new) (K.faults sink.old) (K.faults sink.new)) }
+    requires ready { C.ready (controller.old, beside.old) }
+    requires meanings { AreMeanings C.whole C.cut }
+    ensures whole { OnOk result (Answers C.whole C.ready (controller.old, beside.old) (controller.new, beside.new) (option_to_list last) (K.held sink.old) (K.held sink.new) (K.faults sink.old) (K.faults sink.new)) }
+    ensures cut { OnErr result (AnswersCut (stopped C.whole C.cut) C.ready (controller.old, beside.old) (controller.new, beside.new) (option_to_list last) (K.held sink.old) (K.held sink.new) (K.faults sink.old) (K.faults sink.new)) }
+    ensures sent { OnOk result (K.unsent sink.old ≡ [] → K.unsent sink.new ≡ []) }
 {
     match last {
         None => Ok(()),
         Some(command) => {
-            answer(alloc, controller, &command, sink)?;
+            C::answer(alloc, controller, beside, &command, sink)?;
             sink.flush()
         }
     }
 }
 
 // Ends a session at the end of its input.
-fn end_input<K: Sink>(
+fn end_input<C: Clerk<B>, B, K: Sink>(
     alloc: Global,
     controller: &mut Controller,
+    beside: &mut B,
     last: Option<Command>,
     sink: &mut K,
 ) -> End
     requires within { IfSome last IsCommand }
     requires next { controller.old.next < 1000000000000 }
-    requires kept { IsControl controller.old }
-    ensures { EndsInput controller.old controller.new (option_to_list last) (K.held sink.old) (K.held sink.new) (K.faults sink.old) (K.faults sink.new) result }
+    requires ready { C.ready (controller.old, beside.old) }
+    requires meanings { AreMeanings C.whole C.cut }
+    ensures ends { EndsInput C.whole C.cut C.ready (controller.old, beside.old) (controller.new, beside.new) (option_to_list last) (K.held sink.old) (K.held sink.new) (K.faults sink.old) (K.faults sink.new) result }
+    ensures sent { SentOn (K.unsent sink.old) (K.unsent sink.new) result }
 {
-    match answer_last(alloc, controller, last, sink) {
+    match answer_last::<C, B, K>(alloc, controller, beside, last, sink) {
         Ok(()) => End::Done,
         Err(_) => End::WriteFault,
+    }
+}
+
+/// Answers each line of a stream of at most `limit` bytes by a clerk, in order: every whole line of a piece before the next piece is taken. Before it
+/// takes again it sends on what it put. A byte more than the limit is taken only when all lines up to the limit are answered.
+pub fn serve_by<C: Clerk<B>, B, S: Source, K: Sink>(
+    alloc: Global,
+    controller: &mut Controller,
+    beside: &mut B,
+    source: &mut S,
+    sink: &mut K,
+    limit: u64,
+) -> End
+    requires limit { limit ≤ 2 ^ 32 }
+    requires next { controller.old.next ≤ 100000000000 }
+    requires ready { C.ready (controller.old, beside.old) }
+    requires meanings { AreMeanings C.whole C.cut }
+    ensures serves { let at = streams S.coming S.faults K.held K.faults in
+        ServesBy (C.whole (controller.old, beside.old) (controller.new, beside.new)) (C.cut (controller.old, beside.old) (controller.new, beside.new)) (at source.old sink.old) (at source.new sink.new) limit result }
+    ensures counts { let at = streams S.coming S.faults K.held K.faults in
+        CountsFaults (at source.old sink.old) (at source.new sink.new) result }
+    ensures sent { SentOn (K.unsent sink.old) (K.unsent sink.new) result }
+    ensures ready { C.ready (controller.new, beside.new) }
+{
+    let mut buffer = [0; PIECE];
+    let mut splitter = Splitter::new();
+    let mut taken = 0;
+    while taken < limit {
+        let count = match take_front(source, &mut buffer, limit - taken) {
+            Ok(count) => count,
+            Err(_) => return End::ReadFault,
+        };
+        if count == 0 {
+            return end_input::<C, B, K>(alloc, controller, beside, splitter.finish(), sink);
+        }
+        taken += count as u64;
+        match answer_piece::<C, B, K>(alloc, controller, beside, &mut splitter, &buffer[..count], sink) {
+            Ok(()) => {}
+            Err(_) => return End::WriteFault,
+        }
+    }
+    match take_front(source, &mut buffer, 1) {
+        Ok(0) => end_input::<C, B, K>(alloc, controller, beside, splitter.finish(), sink),
+        Ok(_) => End::TooLong,
+        Err(_) => End::ReadFault,
     }
 }
 
@@ -148,31 +187,11 @@ pub fn serve<S: Source, K: Sink>(
         Serves controller.old controller.new (at source.old sink.old) (at source.new sink.new) limit result }
     ensures counts { let at = streams S.coming S.faults K.held K.faults in
         CountsFaults (at source.old sink.old) (at source.new sink.new) result }
+    ensures sent { SentOn (K.unsent sink.old) (K.unsent sink.new) result }
     ensures hindsight { (s : SeatState) → StandsFor controller.old s → BoundsFrom controller.old.net s }
     ensures kept { IsControl controller.new }
 {
     // For its clause alone: this is a controller of a network within the limits.
     let _ = controller.network();
-    let mut buffer = [0; PIECE];
-    let mut splitter = Splitter::new();
-    let mut taken = 0;
-    while taken < limit {
-        let count = match take_front(source, &mut buffer, limit - taken) {
-            Ok(count) => count,
-            Err(_) => return End::ReadFault,
-        };
-        if count == 0 {
-            return end_input(alloc, controller, splitter.finish(), sink);
-        }
-        taken += count as u64;
-        match answer_piece(alloc, controller, &mut splitter, &buffer[..count], sink) {
-            Ok(()) => {}
-            Err(_) => return End::WriteFault,
-        }
-    }
-    match take_front(source, &mut buffer, 1) {
-        Ok(0) => end_input(alloc, controller, splitter.finish(), sink),
-        Ok(_) => End::TooLong,
-        Err(_) => End::ReadFault,
-    }
+    serve_by::<Alone, (), S, K>(alloc, controller, &mut (), source, sink, limit)
 }

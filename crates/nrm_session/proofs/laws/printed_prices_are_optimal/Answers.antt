@@ -1,0 +1,5 @@
+use Rattle.nrm_session.proofs.PrintedPlans.{printed-optimal}
+use Rattle.nrm_session.proofs.laws.printed_prices_are_optimal.Goals as goal
+
+pub returns : goal.returns
+returns c = printed-optimal
