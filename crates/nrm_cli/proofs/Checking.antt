@@ -9,10 +9,10 @@ use Rattle.nrm_dual.specs.Conditions.{verdict_on}
 use Rattle.nrm_dual.specs.Refusals.{CertRefusal, refusal_of}
 use Rattle.nrm_dual.specs.declared.verdict.Verdict.{Verdict}
 use Rattle.nrm_dual.specs.declared.verdict.Verdict.TheVariants as verdict
-use Rattle.nrm_opening.specs.Outside.{LeftStream, OnFile, Outside}
+use Rattle.nrm_opening.specs.Outside.{LeftStream, OnFile, Outside, WroteCut}
 use Rattle.nrm_opening.specs.Refusals.{file_fault_line}
 use Rattle.nrm_cli.specs.Certificates.{LacksCertificate, certificate_under, lacking_line, no_certificate, refused_for, verdict_line}
-use Rattle.nrm_cli.specs.Ends.{Ends, Failures, status_of}
+use Rattle.nrm_cli.specs.Ends.{Ends, Failures, FilesFailedBefore, status_of}
 use Rattle.nrm_cli.specs.Jobs.{check_file}
 use Rattle.nrm_cli.specs.Inner.Parts.{ChecksFile, CountsCertificate, OpensCertificate, PutsIfSome, PutsLine, PutsVerdict, lack_line, lack_status}
 use Rattle.nrm_cli.specs.Tells.{Gives, Lacks, Opens, Tells, lacking, optimal, wrong, file_fault}
@@ -66,7 +66,7 @@ module _ (file certificate : List ℕ) (before after : Outside) (net : NetworkVa
       told-ends (Some (check_file file certificate)) before after status.Refused s (lacking_line net no_certificate) (lacking net no_certificate (lacks-so no_certificate on)) puts left
   lacks-ends (lacks.Unread fault) s on counts puts = unread-ends (refusal_of fault) s on puts
   lacks-ends lacks.Fault s on counts puts =
-      told-ends (Some (check_file file certificate)) before after status.FileFault s file_fault_line (file_fault (check_file file certificate) refl counts.1) puts left
+      told-ends (Some (check_file file certificate)) before after status.FileFault s file_fault_line (file_fault (check_file file certificate) refl tt counts.1) puts left
 
   by-opened : (opened : Result Certificate NoCertificate) (s : Status) → OpensCertificate net before.files certificate opened → CountsCertificate before.file_faults after.file_faults opened
       → MatchResult opened (λ given. PutsVerdict net given before.held after.held before.sink_faults after.sink_faults s)
@@ -80,9 +80,9 @@ module _ (file certificate : List ℕ) (before after : Outside) (net : NetworkVa
 -- ---- and which counts stay
 module _ (before after : Outside) (net : NetworkValue) (source : after.source_faults ≡ before.source_faults) where
   line-failures : (text : List ℕ) (goes s : Status) → PutsLine text goes before.held after.held before.sink_faults after.sink_faults s
-      → (after.sink_faults ≡ before.sink_faults → Failures goes before after) → Failures s before after
-  line-failures text goes s (inl (is, wrote, same)) whole = rw is (whole same)
-  line-failures text goes s (inr (is, front, rose)) whole = rw is source
+      → (after.sink_faults ≡ before.sink_faults → Failures goes before after) → (WroteCut before after text → FilesFailedBefore before after) → Failures s before after
+  line-failures text goes s (inl (is, wrote, same)) whole cut = rw is (whole same)
+  line-failures text goes s (inr (is, front, rose)) whole cut = rw is (source, cut front)
 
   quiet : (found : Verdict) → after.file_faults ≡ before.file_faults → after.sink_faults ≡ before.sink_faults → Failures (status_of found) before after
   quiet verdict.Optimal files sink = record { files = files; source = source; sink = sink }
@@ -92,23 +92,23 @@ module _ (before after : Outside) (net : NetworkValue) (source : after.source_fa
   quiet verdict.WrongValue files sink = record { files = files; source = source; sink = sink }
 
   if-some-failures : (o : Option (List ℕ)) (goes s : Status) → PutsIfSome o goes before.held after.held before.sink_faults after.sink_faults s
-      → (after.sink_faults ≡ before.sink_faults → Failures goes before after) → (after.sink_faults ≡ before.sink_faults → Failures status.NoMemory before after) → Failures s before after
-  if-some-failures None goes s (is, kept, same) whole none = rw is (none same)
-  if-some-failures (Some text) goes s puts whole none = line-failures text goes s puts whole
+      → (after.sink_faults ≡ before.sink_faults → Failures goes before after) → (after.sink_faults ≡ before.sink_faults → Failures status.NoMemory before after) → after.file_faults ≡ before.file_faults → Failures s before after
+  if-some-failures None goes s (is, kept, same) whole none files = rw is (none same)
+  if-some-failures (Some text) goes s puts whole none files = line-failures text goes s puts whole (λ front. inl files)
 
   lacks-failures : (reason : NoCertificate) (s : Status) → CountsCertificate {C = Certificate} before.file_faults after.file_faults (Err reason)
       → PutsIfSome (lack_line net reason) (lack_status reason) before.held after.held before.sink_faults after.sink_faults s → Failures s before after
   lacks-failures lacks.Absent s counts puts =
-      if-some-failures (lack_line net lacks.Absent) status.Refused s puts (λ sink. record { files = counts; source = source; sink = sink }) (λ sink. record { files = counts; source = source; sink = sink })
+      if-some-failures (lack_line net lacks.Absent) status.Refused s puts (λ sink. record { files = counts; source = source; sink = sink }) (λ sink. record { files = counts; source = source; sink = sink }) counts
   lacks-failures (lacks.Unread fault) s counts puts =
-      if-some-failures (lack_line net (lacks.Unread fault)) status.Refused s puts (λ sink. record { files = counts; source = source; sink = sink }) (λ sink. record { files = counts; source = source; sink = sink })
-  lacks-failures lacks.Fault s counts puts = line-failures file_fault_line status.FileFault s puts (λ sink. (source, sink))
+      if-some-failures (lack_line net (lacks.Unread fault)) status.Refused s puts (λ sink. record { files = counts; source = source; sink = sink }) (λ sink. record { files = counts; source = source; sink = sink }) counts
+  lacks-failures lacks.Fault s counts puts = line-failures file_fault_line status.FileFault s puts (λ sink. (source, sink)) (λ front. inr (counts.1, front))
 
   by-opened-failures : (opened : Result Certificate NoCertificate) (s : Status) → CountsCertificate before.file_faults after.file_faults opened
       → MatchResult opened (λ given. PutsVerdict net given before.held after.held before.sink_faults after.sink_faults s)
       (λ reason. PutsIfSome (lack_line net reason) (lack_status reason) before.held after.held before.sink_faults after.sink_faults s) → Failures s before after
   by-opened-failures (Ok given) s counts (inl (is, kept, same)) = rw is (record { files = counts; source = source; sink = same })
-  by-opened-failures (Ok given) s counts (inr v) = line-failures (verdict_line net v.found) (status_of v.found) s v.puts (λ sink. quiet v.found counts sink)
+  by-opened-failures (Ok given) s counts (inr v) = line-failures (verdict_line net v.found) (status_of v.found) s v.puts (λ sink. quiet v.found counts sink) (λ front. inl counts)
   by-opened-failures (Err reason) s counts puts = lacks-failures reason s counts puts
 
   pub checked-failures : (certificate : List ℕ) (s : Status) → ChecksFile net before.files certificate before.held after.held before.file_faults after.file_faults before.sink_faults after.sink_faults s → Failures s before after

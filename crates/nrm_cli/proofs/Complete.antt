@@ -21,11 +21,11 @@ use Rattle.nrm_stream.specs.Commands.{commands_of}
 use Rattle.nrm_session.specs.Run.{output_of}
 use Rattle.nrm_session.proofs.Runs.{runs}
 use Rattle.nrm_cli.specs.Certificates.{LacksCertificate, certificate_under, verdict_line}
-use Rattle.nrm_cli.specs.Jobs.{Job, run_file, plan_file, check_file, print_file, run_made, network_for, mode_of_job, overflow_line, told_pivots}
+use Rattle.nrm_cli.specs.Jobs.{Job, run_file, plan_file, check_file, print_file, run_made, HasNetwork, NamesFile, TakesStream, mode_of_job, overflow_line, told_pivots}
 use Rattle.nrm_gen.specs.MadeCommands.{made_commands}
 use Rattle.nrm_gen.specs.MadeNetwork.{made_network}
 use Rattle.nrm_cli.specs.Made.{MadeRun, summary_line}
-use Rattle.nrm_cli.specs.Ends.{Completes, CompletesJob, Ends, OrRanOut, RanOut, RunWrites, Starts, TellsOverflow, status_of}
+use Rattle.nrm_cli.specs.Ends.{Completes, CompletesJob, Ends, NothingHinders, OrRanOut, RanOut, RunWrites, Starts, TellsOverflow, status_of}
 use Rattle.nrm_cli.specs.Tells.{Gives, GivesNetwork, Lacks, Opens, Reads, Refuses, RefusesNetwork, Tells, usage, refused, lacking, optimal, wrong, planned, overflow, summed, printed, file_fault}
 use Rattle.nrm_cli.specs.declared.status.Status.{Status}
 use Rattle.nrm_cli.specs.declared.status.Status.TheVariants as status
@@ -44,23 +44,29 @@ no-more stream taken (Some left) consumed = rw consumed (grind (arith, length-ap
 on-told : (told : Option Folder) (files : Folder) (name : List ℕ) (P : Option (List ℕ) → Type 0) → told ≡ Some files → OnFile told name P → P (files name)
 on-told told files name P is on = rw is at on
 
-folder-same : (x y : Folder) → Some x ≡ Some y → x ≡ y
-folder-same x y e = cc
+-- what a file gives is one network, and it isn't refused
+on-file : (told : Option Folder) (file : List ℕ) (net given : NetworkValue) → (files : Folder) × (told ≡ Some files) × (network_under (files file) ≡ Ok net) → OnFile told file (λ f. network_under f ≡ Ok given) → given ≡ net
+on-file told file net given (files, is, gives) on =
+    let same : Ok given ≡ Ok net = sym (on-told told files file (λ f. network_under f ≡ Ok given) is on) ∙ gives in cc
 
--- what gives the network of a job, or refuses its file, says what the network is
-gives-for : (job : Job) (told : Option Folder) (files : Folder) (net : NetworkValue) → told ≡ Some files → GivesNetwork job told net → network_for job files ≡ Ok net
-gives-for (run_file m file) told files net is has = on-told told files file (λ f. network_under f ≡ Ok net) is has
-gives-for (plan_file m file) told files net is has = on-told told files file (λ f. network_under f ≡ Ok net) is has
-gives-for (check_file file certificate) told files net is has = on-told told files file (λ f. network_under f ≡ Ok net) is has
-gives-for (print_file file) told files net is has = on-told told files file (λ f. network_under f ≡ Ok net) is has
-gives-for (run_made m number) told files net is has = ap (λ (n : NetworkValue). Ok n) (sym has)
+file-taken : (told : Option Folder) (file : List ℕ) (net : NetworkValue) (refusal : Refusal) → (files : Folder) × (told ≡ Some files) × (network_under (files file) ≡ Ok net) → OnFile told file (λ f. network_under f ≡ Err refusal) → ⊥
+file-taken told file net refusal (files, is, gives) on =
+    let same : Err refusal ≡ Ok net = sym (on-told told files file (λ f. network_under f ≡ Err refusal) is on) ∙ gives in cc
 
-refuses-for : (job : Job) (told : Option Folder) (files : Folder) (refusal : Refusal) → told ≡ Some files → RefusesNetwork job told refusal → network_for job files ≡ Err refusal
-refuses-for (run_file m file) told files refusal is on = on-told told files file (λ f. network_under f ≡ Err refusal) is on
-refuses-for (plan_file m file) told files refusal is on = on-told told files file (λ f. network_under f ≡ Err refusal) is on
-refuses-for (check_file file certificate) told files refusal is on = on-told told files file (λ f. network_under f ≡ Err refusal) is on
-refuses-for (print_file file) told files refusal is on = on-told told files file (λ f. network_under f ≡ Err refusal) is on
-refuses-for (run_made m number) told files refusal is never = absurd never
+-- so it is of a job
+gives-for : (job : Job) (told : Option Folder) (net given : NetworkValue) → HasNetwork job told net → GivesNetwork job told given → given ≡ net
+gives-for (run_file m file) told net given has gives = on-file told file net given has gives
+gives-for (plan_file m file) told net given has gives = on-file told file net given has gives
+gives-for (check_file file certificate) told net given has gives = on-file told file net given has gives
+gives-for (print_file file) told net given has gives = on-file told file net given has gives
+gives-for (run_made m number) told net given has gives = gives ∙ sym has
+
+refuses-for : (job : Job) (told : Option Folder) (net : NetworkValue) (refusal : Refusal) → HasNetwork job told net → RefusesNetwork job told refusal → ⊥
+refuses-for (run_file m file) told net refusal has on = file-taken told file net refusal has on
+refuses-for (plan_file m file) told net refusal has on = file-taken told file net refusal has on
+refuses-for (check_file file certificate) told net refusal has on = file-taken told file net refusal has on
+refuses-for (print_file file) told net refusal has on = file-taken told file net refusal has on
+refuses-for (run_made m number) told net refusal has never = never
 
 -- a run over the lines of a stream is there, so its output is
 some-run : (net : NetworkValue) (plan : PlanValue) (stream : List ℕ) → (output : List ℕ) × RunWrites net plan (commands_of stream) output
@@ -88,23 +94,20 @@ ran-complete (run_made m number) net before after (kept, left) = (
   (λ plan planned. let (text, sums) = some-made net plan number in (text, sums, inr (refl, kept))),
 )
 
-module _ (asked : Option Job) (before after : Outside) (job : Job) (files : Folder) (net : NetworkValue)
-    (asks : asked ≡ Some job) (told : before.files ≡ Some files) (valid : network_for job files ≡ Ok net)
-    (no_file_fault : FilesFailed before after → ⊥) (no_source_fault : SourceFailed before after → ⊥) (no_sink_fault : SinkFailed before after → ⊥) where
+module _ (asked : Option Job) (before after : Outside) (job : Job) (net : NetworkValue)
+    (asks : asked ≡ Some job) (valid : HasNetwork job before.files net) (nothing : NothingHinders job before after) where
   -- a job that opens its file is the one that the words ask for, and its network the file's
   same-job : (other : Job) → asked ≡ Some other → other ≡ job
   same-job other is = let e = sym is ∙ asks in cc
 
   same-net : (other : Job) (given : NetworkValue) → Opens asked other before given → given ≡ net
-  same-net other given (is, has) =
-      let same : Ok given ≡ Ok net = sym (gives-for other before.files files given told has) ∙ ap (λ j. network_for j files) (same-job other is) ∙ valid in cc
+  same-net other given (is, has) = gives-for job before.files net given valid (subst (λ (j : Job). GivesNetwork j before.files given) (same-job other is) has)
 
   not-refused : (refusal : Refusal) → Refuses asked before refusal → ⊥
-  not-refused refusal r =
-      let same : Err refusal ≡ Ok net = sym (refuses-for r.job before.files files refusal told r.refused) ∙ ap (λ j. network_for j files) (same-job r.job r.asks) ∙ valid in cc
+  not-refused refusal r = refuses-for job before.files net refusal valid (subst (λ (j : Job). RefusesNetwork j before.files refusal) (same-job r.job r.asks) r.refused)
 
   -- ---- the words ask for a certificate to be checked, which the second file gives
-  module _ (file certificate : List ℕ) (shown : Certificate) (known : job ≡ check_file file certificate) (reads : certificate_under net (files certificate) ≡ Ok shown) where
+  module _ (files : Folder) (told : before.files ≡ Some files) (file certificate : List ℕ) (shown : Certificate) (known : job ≡ check_file file certificate) (reads : certificate_under net (files certificate) ≡ Ok shown) where
     other-words : (file' certificate' : List ℕ) → asked ≡ Some (check_file file' certificate') → certificate' ≡ certificate
     other-words file' certificate' is = let e : check_file file' certificate' ≡ check_file file certificate = same-job (check_file file' certificate') is ∙ known in cc
 
@@ -145,9 +148,8 @@ module _ (asked : Option Job) (before after : Outside) (job : Job) (files : Fold
   judged : (s : Status) (given-net : NetworkValue) (given : Certificate) (found : Verdict) → Gives asked before given-net given → verdict_on (opening_program given-net) given ≡ found → s ≡ status_of found
       → Wrote before after (verdict_line given-net found) → CompletesJob job net before after s
   judged s given-net given found gives is goes wrote =
-      subst (Complete s) (same-job (check_file gives.file gives.certificate) gives.opens.0) (λ other shown is-told valid-too.
-      let same : other ≡ files = folder-same other files (sym is-told ∙ told) in
-      written gives.file gives.certificate shown (sym (same-job (check_file gives.file gives.certificate) gives.opens.0)) (subst (λ (f : Folder). certificate_under net (f gives.certificate) ≡ Ok shown) same valid-too) given-net given found s gives is goes wrote)
+      subst (Complete s) (same-job (check_file gives.file gives.certificate) gives.opens.0) (λ files shown is-told reads.
+      written files is-told gives.file gives.certificate shown (sym (same-job (check_file gives.file gives.certificate) gives.opens.0)) reads given-net given found s gives is goes wrote)
 
   -- ---- the words ask for a job that has an opening plan: there is one, or its program is Large
   opening-same : (m : Mode) (plan other : PlanValue) → IsOpeningPlan net m plan → IsOpeningPlan net m other → other ≡ plan
@@ -189,9 +191,8 @@ module _ (asked : Option Job) (before after : Outside) (job : Job) (files : Fold
   complete-told s text (usage none) wrote = let no : None ≡ Some job = sym none ∙ asks in cc
   complete-told s text (refused refusal why) wrote = absurd (not-refused refusal why)
   complete-told s text (lacking given-net reason r) wrote =
-      subst (Complete status.Refused) (same-job (check_file r.file r.certificate) r.opens.0) (λ other shown is-told valid-too.
-      let same : other ≡ files = folder-same other files (sym is-told ∙ told) in
-      absurd (not-lacking r.file r.certificate shown (sym (same-job (check_file r.file r.certificate) r.opens.0)) (subst (λ (f : Folder). certificate_under net (f r.certificate) ≡ Ok shown) same valid-too) given-net reason r))
+      subst (Complete status.Refused) (same-job (check_file r.file r.certificate) r.opens.0) (λ files shown is-told reads.
+      absurd (not-lacking files is-told r.file r.certificate shown (sym (same-job (check_file r.file r.certificate) r.opens.0)) reads given-net reason r))
   complete-told s text (optimal given-net given gives is shows) wrote = judged status.Done given-net given verdict.Optimal gives is refl wrote
   complete-told s text (wrong given-net given found gives is other shaped) wrote = judged status.Wrong given-net given found gives is (wrong-status found other) wrote
   complete-told s text (planned m file given-net plan opens is) wrote =
@@ -217,7 +218,7 @@ module _ (asked : Option Job) (before after : Outside) (job : Job) (files : Fold
   complete-told s text (printed file given-net opens) wrote =
       subst (Complete status.Done) (same-job (print_file file) opens.0)
       (inl (refl, subst (λ (n : NetworkValue). Wrote before after (canonical_file n)) (same-net (print_file file) given-net opens) wrote))
-  complete-told s text (file_fault other is rose) wrote = absurd (no_file_fault rose)
+  complete-told s text (file_fault other is names rose) wrote = absurd (nothing.files (subst NamesFile (same-job other is) names) rose)
 
   pub complete : (s : Status) → Ends asked before after s → CompletesJob job net before after s
   complete status.Done (inl ran) =
@@ -236,8 +237,10 @@ module _ (asked : Option Job) (before after : Outside) (job : Job) (files : Fold
   complete status.Usage t = complete-told status.Usage t.text t.tells t.wrote
   complete status.Refused t = complete-told status.Refused t.text t.tells t.wrote
   complete status.FileFault t = complete-told status.FileFault t.text t.tells t.wrote
-  complete status.ReadFault ends = absurd (no_source_fault ends.0)
-  complete status.WriteFault ends = absurd (no_sink_fault ends.0)
+  complete status.ReadFault ends =
+      let st = ends.1.starts in
+      absurd (nothing.stream (subst TakesStream (same-job (run_file st.mode st.file) st.opens.0) tt) ends.0)
+  complete status.WriteFault ends = absurd (nothing.output ends.0)
   complete status.NoMemory ends = ran-complete job net before after (rw asks at ends)
   complete status.TooLong ran =
       let st = ran.starts in
@@ -256,5 +259,4 @@ same-job-ends asked known before after s is ends = subst (λ (a : Option Job). E
 
 -- so what each status says gives completeness
 pub completes : (asked : Option Job) (before after : Outside) (s : Status) → Ends asked before after s → Completes asked before after s
-completes asked before after s ends job files net asks told valid no_file no_source no_sink =
-    complete asked before after job files net asks told valid no_file no_source no_sink s ends
+completes asked before after s ends job net asks valid nothing = complete asked before after job net asks valid nothing s ends

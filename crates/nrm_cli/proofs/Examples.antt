@@ -1,6 +1,7 @@
 -- Sessions and refusals written down, from the bytes of the file and of the stream to the bytes that are written.
 use Rattle.std.specs.Prelude.{◌≡◌, ◌<◌, ◌≤◌, ℕ, zero, suc, pos, negsuc, get_or, List, [], ◌∷◌, map, codes, refl, Option, Some, None, Ok, Err}
-use Rattle.std.proofs.Common.{arith}
+use Rattle.std.proofs.Common.{ap, arith, inl, inr, take}
+use Rattle.nrm_gen.specs.MadeNetwork.{made_network}
 use Rattle.std.specs.Fmt.{digits}
 use Rattle.nrm_text.specs.Words.{text_line}
 use Rattle.nrm_fraction.specs.Fraction.{whole}
@@ -17,7 +18,7 @@ use Rattle.nrm_dual.specs.Refusals.{too_long, bad_line, large_line, no_value, no
 use Rattle.nrm_dual.specs.declared.verdict.Verdict.TheVariants as verdict
 use Rattle.nrm_opening.specs.Outside.{Outside, FilesFailed, SourceFailed, SinkFailed}
 use Rattle.nrm_cli.specs.Certificates.{lacking_line, no_certificate, refused_for, verdict_line}
-use Rattle.nrm_cli.specs.Ends.{Completes, OrRanOut, RunWrites, status_of, stream_limit}
+use Rattle.nrm_cli.specs.Ends.{Completes, CompletesJob, Failures, OrRanOut, RunWrites, status_of, stream_limit}
 use Rattle.nrm_cli.specs.Jobs.{job_of, run_file, plan_file, check_file, print_file, run_made, usage_line, overflow_line, told_pivots}
 use Rattle.nrm_cli.specs.Made.{counts_from, hindsight_word, last_of, nothing_counted, summary_words}
 use Rattle.nrm_cli.specs.declared.counts.Counts.{Counts}
@@ -235,4 +236,28 @@ completed : (s : Status) (after : Outside) → Completes (Some (run_file mode.Fi
     → (FilesFailed (over (Some (codes "book LOC 1\nbook X 1\n")) (Some [])) after → ⊥) → (SourceFailed (over (Some (codes "book LOC 1\nbook X 1\n")) (Some [])) after → ⊥) → (SinkFailed (over (Some (codes "book LOC 1\nbook X 1\n")) (Some [])) after → ⊥)
     → (output : List ℕ) × RunWrites two_legs first (commands_of (codes "book LOC 1\nbook X 1\n")) output × OrRanOut (over (Some (codes "book LOC 1\nbook X 1\n")) (Some [])) after s status.Done output
 completed s after completes files source sink =
-    (completes (run_file mode.FirstCome (codes "F")) (λ name. Some two_legs_file) two_legs refl refl opened files source sink).1 first (codes "book LOC 1\nbook X 1\n") first_planned refl (omega arith)
+    (completes (run_file mode.FirstCome (codes "F")) two_legs refl (λ name. Some two_legs_file, refl, opened) (record { files = λ names. files; stream = λ takes. source; output = sink })).1 first (codes "book LOC 1\nbook X 1\n") first_planned refl (omega arith)
+
+-- ---- a made run asks nothing of the files nor of the stream, which may both have failed
+abbrev nowhere : ℕ → Outside
+nowhere faults = record { files = None; coming = None; held = Some []; file_faults = faults; source_faults = faults; sink_faults = 0 }
+
+made_of_nothing : (s : Status) → Completes (Some (run_made mode.FirstCome 7)) (nowhere 0) (nowhere 1) s → CompletesJob (run_made mode.FirstCome 7) (made_network 7) (nowhere 0) (nowhere 1) s
+made_of_nothing s completes =
+    completes (run_made mode.FirstCome 7) (made_network 7) refl refl (record { files = λ names. absurd names; stream = λ takes. absurd takes; output = λ rose. omega (arith, rose) })
+
+-- ---- a file that failed is told, and nothing else: a usage line that was cut leaves the files' count
+abbrev wrote_some : ℕ → List ℕ → Outside
+wrote_some files held = record { files = None; coming = None; held = Some held; file_faults = files; source_faults = 0; sink_faults = 1 }
+
+cut_usage_after_a_fetch : Failures status.WriteFault (nowhere 0) (wrote_some 1 (codes "usage")) → ⊥
+cut_usage_after_a_fetch (source, inl same) = omega (arith, same)
+cut_usage_after_a_fetch (source, inr (rose, inl front)) = by front.count front.short front.grown
+  where
+    by : (n : ℕ) → n < 11 → codes "usage" ≡ take n file_fault_line → ⊥
+    by zero few same = omega (arith, ap (λ (bytes : List ℕ). get_or bytes 0 0) same)
+    by (suc n) few same = omega (arith, ap (λ (bytes : List ℕ). get_or bytes 0 0) same)
+cut_usage_after_a_fetch (source, inr (rose, inr whole)) = omega (arith, ap (λ (bytes : List ℕ). get_or bytes 0 0) whole)
+
+failed_twice : Failures status.FileFault (nowhere 0) (record (nowhere 0) { source_faults = 1 }) → ⊥
+failed_twice (source, sink) = omega (arith, source)

@@ -9,5 +9,6 @@ pub mod Planning
 pub mod Replies
 pub mod Serving
 pub mod Telling
+pub mod Unsent
 pub mod Wide
 pub mod Without

@@ -220,4 +220,4 @@ pub summary-failures : (net : NetworkValue) (plan : PlanValue) (number : ℕ) (b
     → PutsSummary net plan number before.held after.held before.sink_faults after.sink_faults s → Failures s before after
 summary-failures net plan number before after s files source (inl (is, kept, same)) = rw is (record { files = files; source = source; sink = same })
 summary-failures net plan number before after s files source (inr (text, run, inl (is, wrote, same))) = rw is (record { files = files; source = source; sink = same })
-summary-failures net plan number before after s files source (inr (text, run, inr (is, front, rose))) = rw is source
+summary-failures net plan number before after s files source (inr (text, run, inr (is, front, rose))) = rw is (source, inl files)

@@ -33,7 +33,7 @@ use Rattle.nrm_cli.specs.declared.status.Status.TheVariants as status
 use Rattle.nrm_cli.proofs.OwnPasses.{own-passes}
 
 -- the network of a file that is taken is within the limits
-taken-network : (contents : Option (List ℕ)) (net : NetworkValue) → network_under contents ≡ Ok net → IsNetwork net
+pub taken-network : (contents : Option (List ℕ)) (net : NetworkValue) → network_under contents ≡ Ok net → IsNetwork net
 taken-network None net gives = absurd (err-ok gives)
   where
     err-ok : {x : Refusal} → ◌≡◌ {A = Result NetworkValue Refusal} (Err x) (Ok net) → ⊥
@@ -101,7 +101,7 @@ module _ (file : List ℕ) (before after : Outside) (files : Folder) (told : bef
     where
       apart : (f : List ℕ) → plan_file mode.Bid file ≡ print_file f → ⊥
       apart f e = cc
-  of-told s text done (file_fault job is rose) = cc
+  of-told s text done (file_fault job is names rose) = cc
 
 -- the text that was written is the one that is told
 written : (held text told : List ℕ) (before after : Option (List ℕ)) → before ≡ Some held → after ≡ Some (held ++ text) → Appends before after told → text ≡ told
@@ -123,9 +123,9 @@ was-planned contents text w = by w.ends
         (net, plan, subst (λ (c : Option (List ℕ)). network_under c ≡ Ok net) w.network_file gives, is, written w.held text t.text w.before.held w.after.held w.held_before w.held_after t.wrote ∙ same)
 
 pub planned-passes : (asked : Option Job) (before after : Outside) (s : Status) → Completes asked before after s → PlannedPasses asked before after s
-planned-passes asked before after s completes file name text files asks told holds was no_file no_source no_sink =
+planned-passes asked before after s completes file name text files asks told holds was no_file no_sink =
     let (net, plan, gives, is, same) = was-planned (files file) text was in
     let (c, reads, passes) = text-passes net plan is (taken-network (files file) net gives) in
     let given : certificate_under net (files name) ≡ Ok c = ap (certificate_under net) (holds ∙ ap Some same) ∙ reads in
     subst (λ (found : Verdict). OrRanOut before after s (status_of found) (verdict_line net found)) passes
-    (completes (check_file file name) files net asks told gives no_file no_source no_sink files c told given)
+    (completes (check_file file name) net asks (files, told, gives) (record { files = λ names. no_file; stream = λ takes. absurd takes; output = no_sink }) files c told given)

@@ -38,7 +38,7 @@ pub unplanned-failures : (before after : Outside) → after.file_faults ≡ befo
     → PutsUnplanned why before.held after.held before.sink_faults after.sink_faults s → Failures s before after
 unplanned-failures before after files source fault.NoMemory s (is, kept, same) = rw is (record { files = files; source = source; sink = same })
 unplanned-failures before after files source (fault.Overflow pivots number) s (inl (is, wrote, same)) = rw is (record { files = files; source = source; sink = same })
-unplanned-failures before after files source (fault.Overflow pivots number) s (inr (is, front, rose)) = rw is source
+unplanned-failures before after files source (fault.Overflow pivots number) s (inr (is, front, rose)) = rw is (source, inl files)
 
 -- ---- the plan's text, or none
 pub planned-ends : (m : Mode) (file : List ℕ) (net : NetworkValue) (before after : Outside) → Opens (Some (plan_file m file)) (plan_file m file) before net → LeftStream before after
@@ -50,5 +50,5 @@ planned-ends m file net before after opens left s (inr (why, is, puts)) = unplan
 pub planned-failures : (m : Mode) (net : NetworkValue) (before after : Outside) → after.file_faults ≡ before.file_faults → after.source_faults ≡ before.source_faults
     → (s : Status) → PutsPlan net m before.held after.held before.sink_faults after.sink_faults s → Failures s before after
 planned-failures m net before after files source s (inl (plan, for, inl (is, wrote, same))) = rw is (record { files = files; source = source; sink = same })
-planned-failures m net before after files source s (inl (plan, for, inr (is, front, rose))) = rw is source
+planned-failures m net before after files source s (inl (plan, for, inr (is, front, rose))) = rw is (source, inl files)
 planned-failures m net before after files source s (inr (why, none, puts)) = unplanned-failures before after files source why s puts

@@ -1,5 +1,5 @@
 -- A session from the opening: what it wrote is the output of a run.
-use Rattle.std.proofs.Common.{◌∙◌, ℕ, List, [], ap, refl, subst, sym}
+use Rattle.std.proofs.Common.{◌⊎◌, inl, inr, ◌∙◌, ℕ, List, [], ap, refl, subst, sym}
 use Rattle.nrm_model.specs.Network.{NetworkValue}
 use Rattle.nrm_hindsight.specs.Requests.{tallies_of}
 use Rattle.nrm_hindsight.specs.Selections.ChosenFrom.{none}
@@ -8,7 +8,7 @@ use Rattle.nrm_control.specs.Standing.{ControlValue, StandsFor}
 use Rattle.nrm_stream.specs.declared.command.Command.{Command}
 use Rattle.nrm_session.specs.Run.{Writes}
 use Rattle.nrm_session.specs.Serving.{Refines, RefinesCut, WritesCut}
-use Rattle.nrm_cli.specs.Ends.{RunWrites, RunWritesCut}
+use Rattle.nrm_cli.specs.Ends.{RunStops, RunWrites, RunWritesCut}
 use Rattle.nrm_cli.specs.Inner.Parts.{HasBegun}
 
 -- a controller that has just begun stands for the opening with its plan
@@ -31,3 +31,7 @@ module _ (start new : ControlValue) (net : NetworkValue) (commands : List Comman
   run-writes-cut refines =
       let (last, stands, writes) = refines.run (opening start.plan) (opened start net begun) in
       (last, subst (λ (n : NetworkValue). WritesCut n (opening start.plan) commands output last) (ap (λ (c : ControlValue). c.net) begun) writes)
+
+  pub run-stops : RefinesCut start new commands output ⊎ Refines start new commands output → RunStops net start.plan commands output
+  run-stops (inl cut) = inl (run-writes-cut cut)
+  run-stops (inr whole) = inr (run-writes whole)

@@ -14,7 +14,7 @@ use Rattle.nrm_cli.specs.Ends.{Ends, Failures, Starts, stream_limit}
 use Rattle.nrm_cli.specs.Jobs.{run_file}
 use Rattle.nrm_cli.specs.Inner.Parts.{status_at}
 use Rattle.nrm_cli.specs.Tells.{Opens}
-use Rattle.nrm_cli.proofs.Replies.{run-writes, run-writes-cut}
+use Rattle.nrm_cli.proofs.Replies.{run-stops, run-writes}
 
 -- the source and the sink of what stands outside
 abbrev pub streams_of : Outside → Streams
@@ -43,11 +43,11 @@ module _ (mode : Mode) (file : List ℕ) (net : NetworkValue) (start new : Contr
       )
       by end.WriteFault (taken, output, did, inl refines) counts = (
         counts.0,
-        inl (record { starts = starts; taken = taken; output = output; took = did.consumed; writes_it = (did.short, inl (run-writes-cut start new net (whole_commands taken) output begun refines)); wrote = did.written }),
+        inl (record { starts = starts; taken = taken; output = output; took = did.consumed; writes_it = (did.short, inl (run-stops start new net (whole_commands taken) output begun refines)); wrote = did.written }),
       )
       by end.WriteFault (taken, output, did, inr (ended, refines)) counts = (
         counts.0,
-        inl (record { starts = starts; taken = taken; output = output; took = did.consumed; writes_it = (did.short, inr (ended, run-writes-cut start new net (commands_of taken) output begun refines)); wrote = did.written }),
+        inl (record { starts = starts; taken = taken; output = output; took = did.consumed; writes_it = (did.short, inr (ended, run-stops start new net (commands_of taken) output begun refines)); wrote = did.written }),
       )
       by end.TooLong (taken, output, took, long, wrote, refines) counts =
           record { starts = starts; taken = taken; output = output; took = took; writes_it = (long, run-writes start new net (whole_commands (take stream_limit taken)) output begun refines); wrote = wrote }
@@ -56,7 +56,7 @@ module _ (mode : Mode) (file : List ℕ) (net : NetworkValue) (start new : Contr
 pub served-failures : (before after : Outside) → after.file_faults ≡ before.file_faults → (e : End) → CountsFaults (streams_of before) (streams_of after) e → Failures (status_at e) before after
 served-failures before after files end.Done (took, sank) = record { files = files; source = took; sink = sank }
 served-failures before after files end.ReadFault (rose, later, sank) = (files, sank)
-served-failures before after files end.WriteFault (rose, later, took) = took
+served-failures before after files end.WriteFault (rose, later, took) = (took, inl files)
 served-failures before after files end.TooLong (took, sank) = record { files = files; source = took; sink = sank }
 
 -- and no count falls

@@ -1,11 +1,12 @@
 -- A text that is told ends the call as it is defined, whole or cut.
-use Rattle.std.proofs.Common.{ℕ, List, Option, inl, inr}
-use Rattle.nrm_opening.specs.Outside.{Outside, Wrote, LeftStream}
-use Rattle.nrm_cli.specs.Ends.{Ends}
+use Rattle.std.proofs.Common.{ℕ, ◌≡◌, List, Option, None, inl, inr}
+use Rattle.nrm_opening.specs.Outside.{NothingFailed, Outside, Wrote, LeftStream}
+use Rattle.nrm_cli.specs.Ends.{Ends, Failures}
 use Rattle.nrm_cli.specs.Jobs.{Job}
 use Rattle.nrm_cli.specs.Inner.Parts.{PutsLine}
 use Rattle.nrm_cli.specs.Tells.{Tells, Told, usage, refused, lacking, optimal, wrong, planned, overflow, summed, printed, file_fault}
 use Rattle.nrm_cli.specs.declared.status.Status.{Status}
+use Rattle.nrm_cli.specs.declared.status.Status.TheVariants as status
 
 module _ (asked : Option Job) (before after : Outside) where
   told : (s : Status) (text : List ℕ) → Tells asked before after s text → Wrote before after text → LeftStream before after → Told asked before after s
@@ -21,9 +22,19 @@ module _ (asked : Option Job) (before after : Outside) where
   whole s text (overflow job m net n number has opens large) wrote left = told s text (overflow job m net n number has opens large) wrote left
   whole s text (summed m number plan sum asks is runs) wrote left = inr (told s text (summed m number plan sum asks is runs) wrote left)
   whole s text (printed file net opens) wrote left = inr (told s text (printed file net opens) wrote left)
-  whole s text (file_fault job is rose) wrote left = told s text (file_fault job is rose) wrote left
+  whole s text (file_fault job is names rose) wrote left = told s text (file_fault job is names rose) wrote left
 
   pub told-ends : (goes s : Status) (text : List ℕ) → Tells asked before after goes text
       → PutsLine text goes before.held after.held before.sink_faults after.sink_faults s → LeftStream before after → Ends asked before after s
   told-ends goes s text tells (inl (is, wrote, same)) left = rw is (whole goes text tells wrote left)
   told-ends goes s text tells (inr (is, front, rose)) left = rw is (rose, inr (record { status = goes; text = text; tells = tells; wrote = front; left = left }))
+
+  -- which counts stay with a status after which none rose, or with that of a line that was cut
+  pub told-counts : (goes s : Status) (text : List ℕ) → after.file_faults ≡ before.file_faults → after.source_faults ≡ before.source_faults
+      → PutsLine text goes before.held after.held before.sink_faults after.sink_faults s → (NothingFailed before after → Failures goes before after) → Failures s before after
+  told-counts goes s text files source (inl (is, wrote, same)) quiet = rw is (quiet (record { files = files; source = source; sink = same }))
+  told-counts goes s text files source (inr (is, front, rose)) quiet = rw is (source, inl files)
+
+pub told-done : (before after : Outside) (s : Status) (text : List ℕ) → after.file_faults ≡ before.file_faults → after.source_faults ≡ before.source_faults
+    → PutsLine text status.Done before.held after.held before.sink_faults after.sink_faults s → Failures s before after
+told-done before after s text files source puts = told-counts None before after status.Done s text files source puts (λ quiet. quiet)

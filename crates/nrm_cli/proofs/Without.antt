@@ -1,13 +1,14 @@
 -- How a job ends where its file gives no network.
-use Rattle.std.proofs.Common.{ℕ, ◌≡◌, List, Option, Some, Err, inl, inr, refl}
+use Rattle.std.proofs.Common.{ℕ, ◌≡◌, ◌≤◌, List, Option, Result, Some, Ok, Err, arith, inl, inr, refl}
+use Rattle.nrm_model.specs.Network.{NetworkValue}
 use Rattle.nrm_edge.specs.Fetch.{Folder}
 use Rattle.nrm_opening.specs.Opening.{CountsOpening, OpensFile}
-use Rattle.nrm_opening.specs.Outside.{Outside, LeftStream, OnFile}
+use Rattle.nrm_opening.specs.Outside.{Goes, Outside, LeftStream, OnFile}
 use Rattle.nrm_opening.specs.Refusals.{Refusal, network_under, no_file, at_row, refusal_line, file_fault_line}
 use Rattle.nrm_opening.specs.declared.opening.NoNetwork.{NoNetwork}
 use Rattle.nrm_opening.specs.declared.opening.NoNetwork.TheVariants as none
 use Rattle.nrm_cli.specs.Ends.{Ends, Failures}
-use Rattle.nrm_cli.specs.Jobs.{Job}
+use Rattle.nrm_cli.specs.Jobs.{Job, NamesFile}
 use Rattle.nrm_cli.specs.Inner.Parts.{PutsReason}
 use Rattle.nrm_cli.specs.Tells.{RefusesNetwork, refused, file_fault}
 use Rattle.nrm_cli.specs.declared.status.Status.{Status}
@@ -22,24 +23,37 @@ ran-out job before after s (told, kept, same) left = rw told (kept, left)
 abbrev pub IsOfFile : Job → List ℕ → Type 0
 IsOfFile job file = (files : Option Folder) (refusal : Refusal) → OnFile files file (λ contents. network_under contents ≡ Err refusal) → RefusesNetwork job files refusal
 
-pub without-network : (job : Job) (file : List ℕ) → IsOfFile job file → (before after : Outside) (reason : NoNetwork) (s : Status)
+pub without-network : (job : Job) (file : List ℕ) → NamesFile job → IsOfFile job file → (before after : Outside) (reason : NoNetwork) (s : Status)
     → OpensFile before.files file (Err reason) → CountsOpening before.file_faults after.file_faults (Err reason)
     → PutsReason reason before.held after.held before.sink_faults after.sink_faults s → LeftStream before after → Ends (Some job) before after s
-without-network job name of_file before after none.Absent s file counts puts left =
+without-network job name names of_file before after none.Absent s file counts puts left =
     told-ends (Some job) before after status.Refused s (refusal_line no_file) (refused no_file (record { job = job; asks = refl; refused = of_file before.files no_file file })) puts left
-without-network job name of_file before after (none.Refused row cause) s file counts puts left =
+without-network job name names of_file before after (none.Refused row cause) s file counts puts left =
     told-ends (Some job) before after status.Refused s (refusal_line (at_row row cause)) (refused (at_row row cause) (record { job = job; asks = refl; refused = of_file before.files (at_row row cause) file })) puts left
-without-network job name of_file before after none.Fault s file counts puts left =
-    told-ends (Some job) before after status.FileFault s file_fault_line (file_fault job refl counts.1) puts left
-without-network job name of_file before after none.NoMemory s file counts puts left = ran-out job before after s puts left
+without-network job name names of_file before after none.Fault s file counts puts left =
+    told-ends (Some job) before after status.FileFault s file_fault_line (file_fault job refl names counts.1) puts left
+without-network job name names of_file before after none.NoMemory s file counts puts left = ran-out job before after s puts left
 
 -- and which counts stay
 pub without-failures : (before after : Outside) (reason : NoNetwork) (s : Status) → CountsOpening before.file_faults after.file_faults (Err reason)
     → PutsReason reason before.held after.held before.sink_faults after.sink_faults s → after.source_faults ≡ before.source_faults → Failures s before after
 without-failures before after none.Absent s counts (inl (is, wrote, same)) source = rw is (record { files = counts; source = source; sink = same })
-without-failures before after none.Absent s counts (inr (is, front, rose)) source = rw is source
+without-failures before after none.Absent s counts (inr (is, front, rose)) source = rw is (source, inl counts)
 without-failures before after (none.Refused row cause) s counts (inl (is, wrote, same)) source = rw is (record { files = counts; source = source; sink = same })
-without-failures before after (none.Refused row cause) s counts (inr (is, front, rose)) source = rw is source
+without-failures before after (none.Refused row cause) s counts (inr (is, front, rose)) source = rw is (source, inl counts)
 without-failures before after none.Fault s counts (inl (is, wrote, same)) source = rw is (source, same)
-without-failures before after none.Fault s counts (inr (is, front, rose)) source = rw is source
+without-failures before after none.Fault s counts (inr (is, front, rose)) source = rw is (source, inr (counts.1, front))
 without-failures before after none.NoMemory s counts (is, kept, same) source = rw is (record { files = counts; source = source; sink = same })
+
+-- and no count falls
+opened-later : (before now : ℕ) (opened : Result NetworkValue NoNetwork) → CountsOpening before now opened → before ≤ now
+opened-later before now (Ok net) same = omega (arith, same)
+opened-later before now (Err none.Absent) same = omega (arith, same)
+opened-later before now (Err (none.Refused row cause)) same = omega (arith, same)
+opened-later before now (Err none.Fault) rose = rose.0
+opened-later before now (Err none.NoMemory) same = omega (arith, same)
+
+pub opened-goes : (before after : Outside) (opened : Result NetworkValue NoNetwork) → CountsOpening before.file_faults after.file_faults opened → after.files ≡ before.files
+    → after.source_faults ≡ before.source_faults → before.sink_faults ≤ after.sink_faults → Goes before after
+opened-goes before after opened counts stays source later =
+    record { files = stays; file_faults = opened-later before.file_faults after.file_faults opened counts; source_faults = omega (arith, source); sink_faults = later }

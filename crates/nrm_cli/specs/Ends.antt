@@ -1,5 +1,5 @@
 -- How the program ends: what each status says of the words, the files, the stream and what was written.
-use Rattle.std.specs.Prelude.{ℕ, ℤ, ◌≡◌, ◌+◌, ◌≤◌, ◌⊎◌, List, length, take, Option, Some, None, Ok}
+use Rattle.std.specs.Prelude.{ℕ, ℤ, [], ◌≡◌, ◌≢◌, ◌+◌, ◌≤◌, ◌⊎◌, List, length, take, Option, Some, None, Ok}
 use Rattle.std.specs.Io.KnownBytes.{Consumes, IsAtEnd}
 use Rattle.nrm_edge.specs.Fetch.{Folder}
 use Rattle.nrm_model.specs.declared.mode.Mode.{Mode}
@@ -17,9 +17,10 @@ use Rattle.nrm_dual.specs.declared.verdict.Verdict.{Verdict}
 use Rattle.nrm_dual.specs.declared.verdict.Verdict.TheVariants as verdict
 use Rattle.nrm_plan.specs.Plans.{IsOpeningPlan, OpeningOverflows, PlanValue}
 use Rattle.nrm_report.specs.Texts.{plan_text}
-use Rattle.nrm_opening.specs.Outside.{Outside, FilesFailed, SourceFailed, SinkFailed, NothingFailed, Wrote, WroteNothing, LeftStream}
+use Rattle.nrm_opening.specs.Outside.{Outside, FilesFailed, SourceFailed, SinkFailed, NothingFailed, Wrote, WroteCut, WroteNothing, LeftStream}
+use Rattle.nrm_opening.specs.Refusals.{file_fault_line}
 use Rattle.nrm_cli.specs.Certificates.{certificate_under, verdict_line}
-use Rattle.nrm_cli.specs.Jobs.{Job, run_file, plan_file, check_file, print_file, run_made, network_for, overflow_line, told_pivots}
+use Rattle.nrm_cli.specs.Jobs.{Job, run_file, plan_file, check_file, print_file, run_made, HasNetwork, NamesFile, TakesStream, overflow_line, told_pivots}
 use Rattle.nrm_cli.specs.Made.{MadeRun}
 use Rattle.nrm_cli.specs.Tells.{Opens, Told, ToldCut}
 use Rattle.nrm_cli.specs.declared.status.Status.{Status}
@@ -62,10 +63,14 @@ RanThrough asked before after = Ran asked before after (λ net plan taken output
 abbrev pub RanSoFar : Option Job → Outside → Outside → Type 0
 RanSoFar asked before after = Ran asked before after (λ net plan taken output. (length taken ≤ stream_limit) × RunWrites net plan (whole_commands taken) output)
 
--- those before one line and a front of its own: a whole line of those that were taken, or the last one of a stream that was taken to its end
+-- of some commands one was cut, since a put failed in its reply; or the replies to all were put, and only sending them on failed
+abbrev pub RunStops : NetworkValue → PlanValue → List Command → List ℕ → Type 0
+RunStops net plan commands output = RunWritesCut net plan commands output ⊎ RunWrites net plan commands output
+
+-- so it is with the whole lines that were taken, or with all lines of a stream that was taken to its end
 abbrev pub RanCut : Option Job → Outside → Outside → Type 0
 RanCut asked before after = Ran asked before after (λ net plan taken output. (length taken ≤ stream_limit)
-    × (RunWritesCut net plan (whole_commands taken) output ⊎ (IsAtEnd after.coming × RunWritesCut net plan (commands_of taken) output)))
+    × (RunStops net plan (whole_commands taken) output ⊎ (IsAtEnd after.coming × RunStops net plan (commands_of taken) output)))
 
 -- one byte more was taken than a stream may have, and the replies to the whole lines before that byte were written
 abbrev pub RanTooLong : Option Job → Outside → Outside → Type 0
@@ -89,11 +94,15 @@ Ends asked before after status.TooLong = RanTooLong asked before after
 Ends asked before after status.FileFault = Told asked before after status.FileFault
 Ends asked before after status.Overflow = Told asked before after status.Overflow
 
--- which failures each status leaves out: a count of faults rises only with the status of its fault, and that of the files too
--- where the line that tells of it is cut
+-- if an output failed, the files' count is as it was, or what was cut is the line that tells of their fault
+abbrev pub FilesFailedBefore : Outside → Outside → Type 0
+FilesFailedBefore before after = (after.file_faults ≡ before.file_faults) ⊎ (FilesFailed before after × WroteCut before after file_fault_line)
+
+-- which counts each status leaves as they were: a count of faults rises, by one, only with the status of its fault, and that of the files too if the
+-- line that tells of it is cut
 abbrev pub Failures : Status → Outside → Outside → Type 0
 Failures status.ReadFault before after = (after.file_faults ≡ before.file_faults) × (after.sink_faults ≡ before.sink_faults)
-Failures status.WriteFault before after = after.source_faults ≡ before.source_faults
+Failures status.WriteFault before after = (after.source_faults ≡ before.source_faults) × FilesFailedBefore before after
 Failures status.FileFault before after = (after.source_faults ≡ before.source_faults) × (after.sink_faults ≡ before.sink_faults)
 Failures status.Done before after = NothingFailed before after
 Failures status.Wrong before after = NothingFailed before after
@@ -137,10 +146,17 @@ CompletesJob (run_made m number) net before after s =
     TellsOverflow net m before after s
     × ((plan : PlanValue) → IsOpeningPlan net m plan → (text : List ℕ) × MadeRun net plan number text × OrRanOut before after s status.Done text)
 
--- where the words are good, the files are told and the file is valid, and nothing failed, the job is done
+-- nothing failed that the job uses: the files if it names one, the stream if it takes it, the output
+pub record NothingHinders (job : Job) (before after : Outside) : Type 0 where
+  pub files : NamesFile job → ¬ (FilesFailed before after)
+  pub stream : TakesStream job → ¬ (SourceFailed before after)
+  pub output : ¬ (SinkFailed before after)
+
+-- if the words ask for a job that has a network, and nothing that it uses failed, the job is done
 abbrev pub Completes : Option Job → Outside → Outside → Status → Type 0
 Completes asked before after s =
-    (job : Job) (files : Folder) (net : NetworkValue)
-    → asked ≡ Some job → before.files ≡ Some files → network_for job files ≡ Ok net
-    → (FilesFailed before after → ⊥) → (SourceFailed before after → ⊥) → (SinkFailed before after → ⊥)
-    → CompletesJob job net before after s
+    (job : Job) (net : NetworkValue) → asked ≡ Some job → HasNetwork job before.files net → NothingHinders job before after → CompletesJob job net before after s
+
+-- after every status but that of a failed output nothing is kept back, from an output on that kept nothing back
+abbrev pub SentOn : Status → List ℕ → List ℕ → Type 0
+SentOn result unsent unsent' = result ≢ status.WriteFault → unsent ≡ [] → unsent' ≡ []

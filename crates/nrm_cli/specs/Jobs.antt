@@ -1,5 +1,5 @@
 -- What the words of the command line ask for.
-use Rattle.std.specs.Prelude.{ℕ, ℤ, ◌-◌, ◌^◌, min, nat_abs, decimal, List, [], ◌∷◌, ◌++◌, bytes_eq, codes, Option, Some, None, option_map, Result, Ok, if◌then◌else◌}
+use Rattle.std.specs.Prelude.{ℕ, ℤ, ⊤, ◌≡◌, ◌-◌, ◌^◌, min, nat_abs, decimal, List, [], ◌∷◌, ◌++◌, bytes_eq, codes, Option, Some, None, option_map, Result, Ok, if◌then◌else◌}
 use Rattle.nrm_edge.specs.Fetch.{Folder}
 use Rattle.nrm_text.specs.Numbers.{whole_between}
 use Rattle.nrm_text.specs.Fractions.{sign_of}
@@ -7,7 +7,7 @@ use Rattle.nrm_text.specs.Words.{text_line}
 use Rattle.nrm_model.specs.Network.{NetworkValue}
 use Rattle.nrm_model.specs.declared.mode.Mode.{Mode}
 use Rattle.nrm_model.specs.declared.mode.Mode.TheVariants as mode
-use Rattle.nrm_opening.specs.Refusals.{Refusal, network_under}
+use Rattle.nrm_opening.specs.Refusals.{network_under}
 use Rattle.nrm_gen.specs.MadeNetwork.{made_network}
 
 -- to run the controller on a network file in a mode, to write its opening plan, to check a certificate against a network file, to print a
@@ -19,13 +19,28 @@ pub data Job : Type 0 where
   print_file : List ℕ → Job
   run_made : Mode → ℕ → Job
 
--- the network of a job: that of a file, or made of a number
-abbrev pub network_for : Job → Folder → Result NetworkValue Refusal
-network_for (run_file m file) files = network_under (files file)
-network_for (plan_file m file) files = network_under (files file)
-network_for (check_file file certificate) files = network_under (files file)
-network_for (print_file file) files = network_under (files file)
-network_for (run_made m number) files = Ok (made_network number)
+-- the network of a job: that of its file, where the files are told; or that which is made of a number, whatever the files
+abbrev pub HasNetwork : Job → Option Folder → NetworkValue → Type 0
+HasNetwork (run_file m file) told net = (files : Folder) × (told ≡ Some files) × (network_under (files file) ≡ Ok net)
+HasNetwork (plan_file m file) told net = (files : Folder) × (told ≡ Some files) × (network_under (files file) ≡ Ok net)
+HasNetwork (check_file file certificate) told net = (files : Folder) × (told ≡ Some files) × (network_under (files file) ≡ Ok net)
+HasNetwork (print_file file) told net = (files : Folder) × (told ≡ Some files) × (network_under (files file) ≡ Ok net)
+HasNetwork (run_made m number) told net = net ≡ made_network number
+
+-- a job that names a file, and one that takes the stream
+abbrev pub NamesFile : Job → Type 0
+NamesFile (run_file m file) = ⊤
+NamesFile (plan_file m file) = ⊤
+NamesFile (check_file file certificate) = ⊤
+NamesFile (print_file file) = ⊤
+NamesFile (run_made m number) = ⊥
+
+abbrev pub TakesStream : Job → Type 0
+TakesStream (run_file m file) = ⊤
+TakesStream (plan_file m file) = ⊥
+TakesStream (check_file file certificate) = ⊥
+TakesStream (print_file file) = ⊥
+TakesStream (run_made m number) = ⊥
 
 -- the mode of a job that has an opening plan
 abbrev pub mode_of_job : Job → Option Mode

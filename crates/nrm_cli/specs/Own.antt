@@ -16,7 +16,7 @@ use Rattle.nrm_dlp.specs.Programs.{opening_program}
 use Rattle.nrm_dual.specs.Conditions.{verdict_on}
 use Rattle.nrm_dual.specs.Texts.{certificate_text}
 use Rattle.nrm_dual.specs.declared.verdict.Verdict.TheVariants.{Optimal}
-use Rattle.nrm_opening.specs.Outside.{Outside, FilesFailed, SourceFailed, SinkFailed}
+use Rattle.nrm_opening.specs.Outside.{Outside, FilesFailed, SinkFailed}
 use Rattle.nrm_cli.specs.Certificates.{certificate_under}
 use Rattle.nrm_cli.specs.Ends.{Ends, OrRanOut}
 use Rattle.nrm_cli.specs.Jobs.{Job, check_file, plan_file}
@@ -51,11 +51,11 @@ pub record WasPlanned (contents : Option (List ℕ)) (text : List ℕ) : Type 0 
   pub held_after : after.held ≡ Some (held ++ text)
   pub ends : Ends (Some (plan_file mode.Bid file)) before after status.Done
 
--- where the words ask for a certificate to be checked that is the text which such a call wrote of the same network file, and nothing failed,
+-- if the words ask for a certificate to be checked that is the text which such a call wrote of the same network file, and neither files nor output failed,
 -- `optimal` is written, or memory ran out
 abbrev pub PlannedPasses : Option Job → Outside → Outside → Status → Type 0
 PlannedPasses asked before after s =
     (file certificate text : List ℕ) (files : Folder) → asked ≡ Some (check_file file certificate) → before.files ≡ Some files
     → files certificate ≡ Some text → WasPlanned (files file) text
-    → (FilesFailed before after → ⊥) → (SourceFailed before after → ⊥) → (SinkFailed before after → ⊥)
+    → ¬ (FilesFailed before after) → ¬ (SinkFailed before after)
     → OrRanOut before after s status.Done (codes "optimal\n")

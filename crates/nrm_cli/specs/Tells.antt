@@ -1,5 +1,6 @@
 -- The texts that the program tells, each with its status and its cause.
 use Rattle.std.specs.Prelude.{ℕ, ℤ, ◌≡◌, ◌≢◌, List, Option, Some, None, Ok, Err}
+use Rattle.nrm_model.specs.Limits.{IsNetwork}
 use Rattle.nrm_model.specs.Network.{NetworkValue}
 use Rattle.nrm_model.specs.declared.mode.Mode.{Mode}
 use Rattle.nrm_network.specs.Canonical.{canonical_file}
@@ -14,10 +15,10 @@ use Rattle.nrm_plan.specs.Plans.{IsOpeningPlan, OpeningOverflows, PlanValue}
 use Rattle.nrm_report.specs.Texts.{plan_text}
 use Rattle.nrm_edge.specs.Fetch.{Folder}
 use Rattle.nrm_gen.specs.MadeNetwork.{made_network}
-use Rattle.nrm_opening.specs.Outside.{Outside, OnFile, FilesFailed, Wrote, WroteFront, LeftStream}
+use Rattle.nrm_opening.specs.Outside.{Outside, OnFile, FilesFailed, Wrote, WroteCut, LeftStream}
 use Rattle.nrm_opening.specs.Refusals.{Refusal, network_under, refusal_line, file_fault_line}
 use Rattle.nrm_cli.specs.Certificates.{LacksCertificate, certificate_under, lacking_line, verdict_line}
-use Rattle.nrm_cli.specs.Jobs.{Job, run_file, plan_file, check_file, print_file, run_made, mode_of_job, usage_line, overflow_line, told_pivots}
+use Rattle.nrm_cli.specs.Jobs.{Job, run_file, plan_file, check_file, print_file, run_made, mode_of_job, NamesFile, usage_line, overflow_line, told_pivots}
 use Rattle.nrm_cli.specs.Made.{MadeRun}
 use Rattle.nrm_cli.specs.declared.status.Status.{Status}
 use Rattle.nrm_cli.specs.declared.status.Status.TheVariants as status
@@ -29,6 +30,10 @@ GivesNetwork (plan_file m file) files net = OnFile files file (λ contents. netw
 GivesNetwork (check_file file certificate) files net = OnFile files file (λ contents. network_under contents ≡ Ok net)
 GivesNetwork (print_file file) files net = OnFile files file (λ contents. network_under contents ≡ Ok net)
 GivesNetwork (run_made m number) files net = net ≡ made_network number
+
+-- what a file gives is a network within the limits, as the laws of sessions ask for
+abbrev pub FilesGiveNetworks : Type 0
+FilesGiveNetworks = (contents : Option (List ℕ)) (net : NetworkValue) → network_under contents ≡ Ok net → IsNetwork net
 
 -- the words ask for a job, and it has this network
 abbrev pub Opens : Option Job → Job → Outside → NetworkValue → Type 0
@@ -81,9 +86,9 @@ pub data Tells (asked : Option Job) (before after : Outside) : Status → List �
   summed : (m : Mode) (number : ℕ) (plan : PlanValue) (text : List ℕ) → asked ≡ Some (run_made m number) → IsOpeningPlan (made_network number) m plan
       → MadeRun (made_network number) plan number text → Tells asked before after status.Done text
   printed : (file : List ℕ) (net : NetworkValue) → Opens asked (print_file file) before net → Tells asked before after status.Done (canonical_file net)
-  file_fault : (job : Job) → asked ≡ Some job → FilesFailed before after → Tells asked before after status.FileFault file_fault_line
+  file_fault : (job : Job) → asked ≡ Some job → NamesFile job → FilesFailed before after → Tells asked before after status.FileFault file_fault_line
 
--- it was written whole, or a front of it; the stream was not touched
+-- it was written whole, or cut; the stream was not touched
 pub record Told (asked : Option Job) (before after : Outside) (s : Status) : Type 0 where
   pub text : List ℕ
   pub tells : Tells asked before after s text
@@ -94,5 +99,5 @@ pub record ToldCut (asked : Option Job) (before after : Outside) : Type 0 where
   pub status : Status
   pub text : List ℕ
   pub tells : Tells asked before after status text
-  pub wrote : WroteFront before after text
+  pub wrote : WroteCut before after text
   pub left : LeftStream before after

@@ -1,9 +1,9 @@
 //! Checks the certificate of one file against the network of another.
-ghost use Rattle.std.specs.Prelude.{ℕ, List, Option, Some, ◌≡◌, ◌≢◌, ◌≤◌, length};
+ghost use Rattle.std.specs.Prelude.{◌≡◌, ◌≤◌, length};
 ghost use Rattle.nrm_fraction.specs.Large.{size_limit};
 ghost use Rattle.nrm_lp.specs.Shape.{HasShape};
-ghost use Rattle.nrm_opening.specs.Outside.{Goes, outside};
-ghost use Rattle.nrm_cli.specs.Ends.{Ends, Failures, status_of};
+ghost use Rattle.nrm_cli.specs.Ends.{SentOn, status_of};
+ghost use Rattle.nrm_cli.specs.Inner.Does.{DoesBeside, files_and_sink};
 ghost use Rattle.nrm_cli.specs.Jobs.{check_file as check_job};
 ghost use Rattle.nrm_cli.specs.Inner.Parts.{ChecksFile, PutsVerdict};
 
@@ -41,6 +41,7 @@ fn put_checked<K: Sink>(
     requires { HasShape size_limit (length net.now.products) (length net.now.legs) certificate.now }
     ensures puts { PutsVerdict net.now certificate.now (K.held sink.old) (K.held sink.new) (K.faults sink.old) (K.faults sink.new) result }
     ensures later { K.faults sink.old ≤ K.faults sink.new }
+    ensures sent { SentOn result (K.unsent sink.old) (K.unsent sink.new) }
 {
     let Ok(program) = opening_program(alloc, net) else {
         return Status::NoMemory;
@@ -61,6 +62,7 @@ fn check_certificate<F: Files, K: Sink>(
     ensures checks { ChecksFile net.now (F.contents files.old) name.now (K.held sink.old) (K.held sink.new) (F.faults files.old) (F.faults files.new) (K.faults sink.old) (K.faults sink.new) result }
     ensures files { F.contents files.new ≡ F.contents files.old }
     ensures later { K.faults sink.old ≤ K.faults sink.new }
+    ensures sent { SentOn result (K.unsent sink.old) (K.unsent sink.new) }
 {
     match open_certificate(alloc, files, name, net) {
         Ok(certificate) => put_checked(alloc, net, &certificate, sink),
@@ -79,12 +81,9 @@ pub(crate) fn check_file<F: Files, K: Sink>(
     files: &mut F,
     sink: &mut K,
 ) -> Status
-    ensures ends { (coming : Option (List ℕ)) (faults : ℕ) → let at = outside {S = ℕ} F.contents F.faults (λ _. coming) (λ _. faults) K.held K.faults in
-        Ends (Some (check_job name.now certificate.now)) (at files.old 0 sink.old) (at files.new 0 sink.new) result }
-    ensures failures { (coming : Option (List ℕ)) (faults : ℕ) → let at = outside {S = ℕ} F.contents F.faults (λ _. coming) (λ _. faults) K.held K.faults in
-        Failures result (at files.old 0 sink.old) (at files.new 0 sink.new) }
-    ensures goes { (coming : Option (List ℕ)) (faults : ℕ) → let at = outside {S = ℕ} F.contents F.faults (λ _. coming) (λ _. faults) K.held K.faults in
-        Goes (at files.old 0 sink.old) (at files.new 0 sink.new) }
+    ensures does { let at = files_and_sink F.contents F.faults K.held K.faults in
+        DoesBeside (check_job name.now certificate.now) (at files.old sink.old) (at files.new sink.new) result }
+    ensures sent { SentOn result (K.unsent sink.old) (K.unsent sink.new) }
 {
     match open_network(alloc, files, name) {
         Ok(net) => check_certificate(alloc, &net, certificate, files, sink),

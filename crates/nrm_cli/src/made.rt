@@ -1,17 +1,17 @@
 //! A made run: the controller of the network that is made of a number answers the commands that are made of it, and one line
 //! sums its replies up.
-ghost use Rattle.std.specs.Prelude.{ℕ, List, Option, Some, IfSome, ◌≡◌, ◌≤◌, ◌+◌, ◌++◌, ◌∷◌, length, decimal};
+ghost use Rattle.std.specs.Prelude.{ℕ, Option, IfSome, ◌≡◌, ◌≤◌, ◌+◌, ◌++◌, ◌∷◌, length, decimal};
 ghost use Rattle.std.specs.List.{join_with_byte};
 ghost use Rattle.nrm_edge.specs.Fetch.{Folder};
-ghost use Rattle.nrm_opening.specs.Outside.{outside};
 ghost use Rattle.nrm_text.specs.Words.{text_line};
 ghost use Rattle.nrm_model.specs.Network.{NetworkValue};
 ghost use Rattle.nrm_control.specs.Standing.{ControlValue, IsControl};
 ghost use Rattle.nrm_session.specs.Answering.{IsTellable, reply_in};
 ghost use Rattle.nrm_gen.specs.MadeCommands.{made_commands};
-ghost use Rattle.nrm_cli.specs.Ends.{Ends, Failures};
+ghost use Rattle.nrm_cli.specs.Ends.{SentOn};
 ghost use Rattle.nrm_cli.specs.Jobs.{run_made as made_job};
 ghost use Rattle.nrm_cli.specs.Made.{count_words, hindsight_word, summary_words};
+ghost use Rattle.nrm_cli.specs.Inner.Does.{DoesBeside, sink_beside};
 ghost use Rattle.nrm_cli.specs.Inner.Parts.{AnswersMade, HasBegun, PutsSummary, rest_of};
 
 use crate::Status;
@@ -121,6 +121,7 @@ fn put_summary<K: Sink>(
     ensures puts { (net : NetworkValue) (number : ℕ) → HasBegun net controller.old → rest_of maker.old ≡ made_commands number
         → PutsSummary net controller.old.plan number (K.held sink.old) (K.held sink.new) (K.faults sink.old) (K.faults sink.new) result }
     ensures later { K.faults sink.old ≤ K.faults sink.new }
+    ensures sent { SentOn result (K.unsent sink.old) (K.unsent sink.new) }
 {
     match answer_all(alloc, controller, maker) {
         Some((counts, last)) => {
@@ -138,11 +139,9 @@ fn put_summary<K: Sink>(
 /// Makes the network and the commands of a number, has the controller of this mode answer them, and writes one line that sums the
 /// replies up. Where a line wants for memory nothing is written.
 pub(crate) fn run_made<K: Sink>(alloc: Global, mode: Mode, number: u32, sink: &mut K) -> Status
-    ensures ends { (files : Option Folder) (file_faults : ℕ) (coming : Option (List ℕ)) (faults : ℕ) → let at = outside {F = ℕ} {S = ℕ} (λ _. files) (λ _. file_faults) (λ _. coming) (λ _. faults) K.held K.faults in
-        Ends (Some (made_job mode number)) (at 0 0 sink.old) (at 0 0 sink.new) result }
-    ensures failures { (files : Option Folder) (file_faults : ℕ) (coming : Option (List ℕ)) (faults : ℕ) → let at = outside {F = ℕ} {S = ℕ} (λ _. files) (λ _. file_faults) (λ _. coming) (λ _. faults) K.held K.faults in
-        Failures result (at 0 0 sink.old) (at 0 0 sink.new) }
-    ensures later { K.faults sink.old ≤ K.faults sink.new }
+    ensures does { (files : Option Folder) (faults : ℕ) → let at = sink_beside K.held K.faults files faults in
+        DoesBeside (made_job mode number) (at sink.old) (at sink.new) result }
+    ensures sent { SentOn result (K.unsent sink.old) (K.unsent sink.new) }
 {
     let Ok((net, maker)) = made(alloc, number) else {
         return Status::NoMemory;

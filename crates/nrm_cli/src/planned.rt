@@ -1,13 +1,13 @@
 //! Writes the opening plan of a network.
-ghost use Rattle.std.specs.Prelude.{ℕ, List, OnErr, OnOk, Option, Some, ◌≤◌};
+ghost use Rattle.std.specs.Prelude.{◌≡◌, ◌≤◌, [], OnErr, OnOk};
 ghost use Rattle.std.specs.Io.KnownBytes.{Appends};
 ghost use Rattle.nrm_edge.specs.Causes.{HasCause};
-ghost use Rattle.nrm_edge.specs.Pieces.{AppendsFront};
+ghost use Rattle.nrm_edge.specs.Pieces.{AppendsCut};
 ghost use Rattle.nrm_plan.specs.Plans.{IsPlanOf};
 ghost use Rattle.nrm_report.specs.Texts.{plan_text};
-ghost use Rattle.nrm_opening.specs.Outside.{Goes, outside};
-ghost use Rattle.nrm_cli.specs.Ends.{Ends, Failures};
+ghost use Rattle.nrm_cli.specs.Ends.{SentOn};
 ghost use Rattle.nrm_cli.specs.Jobs.{plan_file as plan_job};
+ghost use Rattle.nrm_cli.specs.Inner.Does.{DoesBeside, files_and_sink};
 ghost use Rattle.nrm_cli.specs.Inner.Parts.{PutsPlan};
 
 use crate::Status;
@@ -23,7 +23,8 @@ use std::alloc::Global;
 fn send_plan<K: Sink>(net: &Network, plan: &Plan, sink: &mut K) -> Result<(), Failed>
     requires { IsPlanOf net.now plan.now }
     ensures whole { OnOk result (Appends (K.held sink.old) (K.held sink.new) (plan_text net.now plan.now)) }
-    ensures cut { OnErr result (AppendsFront (K.held sink.old) (K.held sink.new) (plan_text net.now plan.now)) }
+    ensures cut { OnErr result (AppendsCut (K.held sink.old) (K.held sink.new) (plan_text net.now plan.now)) }
+    ensures sent { OnOk result (K.unsent sink.new ≡ []) }
     ensures cause { HasCause (K.faults sink.old) (K.faults sink.new) result }
 {
     plan_text(net, plan, sink)?;
@@ -34,6 +35,7 @@ fn send_plan<K: Sink>(net: &Network, plan: &Plan, sink: &mut K) -> Result<(), Fa
 fn put_plan<K: Sink>(alloc: Global, net: &Network, mode: Mode, sink: &mut K) -> Status
     ensures puts { PutsPlan net.now mode (K.held sink.old) (K.held sink.new) (K.faults sink.old) (K.faults sink.new) result }
     ensures later { K.faults sink.old ≤ K.faults sink.new }
+    ensures sent { SentOn result (K.unsent sink.old) (K.unsent sink.new) }
 {
     match Plan::opening(alloc, net, mode) {
         Ok(plan) => match send_plan(net, &plan, sink) {
@@ -52,12 +54,9 @@ pub(crate) fn plan_file<F: Files, K: Sink>(
     files: &mut F,
     sink: &mut K,
 ) -> Status
-    ensures ends { (coming : Option (List ℕ)) (faults : ℕ) → let at = outside {S = ℕ} F.contents F.faults (λ _. coming) (λ _. faults) K.held K.faults in
-        Ends (Some (plan_job mode name.now)) (at files.old 0 sink.old) (at files.new 0 sink.new) result }
-    ensures failures { (coming : Option (List ℕ)) (faults : ℕ) → let at = outside {S = ℕ} F.contents F.faults (λ _. coming) (λ _. faults) K.held K.faults in
-        Failures result (at files.old 0 sink.old) (at files.new 0 sink.new) }
-    ensures goes { (coming : Option (List ℕ)) (faults : ℕ) → let at = outside {S = ℕ} F.contents F.faults (λ _. coming) (λ _. faults) K.held K.faults in
-        Goes (at files.old 0 sink.old) (at files.new 0 sink.new) }
+    ensures does { let at = files_and_sink F.contents F.faults K.held K.faults in
+        DoesBeside (plan_job mode name.now) (at files.old sink.old) (at files.new sink.new) result }
+    ensures sent { SentOn result (K.unsent sink.old) (K.unsent sink.new) }
 {
     match open_network(alloc, files, name) {
         Ok(net) => put_plan(alloc, &net, mode, sink),

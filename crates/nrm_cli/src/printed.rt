@@ -1,7 +1,6 @@
 //! Prints the canonical file of a network.
-ghost use Rattle.std.specs.Prelude.{ℕ, List, Option, Some};
-ghost use Rattle.nrm_opening.specs.Outside.{Goes, outside};
-ghost use Rattle.nrm_cli.specs.Ends.{Ends, Failures};
+ghost use Rattle.nrm_cli.specs.Ends.{SentOn};
+ghost use Rattle.nrm_cli.specs.Inner.Does.{DoesBeside, files_and_sink};
 ghost use Rattle.nrm_cli.specs.Jobs.{print_file as print_job};
 
 use crate::Status;
@@ -18,12 +17,9 @@ pub(crate) fn print_file<F: Files, K: Sink>(
     files: &mut F,
     sink: &mut K,
 ) -> Status
-    ensures ends { (coming : Option (List ℕ)) (faults : ℕ) → let at = outside {S = ℕ} F.contents F.faults (λ _. coming) (λ _. faults) K.held K.faults in
-        Ends (Some (print_job name.now)) (at files.old 0 sink.old) (at files.new 0 sink.new) result }
-    ensures failures { (coming : Option (List ℕ)) (faults : ℕ) → let at = outside {S = ℕ} F.contents F.faults (λ _. coming) (λ _. faults) K.held K.faults in
-        Failures result (at files.old 0 sink.old) (at files.new 0 sink.new) }
-    ensures goes { (coming : Option (List ℕ)) (faults : ℕ) → let at = outside {S = ℕ} F.contents F.faults (λ _. coming) (λ _. faults) K.held K.faults in
-        Goes (at files.old 0 sink.old) (at files.new 0 sink.new) }
+    ensures does { let at = files_and_sink F.contents F.faults K.held K.faults in
+        DoesBeside (print_job name.now) (at files.old sink.old) (at files.new sink.new) result }
+    ensures sent { SentOn result (K.unsent sink.old) (K.unsent sink.new) }
 {
     let net = match open_network(alloc, files, name) {
         Ok(net) => net,

@@ -1,9 +1,10 @@
 //! One line, put with the status that goes with it.
-ghost use Rattle.std.specs.Prelude.{◌≡◌, ◌≤◌, ◌++◌, decimal, length, nat_abs, OnErr, OnOk};
+ghost use Rattle.std.specs.Prelude.{◌≡◌, ◌≤◌, ◌++◌, [], decimal, length, nat_abs, OnErr, OnOk};
 ghost use Rattle.std.specs.Io.KnownBytes.{Appends};
 ghost use Rattle.nrm_edge.specs.Causes.{HasCause};
-ghost use Rattle.nrm_edge.specs.Pieces.{AppendsFront};
+ghost use Rattle.nrm_edge.specs.Pieces.{AppendsCut};
 ghost use Rattle.nrm_text.specs.Fractions.{sign_of};
+ghost use Rattle.nrm_cli.specs.Ends.{SentOn};
 ghost use Rattle.nrm_cli.specs.Jobs.{overflow_line};
 ghost use Rattle.nrm_cli.specs.Inner.Parts.{PutsLine, PutsReason, PutsUnplanned, status_for};
 
@@ -16,7 +17,8 @@ use nrm_text::Line;
 // Puts a whole line, and sends it on.
 fn send<K: Sink>(sink: &mut K, line: &[u8]) -> Result<(), Failed>
     ensures whole { OnOk result (Appends (K.held sink.old) (K.held sink.new) line.now) }
-    ensures cut { OnErr result (AppendsFront (K.held sink.old) (K.held sink.new) line.now) }
+    ensures cut { OnErr result (AppendsCut (K.held sink.old) (K.held sink.new) line.now) }
+    ensures sent { OnOk result (K.unsent sink.new ≡ []) }
     ensures cause { HasCause (K.faults sink.old) (K.faults sink.new) result }
 {
     put_all(sink, line)?;
@@ -27,6 +29,7 @@ fn send<K: Sink>(sink: &mut K, line: &[u8]) -> Result<(), Failed>
 pub(crate) fn put_line<K: Sink>(sink: &mut K, line: &[u8], told: Status) -> Status
     ensures puts { PutsLine line.now told (K.held sink.old) (K.held sink.new) (K.faults sink.old) (K.faults sink.new) result }
     ensures later { K.faults sink.old ≤ K.faults sink.new }
+    ensures sent { SentOn result (K.unsent sink.old) (K.unsent sink.new) }
 {
     match send(sink, line) {
         Ok(()) => told,
@@ -49,6 +52,7 @@ fn status_for(reason: NoNetwork) -> Status
 pub(crate) fn put_reason<K: Sink>(sink: &mut K, reason: NoNetwork) -> Status
     ensures puts { PutsReason reason (K.held sink.old) (K.held sink.new) (K.faults sink.old) (K.faults sink.new) result }
     ensures later { K.faults sink.old ≤ K.faults sink.new }
+    ensures sent { SentOn result (K.unsent sink.old) (K.unsent sink.new) }
 {
     match reason.line() {
         Some(line) => put_line(sink, line.bytes(), status_for(reason)),
@@ -96,6 +100,7 @@ fn line_of_overflow(pivots: u32, number: i128) -> Line
 pub(crate) fn put_unplanned<K: Sink>(sink: &mut K, why: SolveFault) -> Status
     ensures puts { PutsUnplanned why (K.held sink.old) (K.held sink.new) (K.faults sink.old) (K.faults sink.new) result }
     ensures later { K.faults sink.old ≤ K.faults sink.new }
+    ensures sent { SentOn result (K.unsent sink.old) (K.unsent sink.new) }
 {
     match why {
         SolveFault::Overflow { pivots, number } => put_line(

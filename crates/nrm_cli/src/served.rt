@@ -1,8 +1,9 @@
 //! Serves the stream: the controller of a network file answers each line.
 ghost use Rattle.std.specs.Prelude.{◌≡◌, ◌≤◌, Some};
 ghost use Rattle.nrm_session.specs.Serving.{CountsFaults, Serves, streams};
-ghost use Rattle.nrm_opening.specs.Outside.{Goes, outside};
-ghost use Rattle.nrm_cli.specs.Ends.{Ends, Failures, stream_limit};
+ghost use Rattle.nrm_opening.specs.Outside.{outside};
+ghost use Rattle.nrm_cli.specs.Ends.{SentOn, stream_limit};
+ghost use Rattle.nrm_cli.specs.Inner.Does.{Does};
 ghost use Rattle.nrm_cli.specs.Jobs.{run_file as run_job};
 ghost use Rattle.nrm_cli.specs.Inner.Parts.{status_at};
 
@@ -42,6 +43,7 @@ fn answer_stream<S: Source, K: Sink>(
         Serves controller.old controller.new (at source.old sink.old) (at source.new sink.new) stream_limit result }
     ensures counts { let at = streams S.coming S.faults K.held K.faults in
         CountsFaults (at source.old sink.old) (at source.new sink.new) result }
+    ensures sent { SentOn (status_at result) (K.unsent sink.old) (K.unsent sink.new) }
 {
     serve(alloc, controller, source, sink, STREAM_LIMIT)
 }
@@ -55,12 +57,9 @@ pub(crate) fn run_file<F: Files, S: Source, K: Sink>(
     source: &mut S,
     sink: &mut K,
 ) -> Status
-    ensures ends { let at = outside F.contents F.faults S.coming S.faults K.held K.faults in
-        Ends (Some (run_job mode name.now)) (at files.old source.old sink.old) (at files.new source.new sink.new) result }
-    ensures failures { let at = outside F.contents F.faults S.coming S.faults K.held K.faults in
-        Failures result (at files.old source.old sink.old) (at files.new source.new sink.new) }
-    ensures goes { let at = outside F.contents F.faults S.coming S.faults K.held K.faults in
-        Goes (at files.old source.old sink.old) (at files.new source.new sink.new) }
+    ensures does { let at = outside F.contents F.faults S.coming S.faults K.held K.faults in
+        Does (Some (run_job mode name.now)) (at files.old source.old sink.old) (at files.new source.new sink.new) result }
+    ensures sent { SentOn result (K.unsent sink.old) (K.unsent sink.new) }
 {
     let net = match open_network(alloc, files, name) {
         Ok(net) => net,

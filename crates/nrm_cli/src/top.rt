@@ -2,11 +2,15 @@
 ghost use Rattle.std.specs.Prelude.{map, option_map, string_bytes};
 ghost use Rattle.nrm_session.specs.Headline.{RequestsAreAnswered};
 ghost use Rattle.nrm_session.specs.Hindsight.{HindsightBounds};
-ghost use Rattle.nrm_session.specs.Laws.{EachListHasARun, OtherLinesNeedNoMemory, PlansAreKept, RepliesAreDetermined, SeatsAreKept, StatesAreDetermined};
-ghost use Rattle.nrm_opening.specs.Outside.{Goes, outside};
-ghost use Rattle.nrm_cli.specs.Ends.{Completes, Ends, Failures};
+ghost use Rattle.nrm_session.specs.LastPlan.{PrintedPricesAreOptimal};
+ghost use Rattle.nrm_session.specs.Laws.{EachListHasARun, OtherLinesNeedNoMemory, PlansAreKept, RepliesAreDetermined, RunsHaveFirstParts, SeatsAreKept, StatesAreDetermined};
+ghost use Rattle.nrm_opening.specs.Outside.{outside};
+ghost use Rattle.nrm_cli.specs.Call.{Call};
+ghost use Rattle.nrm_cli.specs.Ends.{SentOn};
 ghost use Rattle.nrm_cli.specs.Jobs.{job_of};
-ghost use Rattle.nrm_cli.specs.Own.{OptimalCertificatesPass, OwnCertificatesPass, PlannedPasses};
+ghost use Rattle.nrm_cli.specs.Own.{OptimalCertificatesPass, OwnCertificatesPass};
+ghost use Rattle.nrm_cli.specs.Tells.{FilesGiveNetworks};
+ghost use Rattle.nrm_cli.specs.Inner.Does.{Does};
 ghost use Rattle.nrm_cli.specs.Inner.Parts.{job_in};
 
 use crate::Status;
@@ -32,12 +36,9 @@ fn run_asked<F: Files, S: Source, K: Sink>(
     source: &mut S,
     sink: &mut K,
 ) -> Status
-    ensures ends { let at = outside F.contents F.faults S.coming S.faults K.held K.faults in
-        Ends (option_map job_in asked.entry) (at files.old source.old sink.old) (at files.new source.new sink.new) result }
-    ensures failures { let at = outside F.contents F.faults S.coming S.faults K.held K.faults in
-        Failures result (at files.old source.old sink.old) (at files.new source.new sink.new) }
-    ensures goes { let at = outside F.contents F.faults S.coming S.faults K.held K.faults in
-        Goes (at files.old source.old sink.old) (at files.new source.new sink.new) }
+    ensures does { let at = outside F.contents F.faults S.coming S.faults K.held K.faults in
+        Does (option_map job_in asked.entry) (at files.old source.old sink.old) (at files.new source.new sink.new) result }
+    ensures sent { SentOn result (K.unsent sink.old) (K.unsent sink.new) }
 {
     match asked {
         Some(Asked::Run(mode, name)) => run_file(alloc, mode, name, files, source, sink),
@@ -57,25 +58,21 @@ fn run_asked<F: Files, S: Source, K: Sink>(
 /// that are made of a number, up to 4,294,967,295, on the network that is made of it, and sums the replies up in one line. MODE is `first`,
 /// `bid` or `davn`. All other words get the usage line.
 ///
-/// `ends` says for each status what the words, the files, the stream and the written bytes were; `complete`, that good
-/// words, valid files, no fault, an opening that isn't Large and, for a run, a stream of at most 4,294,967,296 bytes give the
-/// whole output, an opening that is Large the line that says so, or else want of memory with nothing written; `failures`,
-/// that a count of faults rises only with the status of its fault; `goes`, that no count falls and the files stay.
+/// What the call says of itself: `call` ties the bytes that it took and wrote, the files and the counts of faults to its status, and where it answered a
+/// stream, to the run of a session over the lines of that stream (`Call`); `sent`, that nothing is kept back at the end.
 ///
-/// Of what is written: a request for a product of the network is sold exactly when on every leg the seats left cover the party
-/// plus the protection above the product's bucket, and its fare reaches the sum of its legs' bid prices, each in the mode that has
-/// them; else the first leg that is short is named, or the fare (`requests`). In no state of a session has a leg more seats sold
-/// than it has (`seats`), whatever the commands and from each state that has this. In every state of a session that solves programs, from its opening on, the plan in
-/// force has an optimal allocation and optimal bid prices for the program at the plan's seats left and period (`optimal`).
-/// At each line of hindsight that tells a value, no selection of the requests so far, sold or not, cancelled or not, each whole and at
-/// most once, that fits the seats earns more; and the bookings that stand are such a selection, which earns the revenue beside it
-/// (`hindsight`).
-/// A network, a state and commands have one list of replies and one last state where no line wants for memory
-/// (`determined`), and such a list (`there`); with the replies given the states are one (`states`). Memory is wanting at lines of
-/// `reoptimise` and of `hindsight` alone, and then nothing changes (`free`). The text of the
-/// certificate that the solver finds for a network passes the check (`own`): so where the bytes of CERT are what a call with
-/// `plan bid FILE` wrote of the same network file, `check FILE CERT` writes `optimal`, want of memory and faults aside
-/// (`passes`). So does each certificate whose allocation and bid prices are optimal and whose value is their cost (`others`).
+/// The other clauses are laws about every run of a session, and so about that one. A request for a product of the network is sold exactly when on every leg
+/// the party and what is kept from the product fit the seats left, and its fare reaches the sum of its legs' bid prices where the mode has them; else the
+/// first leg that is short is named, or the fare, and no other reply is given; what is sold stands (`requests`). No leg has more seats sold than it
+/// has (`seats`). The plan in force is one of the network, and in the modes that solve programs its bid prices are optimal duals (`optimal`); what a
+/// `plan` line prints is the text of such a plan, for the seats left and from the period of the last line that was answered `optimised` (`printed`). At
+/// each line of hindsight that tells a value, no selection of the requests so far, sold or not, cancelled or not, each whole and at most once, that fits
+/// the seats earns more, an allocation of their program earns just that, and the bookings that stand are such a selection, which earns the revenue beside
+/// it (`hindsight`). The commands of a session have one list of replies and one last state where no line runs out of memory (`determined`), and such a
+/// list (`there`); with the replies given the states are one (`states`); a first part of a run is a run, so each law holds in every state on the
+/// way (`parts`). A line runs out of memory only where a program is solved, and then nothing changes (`free`). What a file gives is a network as the laws
+/// ask for (`networks`). The text of what the solver finds for a network passes the check (`own`), and so does each certificate whose allocation and bid
+/// prices are optimal and whose value is their cost (`others`).
 pub fn run<F: Files, S: Source, K: Sink>(
     alloc: Global,
     words: &[String],
@@ -83,25 +80,21 @@ pub fn run<F: Files, S: Source, K: Sink>(
     source: &mut S,
     sink: &mut K,
 ) -> Status
-    ensures ends { let at = outside F.contents F.faults S.coming S.faults K.held K.faults in
-        Ends (job_of (map string_bytes words.now)) (at files.old source.old sink.old) (at files.new source.new sink.new) result }
-    ensures complete { let at = outside F.contents F.faults S.coming S.faults K.held K.faults in
-        Completes (job_of (map string_bytes words.now)) (at files.old source.old sink.old) (at files.new source.new sink.new) result }
-    ensures failures { let at = outside F.contents F.faults S.coming S.faults K.held K.faults in
-        Failures result (at files.old source.old sink.old) (at files.new source.new sink.new) }
-    ensures goes { let at = outside F.contents F.faults S.coming S.faults K.held K.faults in
-        Goes (at files.old source.old sink.old) (at files.new source.new sink.new) }
+    ensures call { let at = outside F.contents F.faults S.coming S.faults K.held K.faults in
+        Call (job_of (map string_bytes words.now)) (at files.old source.old sink.old) (at files.new source.new sink.new) result }
+    ensures sent { SentOn result (K.unsent sink.old) (K.unsent sink.new) }
     ensures requests { RequestsAreAnswered }
     ensures seats { SeatsAreKept }
     ensures optimal { PlansAreKept }
+    ensures printed { PrintedPricesAreOptimal }
     ensures hindsight { HindsightBounds }
     ensures determined { RepliesAreDetermined }
-    ensures states { StatesAreDetermined }
-    ensures free { OtherLinesNeedNoMemory }
     ensures there { EachListHasARun }
+    ensures states { StatesAreDetermined }
+    ensures parts { RunsHaveFirstParts }
+    ensures free { OtherLinesNeedNoMemory }
+    ensures networks { FilesGiveNetworks }
     ensures own { OwnCertificatesPass }
-    ensures passes { let at = outside F.contents F.faults S.coming S.faults K.held K.faults in
-        PlannedPasses (job_of (map string_bytes words.now)) (at files.old source.old sink.old) (at files.new source.new sink.new) result }
     ensures others { OptimalCertificatesPass }
 {
     run_asked(alloc, asked_in(words), files, source, sink)

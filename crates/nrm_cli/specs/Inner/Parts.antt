@@ -3,7 +3,7 @@ use Rattle.std.specs.Prelude.{ℕ, ◌≡◌, ◌≢◌, ◌+◌, ◌-◌, ◌�
 use Rattle.std.specs.Io.KnownBytes.{Appends, Keeps}
 use Rattle.nrm_edge.specs.Causes.{Rose}
 use Rattle.nrm_edge.specs.Fetch.{Folder}
-use Rattle.nrm_edge.specs.Pieces.{AppendsFront}
+use Rattle.nrm_edge.specs.Pieces.{AppendsCut}
 use Rattle.nrm_model.specs.Network.{NetworkValue}
 use Rattle.nrm_model.specs.Inventory.{inventory_of}
 use Rattle.nrm_model.specs.declared.mode.Mode.{Mode}
@@ -57,10 +57,10 @@ job_in (asked.Check file certificate) = check_file file.now certificate.now
 job_in (asked.Print file) = print_file file.now
 job_in (asked.Made mode number) = run_made mode number
 
--- a line was put and its status answered, or the put failed and a front of the line went out
+-- a line was put and its status answered, or the line was cut
 abbrev pub PutsLine : List ℕ → Status → Option (List ℕ) → Option (List ℕ) → ℕ → ℕ → Status → Type 0
 PutsLine line told held held' before now result =
-    ((result ≡ told) × Appends held held' line × (now ≡ before)) ⊎ ((result ≡ status.WriteFault) × AppendsFront held held' line × Rose before now)
+    ((result ≡ told) × Appends held held' line × (now ≡ before)) ⊎ ((result ≡ status.WriteFault) × AppendsCut held held' line × Rose before now)
 
 -- the line of a reason is put with a status, or there is none for want of memory
 abbrev pub PutsIfSome : Option (List ℕ) → Status → Option (List ℕ) → Option (List ℕ) → ℕ → ℕ → Status → Type 0

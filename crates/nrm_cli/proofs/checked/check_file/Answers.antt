@@ -1,11 +1,14 @@
-use Rattle.std.proofs.Common.{◌≡◌, ℕ, List, Option, refl, subst}
+use Rattle.std.proofs.Common.{◌≡◌, ◌∙◌, ◌≤◌, ℕ, List, Option, Result, Ok, Err, arith, refl, subst}
 use Rattle.nrm_edge.specs.Fetch.{Folder}
 use Rattle.nrm_model.specs.Network.{NetworkValue}
-use Rattle.nrm_cli.specs.Inner.Parts.{ChecksFile}
+use Rattle.nrm_lp.specs.declared.certificate.Certificate.{Certificate}
+use Rattle.nrm_cli.specs.Inner.Parts.{ChecksFile, CountsCertificate}
+use Rattle.nrm_cli.specs.declared.certificate.NoCertificate.{NoCertificate}
+use Rattle.nrm_cli.specs.declared.certificate.NoCertificate.TheVariants as lacks
 use Rattle.nrm_cli.specs.declared.status.Status.{Status}
 use Rattle.nrm_cli.specs.Jobs.{check_file as check_job}
 use Rattle.nrm_cli.proofs.Checking.{checked-ends, checked-failures}
-use Rattle.nrm_cli.proofs.Without.{without-failures, without-network}
+use Rattle.nrm_cli.proofs.Without.{opened-goes, without-failures, without-network}
 use Rattle.nrm_cli.proofs.checked.check_file.Goals as goal
 
 -- the certificate was opened over the same files, whose count had not risen
@@ -15,19 +18,29 @@ from-the-start net files files' name held held' before between now sunk sunk' s 
     subst (λ (f : Option Folder). ChecksFile net f name held held' before now sunk sunk' s) stays
     (subst (λ (n : ℕ). ChecksFile net files' name held held' n now sunk sunk' s) same checks)
 
-pub returns-in-Ok-clause-ends : goal.returns-in-Ok-clause-ends
-returns-in-Ok-clause-ends g c coming faults =
-    checked-ends c.args.name.now c.args.certificate.now _ _ c.in-Ok.net (refl, c.in-Ok.ensures.opens) refl c.check_certificate.result
-    (from-the-start c.in-Ok.net _ _ c.args.certificate.now _ _ _ _ _ _ _ c.check_certificate.result c.in-Ok.ensures.stays c.in-Ok.ensures.counts c.check_certificate.ensures.checks)
+-- no count falls
+checked-later : (net : NetworkValue) (files : Option Folder) (name : List ℕ) (held held' : Option (List ℕ)) (before now sunk : ℕ) {sunk' : ℕ} (s : Status)
+    → ChecksFile net files name held held' before now sunk sunk' s → before ≤ now
+checked-later net files name held held' before now sunk s checks = by checks.opened checks.counts
+  where
+    by : (opened : Result Certificate NoCertificate) → CountsCertificate before now opened → before ≤ now
+    by (Ok given) same = omega (arith, same)
+    by (Err lacks.Absent) same = omega (arith, same)
+    by (Err (lacks.Unread fault)) same = omega (arith, same)
+    by (Err lacks.Fault) rose = rose.0
 
-pub returns-in-Ok-clause-failures : goal.returns-in-Ok-clause-failures
-returns-in-Ok-clause-failures g c coming faults =
-    checked-failures _ _ c.in-Ok.net refl c.args.certificate.now c.check_certificate.result
-    (from-the-start c.in-Ok.net _ _ c.args.certificate.now _ _ _ _ _ _ _ c.check_certificate.result c.in-Ok.ensures.stays c.in-Ok.ensures.counts c.check_certificate.ensures.checks)
+pub returns-in-Ok-clause-does : goal.returns-in-Ok-clause-does
+returns-in-Ok-clause-does g c coming faults =
+    let checks = from-the-start c.in-Ok.net _ _ c.args.certificate.now _ _ _ _ _ _ _ c.check_certificate.result c.in-Ok.ensures.stays c.in-Ok.ensures.counts c.check_certificate.ensures.checks in
+    record {
+      ends = checked-ends c.args.name.now c.args.certificate.now _ _ c.in-Ok.net (refl, c.in-Ok.ensures.opens) refl c.check_certificate.result checks;
+      failures = checked-failures _ _ c.in-Ok.net refl c.args.certificate.now c.check_certificate.result checks;
+      goes = record { files = c.check_certificate.ensures.files ∙ c.in-Ok.ensures.stays; file_faults = checked-later _ _ _ _ _ _ _ _ c.check_certificate.result checks; source_faults = omega arith; sink_faults = c.check_certificate.ensures.later };
+    }
 
-pub returns-in-Err-clause-ends : goal.returns-in-Err-clause-ends
-returns-in-Err-clause-ends g c coming faults =
-    without-network (check_job c.args.name.now c.args.certificate.now) c.args.name.now (λ files refusal on. on) _ _ c.in-Err.reason c.put_reason.result c.in-Err.ensures.opens c.in-Err.ensures.counts c.put_reason.ensures.puts refl
-
-pub returns-in-Err-clause-failures : goal.returns-in-Err-clause-failures
-returns-in-Err-clause-failures g c coming faults = without-failures _ _ c.in-Err.reason c.put_reason.result c.in-Err.ensures.counts c.put_reason.ensures.puts refl
+pub returns-in-Err-clause-does : goal.returns-in-Err-clause-does
+returns-in-Err-clause-does g c coming faults = record {
+  ends = without-network (check_job c.args.name.now c.args.certificate.now) c.args.name.now tt (λ files refusal on. on) _ _ c.in-Err.reason c.put_reason.result c.in-Err.ensures.opens c.in-Err.ensures.counts c.put_reason.ensures.puts refl;
+  failures = without-failures _ _ c.in-Err.reason c.put_reason.result c.in-Err.ensures.counts c.put_reason.ensures.puts refl;
+  goes = opened-goes _ _ (Err c.in-Err.reason) c.in-Err.ensures.counts c.in-Err.ensures.stays refl c.put_reason.ensures.later;
+}

@@ -1,13 +1,15 @@
 use Rattle.nrm_session.proofs.Determined.{determined, states-determined}
+use Rattle.nrm_session.proofs.FirstParts.{first-parts}
 use Rattle.nrm_session.proofs.Hindsights.{openings-bounded}
 use Rattle.nrm_session.proofs.InForce.{plans-kept}
 use Rattle.nrm_session.proofs.OtherLines.{other-lines}
+use Rattle.nrm_session.proofs.PrintedPlans.{printed-optimal}
 use Rattle.nrm_session.proofs.Runs.{runs}
 use Rattle.nrm_session.proofs.Seats.{kept}
 use Rattle.nrm_session.proofs.Verdicts.{requests-answered}
 use Rattle.nrm_cli.proofs.OwnPasses.{optimal-pass, own-passes}
 use Rattle.nrm_cli.proofs.Complete.{completes, same-job-ends}
-use Rattle.nrm_cli.proofs.Passing.{planned-passes}
+use Rattle.nrm_cli.proofs.Passing.{planned-passes, taken-network}
 use Rattle.nrm_cli.proofs.top.run.Goals as goal
 
 pub returns-clause-seats : goal.returns-clause-seats
@@ -34,17 +36,24 @@ returns-clause-free g c = other-lines
 pub returns-clause-there : goal.returns-clause-there
 returns-clause-there g c = runs
 
-pub returns-clause-ends : goal.returns-clause-ends
-returns-clause-ends g c = same-job-ends _ _ _ _ c.run_asked.result c.asked_in.ensures c.run_asked.ensures.ends
+pub returns-clause-call : goal.returns-clause-call
+returns-clause-call g c =
+    let does = c.run_asked.ensures.does in
+    let ends = same-job-ends _ _ _ _ c.run_asked.result c.asked_in.ensures does.ends in
+    let complete = completes _ _ _ c.run_asked.result ends in
+    record { ends = ends; complete = complete; failures = does.failures; goes = does.goes; passes = planned-passes _ _ _ c.run_asked.result complete }
 
-pub returns-clause-complete : goal.returns-clause-complete
-returns-clause-complete g c = completes _ _ _ c.run_asked.result (same-job-ends _ _ _ _ c.run_asked.result c.asked_in.ensures c.run_asked.ensures.ends)
+pub returns-clause-printed : goal.returns-clause-printed
+returns-clause-printed g c = printed-optimal
+
+pub returns-clause-parts : goal.returns-clause-parts
+returns-clause-parts g c = first-parts
+
+pub returns-clause-networks : goal.returns-clause-networks
+returns-clause-networks g c = taken-network
 
 pub returns-clause-own : goal.returns-clause-own
 returns-clause-own g c = own-passes
-
-pub returns-clause-passes : goal.returns-clause-passes
-returns-clause-passes g c = planned-passes _ _ _ c.run_asked.result (completes _ _ _ c.run_asked.result (same-job-ends _ _ _ _ c.run_asked.result c.asked_in.ensures c.run_asked.ensures.ends))
 
 pub returns-clause-others : goal.returns-clause-others
 returns-clause-others g c = optimal-pass
