@@ -483,6 +483,13 @@ def goes_on_without_lines_that_wanted_memory(cut):
         cut.goes_on(b"".join(cut.replies[:count]))
 
 
+def goes_on_after_a_cut_inside_memory(cut):
+    """The line ran out of memory, and its reply was cut: it is given again."""
+    at = cut.lines.index(b"hindsight")
+    for end in range(1, len(b"memory\n")):
+        cut.goes_on(b"".join(cut.replies[:at]) + b"memory\n"[:end])
+
+
 def goes_on_after_too_long_a_stream(cut):
     """With a lower limit, which the reference can have: what went beyond it was a bad line, and isn't given again."""
     code = f"import sys; sys.path.insert(0, {HERE!r}); import reference; reference.LONGEST_STREAM = 1000; reference.main()"
@@ -498,7 +505,7 @@ def goes_on_after_too_long_a_stream(cut):
 
 
 def replies_that_are_no_front_are_told(cut):
-    for at, other in [(2, b"ok 4\n"), (8, b"unknown\n"), (len(cut.replies), b"ok 99\n")]:
+    for at, other in [(2, b"ok 4\n"), (8, b"unknown\n"), (11, b"memo"), (len(cut.replies), b"ok 99\n")]:
         kept = b"".join(cut.replies[:at] + [other] + cut.replies[at + 1:])
         done = subprocess.run(cut.words(kept), capture_output=True, timeout=SECONDS)
         if done.returncode != 1 or done.stdout or not done.stderr.startswith(b"line %d: " % (at + 1)):
@@ -506,8 +513,8 @@ def replies_that_are_no_front_are_told(cut):
 
 
 CUTS = [the_stream_is_a_file, goes_on_after_any_cut, goes_on_after_the_reader_left, goes_on_after_the_input_failed,
-        goes_on_after_the_program_was_killed, goes_on_after_too_long_a_stream, goes_on_in_talk, goes_on_without_lines_that_wanted_memory,
-        replies_that_are_no_front_are_told]
+        goes_on_after_the_program_was_killed, goes_on_after_a_cut_inside_memory, goes_on_after_too_long_a_stream, goes_on_in_talk,
+        goes_on_without_lines_that_wanted_memory, replies_that_are_no_front_are_told]
 
 
 def talk_through(talk_of, ends, mode, program):

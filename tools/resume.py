@@ -24,7 +24,8 @@ import threading
 
 TOP = os.path.dirname(os.path.dirname(os.path.realpath(__file__)))
 PIECE = 65_536
-WANTED_MEMORY = re.compile(rb"memory\n")
+WANTED = b"memory\n"
+WANTED_MEMORY = re.compile(WANTED)
 CHANGED_SOMETHING = re.compile(rb"(ok|no|cancelled|optimised) ")
 FURTHER = re.compile(rb"(on|product|nest|protect) |leg [^ ]+ [0-9]+/")  # a line of the text of a leg or a plan, but its first
 
@@ -106,7 +107,7 @@ def line_to_go_on_at(given):
         for number, reply in enumerate(session.replies(), 1):
             front = kept.read(len(reply))
             if front != reply:
-                if not reply.startswith(front):
+                if not (reply.startswith(front) or WANTED.startswith(front) and not kept.read(1)):
                     parted(number, front, reply)
                 session.left()
                 return number, size
