@@ -121,8 +121,8 @@ def lines_of(text):
     ranges, _, each = text[len("\\for "):].partition(": ")
     names = [re.fullmatch(r"(\w+)=(\d+)\.\.(\d+)", it) for it in ranges.split()]
     counts = [range(int(it[2]), int(it[3]) + 1) for it in names]
-    return [line_of(eval("f" + repr(each), {}, dict(zip([it[1] for it in names], numbers))))
-            for numbers in itertools.product(*counts)]
+    text = compile("f" + repr(each), "<a line of a table>", "eval")
+    return [line_of(eval(text, {}, dict(zip([it[1] for it in names], numbers)))) for numbers in itertools.product(*counts)]
 
 
 CHANGE = re.compile(r"(?:(\d+)(?:( then)?: (.*)| gone)|end: (.*))")

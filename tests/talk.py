@@ -251,7 +251,7 @@ def a_megabyte_is_one_bad_line(talk, session):
 
 
 def the_plan_is_made_anew(talk, session):
-    """The lines of the README, with what they are answered in two of the modes."""
+    """The lines of docs/bid-prices.md, with what they are answered in two of the modes."""
     for line, *replies in [("book HJ-Q 40", "ok 1", "ok 1"), ("reoptimise 2", "optimised none", "optimised 137585/3"),
                            ("book HJ-Q 20", "ok 2", "no fare"), ("book HJ-Y 5", "no HAM-FRA", "ok 2")]:
         wanted = dict(zip(MODES, [reply.encode() + b"\n" for reply in replies]), davn=session.reply(line.encode()))
