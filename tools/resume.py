@@ -11,8 +11,9 @@ With --go-on that is told on standard error. Then the program is run over the li
 not written again, and goes on with the lines of standard input; its replies and its status are passed on. Of the lines before, it
 is given those alone that can have changed something: what they were answered begins with `ok`, `no`, `cancelled` or `optimised`.
 
-A line that was answered `memory` changed nothing, and may be answered otherwise another time, so it is never given again. With no
---program it is the script `nrm` at the top of the repository.
+A line that was answered `memory` changed nothing, and may be answered otherwise another time, so it is never given again. If
+what was kept ends inside `memory`, the line has no whole reply, and the stream goes on there. With no --program it is the script
+`nrm` at the top of the repository.
 """
 import argparse
 import itertools
