@@ -62,16 +62,3 @@ class Network:
         with open(path, "w") as file:
             for row in rows:
                 print(*row, sep=",", file=file)
-
-    def write_program(self, path):
-        """Its linear program over all histories together, at period 1 with every seat left, in the format of CPLEX."""
-        numbers = {name: j for j, (name, _, _) in enumerate(self.products)}
-        lines = ["maximize", "fares:"] + [f" + {fare} x{numbers[name]}" for name, fare, _ in self.products]
-        lines.append("subject to")
-        for leg, seats in self.legs:
-            on = [f" + x{numbers[name]}" for name, _, legs in self.products if leg in legs]
-            lines += [f"{leg}:"] + on + [f" <= {self.histories * seats}"] if on else []
-        lines.append("bounds")
-        lines += [f" 0 <= x{numbers[name]} <= {sum(map(sum, demand))}" for name, demand in self.demand.items()]
-        with open(path, "w") as file:
-            print(*lines, "end", sep="\n", file=file)

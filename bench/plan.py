@@ -15,6 +15,7 @@ import os
 import re
 import shutil
 import subprocess
+import sys
 import tempfile
 import time
 from fractions import Fraction
@@ -42,6 +43,12 @@ def pivots_of(path, rules):
     return count
 
 
+def write_program(folder):
+    """Writes the linear program of the network file, by the writer that the auditor has."""
+    with open(os.path.join(folder, "PROGRAM"), "wb") as file:
+        subprocess.run([sys.executable, os.path.join(TOP, "tools", "lp.py"), "NETWORK"], cwd=folder, stdout=file, check=True)
+
+
 def timed(words, folder):
     begun = time.perf_counter()
     subprocess.run(words, cwd=folder, stdin=subprocess.DEVNULL, stdout=subprocess.DEVNULL, check=True)
@@ -66,7 +73,7 @@ def value_of_solver(words, folder):
 
 def compared(name, network, programs, rules, folder):
     network.write(os.path.join(folder, "NETWORK"))
-    network.write_program(os.path.join(folder, "PROGRAM"))
+    write_program(folder)
     own, before = programs
     commands = {"nrm plan bid": [own, "plan", "bid", "NETWORK"], "nrm plan first": [own, "plan", "first", "NETWORK"]}
     if before:

@@ -15,9 +15,8 @@ are brought to no common denominator. A plan's prices are worked out on the whol
 numbers of any size; only then is it asked whether one is too large. Buckets are worked out anew for each product, and a
 protection level by trying one number of seats after the other.
 
-The words but `stream`, the texts and the statuses are those of the program, so `tests/run --program tests/reference.py`
-takes it as the program for the cases. The cases `session-mixed-lines`, `bid-mixed-lines` and `davn-mixed-lines` have a
-stream of `stream` and the replies of `run`.
+The words but `stream`, the texts and the statuses are those of the program, so `tests/run.py --program tests/reference.py`
+takes it as the program for the cases. The files in tests/streams are streams of `stream` and the replies of `run`.
 """
 import os
 import random

@@ -11,8 +11,9 @@ With --go-on that is told on standard error. Then the program is run over the li
 not written again, and goes on with the lines of standard input; its replies and its status are passed on. Of the lines before, it
 is given those alone that can have changed something: what they were answered begins with `ok`, `no`, `cancelled` or `optimised`.
 
-A line that was answered `memory` changed nothing, and may be answered otherwise another time, so it is never given again. With no
---program it is the script `nrm` at the top of the repository.
+A line that was answered `memory` changed nothing, and may be answered otherwise another time, so it is never given again. If
+what was kept ends inside `memory`, the line has no whole reply, and the stream goes on there. With no --program it is the script
+`nrm` at the top of the repository.
 """
 import argparse
 import itertools
@@ -24,7 +25,8 @@ import threading
 
 TOP = os.path.dirname(os.path.dirname(os.path.realpath(__file__)))
 PIECE = 65_536
-WANTED_MEMORY = re.compile(rb"memory\n")
+WANTED = b"memory\n"
+WANTED_MEMORY = re.compile(WANTED)
 CHANGED_SOMETHING = re.compile(rb"(ok|no|cancelled|optimised) ")
 FURTHER = re.compile(rb"(on|product|nest|protect) |leg [^ ]+ [0-9]+/")  # a line of the text of a leg or a plan, but its first
 
@@ -106,7 +108,7 @@ def line_to_go_on_at(given):
         for number, reply in enumerate(session.replies(), 1):
             front = kept.read(len(reply))
             if front != reply:
-                if not reply.startswith(front):
+                if not (reply.startswith(front) or WANTED.startswith(front) and not kept.read(1)):
                     parted(number, front, reply)
                 session.left()
                 return number, size

@@ -1,0 +1,169 @@
+#!/usr/bin/env python3
+"""Says of each file of definitions whether a public contract reaches it.
+
+    tests/definitions.py            checks: a file outside specs/Inner that no public contract reaches, and one inside it
+                                 that one does, is a fault (status 1)
+    tests/definitions.py --list     prints the files to read, crate by crate, lowest first, each with its first line
+
+A public contract is a clause of a function, method or trait that leaves its crate, or a member of an `impl` of such a
+type. A clause reaches the files that its names come from, and each of those the files that it uses in its turn.
+"""
+import os
+import re
+import sys
+from collections import OrderedDict
+
+TOP = os.path.dirname(os.path.dirname(os.path.abspath(__file__)))
+CRATES = os.path.join(TOP, "crates")
+
+
+def read(path):
+    with open(path, encoding="utf-8") as file:
+        return file.read()
+
+
+def crate_order():
+    """The crates of crates.txt, each behind those that it stands on."""
+    needs = OrderedDict()
+    for line in read(os.path.join(TOP, "crates.txt")).splitlines():
+        name, _, rest = line.partition(":")
+        if name.strip():
+            needs[name.split()[0]] = rest.split()
+    order = []
+
+    def put(name):
+        if name in order or name not in needs:
+            return
+        for below in needs[name]:
+            put(below)
+        order.append(name)
+
+    for name in needs:
+        put(name)
+    return order
+
+
+def spec_files(crate):
+    """Each spec file of a crate by its module path, but for the lists of modules."""
+    found = OrderedDict()
+    base = os.path.join(CRATES, crate, "specs")
+    for folder, _, names in sorted(os.walk(base)):
+        for name in sorted(names):
+            if name.endswith(".antt"):
+                path = os.path.join(folder, name)
+                module = os.path.relpath(path, base)[:-5].replace(os.sep, ".")
+                if module not in ("Lib", "Inner"):
+                    found[f"{crate}.{module}"] = path
+    return found
+
+
+def imports(text, keyword):
+    """Pairs of a spec module and the names that are taken from it."""
+    text = re.sub(r"--.*", "", text)
+    for module, names, alias in re.findall(
+        keyword + r"\s+Rattle\.(\w+\.specs\.[\w.]+?)(?:\.\{([^}]*)\}|\s+as\s+(\w+))\s*;?", text
+    ):
+        crate, _, rest = module.partition(".specs.")
+        if rest.startswith(("declared", "contracts")):
+            continue
+        taken = [alias] if alias else [n.split(" as ")[-1].strip() for n in names.split(",")]
+        yield f"{crate}.{rest}", taken
+
+
+def exported(crate):
+    """The names that leave a crate."""
+    lib = os.path.join(CRATES, crate, "src", "lib.rt")
+    if not os.path.exists(lib):
+        return set()
+    names = set()
+    for path in re.findall(r"pub use ([^;]+);", read(lib)):
+        inner = re.search(r"\{(.*)\}", path, re.S)
+        for name in (inner.group(1) if inner else path.split("::")[-1]).split(","):
+            if name.strip():
+                names.add(name.split(" as ")[-1].strip())
+    return names
+
+
+def blocks(text):
+    """The top items of a file: (head, body)."""
+    lines = text.split("\n")
+    item, depth = [], 0
+    for line in lines:
+        item.append(line)
+        code = re.sub(r"//.*", "", line)
+        depth += code.count("{") - code.count("}")
+        if depth == 0 and (code.rstrip().endswith(";") or code.rstrip() in ("}", "{}", "};")):
+            yield "\n".join(item)
+            item = []
+
+
+def public_text(crate):
+    """For each source file, its imports for clauses and the text of its public clauses."""
+    leaves = exported(crate)
+    base = os.path.join(CRATES, crate, "src")
+    for folder, _, names in os.walk(base):
+        for name in sorted(names):
+            if not name.endswith(".rt") or "tests" in name:
+                continue
+            text = re.sub(r"#\[cfg\(test\)\]\s*mod tests \{.*", "", read(os.path.join(folder, name)), flags=re.S)
+            uses = list(imports(text, "ghost use"))
+            public = ""
+            for item in blocks(text):
+                head = re.search(r"^(?:pub(?:\(crate\))? )?(?:const )?(fn|struct|enum|trait|impl)\b(.*)", item, re.M)
+                if not head or item.lstrip().startswith("ghost use"):
+                    continue
+                kind, rest = head.group(1), head.group(2)
+                if kind == "impl":
+                    for_type = re.search(r"for\s+&?(\w+)", rest)
+                    own = re.search(r"^(?:<[^>]*(?:>[^>]*)?>)?\s*(\w+)", rest)
+                    of = for_type.group(1) if for_type else (own.group(1) if own else "")
+                    if of not in leaves:
+                        continue
+                    if for_type:
+                        public += item
+                    else:
+                        for part in re.split(r"\n(?=    (?:///|//|#\[|pub|fn|const|ghost))", item):
+                            if re.search(r"^\s*(?:#\[.*\]\s*)*(?:///.*\s*)*pub (?:const )?fn", part):
+                                public += part
+                else:
+                    named = re.search(r"(\w+)", rest)
+                    if named and named.group(1) in leaves and re.search(r"^pub ", item, re.M):
+                        public += item
+            yield uses, re.sub(r"//.*", "", public)
+
+
+def main():
+    files, order = OrderedDict(), crate_order()
+    for crate in order:
+        files.update(spec_files(crate))
+    below = {module: {m for m, _ in imports(read(path), "use") if m in files} for module, path in files.items()}
+    reached = set()
+    for crate in order:
+        for uses, public in public_text(crate):
+            for module, names in uses:
+                if module in files and any(re.search(r"(?<![\w.])" + re.escape(n) + r"(?!\w)", public) for n in names if n):
+                    reached.add(module)
+    queue = list(reached)
+    while queue:
+        for module in below[queue.pop()] - reached:
+            reached.add(module)
+            queue.append(module)
+    if "--list" in sys.argv[1:]:
+        for module in files:
+            if module in reached:
+                first = read(files[module]).split("\n", 1)[0].lstrip("- ")
+                print(f"{os.path.relpath(files[module], TOP)}: {first}")
+        return 0
+    faults = 0
+    for module, path in files.items():
+        inner = ".Inner." in module
+        if inner == (module in reached):
+            faults += 1
+            why = "a public contract reaches it" if inner else "no public contract reaches it"
+            print(f"{os.path.relpath(path, TOP)}: {why}")
+    print(f"{len(files)} files of definitions, {len(reached)} of them reached by public contracts, {faults} out of place")
+    return 1 if faults else 0
+
+
+if __name__ == "__main__":
+    sys.exit(main())

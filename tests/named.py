@@ -1,0 +1,126 @@
+#!/usr/bin/env python3
+"""Whether what docs/proofs.md and docs/claims.md name is there.
+
+    tests/named.py
+
+Of both it checks each file of definitions or proofs (`nrm_lp/specs/Ends`, or in a list `nrm_lp/specs`: `Ends`, `Laws`), each
+public function (`nrm_lp::weakly_dual`), and each clause that is named with a function (`nrm_cli::run`, clause `ends`, or clause
+`ends` of `run`). Of the table in docs/proofs.md it checks too that a file has the names that stand behind it. Each that isn't
+there is printed; the last line is `N names, M not there`.
+"""
+import glob
+import os
+import re
+import sys
+
+TOP = os.path.dirname(os.path.dirname(os.path.realpath(__file__)))
+FILE = r"nrm\w*/(?:specs|proofs)(?:/\w+)+"
+LIST = r"\s*((?:`[\w-]+`(?:,\s+|\s+and\s+)?)+)"
+
+
+def read(path):
+    with open(os.path.join(TOP, path), encoding="utf-8") as file:
+        return file.read()
+
+
+def ticked(text):
+    return re.findall(r"`([\w-]+)`", text)
+
+
+def items_of(path):
+    """The names that a file of definitions or proofs declares; None if it isn't there."""
+    path = os.path.join("crates", f"{path}.antt")
+    if not os.path.exists(os.path.join(TOP, path)):
+        return None
+    text = read(path)
+    return set(re.findall(r"^(?: +pub |(?:abbrev |pub |record |data )*)([\w-]+)(?: \(| \{| :|$)", text, re.M))
+
+
+def functions_of(crate):
+    """The clauses of each public function of a crate, by its name; its public types have none."""
+    found = {}
+    for place, _, names in os.walk(os.path.join(TOP, "crates", crate, "src")):
+        for name in sorted(names):
+            text = read(os.path.join(place, name))
+            for part in re.split(r"^(?= *(?:pub(?:\(crate\))? )?(?:const )?fn )", text, flags=re.M):
+                public = re.match(r" *pub (?:const )?fn (\w+)", part)
+                if public:
+                    clauses = re.findall(r"^ +ensures (\w+) \{", part, re.M)
+                    found.setdefault(public[1], set()).update(clauses)
+            for known in re.findall(r"^ *pub (?:struct|enum|trait) (\w+)", text, re.M):
+                found.setdefault(known, set())
+    return found
+
+
+class Names:
+    """What was looked for, and what of it isn't there."""
+
+    def __init__(self):
+        self.count, self.missing, self.functions = 0, [], {}
+
+    def look(self, document, name, is_there):
+        self.count += 1
+        if not is_there:
+            self.missing.append(f"{document}: {name}")
+
+    def function(self, document, crate, name, clauses=()):
+        if crate not in self.functions:
+            self.functions[crate] = functions_of(crate)
+        known = self.functions[crate].get(name)
+        self.look(document, f"{crate}::{name}", known is not None)
+        for clause in clauses:
+            self.look(document, f"{crate}::{name}, clause {clause}", clause in (known or ()))
+
+    def laws(self, document, laws):
+        """Laws that are named without their crate."""
+        for law in laws:
+            self.look(document, f"law {law}", any(law in it for it in self.all_laws()))
+
+    def all_laws(self):
+        paths = glob.glob(os.path.join(TOP, "crates", "*", "src", "laws.rt"))
+        return [re.findall(r"^pub fn (\w+)", read(path), re.M) for path in paths]
+
+    def items(self, document, path, names):
+        known = items_of(path)
+        self.look(document, path, known is not None)
+        for name in names:
+            self.look(document, f"{path}: {name}", name in (known or ()))
+
+
+def look_everywhere(document, names):
+    """The files, functions and clauses that a document names."""
+    text = read(document)
+    for path in re.findall(rf"`({FILE})`", text):
+        names.items(document, path, [])
+    for folder, files in re.findall(rf"`(nrm\w*/specs)`(?::|\s\(){LIST}", text):
+        for file in ticked(files):
+            names.items(document, f"{folder}/{file}", [])
+    for crate, path in re.findall(r"`(nrm\w*)::((?:\w+::)*\w+)`", text):
+        for name in path.split("::"):
+            names.function(document, crate, name)
+    for crate, name, clauses in re.findall(rf"`(nrm\w*)::(?:\w+::)*(\w+)`, clauses?{LIST}", text):
+        names.function(document, crate, name, ticked(clauses))
+    for clauses in re.findall(rf"[Cc]lauses?{LIST}\s*of\s`run`", text):
+        names.function(document, "nrm_cli", "run", ticked(clauses))
+    for laws in re.findall(rf"\b[Ll]aws?{LIST}", text):
+        names.laws(document, [law for law in ticked(laws) if "::" not in law])
+
+
+def look_in_table(document, names):
+    """The names behind each file of the table."""
+    for path, listed in re.findall(rf"`({FILE})`: {LIST}", read(document)):
+        names.items(document, path, ticked(listed))
+
+
+def main():
+    names = Names()
+    for document in ("docs/proofs.md", "docs/claims.md"):
+        look_everywhere(document, names)
+    look_in_table("docs/proofs.md", names)
+    print(*names.missing, sep="\n", end="\n" if names.missing else "")
+    print(f"{names.count} names, {len(names.missing)} not there")
+    return 0 if names.count and not names.missing else 1
+
+
+if __name__ == "__main__":
+    sys.exit(main())
