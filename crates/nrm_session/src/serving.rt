@@ -3,6 +3,7 @@ ghost use Rattle.std.specs.Prelude.{◌≡◌, ◌+◌, ◌<◌, ◌≤◌, ◌^
 ghost use Rattle.std.specs.Io.KnownBytes.{Consumes, IsAtEnd, ReadConsumes};
 ghost use Rattle.nrm_edge.specs.Causes.{HasCause};
 ghost use Rattle.std.specs.Option.{option_to_list};
+ghost use Rattle.nrm_model.specs.declared.limits.TheConstants.{BOOKING_LIMIT};
 ghost use Rattle.nrm_control.specs.State.{SeatState};
 ghost use Rattle.nrm_control.specs.Standing.{IsControl, StandsFor};
 ghost use Rattle.nrm_stream.specs.Commands.{IsCommand};
@@ -55,7 +56,7 @@ fn answer<K: Sink>(
     sink: &mut K,
 ) -> Result<(), Failed>
     requires command { IsCommand command.now }
-    requires next { controller.old.next < 1000000000000 }
+    requires next { controller.old.next < BOOKING_LIMIT }
     ensures whole { OnOk result (Answers controller.old controller.new (command.now ∷ []) (K.held sink.old) (K.held sink.new) (K.faults sink.old) (K.faults sink.new)) }
     ensures cut { OnErr result (AnswersCut controller.old controller.new (command.now ∷ []) (K.held sink.old) (K.held sink.new) (K.faults sink.old) (K.faults sink.new)) }
 {
@@ -71,7 +72,7 @@ fn answer_piece<K: Sink>(
     piece: &[u8],
     sink: &mut K,
 ) -> Result<(), Failed>
-    requires next { controller.old.next + length piece.now < 1000000000000 }
+    requires next { controller.old.next + length piece.now < BOOKING_LIMIT }
     requires kept { IsControl controller.old }
     ensures whole { OnOk result (AnswersPiece controller.old controller.new splitter.old splitter.new piece.now (K.held sink.old) (K.held sink.new) (K.faults sink.old) (K.faults sink.new)) }
     ensures cut { OnErr result (CutsPiece controller.old controller.new splitter.old piece.now (K.held sink.old) (K.held sink.new) (K.faults sink.old) (K.faults sink.new)) }
@@ -100,7 +101,7 @@ fn answer_last<K: Sink>(
     sink: &mut K,
 ) -> Result<(), Failed>
     requires within { IfSome last IsCommand }
-    requires next { controller.old.next < 1000000000000 }
+    requires next { controller.old.next < BOOKING_LIMIT }
     requires kept { IsControl controller.old }
     ensures whole { OnOk result (Answers controller.old controller.new (option_to_list last) (K.held sink.old) (K.held sink.new) (K.faults sink.old) (K.faults sink.new)) }
     ensures cut { OnErr result (AnswersCut controller.old controller.new (option_to_list last) (K.held sink.old) (K.held sink.new) (K.faults sink.old) (K.faults sink.new)) }
@@ -122,7 +123,7 @@ fn end_input<K: Sink>(
     sink: &mut K,
 ) -> End
     requires within { IfSome last IsCommand }
-    requires next { controller.old.next < 1000000000000 }
+    requires next { controller.old.next < BOOKING_LIMIT }
     requires kept { IsControl controller.old }
     ensures { EndsInput controller.old controller.new (option_to_list last) (K.held sink.old) (K.held sink.new) (K.faults sink.old) (K.faults sink.new) result }
 {
