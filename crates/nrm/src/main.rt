@@ -1,10 +1,10 @@
 //! `nrm`, the program: the real files, standard input and standard output around the top call.
 #![tactic(auto)]
 
-use nrm_cli::{Status, run};
-use nrm_edge::{DirFiles, StdSink, StdSource};
+use nrm_cli::{Status, asks_for_a_job, run};
+use nrm_edge::{DirFiles, GatheringSink, StdSink, StdSource};
 use std::env;
-use std::io::{self, BufWriter, ErrorKind};
+use std::io::{self, ErrorKind};
 use std::process::ExitCode;
 
 // How many bytes of output are gathered before they are sent on.
@@ -20,13 +20,18 @@ fn words_given(rt: &HostRuntime) -> io::Result<Vec<String>> {
     }
 }
 
-// The program, around its words.
+// The program, around its words. Memory to gather the output is taken only for words that ask for a job.
 fn status_of(rt: &HostRuntime) -> io::Result<Status> {
+    let alloc = rt.alloc();
     let words = words_given(rt)?;
     let mut files = DirFiles::new(rt);
     let mut source = StdSource::new(rt.stdin());
-    let mut sink = StdSink::new(BufWriter::with_capacity(rt.alloc(), GATHERED, io::writer(rt))?);
-    Ok(run(rt.alloc(), &words, &mut files, &mut source, &mut sink))
+    let mut output = StdSink::new(io::writer(rt));
+    if !asks_for_a_job(&words) {
+        return Ok(run(alloc, &words, &mut files, &mut source, &mut output));
+    }
+    let mut sink = GatheringSink::new(alloc, output, GATHERED)?;
+    Ok(run(alloc, &words, &mut files, &mut source, &mut sink))
 }
 
 fn main(rt: HostRuntime) -> ExitCode {

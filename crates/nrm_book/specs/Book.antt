@@ -2,6 +2,7 @@
 use Rattle.std.specs.Prelude.{ℕ, ◌≡◌, ◌<◌, ◌≤◌, ◌++◌, ◌∷◌, [], ◌+◌, List, All, length}
 use Rattle.std.specs.Int.{IsInRange}
 use Rattle.nrm_model.specs.Inventory.{Inventory, seats_of}
+use Rattle.nrm_model.specs.declared.limits.TheConstants.{BOOKING_LIMIT, MOST_FARE, MOST_LEGS, MOST_PARTY, MOST_PRODUCTS, MOST_SEATS}
 use Rattle.nrm_book.specs.declared.booking.Booking.{Booking}
 use Rattle.nrm_book.specs.Bookings.{NumbersRise, sold_on}
 
@@ -13,21 +14,21 @@ pub record BookValue : Type 0 where
 
 -- an inventory within the limits of a network
 pub record IsInventory (inventory : Inventory) : Type 0 where
-  pub leg_count : length inventory.seats ≤ 64
-  pub seats : All (λ seats. seats ≤ 999) inventory.seats
-  pub product_count : length inventory.legs ≤ 256
+  pub leg_count : length inventory.seats ≤ MOST_LEGS
+  pub seats : All (λ seats. seats ≤ MOST_SEATS) inventory.seats
+  pub product_count : length inventory.legs ≤ MOST_PRODUCTS
   pub fare_count : length inventory.fares ≡ length inventory.legs
-  pub fares : All (λ fare. fare ≤ 99999999) inventory.fares
+  pub fares : All (λ fare. fare ≤ MOST_FARE) inventory.fares
   pub some_leg : All (λ (legs : List ℕ). 1 ≤ length legs) inventory.legs
   pub legs : All (λ (legs : List ℕ). All (λ i. i < length inventory.seats) legs) inventory.legs
 
 -- the bookings are those of a book: their numbers rise below the next one, each is a party of a product, and no leg has more seats sold than it has
 pub record IsBook (book : BookValue) : Type 0 where
   pub inventory : IsInventory book.inventory
-  pub next : IsInRange 1 1000000000000 book.next
+  pub next : IsInRange 1 BOOKING_LIMIT book.next
   pub rising : NumbersRise book.bookings
   pub numbers : All (λ (booking : Booking). (1 ≤ booking.number) × (booking.number < book.next)) book.bookings
-  pub parties : All (λ (booking : Booking). IsInRange 1 999 booking.party) book.bookings
+  pub parties : All (λ (booking : Booking). IsInRange 1 MOST_PARTY booking.party) book.bookings
   pub products : All (λ (booking : Booking). booking.product < length book.inventory.legs) book.bookings
   pub seats : (i : ℕ) → i < length book.inventory.seats → sold_on book.inventory book.bookings i ≤ seats_of book.inventory i
 

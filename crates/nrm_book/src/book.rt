@@ -5,6 +5,7 @@
 ghost use Rattle.std.specs.Prelude.{◌≡◌, ◌+◌, ◌*◌, ◌<◌, ◌≤◌, ◌==◌, [], All, IfNone, IfOk, IfSome, length, map, position, slice_get, slice_index, sum, true, unwrap_or};
 ghost use Rattle.std.specs.Int.{IsInRange};
 ghost use Rattle.nrm_model.specs.Inventory.{inventory_of, legs_of, products_on, seats_of, uses_leg};
+ghost use Rattle.nrm_model.specs.declared.limits.TheConstants.{BOOKING_LIMIT, MOST_LEGS, MOST_PARTY};
 ghost use Rattle.nrm_book.specs.Bookings.{booking_numbered, left_on, revenue_of, sold_of, sold_on, without};
 
 use crate::Booking;
@@ -130,9 +131,9 @@ impl Book {
     /// does it move the bookings that stand, to the front of their room.
     pub fn add(&mut self, product: u16, party: u16) -> u64
         requires product { product < length self.old.inventory.legs }
-        requires party { IsInRange 1 999 party }
+        requires party { IsInRange 1 MOST_PARTY party }
         requires seats { All (λ i. party ≤ left_on self.old.inventory self.old.bookings i) (legs_of self.old.inventory product) }
-        requires next { self.old.next < 1000000000000 }
+        requires next { self.old.next < BOOKING_LIMIT }
         ensures number { result ≡ self.old.next }
         ensures added { self.new ≡ with_booking self.old product party }
         ensures kept { IsBook self.new }
@@ -233,7 +234,7 @@ fn worth(fares: &[u32], booking: &Booking) -> u64
 
 // The seats of all legs together.
 fn seats_in_all(seats: &[u16]) -> usize
-    requires { length seats.now ≤ 64 }
+    requires { length seats.now ≤ MOST_LEGS }
     ensures { result ≡ sum seats.now }
 {
     seats.iter().map(|seats| usize::from(*seats)).sum()

@@ -4,6 +4,7 @@ use Rattle.std.specs.Io.KnownBytes.{Consumes, IsAtEnd}
 use Rattle.nrm_edge.specs.Fetch.{Folder}
 use Rattle.nrm_model.specs.declared.mode.Mode.{Mode}
 use Rattle.nrm_model.specs.Network.{NetworkValue}
+use Rattle.nrm_model.specs.declared.limits.TheConstants.{MOST_STREAM_BYTES}
 use Rattle.nrm_network.specs.Canonical.{canonical_file}
 use Rattle.nrm_control.specs.State.{SeatState, opening}
 use Rattle.nrm_stream.specs.Commands.{commands_of, whole_commands}
@@ -28,7 +29,7 @@ use Rattle.nrm_cli.specs.declared.status.Status.TheVariants as status
 
 -- the most bytes of a stream
 abbrev pub stream_limit : ℕ
-stream_limit = 4294967296
+stream_limit = MOST_STREAM_BYTES
 
 -- the output of a run from the opening with a plan, over commands, and of a run that was cut in a reply
 abbrev pub RunWrites : NetworkValue → PlanValue → List Command → List ℕ → Type 0

@@ -12,12 +12,9 @@ use crate::Status;
 use nrm_dual::{CertFault, Verdict, read_certificate};
 use nrm_edge::{Fetched, FileFault, Files};
 use nrm_lp::Certificate;
-use nrm_model::Network;
+use nrm_model::{MOST_CERTIFICATE_BYTES, Network};
 use nrm_text::{Line, Name};
 use std::alloc::Global;
-
-// The most bytes of a certificate file.
-const CERTIFICATE_LIMIT: usize = 65_536;
 
 /// Why there is no certificate.
 #[derive(Clone, Copy, Debug, PartialEq, Eq)]
@@ -68,7 +65,7 @@ pub(crate) fn open_certificate<F: Files>(
     ensures counts { CountsCertificate (F.faults files.old) (F.faults files.new) result }
     ensures stays { F.contents files.new ≡ F.contents files.old }
 {
-    match files.fetch(alloc, name, CERTIFICATE_LIMIT)? {
+    match files.fetch(alloc, name, MOST_CERTIFICATE_BYTES)? {
         Fetched::Whole(bytes) => Ok(read_certificate(alloc, net, &bytes)?),
         Fetched::Longer => Err(NoCertificate::Unread(CertFault::Long)),
         Fetched::Absent => Err(NoCertificate::Absent),

@@ -17,3 +17,4 @@ mod words;
 
 pub use status::Status;
 pub use top::run;
+pub use words::asks_for_a_job;

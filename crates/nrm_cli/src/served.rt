@@ -11,13 +11,10 @@ use crate::Status;
 use crate::put::{put_reason, put_unplanned};
 use nrm_control::Controller;
 use nrm_edge::{Files, Sink, Source};
-use nrm_model::Mode;
+use nrm_model::{MOST_STREAM_BYTES, Mode};
 use nrm_opening::open_network;
 use nrm_session::{End, serve};
 use std::alloc::Global;
-
-// The most bytes of a stream.
-const STREAM_LIMIT: u64 = 4_294_967_296;
 
 // The status that goes with the end of a session.
 fn status_at(end: End) -> Status
@@ -45,7 +42,7 @@ fn answer_stream<S: Source, K: Sink>(
         CountsFaults (at source.old sink.old) (at source.new sink.new) result }
     ensures sent { SentOn (status_at result) (K.unsent sink.old) (K.unsent sink.new) }
 {
-    serve(alloc, controller, source, sink, STREAM_LIMIT)
+    serve(alloc, controller, source, sink, MOST_STREAM_BYTES)
 }
 
 /// Opens a network, makes its opening plan, and answers the lines of the stream.

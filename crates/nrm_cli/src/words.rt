@@ -1,5 +1,5 @@
 //! The words of the command line.
-ghost use Rattle.std.specs.Prelude.{◌≡◌, bytes_eq, map, option_map, string_bytes};
+ghost use Rattle.std.specs.Prelude.{◌≡◌, bytes_eq, is_some, map, option_map, string_bytes};
 ghost use Rattle.nrm_cli.specs.Inner.Parts.{job_in};
 ghost use Rattle.nrm_text.specs.Numbers.{whole_between};
 ghost use Rattle.nrm_cli.specs.Jobs.{job_of, made_run_of, mode_of};
@@ -48,6 +48,13 @@ fn made_run_in(mode: &String, number: &String) -> Option<Asked<'static>>
         Ok(number) => Some(Asked::Made(mode, number as u32)),
         Err(_) => None,
     }
+}
+
+/// Whether the words (without the program's own name) ask for a job; all others get the usage line. It takes no memory.
+pub fn asks_for_a_job(words: &[String]) -> bool
+    ensures { result ≡ is_some (job_of (map string_bytes words.now)) }
+{
+    asked_in(words).is_some()
 }
 
 /// The job that the words ask for, if they ask for one.

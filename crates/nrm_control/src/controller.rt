@@ -5,6 +5,7 @@ ghost use Rattle.nrm_number.specs.Gcd.{gcd};
 ghost use Rattle.nrm_fraction.specs.Fraction.{◌over◌};
 ghost use Rattle.nrm_model.specs.Inventory.{inventory_of, uses_leg};
 ghost use Rattle.nrm_model.specs.Network.{least_seats_of};
+ghost use Rattle.nrm_model.specs.declared.limits.TheConstants.{BOOKING_LIMIT, MOST_PARTY, MOST_SEATS};
 ghost use Rattle.nrm_book.specs.Bookings.{booking_numbered, without, worth_of};
 ghost use Rattle.nrm_hindsight.specs.Requests.{tallies_of};
 ghost use Rattle.nrm_plan.specs.Plans.{IsPlanFault, IsPlanFor, IsPlanOf};
@@ -117,8 +118,8 @@ fn no_tallies(alloc: Global, net: &Network) -> Result<Vec<u16>, AllocError>
 // The tally of a product after a request for a party.
 fn tally_after(net: &Network, tally: u16, product: u16, party: u16) -> u16
     requires product { product < length net.now.products }
-    requires tally { tally ≤ 999 }
-    requires party { party ≤ 999 }
+    requires tally { tally ≤ MOST_SEATS }
+    requires party { party ≤ MOST_PARTY }
     ensures { result ≡ min (tally + party) (least_seats_of net.now product) }
 {
     (tally + party).min(net.least_seats(product))
@@ -158,8 +159,8 @@ impl Controller {
     /// Asks for seats of a product for a party. A refusal changes the product's tally alone. It takes no memory.
     pub fn request(&mut self, product: u16, party: u16) -> Answer
         requires product { product < length self.old.net.products }
-        requires party { IsInRange 1 999 party }
-        requires next { self.old.next < 1000000000000 }
+        requires party { IsInRange 1 MOST_PARTY party }
+        requires next { self.old.next < BOOKING_LIMIT }
         ensures answer { result ≡ verdict_of self.old.net self.old.plan self.old.bookings self.old.next product party }
         ensures leg { IsOnNetwork self.old.net result }
         ensures changed { self.new ≡ with_answer self.old product party result }

@@ -1,6 +1,7 @@
 //! Requests on networks of two legs, worked by hand: AB with 3 seats and BC with 2, and both with ten.
 ghost use Rattle.std.specs.Prelude.{◌≡◌, ◌<◌, ◌≤◌, ◌+◌, IfOk, length};
 ghost use Rattle.std.specs.Int.{IsInRange};
+ghost use Rattle.nrm_model.specs.declared.limits.TheConstants.{MOST_PARTY};
 
 use crate::{Answer, Controller};
 use nrm_model::Mode;
@@ -21,7 +22,7 @@ fn begun(alloc: Global, mode: Mode) -> Result<Controller, SolveFault>
 // What a request gets, where the numbers are low.
 fn ask(controller: &mut Controller, product: u16, party: u16) -> Answer
     requires product { product < length controller.old.net.products }
-    requires party { IsInRange 1 999 party }
+    requires party { IsInRange 1 MOST_PARTY party }
     requires next { controller.old.next < 1000000 }
     ensures net { controller.new.net ≡ controller.old.net }
     ensures next { controller.new.next ≤ controller.old.next + 1 }

@@ -4,14 +4,15 @@ use Rattle.nrm_fraction.specs.Fraction.{Fraction}
 use Rattle.nrm_model.specs.Network.{NetworkValue, leg_of}
 use Rattle.nrm_model.specs.Limits.{IsNetwork}
 use Rattle.nrm_lp.specs.Limits.{IsLimited}
+use Rattle.nrm_lp.specs.declared.limits.TheConstants.{MOST_SEATS_IN_ALL}
 use Rattle.nrm_dlp.specs.Hindsight.{AreTallies, BoundsAllocations, HindsightOverflows, IsAttained, IsHindsight}
 use Rattle.nrm_dlp.specs.Programs.{hindsight_program, program_of, program_at, opening_program}
 
--- with a cap for each leg and a bound for each product, none of them above 31,968
+-- with a cap for each leg and a bound for each product, none of them above the most of a program
 abbrev pub ProgramsAreLimited : Type 0
 ProgramsAreLimited = (net : NetworkValue) (caps bounds : List ℕ) → IsNetwork net
-    → length caps ≡ length net.legs → All (λ cap. cap ≤ 31968) caps
-    → length bounds ≡ length net.products → All (λ bound. bound ≤ 31968) bounds → IsLimited (program_of net caps bounds)
+    → length caps ≡ length net.legs → All (λ cap. cap ≤ MOST_SEATS_IN_ALL) caps
+    → length bounds ≡ length net.products → All (λ bound. bound ≤ MOST_SEATS_IN_ALL) bounds → IsLimited (program_of net caps bounds)
 
 -- at seats left, on no leg more than it has, in any period
 abbrev pub SeatsLeftAreLimited : Type 0

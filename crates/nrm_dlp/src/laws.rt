@@ -10,7 +10,7 @@ ghost use Rattle.nrm_dlp.specs.Laws.{
   SeatsLeftAreLimited,
 };
 
-/// The programs of a network are within the limits of programs: with caps and bounds of at most 31,968, at seats left
+/// The programs of a network are within the limits of programs: with caps and bounds within those, at seats left
 /// of which no leg has more than its own, before anything is sold, and with tallies as bounds.
 pub fn programs_are_limited()
     ensures made { ProgramsAreLimited }

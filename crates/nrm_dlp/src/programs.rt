@@ -7,6 +7,7 @@ ghost use Rattle.nrm_model.specs.Network.{leg_of};
 ghost use Rattle.nrm_model.specs.Demand.{total_to_come};
 ghost use Rattle.nrm_model.specs.Inventory.{inventory_of};
 ghost use Rattle.nrm_model.specs.Limits.{IsNetwork};
+ghost use Rattle.nrm_lp.specs.declared.limits.TheConstants.{MOST_SEATS_IN_ALL};
 ghost use Rattle.nrm_dlp.specs.Hindsight.{AreTallies};
 ghost use Rattle.nrm_dlp.specs.Programs.{hindsight_program, opening_program, program_at, program_of};
 
@@ -25,9 +26,9 @@ pub fn program_of(
     bounds: Vec<u32>,
 ) -> Result<Program, AllocError>
     requires legs { length caps.items ≡ length net.now.legs }
-    requires caps { All (λ cap. cap ≤ 31968) caps.items }
+    requires caps { All (λ cap. cap ≤ MOST_SEATS_IN_ALL) caps.items }
     requires products { length bounds.items ≡ length net.now.products }
-    requires bounds { All (λ bound. bound ≤ 31968) bounds.items }
+    requires bounds { All (λ bound. bound ≤ MOST_SEATS_IN_ALL) bounds.items }
     ensures { IfOk result (λ program. program ≡ program_of net.now caps.items bounds.items) }
 {
     let fares = fares_of(alloc, net)?;

@@ -8,6 +8,7 @@ use Rattle.nrm_fraction.specs.Fraction.{Fraction, ◌over◌}
 use Rattle.nrm_fraction.specs.Large.{common, numerators, large_number, size_limit}
 use Rattle.nrm_text.specs.Numbers.{is_whole, value_of}
 use Rattle.nrm_model.specs.Network.{NetworkValue, leg_named, product_named}
+use Rattle.nrm_model.specs.declared.limits.TheConstants.{MOST_CERTIFICATE_BYTES}
 use Rattle.nrm_stream.specs.Lines.{lines_of}
 use Rattle.nrm_lp.specs.declared.certificate.Certificate.{Certificate}
 use Rattle.nrm_dual.specs.Refusals.{CertRefusal, too_long, bad_line, large_line, no_value, no_product, no_leg, too_fine}
@@ -161,5 +162,5 @@ certificate_on net sheet =
 -- the certificate that the bytes of a file give, or why they give none
 abbrev pub certificate_of : NetworkValue → List ℕ → Result Certificate CertRefusal
 certificate_of net bytes =
-    if nat_lt 65536 (length bytes) then Err too_long
+    if nat_lt MOST_CERTIFICATE_BYTES (length bytes) then Err too_long
     else or_refusal (after_lines net (blank net) 1 (lines_of bytes)) (certificate_on net)

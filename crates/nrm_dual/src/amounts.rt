@@ -1,5 +1,6 @@
 //! The numbers of a certificate out of the fractions of a file: those of all histories together, over two denominators.
 ghost use Rattle.std.specs.Prelude.{◌≡◌, ◌<◌, ◌≤◌, ◌++◌, ◌∷◌, IfOk, drop, get_or, length, map, None, pos};
+ghost use Rattle.nrm_model.specs.declared.limits.TheConstants.{MOST_HISTORIES};
 ghost use Rattle.nrm_dual.specs.Refusals.{AnswersCertificate};
 ghost use Rattle.nrm_dual.specs.Reading.{certificate_or_refusal, prices_in, times};
 
@@ -12,7 +13,7 @@ use std::alloc::{AllocError, Global};
 
 // So many times what was given, and 0 where nothing was.
 fn times(n: u8, given: &Option<Written>) -> Fraction
-    requires { n ≤ 32 }
+    requires { n ≤ MOST_HISTORIES }
     ensures { result ≡ times n given.now }
 {
     match given {
@@ -23,7 +24,7 @@ fn times(n: u8, given: &Option<Written>) -> Fraction
 
 // Appends so many times each of these.
 fn put_times(made: &mut Vec<Fraction>, n: u8, given: &[Option<Written>]) -> Result<(), AllocError>
-    requires { n ≤ 32 }
+    requires { n ≤ MOST_HISTORIES }
     ensures { IfOk result (λ _. made.new.items ≡ made.old.items ++ map (times n) given.now) }
 {
     for fraction in given {
@@ -34,7 +35,7 @@ fn put_times(made: &mut Vec<Fraction>, n: u8, given: &[Option<Written>]) -> Resu
 
 // The allocation of all histories.
 fn shares(alloc: Global, histories: u8, sheet: &Sheet) -> Result<Vec<Fraction>, AllocError>
-    requires { histories ≤ 32 }
+    requires { histories ≤ MOST_HISTORIES }
     ensures { IfOk result (λ list. list.items ≡ map (times histories) sheet.now.products) }
 {
     let mut made = Vec::new(alloc);
@@ -48,7 +49,7 @@ fn value_and_prices(
     histories: u8,
     sheet: &Sheet,
 ) -> Result<Vec<Fraction>, AllocError>
-    requires { histories ≤ 32 }
+    requires { histories ≤ MOST_HISTORIES }
     ensures { IfOk result (λ list. list.items ≡ times histories sheet.now.value ∷ prices_in sheet.now) }
 {
     let mut made = Vec::new(alloc);
@@ -82,7 +83,7 @@ pub(crate) fn certificate_over(
     histories: u8,
     sheet: &Sheet,
 ) -> Result<Certificate, CertFault>
-    requires { histories ≤ 32 }
+    requires { histories ≤ MOST_HISTORIES }
     ensures { AnswersCertificate result (certificate_or_refusal (map (times histories) sheet.now.products) (times histories sheet.now.value) (prices_in sheet.now)) }
 {
     let (q, x) = over_common(alloc, &shares(alloc, histories, sheet)?)?;

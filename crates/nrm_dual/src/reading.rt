@@ -5,6 +5,7 @@ ghost use Rattle.nrm_fraction.specs.Large.{size_limit};
 ghost use Rattle.nrm_stream.specs.Lines.{lines_of};
 ghost use Rattle.nrm_lp.specs.Shape.{HasShape};
 ghost use Rattle.nrm_model.specs.Limits.{IsNetwork};
+ghost use Rattle.nrm_model.specs.declared.limits.TheConstants.{MOST_CERTIFICATE_BYTES, MOST_HISTORIES, MOST_LEGS, MOST_PRODUCTS};
 ghost use Rattle.nrm_dual.specs.Reading.{after_line, after_lines, certificate_of, entry_of};
 ghost use Rattle.nrm_dual.specs.Refusals.{AnswersCertificate};
 ghost use Rattle.nrm_dual.specs.Named.{IsOfNetwork};
@@ -16,12 +17,10 @@ use crate::place::place_in;
 use crate::sheet::{Sheet, first_missing};
 use crate::written::written_in;
 use nrm_lp::Certificate;
-use nrm_model::Network;
+use nrm_model::{MOST_CERTIFICATE_BYTES, Network};
 use nrm_stream::next_line;
 use nrm_text::NumberFault;
 use std::alloc::Global;
-
-const MOST_BYTES: usize = 65_536;
 
 /// Reads the certificate that a file gives for a network. Its lines may come in any order, the value, each product and
 /// each leg once: `value n/d`, `product NAME n/d` and `leg NAME n/d`, with the mean value and the mean allocations of a
@@ -42,7 +41,7 @@ pub fn read_certificate(
     ensures shaped { IfOk result (HasShape size_limit (length net.now.products) (length net.now.legs)) }
     ensures named { IfErr result (IsOfNetwork net.now) }
 {
-    if bytes.len() > MOST_BYTES {
+    if bytes.len() > MOST_CERTIFICATE_BYTES {
         return Err(CertFault::Long);
     }
     let histories = net.n();
@@ -55,7 +54,7 @@ pub fn read_certificate(
 fn read_lines(sheet: &mut Sheet, net: &Network, bytes: &[u8]) -> Result<(), CertFault>
     requires limits { IsNetwork net.now }
     requires sheet { IsSheetOf net.now sheet.old }
-    requires size { length bytes.now ≤ 65536 }
+    requires size { length bytes.now ≤ MOST_CERTIFICATE_BYTES }
     ensures lines { MatchResult result (λ _. after_lines net.now sheet.old 1 (lines_of bytes.now) ≡ Ok sheet.new) (λ fault. Refuses fault (after_lines net.now sheet.old 1 (lines_of bytes.now))) }
     ensures sheet { IfOk result (λ _. IsSheetOf net.now sheet.new) }
 {
@@ -99,9 +98,9 @@ fn fault_at(number: u32, fault: NumberFault) -> CertFault
 
 // The certificate of a sheet.
 fn certificate_on(alloc: Global, histories: u8, sheet: &Sheet) -> Result<Certificate, CertFault>
-    requires histories { histories ≤ 32 }
-    requires products { length sheet.now.products ≤ 256 }
-    requires legs { length sheet.now.legs ≤ 64 }
+    requires histories { histories ≤ MOST_HISTORIES }
+    requires products { length sheet.now.products ≤ MOST_PRODUCTS }
+    requires legs { length sheet.now.legs ≤ MOST_LEGS }
     ensures { AnswersCertificate result (certificate_in histories sheet.now) }
 {
     if sheet.value().is_none() {

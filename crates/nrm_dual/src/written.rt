@@ -1,6 +1,7 @@
 //! Fractions as they are written in a file: two whole numbers up to 2^63 - 1 around one `/`, in any terms.
 ghost use Rattle.std.specs.Prelude.{◌≡◌, ◌≤◌, ◌*◌, ◌∷◌, [], pos};
 ghost use Rattle.nrm_fraction.specs.Fraction.{◌over◌};
+ghost use Rattle.nrm_model.specs.declared.limits.TheConstants.{MOST_HISTORIES};
 ghost use Rattle.nrm_dual.specs.Reading.{times, written_by, written_in};
 ghost use Rattle.nrm_dual.specs.Inner.Sheets.{fitting};
 
@@ -34,7 +35,7 @@ impl Model for Written {
 impl Written {
     // So many times the fraction, in lowest terms.
     pub(crate) fn times(&self, n: u8) -> Fraction
-        requires { n ≤ 32 }
+        requires { n ≤ MOST_HISTORIES }
         ensures { result ≡ pos (n * self.now.num) over self.now.den }
     {
         Fraction::new(u128::from(n) * u128::from(self.num), self.den)

@@ -2,6 +2,7 @@
 //! passes.
 ghost use Rattle.std.specs.Prelude.{◌≡◌, ◌+◌, ◌*◌, ◌^◌, ◌<◌, ◌≤◌, ◌*ℤ◌, All, int_lt, length, not, pos, unsigned_abs};
 ghost use Rattle.nrm_fraction.specs.Large.{size_limit};
+ghost use Rattle.nrm_model.specs.declared.limits.TheConstants.{MOST_HISTORIES, MOST_PRODUCTS};
 ghost use Rattle.nrm_emsr.specs.Inner.Nest.{IsSmall, crosses, nest_fare};
 ghost use Rattle.nrm_emsr.specs.Inner.Ranked.{greatest_count};
 
@@ -10,7 +11,7 @@ use crate::nest::{Mean, Nested, mean_of, scaled};
 /// The fare of one bucket.
 pub(crate) fn fare_of(nest: &[Nested], cuts: &[u32], den: u64, bucket: u8) -> Mean
     requires small { All IsSmall nest.now }
-    requires few { length nest.now ≤ 256 }
+    requires few { length nest.now ≤ MOST_PRODUCTS }
     requires den { den < size_limit }
     requires first { 1 ≤ bucket }
     ensures fares { result.fares ≡ (nest_fare nest.now cuts.now den bucket).0 }
@@ -38,7 +39,7 @@ pub(crate) fn fare_of(nest: &[Nested], cuts: &[u32], den: u64, bucket: u8) -> Me
 /// The greatest count, from 0 to the number of histories, that passes: times the fare above, it is at most that number,
 /// times the next fare. 0 where none does.
 pub(crate) fn most_that_pass(histories: u8, above: Mean, next: Mean) -> u8
-    requires histories { histories ≤ 32 }
+    requires histories { histories ≤ MOST_HISTORIES }
     requires weight { above.seats < 2 ^ 23 }
     requires fares { unsigned_abs above.fares < 2 ^ 98 }
     requires next_weight { next.seats < 2 ^ 23 }
@@ -54,8 +55,8 @@ pub(crate) fn most_that_pass(histories: u8, above: Mean, next: Mean) -> u8
 
 // Whether a count of histories, times a fare, is at most the histories, times the next fare.
 fn passes(count: u8, above: Mean, histories: u8, next: Mean) -> bool
-    requires few { count ≤ 32 }
-    requires histories { histories ≤ 32 }
+    requires few { count ≤ MOST_HISTORIES }
+    requires histories { histories ≤ MOST_HISTORIES }
     requires weight { above.seats < 2 ^ 23 }
     requires fares { unsigned_abs above.fares < 2 ^ 98 }
     requires next_weight { next.seats < 2 ^ 23 }
@@ -77,7 +78,7 @@ fn is_at_most(number: i128, other: i128) -> bool
 
 // A side of the comparison.
 fn side(count: u8, fares: i128, seats: u32) -> i128
-    requires few { count ≤ 32 }
+    requires few { count ≤ MOST_HISTORIES }
     requires weight { seats < 2 ^ 23 }
     requires fares { unsigned_abs fares < 2 ^ 98 }
     ensures side { result ≡ (pos count *ℤ fares) *ℤ pos seats }

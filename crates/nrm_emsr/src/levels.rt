@@ -6,6 +6,7 @@ ghost use Rattle.nrm_fraction.specs.Large.{size_limit};
 ghost use Rattle.nrm_model.specs.Demand.{demand_to_come};
 ghost use Rattle.nrm_model.specs.Inventory.{inventory_of, products_on};
 ghost use Rattle.nrm_model.specs.Network.{leg_of};
+ghost use Rattle.nrm_model.specs.declared.limits.TheConstants.{MOST_PRODUCTS};
 ghost use Rattle.nrm_virtual.specs.Adjusted.{HasPrices};
 ghost use Rattle.nrm_virtual.specs.Buckets.{bucket_count};
 ghost use Rattle.nrm_virtual.specs.Table.{IsTableOf};
@@ -74,7 +75,7 @@ fn enough_for(
     requires last { last < bucket_count net.now leg }
     requires nest { nest.now ≡ map (nested_of net.now cert.now leg period) (products_on (inventory_of net.now) leg) }
     requires small { All IsSmall nest.now }
-    requires few { length nest.now ≤ 256 }
+    requires few { length nest.now ≤ MOST_PRODUCTS }
     requires known { All (IsOf (length net.now.products)) nest.now }
     ensures { IfOk result (λ seats. seats ≡ seats_enough net.now cert.now leg period last) }
 {
@@ -117,7 +118,7 @@ fn demands_of(
     period: u8,
 ) -> Result<Vec<u32>, AllocError>
     requires known { All (IsOf (length net.now.products)) nest.now }
-    requires few { length nest.now ≤ 256 }
+    requires few { length nest.now ≤ MOST_PRODUCTS }
     requires period { IsInRange 1 net.now.periods period }
     ensures { IfOk result (λ demands. demands.items ≡ map (λ h. sum_by (λ nested. demand_to_come net.now nested.product h period) (in_buckets nest.now 1 last)) (range_with_len 0 net.now.histories)) }
 {

@@ -1,10 +1,11 @@
 //! A leg's products with their buckets, their adjusted fares and their demand to come, each found once, and sums over
 //! them.
-ghost use Rattle.std.specs.Prelude.{◌≡◌, ◌+◌, ◌*◌, ◌^◌, ◌<◌, ◌≤◌, ◌+ℤ◌, ◌*ℤ◌, All, IfOk, length, map, pos, sum_by, true, unsigned_abs};
+ghost use Rattle.std.specs.Prelude.{◌≡◌, ◌+◌, ◌-◌, ◌*◌, ◌^◌, ◌<◌, ◌≤◌, ◌+ℤ◌, ◌*ℤ◌, All, IfOk, length, map, pos, sum_by, true, unsigned_abs};
 ghost use Rattle.std.specs.Int.{IsInRange, is_in_range};
 ghost use Rattle.nrm_fraction.specs.Large.{size_limit};
 ghost use Rattle.nrm_model.specs.Demand.{demand_to_come, total_to_come};
 ghost use Rattle.nrm_model.specs.Inventory.{inventory_of, products_on, uses_leg};
+ghost use Rattle.nrm_model.specs.declared.limits.TheConstants.{MOST_PRODUCTS, MOST_TOTAL_DEMAND};
 ghost use Rattle.nrm_virtual.specs.Adjusted.{HasPrices, adjusted_fare};
 ghost use Rattle.nrm_virtual.specs.Buckets.{bucket_of};
 ghost use Rattle.nrm_virtual.specs.Table.{IsTableOf};
@@ -49,7 +50,7 @@ pub(crate) fn nest_of(
     requires period { IsInRange 1 net.now.periods period }
     ensures nest { IfOk result (λ nest. nest.items ≡ map (nested_of net.now cert.now leg period) (products_on (inventory_of net.now) leg)) }
     ensures small { IfOk result (λ nest. All IsSmall nest.items) }
-    ensures few { IfOk result (λ nest. length nest.items ≤ 256) }
+    ensures few { IfOk result (λ nest. length nest.items ≤ MOST_PRODUCTS) }
     ensures known { IfOk result (λ nest. All (IsOf (length net.now.products)) nest.items) }
 {
     let mut nest = Vec::new(alloc);
@@ -93,7 +94,7 @@ fn nested_at(
 /// The mean fare of the buckets from one to another.
 pub(crate) fn mean_of(nest: &[Nested], first: u8, last: u8) -> Mean
     requires small { All IsSmall nest.now }
-    requires few { length nest.now ≤ 256 }
+    requires few { length nest.now ≤ MOST_PRODUCTS }
     ensures weight { result.seats ≡ nest_weight nest.now first last }
     ensures fares { result.fares ≡ nest_fares nest.now first last }
     ensures weight_size { result.seats < 2 ^ 23 }
@@ -110,12 +111,12 @@ pub(crate) fn mean_of(nest: &[Nested], first: u8, last: u8) -> Mean
 
 // One more product in a mean.
 fn with(mean: Mean, nested: &Nested) -> Mean
-    requires fares { unsigned_abs mean.fares ≤ 2 ^ 75 * 31968 * 255 }
-    requires seats { mean.seats ≤ 31968 * 255 }
+    requires fares { unsigned_abs mean.fares ≤ 2 ^ 75 * MOST_TOTAL_DEMAND * (MOST_PRODUCTS - 1) }
+    requires seats { mean.seats ≤ MOST_TOTAL_DEMAND * (MOST_PRODUCTS - 1) }
     requires small { IsSmall nested.now }
     ensures fares { result.fares ≡ mean.fares +ℤ (nested.now.fare *ℤ pos nested.now.seats) }
     ensures seats { result.seats ≡ mean.seats + nested.now.seats }
-    ensures size { unsigned_abs result.fares ≤ unsigned_abs mean.fares + 2 ^ 75 * 31968 }
+    ensures size { unsigned_abs result.fares ≤ unsigned_abs mean.fares + 2 ^ 75 * MOST_TOTAL_DEMAND }
 {
     Mean {
         fares: plus(mean.fares, scaled(nested.fare, nested.seats)),
@@ -126,7 +127,7 @@ fn with(mean: Mean, nested: &Nested) -> Mean
 /// The demand to come in a history of the buckets from the first to one.
 pub(crate) fn demand_of(net: &Network, nest: &[Nested], last: u8, history: u8, period: u8) -> u32
     requires known { All (IsOf (length net.now.products)) nest.now }
-    requires few { length nest.now ≤ 256 }
+    requires few { length nest.now ≤ MOST_PRODUCTS }
     requires history { history < net.now.histories }
     requires period { IsInRange 1 net.now.periods period }
     ensures { result ≡ sum_by (λ nested. demand_to_come net.now nested.product history period) (in_buckets nest.now 1 last) }
@@ -149,10 +150,10 @@ fn is_between(first: u8, last: u8, bucket: u8) -> bool
 
 // A sum of fares and one more.
 fn plus(sum: i128, more: i128) -> i128
-    requires sum { unsigned_abs sum ≤ 2 ^ 75 * 31968 * 255 }
-    requires more { unsigned_abs more ≤ 2 ^ 75 * 31968 }
+    requires sum { unsigned_abs sum ≤ 2 ^ 75 * MOST_TOTAL_DEMAND * (MOST_PRODUCTS - 1) }
+    requires more { unsigned_abs more ≤ 2 ^ 75 * MOST_TOTAL_DEMAND }
     ensures value { result ≡ sum +ℤ more }
-    ensures size { unsigned_abs result ≤ unsigned_abs sum + 2 ^ 75 * 31968 }
+    ensures size { unsigned_abs result ≤ unsigned_abs sum + 2 ^ 75 * MOST_TOTAL_DEMAND }
 {
     sum + more
 }

@@ -5,6 +5,7 @@
 
 mod certificate;
 mod laws;
+mod limits;
 mod program;
 
 pub use certificate::{Certificate, Numbers};
@@ -12,4 +13,5 @@ pub use laws::{
     closes_certify, ends_meet, ends_optimal, every_path_ends, optimal_certify, optimal_meet,
     path_has_facts, paths_end_once, value_is_whole, weakly_dual,
 };
+pub use limits::{MOST_BOUNDS, MOST_CAPS, MOST_FARE, MOST_LEGS_OF_A_PRODUCT, MOST_SEATS_IN_ALL};
 pub use program::Program;

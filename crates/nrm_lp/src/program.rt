@@ -4,8 +4,8 @@ ghost use Rattle.std.specs.Prelude.{◌≡◌, ◌<◌, [], get_or, length, map,
 
 use std::marker::Model;
 
-/// A program within its limits: 1 to 64 caps and 1 to 256 bounds of at most 31,968 (seats times histories), fares of
-/// 1 to 99,999,999 whole currency units, and for each product 1 to 4 distinct legs.
+/// A program within its limits: caps and bounds in seats of all histories, fares in whole currency units, and for each
+/// product its legs, no one twice.
 #[derive(Drop)]
 pub struct Program {
     caps: Vec<u32>,
@@ -67,7 +67,7 @@ impl Program {
         self.fares.as_slice()
     }
 
-    /// How many legs there are: 1 to 64.
+    /// How many legs there are, at least one.
     pub fn leg_count(&self) -> u8
         ensures count { result ≡ length self.now.caps }
         ensures limits { IsLimited self.now }
@@ -75,7 +75,7 @@ impl Program {
         self.caps.len() as u8
     }
 
-    /// How many products there are: 1 to 256.
+    /// How many products there are, at least one.
     pub fn product_count(&self) -> u16
         ensures count { result ≡ length self.now.bounds }
         ensures limits { IsLimited self.now }

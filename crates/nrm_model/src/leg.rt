@@ -40,8 +40,8 @@ impl Thresholds {
 pub struct Leg {
     /// Its name.
     pub name: Name,
-    /// Its seats: 0 to 999.
+    /// Its seats: 0 to [`crate::MOST_SEATS`].
     pub seats: u16,
-    /// The thresholds of the leg, at most 9.
+    /// The thresholds of the leg, at most [`crate::MOST_THRESHOLDS`].
     pub cuts: Thresholds,
 }

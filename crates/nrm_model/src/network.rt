@@ -2,14 +2,15 @@
 //! history and period, in one list. The tables hold the names in the order of the legs and the products.
 ghost use Rattle.std.specs.Prelude.{◌≡◌, ◌≢◌, ◌+◌, ◌<◌, ◌≤◌, ◌^◌, All, AllPairs, IfOk, IfSome, length, map, min, slice_get, sum, Some};
 ghost use Rattle.std.specs.Int.{IsInRange};
+ghost use Rattle.nrm_model.specs.declared.limits.TheConstants.{MOST_DEMAND, MOST_LEGS, MOST_PRODUCTS, MOST_SEATS, MOST_TOTAL_DEMAND};
 
 use crate::{Leg, NameTable, Product};
 use nrm_text::Name;
 use std::alloc::{AllocError, Global};
 use std::marker::Model;
 
-/// A network within the limits: 1 to 64 legs and 1 to 256 products with distinct names, 1 to 32 histories of
-/// 1 to 16 periods, and at most 999 requested seats of a product in a history.
+/// A network within the limits: at least one leg, one product, one history and one period, and no more of each than the
+/// limits allow. No two legs have one name, and no two products.
 #[derive(Drop)]
 pub struct Network {
     histories: u8,
@@ -68,7 +69,7 @@ impl Network {
         })
     }
 
-    /// How many demand histories there are, N in the formulas: 1 to 32.
+    /// How many demand histories there are, N in the formulas: at least one.
     pub fn n(&self) -> u8
         ensures histories { result ≡ self.now.histories }
         ensures limits { IsNetwork self.now }
@@ -76,26 +77,26 @@ impl Network {
         self.histories
     }
 
-    /// How many booking periods each history has, T in the formulas: 1 to 16.
+    /// How many booking periods each history has, T in the formulas: at least one.
     pub fn t(&self) -> u8
         ensures { result ≡ self.now.periods }
     {
         self.periods
     }
 
-    /// How many legs there are: 1 to 64.
+    /// How many legs there are: at least one.
     pub fn leg_count(&self) -> usize
         ensures count { result ≡ length self.now.legs }
-        ensures within { IsInRange 1 64 result }
+        ensures within { IsInRange 1 MOST_LEGS result }
         ensures limits { IsNetwork self.now }
     {
         self.legs.len()
     }
 
-    /// How many products there are: 1 to 256.
+    /// How many products there are: at least one.
     pub fn product_count(&self) -> usize
         ensures count { result ≡ length self.now.products }
-        ensures within { IsInRange 1 256 result }
+        ensures within { IsInRange 1 MOST_PRODUCTS result }
         ensures limits { IsNetwork self.now }
     {
         self.products.len()
@@ -165,7 +166,7 @@ impl Network {
         requires history { history < self.now.histories }
         requires period { IsInRange 1 self.now.periods period }
         ensures seats { result ≡ demand_to_come self.now product history period }
-        ensures within { result ≤ 999 }
+        ensures within { result ≤ MOST_DEMAND }
     {
         sum_of(&self.row(product, history)[period as usize - 1..])
     }
@@ -175,7 +176,7 @@ impl Network {
         requires product { product < length self.now.products }
         requires period { IsInRange 1 self.now.periods period }
         ensures seats { result ≡ total_to_come self.now product period }
-        ensures within { result ≤ 31968 }
+        ensures within { result ≤ MOST_TOTAL_DEMAND }
     {
         let mut total = 0;
         for history in 0..self.histories {
@@ -188,7 +189,7 @@ impl Network {
     pub fn least_seats(&self, product: u16) -> u16
         requires { product < length self.now.products }
         ensures seats { result ≡ least_seats_of self.now product }
-        ensures within { result ≤ 999 }
+        ensures within { result ≤ MOST_SEATS }
     {
         let mut least = u16::MAX;
         for leg in self.products[product as usize].legs.as_slice() {
@@ -203,7 +204,7 @@ impl Network {
         requires history { history < self.now.histories }
         ensures row { result.now ≡ demand_row self.now product history }
         ensures periods { length result.now ≡ self.now.periods }
-        ensures within { sum result.now ≤ 999 }
+        ensures within { sum result.now ≤ MOST_DEMAND }
     {
         let before = product as usize * self.histories as usize + history as usize;
         let from = before * self.periods as usize;
@@ -213,7 +214,7 @@ impl Network {
 
 // The sum of a few demands.
 fn sum_of(demands: &[u16]) -> u32
-    requires { sum demands.now ≤ 999 }
+    requires { sum demands.now ≤ MOST_DEMAND }
     ensures { result ≡ sum demands.now }
 {
     let mut sum = 0;

@@ -39,8 +39,8 @@ impl LegNumbers {
 pub struct Product {
     /// Its name.
     pub name: Name,
-    /// Its fare: 1 to 99,999,999 whole currency units.
+    /// Its fare in whole currency units: 1 to [`crate::MOST_FARE`].
     pub fare: u32,
-    /// The legs that it takes a seat on: 1 to 4.
+    /// The legs that it takes a seat on: 1 to [`crate::MOST_LEGS_OF_A_PRODUCT`].
     pub legs: LegNumbers,
 }

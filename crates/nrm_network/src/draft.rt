@@ -4,6 +4,7 @@ ghost use Rattle.std.specs.Prelude.{◌≡◌, ◌<◌, ◌≤◌, ◌+◌, ◌-
 ghost use Rattle.std.specs.List.{list_all, list_any};
 ghost use Rattle.std.specs.Int.{IsInRange};
 ghost use Rattle.nrm_model.specs.Limits.{differ, falls};
+ghost use Rattle.nrm_model.specs.declared.limits.TheConstants.{MOST_DEMAND, MOST_PRODUCTS};
 ghost use Rattle.csv.specs.Records.{fields_of};
 ghost use Rattle.nrm_network.specs.Rows.{is_named};
 ghost use Rattle.nrm_network.specs.Answer.{AnswersFile};
@@ -17,7 +18,7 @@ ghost use Rattle.nrm_network.specs.declared.entry.Entry.TheVariants as says;
 use crate::entry::{Counts, DemandEntry, Entry, ProductEntry, read_row};
 use crate::fault::{NetFault, RowFault, Why};
 use csv::ByteRecord;
-use nrm_model::{Leg, LegNumbers, NameTable, Network, Product};
+use nrm_model::{Leg, LegNumbers, MOST_DEMAND, NameTable, Network, Product};
 use nrm_text::Name;
 use std::alloc::{AllocError, Global};
 
@@ -79,7 +80,7 @@ fn differ(names: &[Name]) -> bool
 // Writes the seats of each period.
 fn put(places: &mut [u16], seats: &[u32])
     requires same { length places.old ≡ length seats.now }
-    requires small { All (λ number. number ≤ 999) seats.now }
+    requires small { All (λ number. number ≤ MOST_DEMAND) seats.now }
     ensures { places.new ≡ seats.now }
 {
     for i in 0..seats.len() {
@@ -197,7 +198,7 @@ impl Draft {
     fn set_demand(&mut self, cell: usize, seats: &[u32])
         requires given { cell < length self.old.given.items }
         requires room { cell * self.old.periods + length seats.now ≤ length self.old.demand.items }
-        requires small { All (λ number. number ≤ 999) seats.now }
+        requires small { All (λ number. number ≤ MOST_DEMAND) seats.now }
         ensures { SetsDemand self.old self.new cell seats.now }
     {
         let at = cell * self.periods as usize;
@@ -207,7 +208,7 @@ impl Draft {
 
     // The place of a product's demand in a history, which counts from 1, among those of all products and histories.
     fn cell_of(&self, product: usize, history: u8) -> usize
-        requires product { product < 256 }
+        requires product { product < MOST_PRODUCTS }
         requires history { IsInRange 1 self.now.histories history }
         ensures { result ≡ product * self.now.histories + (history - 1) }
     {
@@ -225,7 +226,7 @@ impl Draft {
         if self.given[cell] {
             return Err(RowFault::Refused(Why::Twice));
         }
-        if total(&demand.seats) > 999 {
+        if total(&demand.seats) > u64::from(MOST_DEMAND) {
             return Err(RowFault::Refused(Why::Sum));
         }
         self.set_demand(cell, &demand.seats);

@@ -8,7 +8,10 @@ ghost use Rattle.nrm_network.specs.Inner.Entries.{Counted, ReadsAs, ReadsRow, fi
 use crate::fault::{RowFault, Why};
 use crate::row::{field, name_in, names_in, number_in, numbers_in};
 use csv::ByteRecord;
-use nrm_model::{Leg, Thresholds};
+use nrm_model::{
+    Leg, MOST_DEMAND, MOST_FARE, MOST_HISTORIES, MOST_LEGS, MOST_LEGS_OF_A_PRODUCT, MOST_PERIODS,
+    MOST_PRODUCTS, MOST_SEATS, MOST_THRESHOLDS, Thresholds,
+};
 use nrm_text::Name;
 use std::alloc::Global;
 
@@ -102,8 +105,8 @@ fn read_periods(counts: Counts, row: &ByteRecord) -> Result<Entry, RowFault>
 {
     let first = counts.histories == 0;
     admit(!first, row.len() != 3, false)?;
-    let histories = number_in(field(row, 1), 1, 32)?;
-    let periods = number_in(field(row, 2), 1, 16)?;
+    let histories = number_in(field(row, 1), 1, u32::from(MOST_HISTORIES))?;
+    let periods = number_in(field(row, 2), 1, u32::from(MOST_PERIODS))?;
     Ok(Entry::Periods {
         histories: histories.ok_or(Why::Range)? as u8,
         periods: periods.ok_or(Why::Range)? as u8,
@@ -116,12 +119,12 @@ fn read_leg(alloc: Global, counts: Counts, row: &ByteRecord) -> Result<Entry, Ro
     let count = row.len();
     admit(
         counts.histories == 0,
-        !(3 <= count && count <= 12),
-        64 <= counts.legs,
+        !(3 <= count && count <= 3 + MOST_THRESHOLDS),
+        MOST_LEGS <= counts.legs,
     )?;
     let name = name_in(field(row, 1))?;
-    let seats = number_in(field(row, 2), 0, 999)?;
-    let cuts = numbers_in(alloc, row, 1, 99_999_999)?;
+    let seats = number_in(field(row, 2), 0, u32::from(MOST_SEATS))?;
+    let cuts = numbers_in(alloc, row, 1, MOST_FARE)?;
     Ok(Entry::Leg(Leg {
         name,
         seats: seats.ok_or(Why::Range)? as u16,
@@ -135,12 +138,12 @@ fn read_product(alloc: Global, counts: Counts, row: &ByteRecord) -> Result<Entry
     let count = row.len();
     admit(
         counts.histories == 0,
-        !(4 <= count && count <= 7),
-        256 <= counts.products,
+        !(4 <= count && count <= 3 + MOST_LEGS_OF_A_PRODUCT),
+        MOST_PRODUCTS <= counts.products,
     )?;
     let name = name_in(field(row, 1))?;
     let legs = names_in(alloc, row)?;
-    let fare = number_in(field(row, 2), 1, 99_999_999)?;
+    let fare = number_in(field(row, 2), 1, MOST_FARE)?;
     Ok(Entry::Product(ProductEntry {
         name,
         fare: fare.ok_or(Why::Range)?,
@@ -158,7 +161,7 @@ fn read_demand(alloc: Global, counts: Counts, row: &ByteRecord) -> Result<Entry,
     )?;
     let product = name_in(field(row, 1))?;
     let history = number_in(field(row, 2), 1, u32::from(counts.histories))?;
-    let seats = numbers_in(alloc, row, 0, 999)?;
+    let seats = numbers_in(alloc, row, 0, MOST_DEMAND)?;
     Ok(Entry::Demand(DemandEntry {
         product,
         history: history.ok_or(Why::Range)? as u8,

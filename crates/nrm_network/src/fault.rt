@@ -11,7 +11,7 @@ pub enum Why {
     Order,
     /// The number of fields isn't one that the kind allows.
     Fields,
-    /// A leg after 64 legs, or a product after 256 products.
+    /// A leg after the most legs, or a product after the most products.
     Many,
     /// A field that must be a name is none.
     Name,
@@ -25,7 +25,7 @@ pub enum Why {
     Missing,
     /// The thresholds of a leg are not strictly falling.
     Thresholds,
-    /// The demands of a row add up to more than 999.
+    /// The demands of a row add up to more than a history may have.
     Sum,
     /// There is no leg or no product: told at the place after the last row.
     Empty,

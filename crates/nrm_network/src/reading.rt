@@ -1,5 +1,6 @@
 //! A network file is read row by row: a draft takes each row as it comes, and no row is kept.
 ghost use Rattle.std.specs.Prelude.{◌≤◌, length};
+ghost use Rattle.nrm_model.specs.declared.limits.TheConstants.{MOST_NETWORK_BYTES};
 ghost use Rattle.nrm_network.specs.Answer.{AnswersFile};
 ghost use Rattle.nrm_network.specs.Checks.{why_refused};
 ghost use Rattle.nrm_network.specs.File.{file_of, network_or_refusal};
@@ -9,15 +10,12 @@ ghost use Rattle.nrm_network.specs.declared.fault.Why.TheVariants as why;
 use crate::draft::Draft;
 use crate::fault::{NetFault, Why};
 use csv::{ByteRecord, ReaderBuilder};
-use nrm_model::Network;
+use nrm_model::{MOST_NETWORK_BYTES, Network};
 use std::alloc::Global;
-
-// How many bytes a file may have.
-const MOST_BYTES: usize = 4_194_304;
 
 // The network that the rows of a file give. One record is read into again for each row.
 fn read_rows(alloc: Global, bytes: &[u8]) -> Result<Network, NetFault>
-    requires { length bytes.now ≤ 4194304 }
+    requires { length bytes.now ≤ MOST_NETWORK_BYTES }
     ensures { AnswersFile result (network_or_refusal why_refused why.Empty (rows_of bytes.now)) }
 {
     let mut rdr = ReaderBuilder::new()
@@ -44,7 +42,7 @@ fn read_rows(alloc: Global, bytes: &[u8]) -> Result<Network, NetFault>
 pub fn parse(alloc: Global, bytes: &[u8]) -> Result<Network, NetFault>
     ensures { AnswersFile result (file_of bytes.now) }
 {
-    if bytes.len() > MOST_BYTES {
+    if bytes.len() > MOST_NETWORK_BYTES {
         return Err(NetFault::Refused {
             row: 0,
             why: Why::Size,

@@ -3,12 +3,9 @@ ghost use Rattle.std.specs.Prelude.{◌≡◌};
 ghost use Rattle.nrm_opening.specs.Opening.{CountsOpening, OpensFile};
 
 use nrm_edge::{Fetched, FileFault, Files};
-use nrm_model::Network;
+use nrm_model::{MOST_NETWORK_BYTES, Network};
 use nrm_network::{NetFault, Why, parse};
 use std::alloc::Global;
-
-// The most bytes of a network file.
-const FILE_LIMIT: usize = 4_194_304;
 
 /// Why there is no network.
 #[derive(Clone, Copy, Debug, PartialEq, Eq)]
@@ -64,7 +61,7 @@ pub fn open_network<F: Files>(
     ensures counts { CountsOpening (F.faults files.old) (F.faults files.new) result }
     ensures stays { F.contents files.new ≡ F.contents files.old }
 {
-    match files.fetch(alloc, name, FILE_LIMIT)? {
+    match files.fetch(alloc, name, MOST_NETWORK_BYTES)? {
         Fetched::Whole(bytes) => Ok(parse(alloc, &bytes)?),
         Fetched::Longer => Err(NoNetwork::Refused {
             row: 0,

@@ -1,6 +1,7 @@
 //! A fare against the bid prices of its legs.
 ghost use Rattle.std.specs.Prelude.{◌≡◌, ◌<◌, ◌≤◌, ◌^◌, All, length};
 ghost use Rattle.nrm_fraction.specs.Large.{size_limit};
+ghost use Rattle.nrm_model.specs.declared.limits.TheConstants.{MOST_LEGS_OF_A_PRODUCT};
 ghost use Rattle.nrm_lp.specs.Certified.{sizes};
 ghost use Rattle.nrm_lp.specs.Program.{price_sum};
 ghost use Rattle.nrm_virtual.specs.Adjusted.{HasPrices};
@@ -13,7 +14,7 @@ use nrm_model::Network;
 fn price_sum(certificate: &Certificate, legs: &[u8]) -> u64
     requires prices { HasPrices size_limit (length certificate.now.p) certificate.now }
     requires legs { All (λ leg. leg < length certificate.now.p) legs.now }
-    requires few { length legs.now ≤ 4 }
+    requires few { length legs.now ≤ MOST_LEGS_OF_A_PRODUCT }
     ensures sum { result ≡ price_sum (sizes certificate.now.p) legs.now }
     ensures within { result ≤ 2 ^ 50 }
 {

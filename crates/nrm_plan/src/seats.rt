@@ -1,12 +1,11 @@
 //! Seats left, leg by leg, in an array of fixed length: keeping them takes no memory.
 ghost use Rattle.std.specs.Prelude.{◌≡◌, ◌<◌, ◌≤◌, ◌++◌, ◌∷◌, [], length};
+ghost use Rattle.nrm_model.specs.declared.limits.TheConstants.{MOST_LEGS};
 
+use nrm_model::MOST_LEGS;
 use std::marker::Model;
 
-// The most legs of a network.
-const MOST_LEGS: usize = 64;
-
-/// The seats left on each leg of a network, in file order, of at most 64 legs. Contracts see a list.
+/// The seats left on each leg of a network, in file order. Contracts see a list.
 #[derive(Drop)]
 pub struct SeatsLeft {
     seats: [u16; MOST_LEGS],
@@ -15,12 +14,13 @@ pub struct SeatsLeft {
 
 impl Model for SeatsLeft {
     ghost use Rattle.std.specs.Prelude.{ℕ, List, ◌≡◌, ◌≤◌, length, take};
+    ghost use Rattle.nrm_model.specs.declared.limits.TheConstants.{MOST_LEGS};
 
     ghost Value = { List ℕ };
 
     ghost view = { λ left. take left.legs left.seats };
 
-    ghost invariant = { λ left. (length left.seats ≡ 64) × (left.legs ≤ 64) };
+    ghost invariant = { λ left. (length left.seats ≡ MOST_LEGS) × (left.legs ≤ MOST_LEGS) };
 }
 
 impl SeatsLeft {
@@ -36,7 +36,7 @@ impl SeatsLeft {
 
     /// These seats.
     pub fn of(seats: &[u16]) -> SeatsLeft
-        requires { length seats.now ≤ 64 }
+        requires { length seats.now ≤ MOST_LEGS }
         ensures { result ≡ seats.now }
     {
         let mut kept = [0; MOST_LEGS];
@@ -49,7 +49,7 @@ impl SeatsLeft {
 
     /// Appends the seats left on the next leg.
     pub fn push(&mut self, seats: u16)
-        requires { length self.old < 64 }
+        requires { length self.old < MOST_LEGS }
         ensures { self.new ≡ self.old ++ seats ∷ [] }
     {
         self.seats[self.legs] = seats;

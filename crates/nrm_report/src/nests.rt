@@ -10,6 +10,7 @@ ghost use Rattle.nrm_text.specs.Fractions.{fraction_text};
 ghost use Rattle.nrm_text.specs.Words.{text_line};
 ghost use Rattle.nrm_lp.specs.declared.certificate.Certificate.{Certificate as Cert};
 ghost use Rattle.nrm_model.specs.Inventory.{inventory_of, products_on, uses_leg};
+ghost use Rattle.nrm_model.specs.declared.limits.TheConstants.{MOST_THRESHOLDS};
 ghost use Rattle.nrm_plan.specs.Nesting.{NestsValue};
 ghost use Rattle.nrm_dual.specs.Texts.{certificate_text};
 ghost use Rattle.nrm_report.specs.Inner.Nests.{IsNested, protections_line};
@@ -153,7 +154,7 @@ fn push_word(line: &mut Line, number: u16)
 // Appends the protections of a leg, for each of so many buckets.
 fn push_protections(line: &mut Line, plan: &Plan, leg: u8, buckets: u8)
     requires nests { (nests : NestsValue) × (plan.now.nests ≡ Some nests) × (leg < length nests.protections) × (length (get_or nests.protections leg []) ≡ buckets) }
-    requires few { buckets ≤ 9 }
+    requires few { buckets ≤ MOST_THRESHOLDS }
     requires room { length line.old ≤ 100 }
     ensures text { (nests : NestsValue) → plan.now.nests ≡ Some nests → line.new ≡ line.old ++ flat_map (λ seats. 32 ∷ decimal seats) (get_or nests.protections leg []) }
     ensures length { length line.new ≤ length line.old + 21 * buckets }

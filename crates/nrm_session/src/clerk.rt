@@ -1,5 +1,6 @@
 //! Who answers the lines of a session: a controller, and what stands beside it.
 ghost use Rattle.std.specs.Prelude.{ℕ, List, ◌≡◌, ◌<◌, ◌∷◌, [], OnErr, OnOk};
+ghost use Rattle.nrm_model.specs.declared.limits.TheConstants.{BOOKING_LIMIT};
 ghost use Rattle.nrm_control.specs.Standing.{ControlValue};
 ghost use Rattle.nrm_stream.specs.Commands.{IsCommand};
 ghost use Rattle.nrm_stream.specs.declared.command.Command.{Command};
@@ -34,7 +35,7 @@ pub trait Clerk<B> {
         sink: &mut K,
     ) -> Result<(), Failed>
         requires command { IsCommand command.now }
-        requires next { controller.old.next < 1000000000000 }
+        requires next { controller.old.next < BOOKING_LIMIT }
         requires ready { ready (controller.old, beside.old) }
         ensures whole { OnOk result (Answers whole ready (controller.old, beside.old) (controller.new, beside.new) (command.now ∷ []) (K.held sink.old) (K.held sink.new) (K.faults sink.old) (K.faults sink.new)) }
         ensures cut { OnErr result (AnswersCut cut ready (controller.old, beside.old) (controller.new, beside.new) (command.now ∷ []) (K.held sink.old) (K.held sink.new) (K.faults sink.old) (K.faults sink.new)) };

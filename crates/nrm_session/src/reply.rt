@@ -5,6 +5,7 @@ ghost use Rattle.std.specs.Io.KnownBytes.{Appends};
 ghost use Rattle.nrm_edge.specs.Causes.{HasCause};
 ghost use Rattle.nrm_edge.specs.Pieces.{AppendsFront};
 ghost use Rattle.nrm_fraction.specs.Fraction.{◌over◌};
+ghost use Rattle.nrm_model.specs.declared.limits.TheConstants.{BOOKING_LIMIT, MOST_PARTY};
 ghost use Rattle.nrm_control.specs.Standing.{IsControl};
 ghost use Rattle.nrm_stream.specs.Commands.{IsCommand};
 ghost use Rattle.nrm_stream.specs.declared.command.Command.TheVariants as command;
@@ -53,8 +54,8 @@ pub enum Reply {
 
 // Carries out a `book` line.
 fn book(controller: &mut Controller, product: &Name, party: u16) -> Reply
-    requires party { IsInRange 1 999 party }
-    requires next { controller.old.next < 1000000000000 }
+    requires party { IsInRange 1 MOST_PARTY party }
+    requires next { controller.old.next < BOOKING_LIMIT }
     ensures step { Steps controller.old controller.new (command.Book product.now party) (reply_in controller.new result) }
     ensures tellable { IsTellable controller.new.net result }
     ensures kept { IsControl controller.new }
@@ -130,7 +131,7 @@ fn tell_leg(controller: &Controller, name: &Name) -> Reply
 /// programs, and for no other.
 pub fn carry_out(alloc: Global, controller: &mut Controller, command: &Command) -> Reply
     requires command { IsCommand command.now }
-    requires next { controller.old.next < 1000000000000 }
+    requires next { controller.old.next < BOOKING_LIMIT }
     ensures step { Steps controller.old controller.new command.now (reply_in controller.new result) }
     ensures tellable { IsTellable controller.new.net result }
     ensures kept { IsControl controller.new }
@@ -249,7 +250,7 @@ pub fn answer_line<K: Sink>(
     sink: &mut K,
 ) -> Result<(), Failed>
     requires command { IsCommand command.now }
-    requires next { controller.old.next < 1000000000000 }
+    requires next { controller.old.next < BOOKING_LIMIT }
     ensures whole { OnOk result (AnswersLine controller.old controller.new command.now (K.held sink.old) (K.held sink.new)) }
     ensures cut { OnErr result (CutsLine controller.old controller.new command.now (K.held sink.old) (K.held sink.new)) }
     ensures cause { HasCause (K.faults sink.old) (K.faults sink.new) result }

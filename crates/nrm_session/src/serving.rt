@@ -3,6 +3,7 @@ ghost use Rattle.std.specs.Prelude.{◌≡◌, ◌+◌, ◌<◌, ◌≤◌, ◌^
 ghost use Rattle.std.specs.Io.KnownBytes.{Consumes, IsAtEnd, ReadConsumes};
 ghost use Rattle.nrm_edge.specs.Causes.{HasCause};
 ghost use Rattle.std.specs.Option.{option_to_list};
+ghost use Rattle.nrm_model.specs.declared.limits.TheConstants.{BOOKING_LIMIT};
 ghost use Rattle.nrm_control.specs.State.{SeatState};
 ghost use Rattle.nrm_control.specs.Standing.{IsControl, StandsFor};
 ghost use Rattle.nrm_stream.specs.Commands.{IsCommand};
@@ -57,7 +58,7 @@ fn answer_piece<C: Clerk<B>, B, K: Sink>(
     piece: &[u8],
     sink: &mut K,
 ) -> Result<(), Failed>
-    requires next { controller.old.next + length piece.now < 1000000000000 }
+    requires next { controller.old.next + length piece.now < BOOKING_LIMIT }
     requires ready { C.ready (controller.old, beside.old) }
     requires meanings { AreMeanings C.whole C.cut }
     ensures whole { OnOk result (AnswersPiece C.whole C.ready (controller.old, beside.old) (controller.new, beside.new) splitter.old splitter.new piece.now (K.held sink.old) (K.held sink.new) (K.faults sink.old) (K.faults sink.new)) }
@@ -89,7 +90,7 @@ fn answer_last<C: Clerk<B>, B, K: Sink>(
     sink: &mut K,
 ) -> Result<(), Failed>
     requires within { IfSome last IsCommand }
-    requires next { controller.old.next < 1000000000000 }
+    requires next { controller.old.next < BOOKING_LIMIT }
     requires ready { C.ready (controller.old, beside.old) }
     requires meanings { AreMeanings C.whole C.cut }
     ensures whole { OnOk result (Answers C.whole C.ready (controller.old, beside.old) (controller.new, beside.new) (option_to_list last) (K.held sink.old) (K.held sink.new) (K.faults sink.old) (K.faults sink.new)) }
@@ -114,7 +115,7 @@ fn end_input<C: Clerk<B>, B, K: Sink>(
     sink: &mut K,
 ) -> End
     requires within { IfSome last IsCommand }
-    requires next { controller.old.next < 1000000000000 }
+    requires next { controller.old.next < BOOKING_LIMIT }
     requires ready { C.ready (controller.old, beside.old) }
     requires meanings { AreMeanings C.whole C.cut }
     ensures ends { EndsInput C.whole C.cut C.ready (controller.old, beside.old) (controller.new, beside.new) (option_to_list last) (K.held sink.old) (K.held sink.new) (K.faults sink.old) (K.faults sink.new) result }

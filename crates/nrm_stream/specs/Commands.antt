@@ -6,7 +6,9 @@ use Rattle.std.specs.List.{slice_split}
 use Rattle.std.specs.Str.Lines.{strip_carriage_return}
 use Rattle.nrm_text.specs.Names.{name_in}
 use Rattle.nrm_text.specs.Numbers.{whole_between}
+use Rattle.nrm_model.specs.declared.limits.TheConstants.{LAST_BOOKING, MOST_PARTY}
 use Rattle.nrm_stream.specs.Lines.{lines_of, whole_lines}
+use Rattle.nrm_stream.specs.declared.parse.TheConstants.{LAST_PERIOD}
 use Rattle.nrm_stream.specs.declared.command.Command.{Command}
 use Rattle.nrm_stream.specs.declared.command.Command.TheVariants as command
 
@@ -25,14 +27,14 @@ one_word word =
 
 abbrev pub two_words : List ℕ → List ℕ → Command
 two_words word next =
-    if bytes_eq word (codes "cancel") then option_map_or command.Cancel (whole_between 0 999999999999 next) command.Bad
-    else if bytes_eq word (codes "reoptimise") then option_map_or command.Reoptimise (whole_between 1 99 next) command.Bad
+    if bytes_eq word (codes "cancel") then option_map_or command.Cancel (whole_between 0 LAST_BOOKING next) command.Bad
+    else if bytes_eq word (codes "reoptimise") then option_map_or command.Reoptimise (whole_between 1 LAST_PERIOD next) command.Bad
     else if bytes_eq word (codes "leg") then option_map_or command.Leg (name_in next) command.Bad
     else command.Bad
 
 abbrev pub three_words : List ℕ → List ℕ → List ℕ → Command
 three_words word name party =
-    if bytes_eq word (codes "book") then booking_of (name_in name) (whole_between 1 999 party) else command.Bad
+    if bytes_eq word (codes "book") then booking_of (name_in name) (whole_between 1 MOST_PARTY party) else command.Bad
 
 -- the command of the words; every other line is bad
 abbrev pub command_of_words : List (List ℕ) → Command
@@ -48,9 +50,9 @@ command_of line = command_of_words (slice_split (λ c. c == 32) (strip_carriage_
 
 -- a request is for a party of 1 to 999, a cancellation names a number of at most twelve digits, and a plan begins at a period of 1 to 99
 abbrev pub IsCommand : Command → Type 0
-IsCommand (command.Book product party) = IsInRange 1 999 party
-IsCommand (command.Cancel number) = number ≤ 999999999999
-IsCommand (command.Reoptimise period) = IsInRange 1 99 period
+IsCommand (command.Book product party) = IsInRange 1 MOST_PARTY party
+IsCommand (command.Cancel number) = number ≤ LAST_BOOKING
+IsCommand (command.Reoptimise period) = IsInRange 1 LAST_PERIOD period
 IsCommand (command.Leg name) = ⊤
 IsCommand command.Hindsight = ⊤
 IsCommand command.Plan = ⊤

@@ -4,9 +4,9 @@ use nrm_text::Name;
 /// What a line asks for.
 #[derive(Clone, Copy, Debug, PartialEq, Eq)]
 pub enum Command {
-    /// Seats of a product for a party of 1 to 999.
+    /// Seats of a product for a party.
     Book { product: Name, party: u16 },
-    /// To cancel a booking by its number, 0 to 999,999,999,999.
+    /// To cancel a booking by its number.
     Cancel { number: u64 },
     /// A new plan at a period, 1 to 99.
     Reoptimise { period: u8 },

@@ -7,13 +7,11 @@ ghost use Rattle.nrm_stream.specs.Commands.{command_of, command_of_words, IsComm
 
 use crate::Command;
 use crate::cut::split_once;
+use nrm_model::{LAST_BOOKING, MOST_PARTY};
 use nrm_text::{name_of, read_whole};
 
-const MOST_CANCELLED: u64 = 999_999_999_999;
-
+// The last period that a line may name: two digits, whatever the network has.
 const LAST_PERIOD: u64 = 99;
-
-const LARGEST_PARTY: u64 = 999;
 
 // Whether a word is this one.
 fn is_word(word: &[u8], wanted: &[u8]) -> bool
@@ -52,7 +50,7 @@ fn command_of_two(word: &[u8], next: &[u8]) -> Command
     ensures within { IsCommand result }
 {
     if is_word(word, b"cancel") {
-        match read_whole(next, MOST_CANCELLED) {
+        match read_whole(next, LAST_BOOKING) {
             Ok(number) => Command::Cancel { number },
             Err(_) => Command::Bad,
         }
@@ -81,7 +79,7 @@ fn command_of_three(word: &[u8], name: &[u8], party: &[u8]) -> Command
     if !is_word(word, b"book") {
         return Command::Bad;
     }
-    match (name_of(name), read_whole(party, LARGEST_PARTY)) {
+    match (name_of(name), read_whole(party, u64::from(MOST_PARTY))) {
         (Some(product), Ok(party)) if party >= 1 => Command::Book {
             product,
             party: party as u16,

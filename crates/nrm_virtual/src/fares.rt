@@ -5,6 +5,7 @@ ghost use Rattle.nrm_fraction.specs.Large.{size_limit};
 ghost use Rattle.nrm_lp.specs.Certified.{sizes};
 ghost use Rattle.nrm_lp.specs.Program.{price_sum};
 ghost use Rattle.nrm_model.specs.Inventory.{inventory_of, uses_leg};
+ghost use Rattle.nrm_model.specs.declared.limits.TheConstants.{MOST_LEGS_OF_A_PRODUCT, MOST_THRESHOLDS};
 ghost use Rattle.nrm_virtual.specs.Adjusted.{HasPrices, adjusted_fare};
 ghost use Rattle.nrm_virtual.specs.Buckets.{bucket_count, bucket_of, bucket_of_fare};
 
@@ -58,7 +59,7 @@ fn less(fare: u128, prices: u64) -> i128
 fn other_prices(cert: &Certificate, legs: &[u8], leg: u8) -> u64
     requires prices { HasPrices size_limit (length cert.now.p) cert.now }
     requires legs { All (λ other. other < length cert.now.p) legs.now }
-    requires few { length legs.now ≤ 4 }
+    requires few { length legs.now ≤ MOST_LEGS_OF_A_PRODUCT }
     ensures sum { result ≡ price_sum (sizes cert.now.p) (filter (λ other. not (other == leg)) legs.now) }
     ensures within { result ≤ 2 ^ 50 }
 {
@@ -74,7 +75,7 @@ fn other_prices(cert: &Certificate, legs: &[u8], leg: u8) -> u64
 // The bucket that an adjusted fare falls into.
 fn fallen_into(fare: i128, den: u64, cuts: &[u32]) -> u8
     requires den { den < size_limit }
-    requires few { length cuts.now ≤ 9 }
+    requires few { length cuts.now ≤ MOST_THRESHOLDS }
     ensures bucket { result ≡ bucket_of_fare fare den cuts.now }
     ensures within { IsInRange 1 (length cuts.now + 1) result }
 {

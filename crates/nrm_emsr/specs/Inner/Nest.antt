@@ -3,6 +3,7 @@ use Rattle.std.specs.Prelude.{ℕ, ◌+◌, ◌-◌, ◌*◌, ◌^◌, ◌<◌, 
 use Rattle.std.specs.Int.{is_in_range}
 use Rattle.nrm_model.specs.Network.{NetworkValue}
 use Rattle.nrm_model.specs.Demand.{total_to_come}
+use Rattle.nrm_model.specs.declared.limits.TheConstants.{MOST_TOTAL_DEMAND}
 use Rattle.nrm_lp.specs.declared.certificate.Certificate.{Certificate}
 use Rattle.nrm_virtual.specs.Adjusted.{adjusted_fare}
 use Rattle.nrm_virtual.specs.Buckets.{bucket_of}
@@ -16,7 +17,7 @@ nested_of net cert i k j = record { product = j; bucket = bucket_of net cert i j
 -- its numbers are within their bounds, and its product is one of so many
 pub record IsSmall (nested : Nested) : Type 0 where
   pub fare : unsigned_abs nested.fare < 2 ^ 75
-  pub seats : nested.seats ≤ 31968
+  pub seats : nested.seats ≤ MOST_TOTAL_DEMAND
 
 abbrev pub IsOf : ℕ → Nested → Type 0
 IsOf products nested = nested.product < products
