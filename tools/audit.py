@@ -148,11 +148,14 @@ def main():
     try:
         last, status = ended(given.network, given.certificate)
         print(last, flush=True)
-    except BrokenPipeError:
-        os.dup2(os.open(os.devnull, os.O_WRONLY), 1)  # who read has left: nothing more is written
-        status = 141
+    except OSError as fault:
+        os.dup2(os.open(os.devnull, os.O_WRONLY), 1)  # nothing more is written, lest it be told once again
+        if isinstance(fault, BrokenPipeError):
+            return 141  # as where a signal ends who writes when nobody reads
+        print(f"audit.py: {fault.strerror}", file=sys.stderr)
+        return 5
     except KeyboardInterrupt:
-        status = 130
+        return 130
     return status
 
 
