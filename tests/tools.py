@@ -585,6 +585,33 @@ def tools_find_the_program_on_the_path(tools):
     want((done.returncode, "7,760" in done.stdout), (0, True), done.stderr)
 
 
+def release_has_what_an_operator_needs(tools):
+    """From a clone whose built program is one that runs the program of the tests."""
+    clone, made = tools.folder / "clone", tools.folder / "out" / f"nrm-{(TOP / 'VERSION').read_text().strip()}"
+    if not (TOP / ".git").exists() or subprocess.run(["git", "clone", "-q", TOP, clone], stderr=subprocess.DEVNULL).returncode:
+        print("this is no git repository: no release made")
+        return
+    words = [clone / "tools" / "release.sh", tools.folder / "out"]
+    built = clone / "crates" / "nrm" / "out" / "nrm"
+    built.parent.mkdir(exist_ok=True)
+    built.write_text('#!/bin/sh\nexec %s "$@"\n' % " ".join(f"'{it}'" for it in tools.program))
+    built.chmod(0o755)
+    want(subprocess.run(words, stdout=subprocess.DEVNULL).returncode, 0, "release.sh")
+    want(sorted(str(it.relative_to(made)) for it in made.rglob("*") if it.is_file()),
+         ["CHANGELOG.md", "LICENSE", "SHA256SUMS", "VERSION", "commands.md", "nrm", "nrm.1", "operating.md", "tools/nrm_tools.py",
+          "tools/resume.py"])
+    want(subprocess.run(["sha256sum", "--quiet", "-c", "SHA256SUMS"], cwd=made).returncode, 0, "sha256sum")
+    stream, kept = tools.file("stream", "book ZV-Y 1\nbook ZV-Y 1\n"), tools.file("kept", "ok 1\nok")
+    done = subprocess.run([sys.executable, "-B", made / "tools" / "resume.py", EXAMPLES / "log" / "network.csv", "first", stream, kept],
+                          capture_output=True, text=True, timeout=SECONDS)
+    want((done.stdout, done.returncode), ("go on at line 2; 5 bytes of whole replies stand before it\n", 0), done.stderr)
+    for wanted in ("is there already", "aren't committed"):
+        done = subprocess.run(words, capture_output=True, text=True)
+        want((done.returncode, wanted in done.stderr), (1, True), done.stderr)
+        (clone / "LICENSE").write_text("other")
+        shutil.rmtree(made, ignore_errors=True)
+
+
 TESTS = [it for it in list(globals().values()) if callable(it) and getattr(it, "__code__", None) and it.__module__ == __name__
          and it.__code__.co_varnames[:1] == ("tools",) and it.__code__.co_argcount == 1 and it.__name__ != "words_of_tools"]
 
