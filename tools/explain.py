@@ -218,10 +218,10 @@ def is_no_csv(text):
 
 def how_to_mend_a_kind(row):
     text = row.fields[0]
-    if "\0" in text or text.startswith(("\\xff\\xfe", "\\xfe\\xff")):
-        return "it is UTF-16, or no text: save it as UTF-8, or `iconv -f UTF-16 -t UTF-8 FILE > NEW`"
     if text.startswith("PK\x03"):
         return "it is a spreadsheet's own file (.xlsx, .ods): save it as CSV, with commas and in UTF-8"
+    if "\0" in text or text.startswith(("\\xff\\xfe", "\\xfe\\xff")):
+        return "it is UTF-16, or no text: save it as UTF-8, or `iconv -f UTF-16 -t UTF-8 FILE > NEW`"
     if is_no_csv(text):
         return "the fields are kept apart by another sign: save it with commas, or `tr ';' ',' < FILE > NEW`, with '\\t' for tabs"
     if "\ufeff" in text:
