@@ -298,6 +298,18 @@ def log_takes_the_latest_seasons(tools):
     want(tools.told("log.py", path, *LOG_COLUMNS, "--cuts", "7", "--last", "6"), few)
 
 
+def log_takes_the_seasons_of_a_weekday(tools):
+    log = MadeLog(8, seasons=21)
+    log.departures = [log.departures[0] + datetime.timedelta(it) for it in range(21)]
+    log.requests = [(log.departures[it % 21], log.departures[it % 21] - datetime.timedelta(it % 60), f"P{it % 3}", 1) for it in range(500)]
+    path = tools.file("log.csv", log.text("%Y-%m-%d"))
+    log.requests = [it for it in log.requests if it[0].strftime("%a") == "Tue"]
+    tuesdays = tools.told("log.py", tools.file("few.csv", log.text("%Y-%m-%d")), *LOG_COLUMNS, "--cuts", "7")
+    want(tuesdays.splitlines()[0], "periods,3,2")
+    want(tools.told("log.py", path, *LOG_COLUMNS, "--cuts", "7", "--weekday", "tue"), tuesdays)
+    want_in(tools.stopped("log.py", "few.csv", *LOG_COLUMNS, "--cuts", "7", "--weekday", "fri"), "no departure of the log is on a fri")
+
+
 REFUSED_LOGS = [  # the log's rows, more words, and a part of the sentence
     ("2025-03-08,2025-03-07,P,1\n", [], "line 2: it was made on 2025-03-08, after its departure on 2025-03-07"),
     ("2025-03-01,07.03.25,P,1\n", [], "'07.03.25' is no date that is known; write it as 2025-03-07"),

@@ -207,7 +207,7 @@ class Reading:
             return f"line {below}, below, makes it: move that line up"
         if name.isdigit() and kind == "leg":
             return "no row makes a leg of this name; is it the end of a fare with a thousands mark? Write the fare in digits alone"
-        close = difflib.get_close_matches(name, made, 1)
+        close = [it for it in made if fitting(it) == fitting(name)] or difflib.get_close_matches(name, made, 1)
         return f"no row makes a {kind} of this name" + (f"; is it {close[0]} of line {made[close[0]]}?" if close else ": add it above")
 
 

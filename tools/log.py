@@ -2,15 +2,15 @@
 """From a log of requests, as a reservation system exports it, to the demand rows of a network file.
 
     tools/log.py LOG --departs COLUMN --booked COLUMN --product COLUMN [--seats COLUMN] --cuts DAYS,DAYS..
-                 [--network FILE] [--names FILE] [--last N] [--dates dmy|mdy] > NEW
+                 [--network FILE] [--names FILE] [--weekday DAY] [--last N] [--dates dmy|mdy] > NEW
 
 LOG has a row of headings and below it a row for each request: the day of departure, the day on which it was made, what was
 asked for, and how many seats, 1 where no column says so. COLUMN is a heading, in capitals or not; rows above the headings are
 passed over, and so are other columns and empty rows. Fields are kept apart by commas, semicolons, tabs or bars, and may stand
 in quotes. The file may be in UTF-8, in UTF-16 with its mark, or else in Windows-1252.
 
-SEASONS. Each day of departure is a season, and so a history: they are numbered from the earliest. With --last N it is the N
-latest of them; a file takes 32.
+SEASONS. Each day of departure is a season, and so a history: they are numbered from the earliest. With --weekday fri they are the
+Fridays alone, with --last N the N latest; a file takes 32.
 
 PERIODS. --cuts 60,30,7 makes four: more than 60 days before departure, up to 60, up to 30, and up to 7, the day itself among them.
 A file takes 16.
@@ -41,6 +41,7 @@ from nrm_tools import MOST_HISTORIES, MOST_PERIODS, MOST_PRODUCTS, MOST_SEATS, N
 
 SEPARATORS = [",", ";", "\t", "|"]
 MOST_ABOVE = 100  # rows above the headings
+WEEKDAYS = ["mon", "tue", "wed", "thu", "fri", "sat", "sun"]
 MONTHS = ["JAN", "FEB", "MAR", "APR", "MAY", "JUN", "JUL", "AUG", "SEP", "OCT", "NOV", "DEC"]
 TIME = re.compile(r"(?:T| +)\d{1,2}:\d{2}.*")
 ISO = re.compile(r"(\d{4})-?(\d{2})-?(\d{2})")
@@ -193,13 +194,15 @@ def requests_in(path, departs, booked, product, seats=None, order=None):
 class Demand:
     """The seats asked for of each product in each season and period. A period begins where a cut ends the one before."""
 
-    def __init__(self, requests, cuts, last=None):
-        departures = sorted({it.departs for it in requests})
+    def __init__(self, requests, cuts, weekday=None, last=None):
+        departures = sorted({it.departs for it in requests if weekday in (None, WEEKDAYS[it.departs.weekday()])})
+        if not departures:
+            raise Stop(f"no departure of the log is on a {weekday}")
         self.departures = departures[-last:] if last else departures
         self.periods = len(cuts) + 1
         if len(self.departures) > MOST_HISTORIES:
             raise Stop(f"the log has {len(departures)} days of departure, and a network file takes {MOST_HISTORIES} histories: say --last "
-                       f"{MOST_HISTORIES} for the latest, or make a log of fewer, such as one day of the week")
+                       f"{MOST_HISTORIES} for the latest of them, or --weekday fri for one day of the week")
         history = {it: number for number, it in enumerate(self.departures, 1)}
         self.seats = Counter()
         for it in requests:
@@ -279,7 +282,7 @@ def tell(text):
 def tell_what_is_made(demand, names, requests):
     days = demand.departures
     left_out = len({it.departs for it in requests}) - len(days)
-    tell(f"seasons {len(days)}, from {days[0]} to {days[-1]}{f', earlier ones left out {left_out}' if left_out else ''}; "
+    tell(f"seasons {len(days)}, from {days[0]} to {days[-1]}{f', others left out {left_out}' if left_out else ''}; "
          f"periods {demand.periods}; products {len(demand.products)}; seats {sum(demand.seats.values())}")
     for text in demand.products:
         if names[text] != text:
@@ -302,6 +305,7 @@ def main():
     words.add_argument("--cuts", metavar="DAYS", required=True)
     words.add_argument("--network", metavar="FILE")
     words.add_argument("--names", metavar="FILE")
+    words.add_argument("--weekday", choices=WEEKDAYS)
     words.add_argument("--last", metavar="N", type=int)
     words.add_argument("--dates", choices=["dmy", "mdy"])
     given = words.parse_args()
@@ -309,7 +313,7 @@ def main():
         raise Stop(f"--last {given.last}: a network file takes 1 to {MOST_HISTORIES} histories")
     cuts, known = cuts_of(given.cuts), names_in(given.names)
     requests = requests_in(given.log, given.departs, given.booked, given.product, given.seats, given.dates)
-    demand = Demand(requests, cuts, given.last)
+    demand = Demand(requests, cuts, given.weekday, given.last)
     names = named(demand.products, known)
     if given.names:
         write_names(given.names, names)
