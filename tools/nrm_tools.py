@@ -257,5 +257,6 @@ def replies(words, mode, network, stream):
     done = subprocess.run([*words, "run", mode, network], input=stream, stdout=subprocess.PIPE)
     if done.returncode:
         last = done.stdout.decode("latin-1").rstrip("\n").rpartition("\n")[2]
-        raise Stop(f"`run {mode} {network}` ended with status {done.returncode}{f': {last}' if last else ''}")
+        advice = "; `tools/explain.py` tells every row of a network file that is refused" if done.returncode == 3 else ""
+        raise Stop(f"`run {mode} {network}` ended with status {done.returncode}{f': {last}' if last else ''}{advice}")
     return list(replies_of(io.BytesIO(done.stdout)))
