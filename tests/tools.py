@@ -60,16 +60,22 @@ class Tools:
 
     def __init__(self, program, folder):
         self.program, self.folder = program, Path(folder)
+        (self.folder / "blind").mkdir()
+        (self.folder / "blind" / "matplotlib.py").write_text("raise ImportError")
 
     def file(self, name, content):
         path = self.folder / name
         path.write_bytes(content if isinstance(content, bytes) else content.encode())
         return str(path)
 
-    def ran(self, name, *words, given=None, **more):
+    def blind(self):
+        """An environment in which no pictures are drawn, since that takes long."""
+        return {**os.environ, "PYTHONPATH": str(self.folder / "blind")}
+
+    def ran(self, name, *words, **more):
         """The output, standard error and status of a tool."""
-        done = subprocess.run([sys.executable, "-B", TOOLS / name, *map(str, words)], cwd=self.folder, input=given,
-                              capture_output=True, timeout=SECONDS, **more)
+        done = subprocess.run([sys.executable, "-B", TOOLS / name, *map(str, words)], cwd=self.folder, capture_output=True,
+                              timeout=SECONDS, **{"env": self.blind(), **more})
         return done.stdout.decode(), done.stderr.decode(), done.returncode
 
     def told(self, name, *words, **more):
@@ -474,7 +480,7 @@ def lp_makes_certificates_of_what_glpsol_finds(tools):
 
 def season_tells_what_the_documents_show(tools):
     words = [EXAMPLES / "log" / "network.csv", EXAMPLES / "log" / "commands.txt", "--out", "pictures", "--program", *tools.program]
-    out = tools.told("season.py", *words)
+    out = tools.told("season.py", *words, env=os.environ)  # with pictures, where there is matplotlib
     want_in(out, "  period 2   1080   630   300   1080\n  period 3   1240  1270   620   1530\n  end        1240  2110  2840   2920\n")
     want_in(out, "  ZRH-VIE      110       320       320  320\n")
     decimal = tools.told("season.py", *words[:4], "--decimal", *words[4:])
@@ -560,13 +566,15 @@ def tools_end_quietly_where_nobody_reads(tools):
     for name, words in words_of_tools(tools).items():
         reading, writing = os.pipe()
         os.close(reading)
-        process = subprocess.Popen([sys.executable, "-B", TOOLS / name, *words], cwd=tools.folder, stdout=writing, stderr=subprocess.PIPE)
+        process = subprocess.Popen([sys.executable, "-B", TOOLS / name, *words], cwd=tools.folder, stdout=writing, stderr=subprocess.PIPE,
+                                   env=tools.blind())
         os.close(writing)
         err = process.communicate(timeout=SECONDS)[1].decode()
         err = "".join(it for it in err.splitlines(keepends=True) if not it.startswith(("log.py: ", "season.py: no pictures")))
         want((process.returncode, err), (128 + signal.SIGPIPE, ""), name)
         with open("/dev/full", "wb") as full:
-            done = subprocess.run([sys.executable, "-B", TOOLS / name, *words], cwd=tools.folder, stdout=full, stderr=subprocess.PIPE)
+            done = subprocess.run([sys.executable, "-B", TOOLS / name, *words], cwd=tools.folder, stdout=full, stderr=subprocess.PIPE,
+                                  env=tools.blind())
         want((done.returncode, b"Traceback" in done.stderr, b"No space left" in done.stderr), (5 if name == "audit.py" else 1, False, True), name)
 
 

@@ -95,7 +95,6 @@ def forget_output():
 
 FIELD = re.compile(rb'"((?:[^"]+|"")*)"?([^,\r\n]*)|([^,\r\n]*)')
 BLANK_LINES = re.compile(rb"[\r\n]*")
-LINE_END = re.compile(rb"\r\n|\r|\n")
 BYTE_ORDER_MARK = b"\xef\xbb\xbf"
 
 
@@ -111,13 +110,18 @@ def rows_of(data):
     at, line, number = 3 if data.startswith(BYTE_ORDER_MARK) else 0, 1, 0
     while True:
         start = BLANK_LINES.match(data, at).end()
-        line += len(LINE_END.findall(data, at, start))
+        line += line_ends(data, at, start)
         if start == len(data):
             return
         fields, at = record_at(data, start)
         number += 1
         yield Row(number, line, [it.decode("utf-8", "backslashreplace") for it in fields])
-        line += len(LINE_END.findall(data, start, at))
+        line += line_ends(data, start, at)
+
+
+def line_ends(data, start, stop):
+    """How many lines end between two places, in a line feed, a carriage return, or one and the other."""
+    return data.count(b"\n", start, stop) + data.count(b"\r", start, stop) - data.count(b"\r\n", start, stop)
 
 
 def record_at(data, at):
