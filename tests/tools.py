@@ -34,6 +34,7 @@ TOP, TOOLS, EXAMPLES = HERE.parent, HERE.parent / "tools", HERE.parent / "exampl
 sys.dont_write_bytecode = True
 sys.path.insert(0, str(TOOLS))
 import explain
+import reference
 from nrm_tools import NAME, Network, Stop, fitting, named, replies_of, rows_of, text_of
 
 NOT_BUILT = 70  # what the script `nrm` ends with where there is no program to run
@@ -207,6 +208,34 @@ def explain_tells_the_spoilt_rows_and_no_others(tools):
         want([int(it.split()[2]) for it in told], [it + 1 for it in at])
         if seed < 10:
             want(told[0] + "\n", tools.nrm("print", path, status=3))
+
+
+def spoilt_anywhere(data, draw):
+    """The bytes of a file with some of them changed, left out or put in."""
+    for _ in range(draw.randint(1, 4)):
+        at = draw.randrange(len(data) + 1)
+        put = draw.choice([b"", b"", b",", b'"', b"\n", b"\r\n", b"\r", b"0", b"9", b"999", b"a", b"A", b" ", b"\xef\xbb\xbf", b"\xff", b"\nleg,", b"\nproduct,"])
+        data = data[:at] + put + data[at + draw.choice([0, 0, 1, 1, 2, 9]):]
+    return data
+
+
+def explain_and_the_reader_agree_with_the_reference_on_any_bytes(tools):
+    files = [(EXAMPLES / it / "network.csv").read_bytes() for it in ("two-legs", "hub", "log", "certificate")]
+    refused, draw = Counter(), random.Random(9)
+    for _ in range(1500):
+        data = spoilt_anywhere(draw.choice(files), draw)
+        want([row.fields for row in rows_of(data)],
+             [[it.decode("utf-8", "backslashreplace") for it in row] for row in reference.rows_of(data)], repr(data))
+        try:
+            reference.network_of(data)
+            wanted = None
+        except reference.Refused as refusal:
+            wanted = refusal.line
+        refusals = explain.refusals_of(data)
+        want(next(refusals[0].lines()) if refusals else None, wanted, repr(data))
+        refused[wanted and wanted.split()[-1]] += 1
+    if len(refused) < 9 or refused[None] < 20:
+        raise Wrong(f"too few causes came: {refused}")
 
 
 def explain_tells_every_line_of_a_certificate(tools):
