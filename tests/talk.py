@@ -508,7 +508,7 @@ def replies_that_are_no_front_are_told(cut):
     for at, other in [(2, b"ok 4\n"), (8, b"unknown\n"), (11, b"memo"), (len(cut.replies), b"ok 99\n")]:
         kept = b"".join(cut.replies[:at] + [other] + cut.replies[at + 1:])
         done = subprocess.run(cut.words(kept), capture_output=True, timeout=SECONDS)
-        if done.returncode != 1 or done.stdout or not done.stderr.startswith(b"line %d: " % (at + 1)):
+        if done.returncode != 1 or done.stdout or not done.stderr.startswith(b"resume.py: line %d: " % (at + 1)):
             raise Wrong(f"line {at + 1} told, and not status {done.returncode}, {done.stdout!r} and {done.stderr[-300:]!r}")
 
 

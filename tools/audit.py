@@ -9,7 +9,9 @@ mean. The last line and the status are those of `nrm check`: `optimal` and 0, th
 a file is refused and 3. Nothing of the program or of its tests is used, all numbers are exact fractions, and all are means
 of a history, where the program counts in whole numbers over all histories.
 """
+import argparse
 import csv
+import os
 import re
 import sys
 from fractions import Fraction
@@ -138,11 +140,22 @@ def ended(network, certificate):
 
 
 def main():
-    if len(sys.argv) != 3:
-        print(__doc__)
-        return 2
-    last, status = ended(*sys.argv[1:])
-    print(last)
+    parser = argparse.ArgumentParser(usage="tools/audit.py NETWORK CERTIFICATE", description=__doc__,
+                                     formatter_class=argparse.RawDescriptionHelpFormatter)
+    parser.add_argument("network")
+    parser.add_argument("certificate")
+    given = parser.parse_args()
+    try:
+        last, status = ended(given.network, given.certificate)
+        print(last, flush=True)
+    except OSError as fault:
+        os.dup2(os.open(os.devnull, os.O_WRONLY), 1)  # nothing more is written, lest it be told once again
+        if isinstance(fault, BrokenPipeError):
+            return 141  # as where a signal ends who writes when nobody reads
+        print(f"audit.py: {fault.strerror}", file=sys.stderr)
+        return 5
+    except KeyboardInterrupt:
+        return 130
     return status
 
 

@@ -6,25 +6,14 @@
 Each history in its turn is taken out of NETWORK and becomes the season: its requests, a seat each, in the order of the periods
 and mixed within each period by the seed, with a line `reoptimise` at the start of each period but the first. `nrm` answers
 them in the three modes on the network of the other histories. Told are the bound of hindsight, and how much of it each mode
-earns. With no --program it is the script `nrm` at the top of the repository.
+earns. With no --program it is the `nrm` above this folder, or the one on the path.
 """
-import argparse
-import csv
 import os
 import random
-import subprocess
-import sys
 import tempfile
 from fractions import Fraction
 
-TOP = os.path.dirname(os.path.dirname(os.path.realpath(__file__)))
-MODES = ["first", "bid", "davn"]
-
-
-def rows_of(path):
-    """The rows of a network file."""
-    with open(path, encoding="utf-8-sig", newline="") as file:
-        return [row for row in csv.reader(file) if row]
+from nrm_tools import MODES, Network, Stop, add_program, end, parser, program, replies, rows_in, text_of
 
 
 def rows_without(rows, history):
@@ -50,39 +39,37 @@ def lines_of(rows, history, draw):
     yield "hindsight"
 
 
-def replayed(rows, history, seed, program):
+def replayed(rows, history, seed, words):
     """The bound of a history, and the revenue of each mode."""
-    lines = list(lines_of(rows, history, random.Random(seed)))
+    stream = "".join(f"{line}\n" for line in lines_of(rows, history, random.Random(seed))).encode()
     told = []
     with tempfile.TemporaryDirectory() as folder:
         path = os.path.join(folder, "network.csv")
-        with open(path, "w", newline="") as file:
-            csv.writer(file, lineterminator="\n").writerows(rows_without(rows, history))
+        with open(path, "w", encoding="ascii") as file:
+            file.write(text_of(rows_without(rows, history)))
         for mode in MODES:
-            done = subprocess.run([*program, "run", mode, path], text=True, stdout=subprocess.PIPE,
-                                  input="".join(f"{line}\n" for line in lines))
-            words = done.stdout.rstrip("\n").rpartition("\n")[2].split(" ")
-            if done.returncode or words[0] != "hindsight":
-                sys.exit(f"replay.py: `run {mode}` without history {history} ended with {done.returncode}, {' '.join(words)}")
-            told.append(int(words[3]))
-    return Fraction(words[1]), told
+            last = replies(words, mode, path, stream)[-1].decode().split()
+            if last[0] != "hindsight":
+                raise Stop(f"`run {mode}` without history {history} has no bound: {' '.join(last)}")
+            told.append(int(last[3]))
+    return Fraction(last[1]), told
 
 
 def main():
-    parser = argparse.ArgumentParser(usage=__doc__)
-    parser.add_argument("network")
-    parser.add_argument("--seed", type=int, default=1)
-    parser.add_argument("--program", nargs="+", default=[os.path.join(TOP, "nrm")])
-    given = parser.parse_args()
-    rows = rows_of(given.network)
-    histories = int(rows[0][1])
+    words = parser(__doc__)
+    words.add_argument("network")
+    words.add_argument("--seed", type=int, default=1)
+    add_program(words)
+    given = words.parse_args()
+    histories = Network.read(given.network).histories
     if histories < 2:
-        sys.exit("replay.py: it takes two histories, one to play and one to know")
+        raise Stop("it takes two histories, one to play and one to know")
+    rows = [row.fields for row in rows_in(given.network)]
     line = "{:>8}{:>12}" + "{:>12}{:>6}" * 3
     print(line.format("history", "bound", *[it for mode in MODES for it in (mode, "")]).rstrip())
     sums, bounds = [0, 0, 0], 0
     for history in range(1, histories + 1):
-        bound, told = replayed(rows, history, given.seed, given.program)
+        bound, told = replayed(rows, history, given.seed, program(given.program))
         print(row(line, history, bound, told))
         sums, bounds = [a + b for a, b in zip(sums, told)], bounds + bound
     print(row(line, "all", bounds, sums))
@@ -95,4 +82,4 @@ def row(line, name, bound, told):
 
 
 if __name__ == "__main__":
-    main()
+    end(main)

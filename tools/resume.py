@@ -12,10 +12,9 @@ not written again, and goes on with the lines of standard input; its replies and
 is given those alone that can have changed something: what they were answered begins with `ok`, `no`, `cancelled` or `optimised`.
 
 A line that was answered `memory` changed nothing, and may be answered otherwise another time, so it is never given again. If
-what was kept ends inside `memory`, the line has no whole reply, and the stream goes on there. With no --program it is the script
-`nrm` at the top of the repository.
+what was kept ends inside `memory`, the line has no whole reply, and the stream goes on there. With no --program it is the `nrm`
+above this folder, or the one on the path.
 """
-import argparse
 import itertools
 import os
 import re
@@ -23,25 +22,12 @@ import subprocess
 import sys
 import threading
 
-TOP = os.path.dirname(os.path.dirname(os.path.realpath(__file__)))
+from nrm_tools import MODES, Stop, add_program, end, parser, program, replies_of
+
 PIECE = 65_536
 WANTED = b"memory\n"
 WANTED_MEMORY = re.compile(WANTED)
 CHANGED_SOMETHING = re.compile(rb"(ok|no|cancelled|optimised) ")
-FURTHER = re.compile(rb"(on|product|nest|protect) |leg [^ ]+ [0-9]+/")  # a line of the text of a leg or a plan, but its first
-
-
-def replies_of(lines):
-    """The replies that lines of output make: those of a leg and of a plan have more than one line."""
-    reply = b""
-    for line in lines:
-        if reply and not FURTHER.match(line):
-            yield reply
-            reply = b""
-        reply += line
-    if reply:
-        yield reply
-
 
 def replies_kept(given):
     """The replies that were kept; the last one may be cut."""
@@ -98,7 +84,7 @@ class Session:
 
 
 def parted(number, kept, reply):
-    sys.exit(f"line {number}: {kept!r} was kept, and the program answers {reply!r}")
+    raise Stop(f"line {number}: {kept!r} was kept, and the program answers {reply!r}")
 
 
 def line_to_go_on_at(given):
@@ -114,7 +100,7 @@ def line_to_go_on_at(given):
                 return number, size
             size += len(reply)
         if (status := session.process.wait()) not in (0, 8):
-            sys.exit(f"after line {number} the program ended with status {status}")
+            raise Stop(f"after line {number} the program ended with status {status}")
         if more := kept.read(PIECE):
             parted(number + 1, more, b"")
     return number + 1, size
@@ -137,16 +123,21 @@ def go_on(given, before):
 
 
 def main():
-    parser = argparse.ArgumentParser(usage=__doc__)
-    for name in ("network", "mode", "stream", "replies"):
-        parser.add_argument(name)
-    parser.add_argument("--go-on", action="store_true")
-    parser.add_argument("--program", nargs="+", default=[os.path.join(TOP, "nrm")])
-    given = parser.parse_args()
+    words = parser(__doc__)
+    words.add_argument("network")
+    words.add_argument("mode", choices=MODES)
+    words.add_argument("stream")
+    words.add_argument("replies")
+    words.add_argument("--go-on", action="store_true")
+    add_program(words)
+    given = words.parse_args()
+    given.program = program(given.program)
+    for path in (given.network, given.stream, given.replies):
+        open(path, "rb").close()  # one that can't be read is told before anything is run
     number, size = line_to_go_on_at(given)
     print(f"go on at line {number}; {size} bytes of whole replies stand before it", file=sys.stderr if given.go_on else sys.stdout)
-    sys.exit(go_on(given, number) if given.go_on else 0)
+    return go_on(given, number) if given.go_on else 0
 
 
 if __name__ == "__main__":
-    main()
+    end(main)

@@ -1,37 +1,27 @@
 #!/usr/bin/env python3
 """A season in the three modes: its numbers as tables, and four pictures of them.
 
-    tools/season.py NETWORK STREAM [--out FOLDER] [--leg LEG] [--program WORD...]
+    tools/season.py NETWORK STREAM [--out FOLDER] [--leg LEG] [--decimal] [--program WORD...]
 
 `nrm` answers the lines of STREAM on NETWORK under `first`, `bid` and `davn`. Told are: the revenue of each mode beside the
 bound of hindsight, and the bid prices of each leg, at the opening, at each line `reoptimise` and at the end; the seats of one
 leg, sold, left and protected; and of how many requests each product was refused. The tables come on standard output; the
 pictures go to FOLDER, the current one where nothing is said, each as PNG and as SVG, and are the same each time. They
 need matplotlib (Debian's python3-matplotlib): without it there are the tables alone. LEG is the leg whose seats are drawn,
-by default the one of which most seats were asked for. With no --program it is the script `nrm` at the top of the repository.
+by default the one of which most seats were asked for. With --decimal the tables have decimals in the place of fractions, as
+a spreadsheet wants them. With no --program it is the `nrm` above this folder, or the one on the path.
 
 HOW REPLIES ARE TOLD APART. Before the first line, behind each line `reoptimise K` of a period that the network has, and
 behind the last line, the lines `plan`, `leg LEG` for each leg, and `hindsight` are put into the stream. None of them changes
-what any other line is answered. Each line has one line of reply, but for two: `plan`, which has one under `first`, one for
-the value, each product and each leg under `bid`, and under `davn` one more for each leg of each product and one more for
-each leg; and `leg LEG` for a leg of the network, which has one and those behind it that begin with `on LEG`. So the replies
-are dealt out to the lines in order, and those to the lines put in are taken away.
+what any other line is answered. Each line has one reply, and each reply one line, but for two: the text of a plan goes on with
+lines that begin with `product`, `leg` and a fraction, `nest` or `protect`, and that of a leg with lines that begin with `on`.
+So the replies are dealt out to the lines in order, and those to the lines put in are taken away.
 """
-import argparse
-import os
 import re
-import subprocess
 import sys
 from fractions import Fraction
 
-from audit import Network, Refused
-
-TOP = os.path.dirname(os.path.dirname(os.path.realpath(__file__)))
-MODES = ["first", "bid", "davn"]
-
-
-class Stop(Exception):
-    """Why there is nothing to tell."""
+from nrm_tools import MODES, Network, Stop, add_program, end, parser, program, replies
 
 
 class Stream:
@@ -62,33 +52,35 @@ class Point:
         self.prices, self.protections, self.sold = {}, {}, {}
         self.bound = self.revenue = None
 
-    def take(self, line, replies):
+    def take(self, line, reply):
         if line == "plan":
-            for words in map(str.split, replies):
+            for words in map(str.split, reply):
                 if words[0] == "leg":
                     self.prices[words[1]] = Fraction(words[2])
                 elif words[0] == "protect":
                     self.protections[words[1]] = [int(it) for it in words[2:]]
         elif line == "hindsight":
-            words = replies[0].split()
+            words = reply[0].split()
             if words[0] == "hindsight":  # and not `overflow` or `memory`
                 self.bound, self.revenue = Fraction(words[1]), int(words[3])
         else:
-            words = replies[0].split()
+            words = reply[0].split()
             self.sold[words[1]] = int(words[5])
 
 
 class Season:
     """What one mode answers: the points, the seats sold on one leg behind each line, and what was asked and refused."""
 
-    def __init__(self, mode, network, stream, leg, replies):
+    def __init__(self, mode, network, stream, leg, told):
         self.mode, self.network = mode, network
         self.points, self.bookings = [], {}
         self.asked = {it: 0 for it in network.fare}
         self.refused = {it: 0 for it in network.fare}
         self.sold, self.course = {it: 0 for it in network.seats}, [0]
-        for number, line, put_in in stream.asked:
-            reply = self.taken(line, replies)
+        if len(told) != len(stream.asked):
+            raise Stop(f"there are {len(told)} replies to {len(stream.asked)} lines")
+        for (number, line, put_in), reply in zip(stream.asked, told):
+            reply = reply.decode("latin-1").splitlines()
             if put_in:
                 self.look(number, line, reply)
             else:
@@ -102,19 +94,6 @@ class Season:
         self.points[-1].take(line, reply)
         if line == "hindsight" and self.points[-1].sold != self.sold:
             raise Stop("the replies don't fit the lines")
-
-    def taken(self, line, replies):
-        """The lines of the reply to a line, taken from the front of those that are left."""
-        count, legs = 1, self.network.seats
-        if line == "plan" and self.mode != "first":
-            nests = len(legs) + sum(map(len, self.network.legs.values()))
-            count += len(legs) + len(self.network.fare) + (nests if self.mode == "davn" else 0)
-        elif line.startswith("leg ") and line[4:] in legs:
-            while len(replies) > count and replies[-count - 1].startswith(f"on {line[4:]} "):
-                count += 1
-        if len(replies) < count:
-            raise Stop("there are fewer replies than lines")
-        return [replies.pop() for _ in range(count)]
 
     def follow(self, words, reply):
         """Counts a line of the stream and its reply."""
@@ -133,14 +112,6 @@ class Season:
             self.sold[leg] += party
 
 
-def season(mode, program, path, network, stream, leg):
-    """The season of one mode."""
-    done = subprocess.run([*program, "run", mode, path], input=stream.data(), stdout=subprocess.PIPE)
-    if done.returncode:
-        raise Stop(f"`run {mode}` ended with status {done.returncode}: {done.stdout.decode('latin-1').strip()}")
-    return Season(mode, network, stream, leg, done.stdout.decode("latin-1").splitlines()[::-1])
-
-
 def leg_most_asked_for(network, stream):
     """The leg of which most seats were asked for, sold or not."""
     seats = {leg: 0 for leg in network.seats}
@@ -154,55 +125,65 @@ def leg_most_asked_for(network, stream):
 # Tables
 
 
-def table(title, heads, rows):
+def cell(value, decimal):
+    """The text of a number, a name or of nothing."""
+    if decimal and isinstance(value, Fraction):
+        return f"{float(value):.2f}"
+    return "" if value is None else str(value)
+
+
+def table(title, heads, rows, decimal):
     """A table of text, its columns to the right but for the first."""
-    rows = [[("" if it is None else str(it)) for it in row] for row in [heads, *rows]]
+    rows = [[cell(it, decimal) for it in row] for row in [heads, *rows]]
     widths = [max(map(len, column)) for column in zip(*rows)]
     print(f"\n{title}\n")
     for row in rows:
         print(f"  {row[0]:<{widths[0]}}", *[f"{it:>{width}}" for it, width in zip(row[1:], widths[1:])], sep="  ")
 
 
-def tables(network, stream, seasons, leg):
+def tables(network, stream, seasons, leg, decimal=False):
     names = [name for _, name in stream.points]
     print("Each point of the season is behind a line of the stream:",
           *[f"{name} {number}" for number, name in stream.points], sep="\n  ")
     rows = zip(names, *[[point.revenue for point in it.points] for it in seasons], [it.bound for it in seasons[0].points])
-    table("Revenue of the bookings that stand, and the bound of hindsight, in currency units", ["", *MODES, "bound"], rows)
+    table("Revenue of the bookings that stand, and the bound of hindsight, in currency units", ["", *MODES, "bound"],
+          rows, decimal)
     for it in seasons[1:]:
         rows = [[name, *[point.prices[name] for point in it.points]] for name in network.seats]
-        table(f"Bid prices under {it.mode}, in currency units", ["leg", *names], rows)
+        table(f"Bid prices under {it.mode}, in currency units", ["leg", *names], rows, decimal)
     for it in seasons:
         rows = [[name, point.sold[leg], network.seats[leg] - point.sold[leg],
                  *(point.protections[leg] if it.mode == "davn" else [])] for name, point in zip(names, it.points)]
         levels = [f"for 1 to {b}" if b > 1 else "for 1" for b in range(1, len(rows[0]) - 2)]
         table(f"Seats of {leg} under {it.mode}: sold, left{', and protected for buckets' if levels else ''}",
-              ["", "sold", "left", *levels], rows)
+              ["", "sold", "left", *levels], rows, decimal)
     rows = [[name, asked, *[it.refused[name] for it in seasons]] for name, asked in seasons[0].asked.items() if asked]
-    table("Requests for each product, and how many of them were refused", ["product", "requests", *MODES], rows)
+    table("Requests for each product, and how many of them were refused", ["product", "requests", *MODES], rows, decimal)
 
 
 def main():
-    parser = argparse.ArgumentParser(usage=__doc__)
-    parser.add_argument("network")
-    parser.add_argument("stream")
-    parser.add_argument("--out", default=".")
-    parser.add_argument("--leg")
-    parser.add_argument("--program", nargs="+", default=[os.path.join(TOP, "nrm")])
-    given = parser.parse_args()
-    network = Network(given.network)
+    words = parser(__doc__)
+    words.add_argument("network")
+    words.add_argument("stream")
+    words.add_argument("--out", metavar="FOLDER", default=".")
+    words.add_argument("--leg")
+    words.add_argument("--decimal", action="store_true")
+    add_program(words)
+    given = words.parse_args()
+    network = Network.read(given.network)
     with open(given.stream, "rb") as file:
         stream = Stream(file.read(), network)
     leg = given.leg or leg_most_asked_for(network, stream)
     if leg not in network.seats:
         raise Stop(f"there is no leg {leg}")
-    seasons = [season(mode, given.program, given.network, network, stream, leg) for mode in MODES]
-    tables(network, stream, seasons, leg)
+    seasons = [Season(mode, network, stream, leg, replies(program(given.program), mode, given.network, stream.data()))
+               for mode in MODES]
+    tables(network, stream, seasons, leg, given.decimal)
     try:
         import pictures
     except ImportError:
-        print(f"No pictures: {sys.executable} has no matplotlib (Debian's python3-matplotlib, for /usr/bin/python3).",
-              file=sys.stderr)
+        print(f"season.py: no pictures, since {sys.executable}, the Python that was asked, has no matplotlib; Debian's "
+              f"python3-matplotlib is for /usr/bin/python3: /usr/bin/python3 {' '.join(sys.argv)}", file=sys.stderr)
         return
     print()
     for path in pictures.drawn(network, stream, seasons, leg, given.out):
@@ -210,7 +191,4 @@ def main():
 
 
 if __name__ == "__main__":
-    try:
-        main()
-    except (Stop, Refused, OSError) as stop:
-        sys.exit(f"season.py: {stop}")
+    end(main)

@@ -1,0 +1,692 @@
+#!/usr/bin/env python3
+"""The tools, on the repository's cases and on made data: what each must tell, and how it must end.
+
+    tests/tools.py [PATTERN] [--program WORD...]
+
+`tools/explain.py` is given the files of the cases of `tests/run`: where one is refused, the first line that it tells and its
+status must be those that the case wants, and where one is printed it must refuse nothing. The other tests are the functions below
+it, of which PATTERN picks those with it in their name. With no --program it is the script `nrm` at the top of the repository.
+What needs a program that isn't installed, `glpsol` or a kit that builds, is told and left out. What fails is told; the last line is
+`N passed, M failed`.
+"""
+import argparse
+import contextlib
+import csv
+import datetime
+import importlib.machinery
+import importlib.util
+import io
+import os
+import random
+import re
+import shutil
+import signal
+import subprocess
+import sys
+import tempfile
+import time
+from collections import Counter
+from fractions import Fraction
+from pathlib import Path
+
+HERE = Path(__file__).resolve().parent
+TOP, TOOLS, EXAMPLES = HERE.parent, HERE.parent / "tools", HERE.parent / "examples"
+sys.dont_write_bytecode = True
+sys.path.insert(0, str(TOOLS))
+import explain
+import reference
+from nrm_tools import NAME, Network, Stop, fitting, named, replies_of, rows_of, text_of
+
+NOT_BUILT = 70  # what the script `nrm` ends with where there is no program to run
+SECONDS = 60
+LOG_COLUMNS = ["--departs", "Departure", "--booked", "Booked on", "--product", "Fare product", "--seats", "Seats"]
+
+
+class Wrong(Exception):
+    """What should have come, and what came."""
+
+
+def want(found, wanted, what="it"):
+    if found != wanted:
+        raise Wrong(f"{what}: wanted {wanted!r}, and not {found!r}")
+
+
+def want_in(text, wanted):
+    if wanted not in text:
+        raise Wrong(f"wanted {wanted!r} in {text!r}")
+
+
+class Tools:
+    """Runs the tools in a folder, with a program."""
+
+    def __init__(self, program, folder):
+        self.program, self.folder = program, Path(folder)
+        (self.folder / "blind").mkdir()
+        (self.folder / "blind" / "matplotlib.py").write_text("raise ImportError")
+
+    def file(self, name, content):
+        path = self.folder / name
+        path.write_bytes(content if isinstance(content, bytes) else content.encode())
+        return str(path)
+
+    def blind(self):
+        """An environment in which no pictures are drawn, since that takes long."""
+        return {**os.environ, "PYTHONPATH": str(self.folder / "blind")}
+
+    def ran(self, name, *words, **more):
+        """The output, standard error and status of a tool."""
+        done = subprocess.run([sys.executable, "-B", TOOLS / name, *map(str, words)], cwd=self.folder, capture_output=True,
+                              timeout=SECONDS, **{"env": self.blind(), **more})
+        return done.stdout.decode(), done.stderr.decode(), done.returncode
+
+    def told(self, name, *words, **more):
+        """The output of a tool that ends with status 0."""
+        out, err, status = self.ran(name, *words, **more)
+        if status:
+            raise Wrong(f"{name} ended with {status}: {err or out}")
+        return out
+
+    def stopped(self, name, *words, status=1, **more):
+        """What a tool says on standard error that must end with a status, and name itself."""
+        out, err, ended = self.ran(name, *words, **more)
+        want((ended, err.startswith((f"{name}: ", "usage: ")), "Traceback" in err), (status, True, False), f"{name} {err!r}")
+        return err
+
+    def nrm(self, *words, given=b"", status=0):
+        done = subprocess.run([*self.program, *map(str, words)], cwd=self.folder, input=given, stdout=subprocess.PIPE, timeout=SECONDS)
+        want(done.returncode, status, f"nrm {words}")
+        return done.stdout.decode()
+
+
+# explain.py
+
+
+def cases_module():
+    """The script of the cases, which may have no .py in its name."""
+    path = next(it for it in (HERE / "run.py", HERE / "run") if it.exists())
+    loader = importlib.machinery.SourceFileLoader("run", str(path))
+    run = importlib.util.module_from_spec(importlib.util.spec_from_loader("run", loader))
+    loader.exec_module(run)
+    return run
+
+
+def files_of(case):
+    """The words of a case that name files."""
+    words = [it.decode("utf-8", "surrogateescape") for it in case.words]
+    return {"print": words[1:], "check": words[1:], "run": words[2:], "plan": words[2:]}.get(words[0] if words else "", [])
+
+
+def explained(case, run):
+    """What `tools/explain.py` writes of the files of a case, and its status."""
+    words = files_of(case)
+    with tempfile.TemporaryDirectory() as folder:
+        if case.fifos or case.stdin or case.stdin_missing or case.stdin_fails or case.stdin_breaks:
+            case.words = [it.encode("utf-8", "surrogateescape") for it in words]
+            told = run.Run(case, [sys.executable, "-B", str(TOOLS / "explain.py"), "--"], folder)
+            return told.out.decode(), told.status
+        case.lay(folder)
+        with contextlib.chdir(folder), contextlib.redirect_stdout(io.StringIO()) as out:
+            try:
+                status = explain.explain(*words)
+            except Stop as stop:
+                status = stop.status
+        return out.getvalue(), status
+
+
+def explain_tells_first_what_the_program_tells(tools):
+    run, refused, taken = cases_module(), 0, 0
+    for case in run.cases_of(""):
+        is_output_gone = case.stdout_full or case.stdout_closed or case.stdout_missing or case.disk is not None
+        if case.status in (3, 9) and not is_output_gone:
+            wanted = case.stdout.decode()
+            out, status = explained(case, run)
+            want((out.partition("\n")[0] + "\n", status), (wanted, case.status), case.name)
+            refused += 1
+        elif case.words[:1] == [b"print"] and case.status == 0 and not is_output_gone:
+            out, status = explained(case, run)
+            want((": no row is refused; " in out.partition("\n")[0], status), (True, 0), f"{case.name} {out[:200]}")
+            taken += 1
+    print(f"{refused} refused cases explained, {taken} files found without a fault")
+    if refused < 300 or taken < 20:
+        raise Wrong("there are fewer cases than there were")
+
+
+MANY_FAULTS = """Heading,name,seats
+
+periods,3,3,,
+leg,ZRH-VIE,1020,200,90
+leg,lh454_27Nov,6,150,160
+# remark
+product,ZV-Y,"1,250",ZRH-VIE
+product,ZV-Q,110.50,ZRH-VIE,ZRH-VIE
+product,VB-Y,200,ZRH-VEI
+product,"VB-Q
+",200,ZRH-VIE
+demand,ZV-Y,4,1,2,3
+demand,ZV-Q,1,500,500,3
+demand,LATE,1,5,5,3
+,,,,
+product,LATE,07,ZRH-VIE
+demand,ZV-Q,2,1,1,1
+"""
+FAULTS_OF_MANY = [  # the row, the cause, the line of the editor, the field, and a part of the advice
+    (1, "1 kind", 1, "field 1, the kind: Heading", "no heading row"), (2, "3 fields", 3, None, "padded it with commas"),
+    (3, "7 range", 4, "field 3, the seats: 1020", "0 to 999"), (4, "5 name", 5, "field 2, the name: lh454_27Nov", "LH454-27NOV"),
+    (5, "1 kind", 6, "field 1, the kind: # remark", "no remarks"), (6, "6 number", 7, "field 3, the fare: 1,250", "1250"),
+    (7, "6 number", 8, "field 3, the fare: 110.50", "round it"), (8, "9 missing", 9, "field 4, leg 1: ZRH-VEI", "is it ZRH-VIE of line 4?"),
+    (9, "5 name", 10, "field 2, the name: 'VB-Q\\n'", "VB-Q"), (10, "7 range", 12, "field 3, the history: 4", "1 to 3"),
+    (11, "11 sum", 13, None, "1003 together"), (12, "9 missing", 14, "field 2, the product: LATE", "line 16, below"),
+    (13, "1 kind", 15, "field 1, the kind: ''", "the row is empty"), (14, "6 number", 16, "field 3, the fare: 07", "write 7")]
+
+
+def explain_tells_every_row_with_its_line_and_how_to_mend_it(tools):
+    out, _, status = tools.ran("explain.py", tools.file("many.csv", MANY_FAULTS))
+    entries = re.split(r"^(?=refused )", out, flags=re.M)[1:]
+    want((len(entries), status), (len(FAULTS_OF_MANY), 3))
+    for entry, (row, why, line, field, advice) in zip(entries, FAULTS_OF_MANY):
+        want_in(entry, f"refused row {row} why {why}\n    line {line}{f', {field}' if field else ''}\n")
+        want_in(entry, advice)
+    want_in(entries[6], "    line 8, field 5, leg 2: ZRH-VIE\n        the product has this leg already")
+
+
+def spoilt(fields, draw):
+    """A row with one fault."""
+    kind, *rest = fields
+    ways = [["X" + kind, *rest], [kind, *rest, *["1"] * 20], [kind, rest[0].lower() + "_", *rest[1:]], [kind, rest[0], "0" + rest[1], *rest[2:]],
+            [kind, rest[0], "100000000", *rest[2:]]]
+    return draw.choice(ways)
+
+
+def explain_tells_the_spoilt_rows_and_no_others(tools):
+    rows = [it.fields for it in rows_of((EXAMPLES / "season" / "network.csv").read_bytes())]
+    for seed in range(40):
+        draw = random.Random(seed)
+        at = sorted(draw.sample([it for it, row in enumerate(rows) if row[0] == "demand"], draw.randint(1, 12)))
+        made = [spoilt(row, draw) if it in at else row for it, row in enumerate(rows)]
+        path = tools.file("spoilt.csv", text_of(made))
+        told = [str(it) for refusal in explain.refusals_of(Path(path).read_bytes()) for it in refusal.lines() if it.startswith("refused")]
+        want([int(it.split()[2]) for it in told], [it + 1 for it in at])
+        if seed < 10:
+            want(told[0] + "\n", tools.nrm("print", path, status=3))
+
+
+def spoilt_anywhere(data, draw):
+    """The bytes of a file with some of them changed, left out or put in."""
+    for _ in range(draw.randint(1, 4)):
+        at = draw.randrange(len(data) + 1)
+        put = draw.choice([b"", b"", b",", b'"', b"\n", b"\r\n", b"\r", b"0", b"9", b"999", b"a", b"A", b" ", b"\xef\xbb\xbf", b"\xff", b"\nleg,", b"\nproduct,"])
+        data = data[:at] + put + data[at + draw.choice([0, 0, 1, 1, 2, 9]):]
+    return data
+
+
+def explain_and_the_reader_agree_with_the_reference_on_any_bytes(tools):
+    files = [(EXAMPLES / it / "network.csv").read_bytes() for it in ("two-legs", "hub", "log", "certificate")]
+    refused, draw = Counter(), random.Random(9)
+    for _ in range(1500):
+        data = spoilt_anywhere(draw.choice(files), draw)
+        want([row.fields for row in rows_of(data)],
+             [[it.decode("utf-8", "backslashreplace") for it in row] for row in reference.rows_of(data)], repr(data))
+        try:
+            reference.network_of(data)
+            wanted = None
+        except reference.Refused as refusal:
+            wanted = refusal.line
+        refusals = explain.refusals_of(data)
+        want(next(refusals[0].lines()) if refusals else None, wanted, repr(data))
+        refused[wanted and wanted.split()[-1]] += 1
+    if len(refused) < 9 or refused[None] < 20:
+        raise Wrong(f"too few causes came: {refused}")
+
+
+def explain_tells_every_line_of_a_certificate(tools):
+    lines = (EXAMPLES / "certificate" / "certificate.txt").read_text().splitlines()
+    value, first, *rest = lines
+    path = tools.file("cert", "\n".join([value.replace("/", ","), first, first, "leg NONE 1/1", *rest[:-1], ""]))
+    out, _, status = tools.ran("explain.py", EXAMPLES / "certificate" / "network.csv", path)
+    told = [it for it in out.splitlines() if it.startswith("refused")]
+    want((told, status), (["refused certificate line 1", "refused certificate line 3", "refused certificate line 4",
+                           f"refused certificate no {rest[-1].rpartition(' ')[0]}"], 3))
+
+
+# log.py
+
+
+def log_makes_the_network_of_the_example(tools):
+    made = tools.told("log.py", EXAMPLES / "log" / "requests.csv", *LOG_COLUMNS, "--cuts", "30,7", "--network", EXAMPLES / "log" / "rows.csv",
+                      "--names", "names.csv")
+    want(made, (EXAMPLES / "log" / "network.csv").read_text())
+    want(tools.nrm("print", tools.file("made.csv", made))[:12], "periods,3,3\n")
+    want_in((tools.folder / "names.csv").read_text(), "ZV-Q,ZV_Q\n")
+
+
+class MadeLog:
+    """Requests that are made of a seed: the day of departure and of booking, the product and the seats of each."""
+
+    def __init__(self, seed, seasons=5, requests=400, products=("lh454_27Nov", "LH454 Économie Flex", "LH454 Économie Saver", "ZV-Q", "a;b,c")):
+        draw = random.Random(seed)
+        first = datetime.date(2024, 12, draw.randint(1, 28))
+        self.departures = [first + datetime.timedelta(7 * it) for it in range(seasons)]
+        self.requests = [(day, day - datetime.timedelta(draw.randint(0, 90)), draw.choice(products), draw.randint(1, 4))
+                         for day in draw.choices(self.departures, k=requests) + self.departures]
+        self.draw = draw
+
+    def text(self, form, separator=",", end="\n", above=""):
+        """The log, with dates in a form of `strftime`."""
+        out = io.StringIO()
+        out.write(above)
+        writer = csv.writer(out, delimiter=separator, lineterminator=end)
+        writer.writerow(["No", " booked ON ", "Departure", "Fare product", "Seats", "Remarks"])
+        for number, (departs, booked, product, seats) in enumerate(self.requests):
+            writer.writerow([number, booked.strftime(form), f" {departs.strftime(form)}", product, seats, 'say "so"'])
+            if number % 50 == 7:
+                writer.writerow([""] * 6)
+        return out.getvalue()
+
+    def demand(self, cuts):
+        """The seats by product, season and period, counted in another way than the tool's."""
+        seats, edges = Counter(), [10**6, *cuts, -1]
+        for departs, booked, product, party in self.requests:
+            days = departs.toordinal() - booked.toordinal()
+            [period] = [it for it in range(1, len(edges)) if edges[it] < days <= edges[it - 1]]
+            seats[product, 1 + self.departures.index(departs), period] += party
+        return seats
+
+
+def log_reads_every_form_to_the_same_rows(tools):
+    log, cuts = MadeLog(7), [60, 30, 7]
+    forms = {"iso": log.text("%Y-%m-%d"), "basic": log.text("%Y%m%d"), "with a time": log.text("%Y-%m-%dT%H:%M:%S"),
+             "points": log.text("%d.%m.%Y", ";", "\r\n"), "slashes": log.text("%d/%m/%Y %H:%M", "\t"), "month first": log.text("%m/%d/%Y", "|"),
+             "airline": log.text("%d%b%y"), "month": log.text("%d-%b-%Y"), "title": log.text("%Y-%m-%d", above="Export of today\n\n,,,\n"),
+             "mark": b"\xef\xbb\xbf" + log.text("%d.%m.%Y", ";").encode(), "UTF-16": log.text("%d.%m.%Y", ";").encode("utf-16"),
+             "Windows": log.text("%Y-%m-%d").encode("cp1252")}
+    made = {name: tools.told("log.py", tools.file("log.csv", text), *LOG_COLUMNS, "--cuts", "60,30,7", "--names", f"{name}.names")
+            for name, text in forms.items()}
+    first = made["iso"]
+    for name, rows in made.items():
+        want(rows, first, name)
+    with open(tools.folder / "iso.names", encoding="utf-8") as file:
+        names = {row[0]: row[1] for row in csv.reader(file)}
+    found = Counter()
+    for kind, product, history, *seats in csv.reader(first.splitlines()[1:]):
+        found.update({(names[product], int(history), period): int(it) for period, it in enumerate(seats, 1)})
+    want((first.splitlines()[0], +found), ("periods,5,4", +log.demand(cuts)))
+
+
+def log_goes_on_to_a_session(tools):
+    """From the rows that it makes, with legs and fares put between, to a network that the program takes."""
+    rows = tools.told("log.py", tools.file("log.csv", MadeLog(3).text("%Y-%m-%d")), *LOG_COLUMNS, "--cuts", "14").splitlines()
+    products = sorted({it.split(",")[1] for it in rows[1:]})
+    made = [rows[0], "leg,LH454,40,200", *[f"product,{it},{100 + 50 * at},LH454" for at, it in enumerate(products)], *rows[1:]]
+    path = tools.file("network.csv", "\n".join(made) + "\n")
+    want(tools.nrm("print", path).splitlines()[:2], made[:2])
+    want(tools.nrm("run", "bid", path, given=f"book {products[-1]} 1\n".encode()), "ok 1\n")
+    completed = tools.told("log.py", "log.csv", *LOG_COLUMNS, "--cuts", "30,7", "--network", path)
+    want((completed.splitlines()[0], completed.count("\nleg,")), ("periods,5,3", 1))
+
+
+def log_takes_the_latest_seasons(tools):
+    log = MadeLog(5, seasons=40)
+    path = tools.file("log.csv", log.text("%Y-%m-%d"))
+    want_in(tools.stopped("log.py", path, *LOG_COLUMNS, "--cuts", "7"), "40 days of departure, and a network file takes 32 histories: say --last 32")
+    log.requests = [it for it in log.requests if it[0] in log.departures[-6:]]
+    few = tools.told("log.py", tools.file("few.csv", log.text("%Y-%m-%d")), *LOG_COLUMNS, "--cuts", "7")
+    want(tools.told("log.py", path, *LOG_COLUMNS, "--cuts", "7", "--last", "6"), few)
+
+
+def log_takes_the_seasons_of_a_weekday(tools):
+    log = MadeLog(8, seasons=21)
+    log.departures = [log.departures[0] + datetime.timedelta(it) for it in range(21)]
+    log.requests = [(log.departures[it % 21], log.departures[it % 21] - datetime.timedelta(it % 60), f"P{it % 3}", 1) for it in range(500)]
+    path = tools.file("log.csv", log.text("%Y-%m-%d"))
+    log.requests = [it for it in log.requests if it[0].strftime("%a") == "Tue"]
+    tuesdays = tools.told("log.py", tools.file("few.csv", log.text("%Y-%m-%d")), *LOG_COLUMNS, "--cuts", "7")
+    want(tuesdays.splitlines()[0], "periods,3,2")
+    want(tools.told("log.py", path, *LOG_COLUMNS, "--cuts", "7", "--weekday", "tue"), tuesdays)
+    want_in(tools.stopped("log.py", "few.csv", *LOG_COLUMNS, "--cuts", "7", "--weekday", "fri"), "no departure of the log is on a fri")
+
+
+REFUSED_LOGS = [  # the log's rows, more words, and a part of the sentence
+    ("2025-03-08,2025-03-07,P,1\n", [], "line 2: it was made on 2025-03-08, after its departure on 2025-03-07"),
+    ("2025-03-01,07.03.25,P,1\n", [], "'07.03.25' is no date that is known; write it as 2025-03-07"),
+    ("2025-02-29,2025-03-07,P,1\n", [], "'2025-02-29' is no date"),
+    ("45717,45723,P,1\n", [], "'45723' is no date"),
+    ("03/04/2025,05/04/2025,P,1\n", [], "05/04/2025 can be read with the day or the month first; say --dates dmy"),
+    ("13/04/2025,04/14/2025,P,1\n", [], "13/04/2025 has the day first, and 04/14/2025 the month"),
+    ("2025-03-01,2025-03-07,P,two\n", [], "line 2: 'two' is no number of seats"),
+    ("2025-03-01,2025-03-07,,1\n", [], "line 2: it names no product"),
+    ("", [], "has no request below its headings"),
+    ("2025-03-01,2025-03-07,P,1\n", ["--cuts", "7,30"], "each is to be fewer days"),
+    ("2025-03-01,2025-03-07,P,1\n", ["--cuts", "week"], "days before departure are wanted"),
+    ("2025-03-01,2025-03-07,P,1\n", ["--cuts", ",".join(map(str, range(40, 20, -1)))], "21 periods, and a network file takes 16"),
+    ("2025-03-01,2025-03-07,P,1\n", ["--last", "33"], "takes 1 to 32 histories"),
+    ("2025-03-01,2025-03-07,P,1\n", ["--seats", "Pax"], "has no column Pax; its headings are Booked on, Departure, Fare product, Seats"),
+    ("2025-03-01,2025-03-07,P,1000\n", [], "P was asked for 1000 seats for 2025-03-07, and a row of demand takes 999"),
+    ("".join(f"2025-03-01,2025-03-07,P{it},1\n" for it in range(257)), [], "257 products, and a network file takes 256")]
+
+
+def log_refuses_with_a_sentence(tools):
+    for rows, words, sentence in REFUSED_LOGS:
+        path = tools.file("log.csv", "Booked on,Departure,Fare product,Seats\n" + rows)
+        want_in(tools.stopped("log.py", path, *LOG_COLUMNS, *(["--cuts", "7"] if "--cuts" not in words else []), *words), sentence)
+    path = tools.file("rows.csv", "periods,1,1\nleg,A,1\nproduct,P,5,A\n")
+    log = tools.file("log.csv", "Booked on,Departure,Fare product,Seats\n2025-03-01,2025-03-07,new_one,1\n")
+    want_in(tools.stopped("log.py", log, *LOG_COLUMNS, "--cuts", "7", "--network", path), "NEW-ONE, which stands for 'new_one'")
+
+
+def names_fit_and_are_names_of_their_own(tools):
+    draw = random.Random(1)
+    texts = ["", "ß", "-", "ABCDEFGHIJKL", *["".join(draw.choices("aB9_- é.東", k=draw.randint(1, 30))) for _ in range(3000)]]
+    names = named(texts)
+    want((len(set(names.values())), all(map(NAME.fullmatch, names.values()))), (len(set(texts)), True))
+    want([names[it] for it in texts if NAME.fullmatch(it)], [it for it in texts if NAME.fullmatch(it)])
+    want([fitting(it) for it in ("LH454_27NOV", "zv q", "Zürich–Genève")], ["LH454-27NOV", "ZV-Q", "ZURIC-GENEVE"])
+    log = tools.file("log.csv", "Booked on,Departure,Fare product,Seats\n2025-03-01,2025-03-07,zv q,1\n2025-03-01,2025-03-07,zv_q,1\n")
+    tools.file("names.csv", "name,stands for\nZV-Q,zv_q\nOLD,gone\n")
+    tools.told("log.py", log, *LOG_COLUMNS, "--cuts", "7", "--names", "names.csv")
+    want((tools.folder / "names.csv").read_text(), "name,stands for\nOLD,gone\nZV-Q,zv_q\nZV-Q-2,zv q\n")
+
+
+# split.py
+
+
+def made_timetable(draw, parts):
+    """The rows of a timetable of parts, mixed, and the legs of each part."""
+    legs = [[f"L{part}-{at}" for at in range(size)] for part, size in enumerate(parts)]
+    products = [(f"P{part}-{at}", draw.randint(50, 500), [some[at], *([some[at + 1]] if at + 1 < len(some) else [])])
+                for part, some in enumerate(legs) for at in range(len(some))]
+    every = [it for some in legs for it in some]
+    draw.shuffle(every)
+    draw.shuffle(products)
+    rows = [["periods", 2, 2], *[["leg", it, draw.randint(1, 9)] for it in every],
+            *[["product", name, fare, *used] for name, fare, used in products],
+            *[["demand", name, history, draw.randint(0, 5), draw.randint(0, 5)] for name, _, _ in products for history in (1, 2)]]
+    return rows, legs
+
+
+def value_of(tools, path):
+    return Fraction(tools.nrm("plan", "bid", path).split()[1])
+
+
+def split_cuts_where_no_product_joins(tools):
+    rows, legs = made_timetable(random.Random(2), [30, 64, 1, 25])
+    out = tools.told("split.py", tools.file("timetable.csv", text_of([*rows, ["leg", "IDLE", 7]])), "parts")
+    want_in(out, "the leg IDLE is in no file")
+    files = sorted((tools.folder / "parts").glob("part-*.csv"))
+    parts = [Network.read(it) for it in files]
+    want(sorted(sorted(it.seats) for it in parts), sorted(map(sorted, legs)))
+    want(sorted(text for it in files for text in it.read_text().splitlines() if not text.startswith("periods")),
+         sorted(text for text in text_of(rows).splitlines() if not text.startswith("periods")))
+    with open(tools.folder / "parts" / "parts.csv", encoding="ascii") as file:
+        want(sorted(tuple(row) for row in csv.reader(file)),
+             sorted([("product", "file"), *[(product, path.name) for path, it in zip(files, parts) for product in it.fare]]))
+    for it in files:
+        tools.nrm("print", it)
+
+
+def split_parts_are_worth_the_whole(tools):
+    rows, _ = made_timetable(random.Random(4), [5, 9, 1, 7])
+    path = tools.file("timetable.csv", text_of(rows))
+    tools.told("split.py", path, "parts")
+    want(sum(value_of(tools, it) for it in (tools.folder / "parts").glob("part-*.csv")), value_of(tools, path))
+
+
+def split_names_what_is_too_large(tools):
+    rows, legs = made_timetable(random.Random(6), [65, 3])
+    out, _, status = tools.ran("split.py", tools.file("timetable.csv", text_of(rows)), "parts")
+    want((status, len(list((tools.folder / "parts").glob("part-*.csv")))), (1, 1))
+    want_in(out, "too large: 65 legs and 65 products")
+    want(sorted(re.search("its legs: (.*)", out)[1].split()), sorted(legs[0]))
+    want_in(out, "it would fall apart without any one of these products: P0-")
+
+
+# lp.py
+
+WITH_THIRDS = """periods,2,1
+leg,A,1
+leg,B,1
+leg,C,1
+leg,D,1
+leg,IDLE,5
+product,ABC,100,A,B,C
+product,ABD,101,A,B,D
+product,ACD,100,A,C,D
+product,BCD,102,B,C,D
+demand,ABC,1,2
+demand,ABD,1,2
+demand,ACD,1,2
+demand,BCD,1,2
+"""
+WRITTEN_BY_GLPSOL = """c Problem:    
+c Status:     OPTIMAL
+c Objective:  fares = 268.6666667 (MAXimum)
+c
+s bas 4 4 f f 268.666666666667
+i 1 u 2 32.3333333333333
+i 2 u 2 34.3333333333333
+i 3 u 2 33.3333333333333
+i 4 u 2 34.3333333333333
+j 1 b 0.666666666666667 0
+j 2 b 0.666666666666667 0
+j 3 b 0.666666666666667 0
+j 4 b 0.666666666666667 0
+e o f
+"""
+
+
+def lp_makes_a_certificate_of_a_solution(tools):
+    network, solution = tools.file("thirds.csv", WITH_THIRDS), tools.file("solution", WRITTEN_BY_GLPSOL)
+    made = tools.told("lp.py", network, "--solution", solution)
+    want(made.splitlines(), ["value 403/3", *[f"product {it} 1/3" for it in ("ABC", "ABD", "ACD", "BCD")], "leg A 97/3", "leg B 103/3",
+                             "leg C 100/3", "leg D 103/3", "leg IDLE 0/1"])
+    path = tools.file("certificate", made)
+    want(tools.nrm("check", network, path), "optimal\n")
+    want(tools.told("audit.py", network, path).splitlines()[-1], "optimal")
+    other = tools.file("other.csv", WITH_THIRDS.replace("product,BCD,102", "product,BCD,103"))
+    want_in(tools.stopped("lp.py", other, "--solution", solution), "the solution of another network")
+    for wrong in (WRITTEN_BY_GLPSOL.replace("f f", "i i"), WRITTEN_BY_GLPSOL.replace("bas 4", "bas 5"), "", "s\n"):
+        want_in(tools.stopped("lp.py", network, "--solution", tools.file("wrong", wrong)), "isn't an optimal one")
+    want_in(tools.stopped("lp.py", network, "--solution", tools.file("wrong", WRITTEN_BY_GLPSOL.replace("0.6", "many"))), "doesn't write")
+
+
+def lp_makes_certificates_of_what_glpsol_finds(tools):
+    if not shutil.which("glpsol"):
+        print("glpsol isn't installed: no certificate made of what it finds")
+        return
+    paths = [*sorted(EXAMPLES.glob("*/network.csv")), tools.file("thirds.csv", WITH_THIRDS),
+             *[tools.file(f"made-{it}.csv", text_of(made_timetable(random.Random(it), [6, 9])[0])) for it in range(10)]]
+    for path in paths:
+        tools.file("program.lp", tools.told("lp.py", path))
+        done = subprocess.run(["glpsol", "--exact", "--lp", "program.lp", "-w", "solution"], cwd=tools.folder, capture_output=True)
+        want(done.returncode, 0, "glpsol")
+        certificate = tools.file("certificate", tools.told("lp.py", path, "--solution", "solution"))
+        want(tools.nrm("check", path, certificate), "optimal\n", f"nrm check {path}")
+        want(tools.told("audit.py", path, certificate).splitlines()[-1], "optimal", f"audit.py {path}")
+    print(f"{len(paths)} certificates made of what glpsol finds")
+
+
+# season.py, replay.py, resume.py
+
+
+def season_tells_what_the_documents_show(tools):
+    words = [EXAMPLES / "log" / "network.csv", EXAMPLES / "log" / "commands.txt", "--out", "pictures", "--program", *tools.program]
+    out = tools.told("season.py", *words, env=os.environ)  # with pictures, where there is matplotlib
+    want_in(out, "  period 2   1080   630   300   1080\n  period 3   1240  1270   620   1530\n  end        1240  2110  2840   2920\n")
+    want_in(out, "  ZRH-VIE      110       320       320  320\n")
+    decimal = tools.told("season.py", *words[:4], "--decimal", *words[4:])
+    want_in(decimal, "  end        1240  2110  2840  2920.00\n")
+    want("/" in decimal.replace("pictures/", ""), False, "fractions in decimals")
+
+
+def season_deals_replies_to_their_lines(tools):
+    """A stream that asks for plans and legs itself, and has lines that are bad."""
+    lines = (EXAMPLES / "log" / "commands.txt").read_text().splitlines()
+    mixed = [it for line in lines for it in (line, "plan", "leg ZRH-VIE", "hindsight", "x", "leg NONE")]
+    words = ["--out", "pictures", "--program", *tools.program]
+    plain, more = (tools.told("season.py", EXAMPLES / "log" / "network.csv", tools.file("stream", "\n".join(it) + "\n"), *words)
+                   for it in (lines, mixed))
+    want(plain.partition("Revenue")[2], more.partition("Revenue")[2])
+
+
+def replies_are_dealt_one_to_a_line(tools):
+    lines = [b"plan", b"leg VIE-BUD", b"book VB-Q 2", b"leg VIE-BUD", b"plan", b"plan", b"hindsight", b"bad"]
+    for mode, lines_of_a_plan in (("first", 1), ("bid", 9), ("davn", 19)):
+        out = tools.nrm("run", mode, EXAMPLES / "log" / "network.csv", given=b"".join(it + b"\n" for it in lines)).encode()
+        dealt = [it.count(b"\n") for it in replies_of(io.BytesIO(out))]
+        want(dealt, [lines_of_a_plan, 1, 1, 2 if b"ok 1\n" in out else 1, lines_of_a_plan, lines_of_a_plan, 1, 1], mode)
+
+
+def replay_tells_each_history(tools):
+    out = tools.told("replay.py", EXAMPLES / "log" / "network.csv", "--program", *tools.program)
+    want(out.splitlines()[-1].split(), ["all", "7,760", "4,410", "57", "%", "5,600", "72", "%", "6,600", "85", "%"])
+    one = tools.file("one.csv", "periods,1,1\nleg,A,1\nproduct,P,5,A\n")
+    want_in(tools.stopped("replay.py", one, "--program", *tools.program), "two histories")
+
+
+def resume_goes_on_with_a_live_sender(tools):
+    """The commands of `docs/operating.md`, after a cut at each of some bytes of the replies."""
+    hub = EXAMPLES / "hub"
+    lines, replies = (hub / "commands.txt").read_bytes().splitlines(keepends=True), (hub / "replies.txt").read_bytes()
+    script = """
+        told=$("$PYTHON" -B "$TOOLS/resume.py" "$HUB" first stream replies --program "$@")
+        line=$(echo "$told" | sed 's/.*line \\([0-9]*\\);.*/\\1/'); size=$(echo "$told" | sed 's/.*; \\([0-9]*\\) bytes.*/\\1/')
+        head -c "$size" replies > whole
+        { tail -n +"$line" stream; cat later | tee -a stream; } |
+            "$PYTHON" -B "$TOOLS/resume.py" "$HUB" first stream replies --go-on --program "$@" >> whole 2> told
+    """
+    for at in (0, 100, len(replies) // 2):
+        tools.file("stream", b"".join(lines[:-5]))
+        tools.file("later", b"".join(lines[-5:]))
+        tools.file("replies", replies[:at])
+        names = {"PYTHON": sys.executable, "TOOLS": str(TOOLS), "HUB": str(hub / "network.csv")}
+        done = subprocess.run(["bash", "-c", script, "bash", *tools.program], cwd=tools.folder, env={**os.environ, **names}, timeout=SECONDS)
+        want((done.returncode, (tools.folder / "whole").read_bytes(), (tools.folder / "stream").read_bytes()), (0, replies, b"".join(lines)),
+             f"cut at {at}")
+
+
+# How every tool begins and ends
+
+
+def words_of_tools(tools):
+    """Words for each tool with which it ends with status 0."""
+    network, stream = str(EXAMPLES / "log" / "network.csv"), str(EXAMPLES / "log" / "commands.txt")
+    program, kept = ["--program", *tools.program], tools.file("kept", (EXAMPLES / "log" / "bid.txt").read_bytes()[:40])
+    log = [str(EXAMPLES / "log" / "requests.csv"), *LOG_COLUMNS, "--cuts", "30,7"]
+    certificate = tools.file("certificate", tools.nrm("plan", "bid", network))
+    return {"audit.py": [network, certificate], "explain.py": [network, certificate], "lp.py": [network], "log.py": log,
+            "split.py": [network, "parts"], "season.py": [network, stream, "--out", "pictures", *program], "replay.py": [network, *program],
+            "resume.py": [network, "bid", stream, kept, *program]}
+
+
+def tools_name_themselves_and_give_no_traceback(tools):
+    refused, statuses = tools.file("refused.csv", "leg,AB\n\xff"), {"audit.py": {"none": 3, "folder": 9}, "explain.py": {"none": 3, "folder": 9}}
+    for name, words in words_of_tools(tools).items():
+        want_in(tools.told(name, "--help"), "usage: tools/" + name)
+        want_in(tools.stopped(name, status=2), "usage: ")
+        want_in(tools.stopped(name, *words, "--no-such-option", status=2), "usage: ")
+        for what, path in (("none", "there/is-none"), ("folder", str(tools.folder)), ("refused", refused)):
+            out, err, status = tools.ran(name, path, *words[1:])
+            wanted = {"refused": 3 if name in statuses else 1}.get(what) or statuses.get(name, {}).get(what, 1)
+            want((status, "Traceback" in err, bool(err) or name in statuses), (wanted, False, True), f"{name} {what}: {err}")
+            if err and not err.startswith(name + ": "):
+                raise Wrong(f"{name} doesn't name itself: {err}")
+
+
+def tools_end_quietly_where_nobody_reads(tools):
+    for name, words in words_of_tools(tools).items():
+        reading, writing = os.pipe()
+        os.close(reading)
+        process = subprocess.Popen([sys.executable, "-B", TOOLS / name, *words], cwd=tools.folder, stdout=writing, stderr=subprocess.PIPE,
+                                   env=tools.blind())
+        os.close(writing)
+        err = process.communicate(timeout=SECONDS)[1].decode()
+        err = "".join(it for it in err.splitlines(keepends=True) if not it.startswith(("log.py: ", "season.py: no pictures")))
+        want((process.returncode, err), (128 + signal.SIGPIPE, ""), name)
+        with open("/dev/full", "wb") as full:
+            done = subprocess.run([sys.executable, "-B", TOOLS / name, *words], cwd=tools.folder, stdout=full, stderr=subprocess.PIPE,
+                                  env=tools.blind())
+        want((done.returncode, b"Traceback" in done.stderr, b"No space left" in done.stderr), (5 if name == "audit.py" else 1, False, True), name)
+
+
+def tools_end_at_ctrl_c(tools):
+    for name in ("season.py", "replay.py"):
+        begun = tools.folder / f"{name}-begun"
+        program = tools.file("slow", f"touch '{begun}'\nexec sleep 60\n")
+        words = [*words_of_tools(tools)[name][:2 if name == "season.py" else 1], "--program", "sh", program]
+        process = subprocess.Popen([sys.executable, "-B", TOOLS / name, *words], cwd=tools.folder, stdout=subprocess.PIPE, stderr=subprocess.PIPE)
+        while not begun.exists() and process.poll() is None:
+            time.sleep(0.01)
+        process.send_signal(signal.SIGINT)
+        out, err = process.communicate(timeout=SECONDS)
+        want((process.returncode, err), (-signal.SIGINT, b""), name)
+
+
+def tools_find_the_program_on_the_path(tools):
+    shutil.copytree(TOOLS, tools.folder / "elsewhere" / "tools")
+    (tools.folder / "bin").mkdir()
+    (tools.folder / "bin" / "nrm").write_text('#!/bin/sh\nexec %s "$@"\n' % " ".join(f"'{it}'" for it in tools.program))
+    (tools.folder / "bin" / "nrm").chmod(0o755)
+    words = [sys.executable, "-B", "elsewhere/tools/replay.py", EXAMPLES / "log" / "network.csv"]
+    for path, status, wanted in ((f"{tools.folder}/bin:{os.environ['PATH']}", 0, "7,760"), ("/nowhere", 1, "neither in")):
+        done = subprocess.run(words, cwd=tools.folder, env={**os.environ, "PATH": path}, capture_output=True, text=True, timeout=SECONDS)
+        want((done.returncode, wanted in done.stdout + done.stderr), (status, True), done.stdout + done.stderr)
+    (tools.folder / "elsewhere" / "nrm").symlink_to(tools.folder / "bin" / "nrm")
+    done = subprocess.run(words, cwd=tools.folder, env={**os.environ, "PATH": "/usr/bin:/bin"}, capture_output=True, text=True, timeout=SECONDS)
+    want((done.returncode, "7,760" in done.stdout), (0, True), done.stderr)
+
+
+def release_has_what_an_operator_needs(tools):
+    """From a clone whose built program is one that runs the program of the tests."""
+    clone, made = tools.folder / "clone", tools.folder / "out" / f"nrm-{(TOP / 'VERSION').read_text().strip()}"
+    if not (TOP / ".git").exists() or subprocess.run(["git", "clone", "-q", TOP, clone], stderr=subprocess.DEVNULL).returncode:
+        print("this is no git repository: no release made")
+        return
+    words = [clone / "tools" / "release.sh", tools.folder / "out"]
+    built = clone / "crates" / "nrm" / "out" / "nrm"
+    built.parent.mkdir(exist_ok=True)
+    built.write_text('#!/bin/sh\nexec %s "$@"\n' % " ".join(f"'{it}'" for it in tools.program))
+    built.chmod(0o755)
+    want(subprocess.run(words, stdout=subprocess.DEVNULL).returncode, 0, "release.sh")
+    want(sorted(str(it.relative_to(made)) for it in made.rglob("*") if it.is_file()),
+         ["CHANGELOG.md", "LICENSE", "SHA256SUMS", "VERSION", "commands.md", "nrm", "nrm.1", "operating.md", "tools/nrm_tools.py",
+          "tools/resume.py"])
+    want(subprocess.run(["sha256sum", "--quiet", "-c", "SHA256SUMS"], cwd=made).returncode, 0, "sha256sum")
+    stream, kept = tools.file("stream", "book ZV-Y 1\nbook ZV-Y 1\n"), tools.file("kept", "ok 1\nok")
+    done = subprocess.run([sys.executable, "-B", made / "tools" / "resume.py", EXAMPLES / "log" / "network.csv", "first", stream, kept],
+                          capture_output=True, text=True, timeout=SECONDS)
+    want((done.stdout, done.returncode), ("go on at line 2; 5 bytes of whole replies stand before it\n", 0), done.stderr)
+    for wanted in ("is there already", "aren't committed"):
+        done = subprocess.run(words, capture_output=True, text=True)
+        want((done.returncode, wanted in done.stderr), (1, True), done.stderr)
+        (clone / "LICENSE").write_text("other")
+        shutil.rmtree(made, ignore_errors=True)
+
+
+TESTS = [it for it in list(globals().values()) if callable(it) and getattr(it, "__code__", None) and it.__module__ == __name__
+         and it.__code__.co_varnames[:1] == ("tools",) and it.__code__.co_argcount == 1 and it.__name__ != "words_of_tools"]
+
+
+def main():
+    parser = argparse.ArgumentParser(usage=__doc__)
+    parser.add_argument("pattern", nargs="?", default="")
+    parser.add_argument("--program", nargs="+", default=[str(TOP / "nrm")])
+    given = parser.parse_args()
+    program = [os.path.abspath(it) if os.path.exists(it) else it for it in given.program]
+    tests = [it for it in TESTS if given.pattern in it.__name__]
+    # builds it where it isn't
+    if subprocess.run(program, stdin=subprocess.DEVNULL, stdout=subprocess.DEVNULL).returncode == NOT_BUILT:
+        print(f"0 passed, {len(tests)} failed")
+        return NOT_BUILT
+    passed = 0
+    for test in tests:
+        with tempfile.TemporaryDirectory() as folder:
+            try:
+                test(Tools(program, folder))
+                passed += 1
+            except (Wrong, Stop, OSError, subprocess.TimeoutExpired) as wrong:
+                print(f"{test.__name__}: {wrong}")
+    print(f"{passed} passed, {len(tests) - passed} failed")
+    return 0 if 0 < passed == len(tests) else 1
+
+
+if __name__ == "__main__":
+    sys.exit(main())

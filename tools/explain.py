@@ -1,0 +1,398 @@
+#!/usr/bin/env python3
+"""Every row of a network file that is refused, and how to mend it; of a certificate file, every line.
+
+    tools/explain.py NETWORK [CERTIFICATE]
+
+`nrm print NETWORK` tells the first row that it refuses, and `nrm check NETWORK CERTIFICATE` the first line. This tells all: of
+each row what the program says of it, and below that, for each field that is at fault, the line of the file as an editor counts
+it, the field and what stands in it, and how to mend it. The first that is told is the program's. A row that is refused still
+makes its name known, so no row is told for the fault of another.
+
+The status is 3 where something is refused, 9 where a file can't be read, and else 0. A certificate that is read may still be
+wrong: `nrm check` and `tools/audit.py` say so.
+"""
+import difflib
+import re
+from fractions import Fraction
+from math import lcm
+
+from nrm_tools import (LONGEST_FILE, MOST_HISTORIES, MOST_LEGS, MOST_PERIODS, MOST_PRODUCTS, MOST_SEATS, NAME, WHOLE, Network, Stop, end,
+                       fitting, parser, rows_of)
+
+WORDS = {1: "kind", 2: "order", 3: "fields", 4: "many", 5: "name", 6: "number", 7: "range", 8: "twice", 9: "missing", 10: "thresholds",
+         11: "sum", 12: "empty", 13: "size"}
+MOST_MONEY = 99_999_999
+SHAPES = {"periods": "periods,HISTORIES,PERIODS", "leg": "leg,NAME,SEATS and up to 9 thresholds",
+          "product": "product,NAME,FARE and 1 to 4 legs", "demand": "demand,PRODUCT,HISTORY and a number for each period"}
+MOST_TEXT = 60  # that is shown of a field
+
+
+class Fault:
+    """Why a row is refused: the number of the cause, the field if it is one of them, and how to mend it."""
+
+    def __init__(self, why, field, advice):
+        self.why, self.field, self.advice = why, field, advice
+
+
+class Refusal:
+    """A row that is refused, with its faults; the first is the one that the program tells."""
+
+    def __init__(self, row, faults):
+        self.row, self.faults = row, faults
+
+    def lines(self):
+        number, line, fields = self.row.number, self.row.line, self.row.fields
+        yield f"refused row {number} why {self.faults[0].why} {WORDS[self.faults[0].why]}"
+        for fault in self.faults:
+            if fault.field is None:
+                place = f"line {line}" if line else "the whole file"
+            else:
+                place = f"line {line}, field {fault.field + 1}, {name_of_field(fields[0], fault.field)}: {shown(fields[fault.field])}"
+            yield f"    {place}"
+            yield f"        {fault.advice}"
+
+
+class OfNoRow:
+    """In the place of a row, where the file as a whole is refused."""
+
+    def __init__(self, number):
+        self.number, self.line, self.fields = number, None, []
+
+
+def shown(text):
+    """A field as it is told; what can't be seen in it is written out."""
+    text = text if len(text) <= MOST_TEXT else text[:MOST_TEXT] + ".."
+    return repr(text) if text != text.strip() or not text.isprintable() or not text else text
+
+
+def name_of_field(kind, at):
+    names = {"periods": ["the histories", "the periods"],
+             "leg": ["the name", "the seats", *[f"threshold {it}" for it in range(1, 10)]],
+             "product": ["the name", "the fare", *[f"leg {it}" for it in range(1, 5)]],
+             "demand": ["the product", "the history", *[f"period {it}" for it in range(1, MOST_PERIODS + 1)]]}
+    return ["the kind", *names.get(kind, [])][at]
+
+
+# The network file
+
+
+class Reading:
+    """The rows of a network file as they are read: what was made so far, with the line of each, and the refusals."""
+
+    def __init__(self, rows):
+        self.rows = rows
+        self.legs, self.products, self.demands = {}, {}, {}
+        self.first_periods = next((row for row in rows if row.fields[0] == "periods"), None)
+        self.histories, self.periods = self.sizes()
+        self.known_rows = 0  # those of a known kind
+        self.lines_of_names = {kind: {row.fields[1]: row.line for row in reversed(rows) if row.fields[0] == kind and row.fields[1:]}
+                               for kind in ("leg", "product")}
+
+    def sizes(self):
+        """The histories and the periods, or None where the row that says them doesn't say them well."""
+        fields = self.first_periods.fields if self.first_periods else []
+        limits = (MOST_HISTORIES, MOST_PERIODS)
+        if len(fields) < 3 or not all(WHOLE.fullmatch(it) and 1 <= int(it) <= most for it, most in zip(fields[1:], limits)):
+            return None, None
+        return int(fields[1]), int(fields[2])
+
+    def refusals(self):
+        for row in self.rows:
+            faults = list(self.faults(row))
+            if faults:
+                yield Refusal(row, faults)
+            if faults and is_no_csv(row.fields[0]):
+                return  # what is wrong with the file as a whole is told once
+            self.take(row)
+        for kind, made in (("leg", self.legs), ("product", self.products)):
+            if not made:
+                yield Refusal(OfNoRow(len(self.rows) + 1), [Fault(12, None, f"there is no row {SHAPES[kind]}: add one")])
+                return
+
+    def take(self, row):
+        """Makes known what a row makes, be it refused or not."""
+        kind, *rest = row.fields
+        self.known_rows += kind in SHAPES
+        if kind == "leg" and rest:
+            self.legs.setdefault(rest[0], row.line)
+        elif kind == "product" and rest:
+            self.products.setdefault(rest[0], row.line)
+        elif kind == "demand" and len(rest) > 1:
+            self.demands.setdefault(tuple(rest[:2]), row.line)
+
+    def faults(self, row):
+        """The faults of a row in the order in which the program looks for them: of its shape one, of its fields all."""
+        fault = self.fault_of_shape(row)
+        if fault:
+            return [fault]
+        faults = [*faulty_names(row), *self.faulty_numbers(row)]
+        at_fault = {it.field for it in faults}
+        faults += self.taken_names(row)
+        faults += [it for it in self.missing_names(row) if it.field not in at_fault]
+        return faults or list(faulty_lists(row))
+
+    def fault_of_shape(self, row):
+        kind, count = row.fields[0], len(row.fields)
+        if kind not in SHAPES:
+            return Fault(1, 0, how_to_mend_a_kind(row))
+        if kind != "periods" and not self.known_rows:
+            there = f"move up line {self.first_periods.line}" if self.first_periods else f"add {SHAPES['periods']} above"
+            return Fault(2, 0, f"the row of periods comes first: {there}")
+        if kind == "periods" and row is not self.first_periods:
+            return Fault(2, 0, f"line {self.first_periods.line} is the row of periods, and a file has one: delete this one")
+        allowed = {"periods": [3], "leg": range(3, 13), "product": range(4, 8),
+                   "demand": [3 + self.periods] if self.periods else range(4, 3 + MOST_PERIODS + 1)}[kind]
+        if count not in allowed:
+            return Fault(3, None, self.how_to_mend_a_count(row, count, allowed))
+        made, most = {"leg": (self.legs, MOST_LEGS), "product": (self.products, MOST_PRODUCTS)}.get(kind, ((), 1))
+        if len(made) >= most:
+            return Fault(4, None, f"a file takes {most} rows of this kind: `tools/split.py` cuts a timetable into files, where it falls "
+                                  "apart into legs that no product joins")
+        return None
+
+    def how_to_mend_a_count(self, row, count, allowed):
+        filled = max(at for at, field in enumerate(row.fields, 1) if field)
+        wanted = f"it has {count} fields, and takes {SHAPES[row.fields[0]]}"
+        if row.fields[0] == "demand" and self.periods:
+            wanted = f"it has {count} fields, and takes {3 + self.periods}: demand,PRODUCT,HISTORY and {self.periods} numbers"
+        if filled in allowed and not row.fields[-1]:
+            return f"{wanted}; a spreadsheet padded it with commas: sed 's/,*\\r*$//' FILE > NEW"
+        return wanted
+
+    def faulty_numbers(self, row):
+        """The fields that are to be numbers and are none, and then those that are out of their range."""
+        limits = self.limits(row)
+        for at, _, _ in limits:
+            if not WHOLE.fullmatch(row.fields[at]):
+                yield Fault(6, at, how_to_mend_a_number(row.fields[at]))
+        for at, least, most in limits:
+            if WHOLE.fullmatch(row.fields[at]) and not least <= int(row.fields[at]) <= most:
+                yield Fault(7, at, how_to_mend_a_range(row.fields[0], at, least, most))
+
+    def limits(self, row):
+        """Each field that is a number, with its least and its greatest value."""
+        kind, count = row.fields[0], len(row.fields)
+        if kind == "periods":
+            return [(1, 1, MOST_HISTORIES), (2, 1, MOST_PERIODS)]
+        if kind == "leg":
+            return [(2, 0, MOST_SEATS), *[(at, 1, MOST_MONEY) for at in range(3, count)]]
+        if kind == "product":
+            return [(2, 1, MOST_MONEY)]
+        return [(2, 1, self.histories or MOST_HISTORIES), *[(at, 0, MOST_SEATS) for at in range(3, count)]]
+
+    def taken_names(self, row):
+        kind, name, *rest = row.fields
+        made = {"leg": self.legs, "product": self.products}.get(kind, {})
+        if name in made:
+            yield Fault(8, 1, f"line {made[name]} has made it: choose another name, or delete one of the two")
+        if kind == "product":
+            for at, leg in enumerate(rest[1:], 3):
+                if leg in row.fields[3:at]:
+                    yield Fault(8, at, "the product has this leg already: name each leg once")
+        if kind == "demand" and (name, rest[0]) in self.demands:
+            yield Fault(8, 2, f"line {self.demands[name, rest[0]]} has the demand of {shown(name)} in this history: add the two up in one row")
+
+    def missing_names(self, row):
+        kind, name, *rest = row.fields
+        named = list(enumerate(row.fields))[3:] if kind == "product" else [(1, name)] if kind == "demand" else []
+        what, made = ("leg", self.legs) if kind == "product" else ("product", self.products)
+        for at, wanted in named:
+            if wanted not in made:
+                yield Fault(9, at, self.how_to_find(wanted, what, made))
+
+    def how_to_find(self, name, kind, made):
+        """What is said of a name that isn't there."""
+        below = self.lines_of_names[kind].get(name)
+        if below:
+            return f"line {below}, below, makes it: move that line up"
+        if name.isdigit() and kind == "leg":
+            return "no row makes a leg of this name; is it the end of a fare with a thousands mark? Write the fare in digits alone"
+        close = [it for it in made if fitting(it) == fitting(name)] or difflib.get_close_matches(name, made, 1)
+        return f"no row makes a {kind} of this name" + (f"; is it {close[0]} of line {made[close[0]]}?" if close else ": add it above")
+
+
+def is_no_csv(text):
+    """Whether a first field shows that the whole file is something else than rows with commas in UTF-8."""
+    return "\0" in text or text.startswith(("\\xff\\xfe", "\\xfe\\xff", "PK\x03")) or re.match(r"periods *[;\t|]", text) is not None
+
+
+def how_to_mend_a_kind(row):
+    text = row.fields[0]
+    if text.startswith("PK\x03"):
+        return "it is a spreadsheet's own file (.xlsx, .ods): save it as CSV, with commas and in UTF-8"
+    if "\0" in text or text.startswith(("\\xff\\xfe", "\\xfe\\xff")):
+        return "it is UTF-16, or no text: save it as UTF-8, or `iconv -f UTF-16 -t UTF-8 FILE > NEW`"
+    if is_no_csv(text):
+        return "the fields are kept apart by another sign: save it with commas, or `tr ';' ',' < FILE > NEW`, with '\\t' for tabs"
+    if "\ufeff" in text:
+        return "there is a byte order mark that isn't at the start of the file, or twice: delete it"
+    if not any(row.fields):
+        return "the row is empty: delete it, or `sed 's/,*\\r*$//' FILE > NEW`, since a blank line is no row"
+    if text.strip().lower() in SHAPES:
+        return f"write {text.strip().lower()}, in lower case and without blanks"
+    if text.startswith("#"):
+        return "a file has no remarks: delete the line"
+    if row.number == 1:
+        return "a file has no heading row: delete it; the first row is " + SHAPES["periods"]
+    close = difflib.get_close_matches(text.strip().lower(), SHAPES, 1)
+    return f"it is none of periods, leg, product and demand{f': write {close[0]}' if close else ''}"
+
+
+def faulty_names(row):
+    kind, count = row.fields[0], len(row.fields)
+    for at in {"periods": [], "leg": [1], "product": [1, *range(3, count)], "demand": [1]}[kind]:
+        if not NAME.fullmatch(row.fields[at]):
+            yield Fault(5, at, how_to_mend_a_name(row.fields[at]))
+
+
+def how_to_mend_a_name(text):
+    if not text:
+        return "a name is wanted; where the row ends in commas, `sed 's/,*\\r*$//' FILE > NEW` takes them away"
+    return f"a name has 1 to 12 of A-Z, 0-9 and -: write {fitting(text)}, here and wherever it is named"
+
+
+def how_to_mend_a_number(text):
+    digits = text.strip()
+    if not digits:
+        return "a number is wanted; where the row ends in commas, `sed 's/,*\\r*$//' FILE > NEW` takes them away"
+    if re.fullmatch(r"[0-9]+", digits):
+        return f"write {int(digits)}, without blanks and without a 0 in front"
+    if re.fullmatch(r"[0-9]{1,3}([,.' \u00a0\u2019\u202f][0-9]{3})+", digits):
+        return f"write digits alone: {re.sub('[^0-9]', '', digits)}, if the mark is for thousands"
+    if re.fullmatch(r"[0-9]+[.,][0-9]*", digits):
+        return "write a whole number, fares in whole currency units: round it"
+    found = re.fullmatch(r"[^0-9]*([0-9]+)[^0-9]*", digits)
+    if found and not digits.startswith("-"):
+        return f"write digits alone: {int(found[1])}"
+    return "write a whole number in digits alone, without a sign"
+
+
+def how_to_mend_a_range(kind, at, least, most):
+    limits = f"it is to be {least} to {most}"
+    if kind == "leg" and at == 2:
+        return f"{limits}; more seats are sold as two legs: docs/network-file.md, 'Why the limits'"
+    if kind == "periods":
+        return f"{limits}: take {'the latest histories' if at == 1 else 'fewer cuts'}"
+    return limits
+
+
+def faulty_lists(row):
+    """What is wrong with the numbers of a row together, each of them being right."""
+    if row.fields[0] == "leg":
+        for at in range(4, len(row.fields)):
+            if int(row.fields[at]) >= int(row.fields[at - 1]):
+                yield Fault(10, at, f"thresholds fall: it is to be below {row.fields[at - 1]}")
+    if row.fields[0] == "demand":
+        seats = sum(map(int, row.fields[3:]))
+        if seats > MOST_SEATS:
+            yield Fault(11, None, f"the seats of the row are {seats} together, and {MOST_SEATS} is the most: split the product in two")
+
+
+def refusals_of(data):
+    """The refusals of a network file's bytes."""
+    if len(data) > LONGEST_FILE:
+        return [Refusal(OfNoRow(0), [Fault(13, None, f"it has more than {LONGEST_FILE} bytes: leave out rows of demand that are 0, and "
+                                                      "quotes; `tools/split.py` cuts a timetable into files")])]
+    return list(Reading(list(rows_of(data))).refusals())
+
+
+# The certificate
+
+LONGEST_CERTIFICATE = 65_536
+GREATEST = 2**63 - 1
+LIMIT = 2**48
+FRACTION = re.compile(r"(0|[1-9][0-9]*)/([1-9][0-9]*)")
+
+
+def faults_of_certificate(data, network):
+    """What the program says of each fault of a certificate file's bytes, and how to mend it."""
+    if len(data) > LONGEST_CERTIFICATE:
+        yield "refused certificate long", f"it has more than {LONGEST_CERTIFICATE} bytes; is it another file?"
+        return
+    wanted = ["value", *[f"product {it}" for it in network.fare], *[f"leg {it}" for it in network.seats]]
+    given, lines, tried = {}, data.split(b"\n"), set()
+    for number, line in enumerate(lines if lines[-1] else lines[:-1], 1):
+        text = line.removesuffix(b"\r").decode("utf-8", "backslashreplace")
+        what, _, last = text.rpartition(" ")
+        found = FRACTION.fullmatch(last)
+        tried.add(what)
+        if what not in wanted or what in given or not found:
+            yield f"refused certificate line {number}", f"line {number}: {shown(text)}: {how_to_mend_a_line(what, last, wanted, given)}"
+        elif any(len(it) > 19 or int(it) > GREATEST for it in found.groups()):
+            yield f"refused certificate line {number} large", f"line {number}: {shown(text)}: no number is above {GREATEST}"
+            given[what] = None
+        else:
+            given[what] = Fraction(*map(int, found.groups()))
+    for what in wanted:
+        if what not in tried:
+            yield f"refused certificate no {what}", f"there is no line `{what}` with a fraction: add `{what} 0/1` if it is 0"
+    if given.keys() >= set(wanted) and None not in given.values() and is_too_fine(given, network):
+        yield "refused certificate too fine", "its fractions have no common denominator below 2^48: use simpler ones"
+
+
+def how_to_mend_a_line(what, last, wanted, given):
+    if what in given:
+        return "it was given above: delete one of the two"
+    if what not in wanted:
+        close = difflib.get_close_matches(what, wanted, 1)
+        return "it is none of `value`, `product NAME` and `leg NAME`, one blank and a fraction" + (f"; is it `{close[0]}`?" if close else "")
+    return f"a fraction is wanted, as 3/2{f': write {last}/1' if WHOLE.fullmatch(last) else ' or 0/1'}"
+
+
+def is_too_fine(given, network):
+    seats = [network.histories * given[f"product {it}"] for it in network.fare]
+    prices = [network.histories * given["value"], *[given[f"leg {it}"] for it in network.seats]]
+    for numbers in (seats, prices):
+        common = lcm(*[it.denominator for it in numbers])
+        if max(common, *[it * common for it in numbers]) >= LIMIT:
+            return True
+    return False
+
+
+# The whole
+
+
+def bytes_of(path, missing):
+    """The bytes of a file, as far as shows that it is too long."""
+    try:
+        with open(path, "rb") as file:
+            return file.read(LONGEST_FILE + 1)
+    except FileNotFoundError:
+        print(missing)
+        raise Stop(f"there is no file {path}", 3)
+    except OSError as fault:
+        print("file fault")
+        raise Stop(f"{path} can't be read: {fault.strerror}", 9)
+
+
+def explain(network, certificate=None):
+    """Tells what is wrong with the files at two paths, and gives the status."""
+    data = bytes_of(network, "refused no file")
+    refusals = refusals_of(data)
+    for refusal in refusals:
+        print(*refusal.lines(), sep="\n")
+    if refusals:
+        print(f"{network}: rows refused {len(refusals)}{'; the certificate was not read' if certificate else ''}")
+        return 3
+    found, faults = Network.of(rows_of(data)), []
+    if certificate is not None:
+        faults = list(faults_of_certificate(bytes_of(certificate, "refused certificate no file"), found))
+    for words, advice in faults:
+        print(f"{words}\n    {advice}")
+    print(f"{network}: no row is refused; legs {len(found.seats)}, products {len(found.fare)}, histories {found.histories}, "
+          f"periods {found.periods}")
+    if certificate is not None:
+        print(f"{certificate}: {f'faults {len(faults)}' if faults else 'no line is refused'}")
+    return 3 if faults else 0
+
+
+def main():
+    words = parser(__doc__)
+    words.add_argument("network")
+    words.add_argument("certificate", nargs="?")
+    given = words.parse_args()
+    return explain(given.network, given.certificate)
+
+
+if __name__ == "__main__":
+    end(main)

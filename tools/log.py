@@ -1,0 +1,331 @@
+#!/usr/bin/env python3
+"""From a log of requests, as a reservation system exports it, to the demand rows of a network file.
+
+    tools/log.py LOG --departs COLUMN --booked COLUMN --product COLUMN [--seats COLUMN] --cuts DAYS,DAYS..
+                 [--network FILE] [--names FILE] [--weekday DAY] [--last N] [--dates dmy|mdy] > NEW
+
+LOG has a row of headings and below it a row for each request: the day of departure, the day on which it was made, what was
+asked for, and how many seats, 1 where no column says so. COLUMN is a heading, in capitals or not; rows above the headings are
+passed over, and so are other columns and empty rows. Fields are kept apart by commas, semicolons, tabs or bars, and may stand
+in quotes. The file may be in UTF-8, in UTF-16 with its mark, or else in Windows-1252.
+
+SEASONS. Each day of departure is a season, and so a history: they are numbered from the earliest. With --weekday fri they are the
+Fridays alone, with --last N the N latest; a file takes 32.
+
+PERIODS. --cuts 60,30,7 makes four: more than 60 days before departure, up to 60, up to 30, and up to 7, the day itself among them.
+A file takes 16.
+
+DATES. 2025-03-07, 20250307; 7.3.2025 and 07.03.2025, the day first; 7MAR2025, 07-Mar-2025 and 7 March 2025, in English, and 07MAR25. A
+time behind it is passed over. 07/03/2025 and 07-03-2025 are read one way in a log: as another of its dates shows, since no month is
+above 12, or as --dates says, dmy for the day first or mdy for the month first. Where neither does, the log is refused.
+
+NAMES. A product whose text is no name of a network file gets one: in capitals, `-` for all but letters and digits, shorter where
+it is too long, and a name of its own. --names FILE writes the list, `name,stands for`; where FILE is there already the names
+in it stay, and new ones are added.
+
+What is written is the demand, as rows `demand`, with the row of periods above them. With --network FILE, which has rows of legs
+and products, it is the whole network file: the demand and the periods of FILE are replaced. What is still to be done, such as
+the products to which FILE has no row, is told on standard error. A log that has a row that can't be read is refused, and
+all such rows are told.
+"""
+import csv
+import datetime
+import io
+import itertools
+import os
+import re
+import sys
+from collections import Counter
+
+from nrm_tools import MOST_HISTORIES, MOST_PERIODS, MOST_PRODUCTS, MOST_SEATS, NAME, Stop, end, named, parser, rows_in, text_of
+
+SEPARATORS = [",", ";", "\t", "|"]
+MOST_ABOVE = 100  # rows above the headings
+WEEKDAYS = ["mon", "tue", "wed", "thu", "fri", "sat", "sun"]
+MONTHS = ["JAN", "FEB", "MAR", "APR", "MAY", "JUN", "JUL", "AUG", "SEP", "OCT", "NOV", "DEC"]
+TIME = re.compile(r"(?:T| +)\d{1,2}:\d{2}.*")
+ISO = re.compile(r"(\d{4})-?(\d{2})-?(\d{2})")
+WITH_POINTS = re.compile(r"(\d{1,2})\. ?(\d{1,2})\. ?(\d{4})")
+WITH_MONTH = re.compile(r"(\d{1,2})[- .]*([A-Za-z]{3})[a-z]*[- .,]*(\d{4}|\d{2})")
+EITHER_WAY = re.compile(r"(\d{1,2})([/-])(\d{1,2})\2(\d{4})")
+MOST_TOLD = 20  # rows that can't be read
+
+
+# The log
+
+
+def text_in(path):
+    """The text of the log at a path."""
+    csv.field_size_limit(2**31 - 1)
+    with open(path, "rb") as file:
+        data = file.read()
+    if data.startswith((b"\xff\xfe", b"\xfe\xff")):
+        return data.decode("utf-16", "replace")
+    try:
+        return data.decode("utf-8-sig")
+    except UnicodeDecodeError:
+        return data.decode("cp1252", "replace")
+
+
+class Log:
+    """The rows of a log: of each the line of the file, and what stands in the columns that are asked for."""
+
+    def __init__(self, path, columns):
+        text = text_in(path)
+        for separator in SEPARATORS:
+            found = self.rows_below_headings(text, separator, columns)
+            if found is not None:
+                self.rows = found
+                return
+        raise Stop(f"{path} {what_is_there(text, columns)}")
+
+    @staticmethod
+    def rows_below_headings(text, separator, columns):
+        """The rows behind the first that has all columns as headings, or None where there is none."""
+        reader = csv.reader(io.StringIO(text, newline=""), delimiter=separator)
+        places = next(filter(None, (places_of(columns, fields) for fields in itertools.islice(reader, MOST_ABOVE))), None)
+        if not places:
+            return None
+        return [(reader.line_num, [fields[at].strip() if at < len(fields) else "" for at in places])
+                for fields in reader if any(map(str.strip, fields))]
+
+
+def what_is_there(text, columns):
+    """What is said of a log without a row that has all columns: the row that has most of them, and which it lacks."""
+    rows = (row for it in SEPARATORS for row in itertools.islice(csv.reader(text.splitlines(), delimiter=it), MOST_ABOVE))
+    headings = max(rows, key=lambda row: -len(lacking(columns, row)), default=[])
+    lacks = lacking(columns, headings)
+    if len(lacks) == len(columns):
+        return f"has no row of headings with {', '.join(columns)}; it begins {text.lstrip()[:100]!r}"
+    return f"has no column {', '.join(lacks)}; its headings are {', '.join(it.strip() for it in headings if it.strip())}"
+
+
+def lacking(columns, fields):
+    return [it for it in columns if it.strip().lower() not in (field.strip().lower() for field in fields)]
+
+
+def places_of(columns, fields):
+    """Where the columns stand in a row of headings, or None where it has not all of them."""
+    if lacking(columns, fields):
+        return None
+    headings, wanted = ([it.strip().lower() for it in some] for some in (fields, columns))
+    for it in wanted:
+        if headings.count(it) > 1:
+            raise Stop(f"the log has two columns {it}: give one of them another heading")
+    return [headings.index(it) for it in wanted]
+
+
+class Dates:
+    """Reads the dates of a log, of which those that can be read two ways are all read the same way."""
+
+    def __init__(self, texts, order=None):
+        twofold = [found for found in (EITHER_WAY.fullmatch(TIME.sub("", it)) for it in texts) if found]
+        self.order = order or (self.order_shown_by(twofold) if twofold else None)
+
+    @staticmethod
+    def order_shown_by(twofold):
+        """The order of day and month that dates show, of which either can be first."""
+        day_first, month_first = (next((it[0] for it in twofold if int(it[at]) > 12), None) for at in (1, 3))
+        if bool(day_first) != bool(month_first):
+            return "dmy" if day_first else "mdy"
+        why = (f"{day_first} has the day first, and {month_first} the month" if day_first
+               else f"{twofold[0][0]} can be read with the day or the month first")
+        raise Stop(f"of the dates, {why}; say --dates dmy or --dates mdy, or write them as 2025-03-07")
+
+    def day(self, text):
+        """The day that a text says; a ValueError where it says none."""
+        text = TIME.sub("", text)
+        if found := ISO.fullmatch(text):
+            return datetime.date(*map(int, found.groups()))
+        if found := WITH_POINTS.fullmatch(text):
+            return datetime.date(int(found[3]), int(found[2]), int(found[1]))
+        if (found := WITH_MONTH.fullmatch(text)) and found[2].upper() in MONTHS:
+            return datetime.date(int(found[3]) + (2000 if len(found[3]) == 2 else 0), MONTHS.index(found[2].upper()) + 1, int(found[1]))
+        if found := EITHER_WAY.fullmatch(text):
+            day, month = (found[1], found[3]) if self.order == "dmy" else (found[3], found[1])
+            return datetime.date(int(found[4]), int(month), int(day))
+        raise ValueError
+
+
+class Request:
+    """The day of departure, the days before it, the text of the product and the seats of a row of the log; a ValueError says
+    what is wrong with a row."""
+
+    def __init__(self, dates, departs, booked, product, seats):
+        self.departs = day_of(dates, departs)
+        self.days = (self.departs - day_of(dates, booked)).days
+        if self.days < 0:
+            raise ValueError(f"it was made on {booked}, after its departure on {departs}")
+        if not product:
+            raise ValueError("it names no product")
+        if not re.fullmatch(r"[0-9]+([.,]0+)?", seats):
+            raise ValueError(f"{seats!r} is no number of seats")
+        self.product, self.seats = product, int(re.match("[0-9]+", seats)[0])
+
+
+def day_of(dates, text):
+    try:
+        return dates.day(text)
+    except ValueError:
+        raise ValueError(f"{text!r} is no date that is known; write it as 2025-03-07") from None
+
+
+def requests_in(path, departs, booked, product, seats=None, order=None):
+    """The requests of the log at a path, whose columns have these headings."""
+    rows = Log(path, [departs, booked, product, *([seats] if seats else [])]).rows
+    dates = Dates((text for _, fields in rows for text in fields[:2]), order)
+    requests, wrong = [], []
+    for line, fields in rows:
+        try:
+            requests.append(Request(dates, *fields[:3], fields[3] if seats else "1"))
+        except ValueError as why:
+            wrong.append(f"line {line}: {why}")
+    if wrong:
+        more = [f"and {len(wrong) - MOST_TOLD} more"] if len(wrong) > MOST_TOLD else []
+        raise Stop("\n    ".join([f"{path} has rows that can't be read; mend them, or take them out", *wrong[:MOST_TOLD], *more]))
+    if not requests:
+        raise Stop(f"{path} has no request below its headings")
+    return requests
+
+
+# The demand
+
+
+class Demand:
+    """The seats asked for of each product in each season and period. A period begins where a cut ends the one before."""
+
+    def __init__(self, requests, cuts, weekday=None, last=None):
+        departures = sorted({it.departs for it in requests if weekday in (None, WEEKDAYS[it.departs.weekday()])})
+        if not departures:
+            raise Stop(f"no departure of the log is on a {weekday}")
+        self.departures = departures[-last:] if last else departures
+        self.periods = len(cuts) + 1
+        if len(self.departures) > MOST_HISTORIES:
+            raise Stop(f"the log has {len(departures)} days of departure, and a network file takes {MOST_HISTORIES} histories: say --last "
+                       f"{MOST_HISTORIES} for the latest of them, or --weekday fri for one day of the week")
+        history = {it: number for number, it in enumerate(self.departures, 1)}
+        self.seats = Counter()
+        for it in requests:
+            if it.departs in history:
+                self.seats[it.product, history[it.departs], 1 + sum(it.days <= cut for cut in cuts)] += it.seats
+        self.products = sorted({product for product, _, _ in self.seats})
+        if len(self.products) > MOST_PRODUCTS:
+            raise Stop(f"the log has {len(self.products)} products, and a network file takes {MOST_PRODUCTS}: make a log of fewer, such as "
+                       "those of one day, one hub or one line; `tools/split.py` says which legs and products belong together")
+
+    def rows(self, names):
+        """The rows of demand, the products in the order of their names."""
+        for product in sorted(self.products, key=names.get):
+            for history, day in enumerate(self.departures, 1):
+                seats = [self.seats[product, history, period] for period in range(1, self.periods + 1)]
+                if sum(seats) > MOST_SEATS:
+                    raise Stop(f"{product} was asked for {sum(seats)} seats for {day}, and a row of demand takes {MOST_SEATS}: make two "
+                               "products of it, such as one for each class of its fares")
+                if any(seats):
+                    yield ["demand", names[product], history, *seats]
+
+
+def cuts_of(text):
+    """The days before departure at which a new period begins, the earliest first."""
+    try:
+        cuts = [int(it) for it in text.split(",")]
+    except ValueError:
+        raise Stop(f"--cuts {text}: days before departure are wanted, as 60,30,7")
+    if cuts != sorted(set(cuts), reverse=True) or cuts[-1] < 0:
+        raise Stop(f"--cuts {text}: each is to be fewer days before departure than the one before it, and none below 0, as 60,30,7")
+    if len(cuts) + 1 > MOST_PERIODS:
+        raise Stop(f"--cuts {text}: these are {len(cuts) + 1} periods, and a network file takes {MOST_PERIODS}: cut fewer times")
+    return cuts
+
+
+# The names
+
+
+def names_in(path):
+    """The names of a list at a path, by what they stand for; none where there is no list yet."""
+    if not path or not os.path.exists(path):
+        return {}
+    with open(path, encoding="utf-8-sig", newline="") as file:
+        rows = [row for row in csv.reader(file) if row]
+    names = {row[1]: row[0] for row in rows[1:] if len(row) == 2 and NAME.fullmatch(row[0])}
+    if rows[:1] != [["name", "stands for"]] or len(set(names.values())) != len(rows) - 1:
+        raise Stop(f"{path} is no list of names: `name,stands for` and below it a row for each, with a name of its own")
+    return names
+
+
+def write_names(path, names):
+    with open(path, "w", encoding="utf-8", newline="") as file:
+        writer = csv.writer(file, lineterminator="\n")
+        writer.writerow(["name", "stands for"])
+        writer.writerows(sorted((name, text) for text, name in names.items()))
+
+
+# The network file
+
+
+def completed(path, demand, names):
+    """The rows of the network file at a path, with the periods and the demand of the log."""
+    rows = [row.fields for row in rows_in(path)]
+    there = {row[1] for row in rows if row[0] == "product" and row[1:]}
+    missing = [f"{names[it]}, which stands for {it!r}" for it in demand.products if names[it] not in there]
+    if missing:
+        raise Stop("\n    ".join([f"{path} has no row for these products of the log; add them, or take their rows out of the log", *missing]))
+    if idle := sorted(there - {names[it] for it in demand.products}):
+        tell(f"no request of the log is for {', '.join(idle)}")
+    return [["periods", len(demand.departures), demand.periods], *[it for it in rows if it[0] not in ("periods", "demand")]]
+
+
+def tell(text):
+    print(f"log.py: {text}", file=sys.stderr)
+
+
+def tell_what_is_made(demand, names, requests):
+    days = demand.departures
+    left_out = len({it.departs for it in requests}) - len(days)
+    tell(f"seasons {len(days)}, from {days[0]} to {days[-1]}{f', others left out {left_out}' if left_out else ''}; "
+         f"periods {demand.periods}; products {len(demand.products)}; seats {sum(demand.seats.values())}")
+    for text in demand.products:
+        if names[text] != text:
+            tell(f"{names[text]} stands for {text!r}")
+
+
+def tell_what_is_to_do(demand, names):
+    tell("below the row of periods, add the legs, one row leg,NAME,SEATS for each, and then for each product "
+         "product,NAME,FARE,LEG.. with its fare and its one to four legs:")
+    for text in sorted(demand.products, key=names.get):
+        tell(f"    product,{names[text]},")
+
+
+def main():
+    words = parser(__doc__)
+    words.add_argument("log")
+    for option in ("--departs", "--booked", "--product"):
+        words.add_argument(option, metavar="COLUMN", required=True)
+    words.add_argument("--seats", metavar="COLUMN")
+    words.add_argument("--cuts", metavar="DAYS", required=True)
+    words.add_argument("--network", metavar="FILE")
+    words.add_argument("--names", metavar="FILE")
+    words.add_argument("--weekday", choices=WEEKDAYS)
+    words.add_argument("--last", metavar="N", type=int)
+    words.add_argument("--dates", choices=["dmy", "mdy"])
+    given = words.parse_args()
+    if given.last is not None and not 1 <= given.last <= MOST_HISTORIES:
+        raise Stop(f"--last {given.last}: a network file takes 1 to {MOST_HISTORIES} histories")
+    cuts, known = cuts_of(given.cuts), names_in(given.names)
+    requests = requests_in(given.log, given.departs, given.booked, given.product, given.seats, given.dates)
+    demand = Demand(requests, cuts, given.weekday, given.last)
+    names = named(demand.products, known)
+    if given.names:
+        write_names(given.names, names)
+    above = [["periods", len(demand.departures), demand.periods]]
+    if given.network:
+        above = completed(given.network, demand, names)
+    rows = [*above, *demand.rows(names)]
+    tell_what_is_made(demand, names, requests)
+    if not given.network:
+        tell_what_is_to_do(demand, names)
+    print(text_of(rows), end="")
+
+
+if __name__ == "__main__":
+    end(main)

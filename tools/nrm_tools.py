@@ -1,0 +1,266 @@
+"""What the tools share: how they begin and end, how a network file is read, and which reply belongs to which line.
+
+An analyst's own script may import it too, with the folder of this file on Python's path:
+
+    from nrm_tools import Network, program, replies
+    network = Network.read("mine/network.csv")
+    for line, reply in zip(lines, replies(program(), "bid", "mine/network.csv", stream)): ..
+
+`tools/audit.py` does not: it is to share nothing with anything.
+"""
+import argparse
+import io
+import os
+import re
+import shutil
+import signal
+import subprocess
+import sys
+import unicodedata
+from pathlib import Path
+
+TOP = Path(__file__).resolve().parent.parent
+MODES = ["first", "bid", "davn"]
+MOST_HISTORIES, MOST_PERIODS, MOST_LEGS, MOST_PRODUCTS, MOST_SEATS = 32, 16, 64, 256, 999
+LONGEST_FILE = 4_194_304
+LONGEST_NAME = 12
+NAME = re.compile(r"[A-Z0-9-]{1,12}")
+WHOLE = re.compile(r"0|[1-9][0-9]*")
+
+
+# How a tool begins and ends
+
+
+class Stop(Exception):
+    """Why a tool ends before it is done, in a sentence, and with which status."""
+
+    def __init__(self, why, status=1):
+        super().__init__(why)
+        self.status = status
+
+
+def parser(manual):
+    """A reader of the command line. The manual is the tool's docstring: a sentence, the usage, and the rest."""
+    summary, usage, rest = manual.split("\n\n", 2)
+    return argparse.ArgumentParser(usage=usage.strip(), description=f"{summary}\n\n{rest}",
+                                   formatter_class=argparse.RawDescriptionHelpFormatter)
+
+
+def add_program(words):
+    """The option for which program is run, among the words of a tool."""
+    words.add_argument("--program", nargs="+", metavar="WORD", help="what runs `nrm`, where it isn't the one that is found")
+
+
+def program(words=None):
+    """The words that run `nrm`: those given, else the `nrm` above this folder, else the one on the path."""
+    if words:
+        return words
+    here, built = TOP / "nrm", TOP / "crates" / "nrm" / "out" / "nrm"
+    is_there = here.exists() and (built.exists() or bool(shutil.which("rt")) or not (TOP / "crates.txt").exists())
+    found = str(here) if is_there else shutil.which("nrm") or (str(here) if here.exists() else None)
+    if not found:
+        raise Stop(f"there is no `nrm`, neither in {TOP} nor on the path; --program says which to run")
+    return [found]
+
+
+def end(main):
+    """Runs a tool and ends with its status. A user's mistake, a closed pipe and Ctrl-C are told in a line, or not at all."""
+    name, status = os.path.basename(sys.argv[0]), 1
+    try:
+        status = main() or 0
+        if sys.stdout:
+            sys.stdout.flush()
+    except Stop as stop:
+        print(f"{name}: {stop}", file=sys.stderr)
+        status = stop.status
+    except KeyboardInterrupt:
+        forget_output()
+        signal.signal(signal.SIGINT, signal.SIG_DFL)
+        os.kill(os.getpid(), signal.SIGINT)  # so that a loop in a shell ends too
+    except BrokenPipeError:
+        forget_output()
+        status = 128 + signal.SIGPIPE
+    except OSError as fault:
+        print(f"{name}: {f'{fault.filename}: ' if fault.filename else ''}{fault.strerror or fault}", file=sys.stderr)
+        forget_output()
+    sys.exit(status)
+
+
+def forget_output():
+    """Nothing more is written: what is left would be told as a fault once again."""
+    os.dup2(os.open(os.devnull, os.O_WRONLY), 1)
+
+
+# The network file
+
+FIELD = re.compile(rb'"((?:[^"]+|"")*)"?([^,\r\n]*)|([^,\r\n]*)')
+BLANK_LINES = re.compile(rb"[\r\n]*")
+BYTE_ORDER_MARK = b"\xef\xbb\xbf"
+
+
+class Row:
+    """A record of a network file: its number, the line of the file that it begins in, and its fields as text."""
+
+    def __init__(self, number, line, fields):
+        self.number, self.line, self.fields = number, line, fields
+
+
+def rows_of(data):
+    """The rows of a network file's bytes: the records that the crate `csv` reads, blank lines left out."""
+    at, line, number = 3 if data.startswith(BYTE_ORDER_MARK) else 0, 1, 0
+    while True:
+        start = BLANK_LINES.match(data, at).end()
+        line += line_ends(data, at, start)
+        if start == len(data):
+            return
+        fields, at = record_at(data, start)
+        number += 1
+        yield Row(number, line, [it.decode("utf-8", "backslashreplace") for it in fields])
+        line += line_ends(data, start, at)
+
+
+def line_ends(data, start, stop):
+    """How many lines end between two places, in a line feed, a carriage return, or one and the other."""
+    return data.count(b"\n", start, stop) + data.count(b"\r", start, stop) - data.count(b"\r\n", start, stop)
+
+
+def record_at(data, at):
+    """The fields of the record that begins at a byte, and where it ends."""
+    fields = []
+    while True:
+        found = FIELD.match(data, at)
+        quoted, behind, plain = found.groups()
+        fields.append(plain if quoted is None else quoted.replace(b'""', b'"') + behind)
+        at = found.end()
+        if data[at:at + 1] != b",":
+            return fields, at
+        at += 1
+
+
+def rows_in(path):
+    """The rows of the network file at a path."""
+    with open(path, "rb") as file:
+        return list(rows_of(file.read()))
+
+
+def text_of(rows):
+    """The text of a network file with these rows, each a list of fields."""
+    return "".join(",".join(map(str, fields)) + "\n" for fields in rows)
+
+
+def whole(field):
+    """The whole number that a field says."""
+    if not WHOLE.fullmatch(field):
+        raise ValueError(field)
+    return int(field)
+
+
+class Network:
+    """What a network file says.
+
+    histories, periods    how many there are
+    seats, thresholds     of each leg
+    fare, legs            of each product
+    demand                of each product, by the number of the history, the seats asked for in each period
+
+    It sees that each name and number has its form and that each name was made before. That the file is within all its limits
+    is for `nrm print` to say, and what is wrong with it for `tools/explain.py`.
+    """
+
+    def __init__(self):
+        self.histories = self.periods = 0
+        self.seats, self.thresholds, self.fare, self.legs, self.demand = {}, {}, {}, {}, {}
+
+    @classmethod
+    def read(cls, path):
+        """The network of the file at a path."""
+        try:
+            return cls.of(rows_in(path))
+        except (ValueError, TypeError, LookupError):
+            raise Stop(f"{path} is refused: `tools/explain.py {path}` tells which rows, why, and how to mend them")
+
+    @classmethod
+    def of(cls, rows):
+        """The network of rows; a ValueError, a TypeError or a LookupError where they make none."""
+        network = cls()
+        for row in rows:
+            network.take(*row.fields[:2], row.fields[2:])
+        if not (network.histories and network.seats and network.fare):
+            raise ValueError
+        return network
+
+    def take(self, kind, name, rest):
+        if kind == "periods":
+            [periods] = rest
+            self.histories, self.periods = whole(name), whole(periods)
+            return
+        if not NAME.fullmatch(name):
+            raise ValueError
+        numbers = [whole(it) for it in (rest[:1] if kind == "product" else rest)]
+        if kind == "leg" and name not in self.seats:
+            self.seats[name], *self.thresholds[name] = numbers
+        elif kind == "product" and name not in self.fare and self.seats.keys() >= set(rest[1:]) != set():
+            self.fare[name], self.legs[name], self.demand[name] = numbers[0], rest[1:], {}
+        elif kind == "demand" and len(numbers) == 1 + self.periods:
+            self.demand[name][numbers[0]] = numbers[1:]
+        else:
+            raise ValueError
+
+    def demand_in_all(self, product):
+        """The seats that were asked for of a product, in all histories and periods together."""
+        return sum(map(sum, self.demand[product].values()))
+
+
+# Names that fit into a network file
+
+
+def fitting(text):
+    """A name for a text: in capitals, accents left out, a `-` for all else, and each word shorter until it fits."""
+    plain = unicodedata.normalize("NFKD", text.replace("ß", "ss").replace("æ", "ae").replace("ø", "o")).upper()
+    words = re.findall("[A-Z0-9]+", "".join(it for it in plain if not unicodedata.combining(it))) or ["X"]
+    while len("-".join(words)) > LONGEST_NAME and max(map(len, words)) > 1:
+        longest = max(words, key=len)
+        words[words.index(longest)] = longest[:-1]
+    return "-".join(words) if len("-".join(words)) <= LONGEST_NAME else "".join(words)[:LONGEST_NAME]
+
+
+def named(texts, known=()):
+    """A name for each of some texts: itself where it is one, else one that fits, and each a name of its own. Names that are
+    known already, of these texts and of others, stay as they are."""
+    names = dict(known)
+    names.update({it: it for it in texts if it not in names and NAME.fullmatch(it) and it not in names.values()})
+    for text in texts:
+        if text not in names:
+            name, number, taken = fitting(text), 1, set(names.values())
+            while name in taken:
+                number += 1
+                name = f"{fitting(text)[:LONGEST_NAME - 1 - len(str(number))].rstrip('-')}-{number}"
+            names[text] = name
+    return names
+
+
+# Replies and the lines that they answer
+
+FURTHER = re.compile(rb"(on|product|nest|protect) |leg [^ ]+ [0-9]+/")  # a line of the text of a leg or a plan, but its first
+
+
+def replies_of(lines):
+    """The replies that lines of output make: those of a leg and of a plan have more than one line."""
+    reply = b""
+    for line in lines:
+        if reply and not FURTHER.match(line):
+            yield reply
+            reply = b""
+        reply += line
+    if reply:
+        yield reply
+
+
+def replies(words, mode, network, stream):
+    """The replies to the lines of a stream, one each, by a run of the program on the network file at a path."""
+    done = subprocess.run([*words, "run", mode, network], input=stream, stdout=subprocess.PIPE)
+    if done.returncode:
+        last = done.stdout.decode("latin-1").rstrip("\n").rpartition("\n")[2]
+        advice = "; `tools/explain.py` tells every row of a network file that is refused" if done.returncode == 3 else ""
+        raise Stop(f"`run {mode} {network}` ended with status {done.returncode}{f': {last}' if last else ''}{advice}")
+    return list(replies_of(io.BytesIO(done.stdout)))
