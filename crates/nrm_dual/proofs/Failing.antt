@@ -1,33 +1,24 @@
 -- What the conditions after the shape say where none fails, and that none fails where an allocation and bid prices meet.
 use Rattle.std.proofs.Common.{◌≡◌, ℕ, zero, suc, ◌+◌, ◌*◌, ◌<◌, ◌≤◌, ◌⊎◌, inl, inr, arith, refl, sym, ap, ◌∙◌, List, [], length, get_or, Bool, true, false, cond, ◌&&◌, eqb, Option, Some, None, le-ltb, lt-ltb, eq-eqb}
-use Rattle.std.proofs.lemmas.Bool.{ltb-true, ltb-false, eqb-true}
+use Rattle.std.proofs.lemmas.Bool.{ltb-true, ltb-false, eqb-true, false≢true}
+use Rattle.std.proofs.lemmas.Option.{none-some}
 use Rattle.nrm_lp.specs.Program.{ProgramValue, load, price_sum, cost}
 use Rattle.nrm_lp.specs.Certified.{Meet}
 use Rattle.nrm_dual.specs.declared.verdict.Verdict.{Verdict}
 use Rattle.nrm_dual.specs.declared.verdict.Verdict.TheVariants.{Optimal, WrongProduct, WrongLeg, WrongValue}
 use Rattle.nrm_dual.specs.Conditions.{least, or_product, or_leg, is_above_demand, is_above_capacity, is_priced_with_seats_left, is_rejected_above_bid_price, is_accepted_below_bid_price, first_wrong}
 
-pub false_true : false ≡ true → ⊥
-false_true e = cc
-
-pub and_true : (b c : Bool) → (b && c) ≡ true → (b ≡ true) × (c ≡ true)
-and_true true c e = (refl, e)
-and_true false c e = absurd (false_true e)
-
 pub both_true : (b c : Bool) → b ≡ true → c ≡ true → (b && c) ≡ true
 both_true true c e f = f
-both_true false c e f = absurd (false_true e)
+both_true false c e f = absurd (false≢true e)
 
 not_second : (b c : Bool) → (b && c) ≡ false → b ≡ true → c ≡ false
 not_second true c e f = e
-not_second false c e f = absurd (false_true f)
+not_second false c e f = absurd (false≢true f)
 
 not_both : (b c : Bool) → (b ≡ true → c ≡ false) → (b && c) ≡ false
 not_both true c h = h refl
 not_both false c h = refl
-
-some_number : (k : ℕ) → Some k ≡ None → ⊥
-some_number k e = cc
 
 wrong_product : (j : ℕ) → WrongProduct j ≡ Optimal → ⊥
 wrong_product j e = cc
@@ -51,7 +42,7 @@ least_none test k (suc n) e i l m = go (test k) refl (least_none test (suc k) n)
     pick f rest (inr h) = rest i h (omega arith)
 
     go : (b : Bool) → test k ≡ b → (least test (suc k) n ≡ None → (i : ℕ) → suc k ≤ i → i < suc k + n → test i ≡ false) → cond b (Some k) (least test (suc k) n) ≡ None → test i ≡ false
-    go true f rest e = absurd (some_number k e)
+    go true f rest e = absurd (none-some k (sym e))
     go false f rest e = pick f (rest e) (first_or_later k i l)
 
 none_least : (test : ℕ → Bool) (k n : ℕ) → ((i : ℕ) → k ≤ i → i < k + n → test i ≡ false) → least test k n ≡ None

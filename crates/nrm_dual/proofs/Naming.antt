@@ -1,6 +1,7 @@
 -- A product or a leg that is named is one of the program's, or of the network's.
 use Rattle.std.proofs.Common.{◌≡◌, ℕ, zero, suc, ◌+◌, ◌<◌, ℤ, arith, refl, ap, ◌∙◌, subst, List, [], ◌∷◌, length, Bool, true, false, cond, eqb, nat_lt, Option, Some, None, Result, Ok, Err}
 use Rattle.std.specs.Prelude.{IfErr, ⊤, if◌then◌else◌}
+use Rattle.std.proofs.lemmas.Option.{none-some, same_Some}
 use Rattle.nrm_model.specs.Network.{NetworkValue}
 use Rattle.nrm_stream.specs.Lines.{lines_of}
 use Rattle.nrm_fraction.specs.Large.{large_number, size_limit}
@@ -17,12 +18,6 @@ use Rattle.nrm_dual.specs.declared.verdict.Verdict.TheVariants as verdict
 use Rattle.nrm_dual.specs.Inner.Sheets.{IsSheetOf}
 use Rattle.nrm_dual.proofs.ReadShape.{blank_places, line_places}
 
-none_some : (n : ℕ) → None ≡ Some n → ⊥
-none_some n e = cc
-
-some_same : (n m : ℕ) → Some n ≡ Some m → n ≡ m
-some_same n m e = cc
-
 err_same : {A : Type 0} (x y : CertRefusal) → ◌≡◌ {A = Result A CertRefusal} (Err x) (Err y) → x ≡ y
 err_same x y e = cc
 
@@ -31,11 +26,11 @@ ok_err x y e = cc
 
 -- ---- verdicts
 least_within : (test : ℕ → Bool) (k n i : ℕ) → least test k n ≡ Some i → i < k + n
-least_within test k zero i e = absurd (none_some i e)
+least_within test k zero i e = absurd (none-some i e)
 least_within test k (suc n) i e = go (test k) (least_within test (suc k) n i) e
   where
     go : (b : Bool) → (least test (suc k) n ≡ Some i → i < suc k + n) → cond b (Some k) (least test (suc k) n) ≡ Some i → i < k + suc n
-    go true later e = omega (arith, some_same k i e)
+    go true later e = omega (arith, same_Some k i e)
     go false later e = omega (arith, later e)
 
 product_named : (a : ProgramValue) (test : ℕ → Bool) (later : Verdict) → IsOfProgram a later → IsOfProgram a (or_product (least test 0 (length a.bounds)) later)
@@ -73,8 +68,8 @@ IsNamed net (no_leg i) = i < length net.legs
 IsNamed net too_fine = ⊤
 
 missing_within : (k : ℕ) (list : List (Option Written)) (i : ℕ) → first_missing k list ≡ Some i → i < k + length list
-missing_within k [] i e = absurd (none_some i e)
-missing_within k (None ∷ more) i e = omega (arith, some_same k i e)
+missing_within k [] i e = absurd (none-some i e)
+missing_within k (None ∷ more) i e = omega (arith, same_Some k i e)
 missing_within k (Some fraction ∷ more) i e = omega (arith, missing_within (suc k) more i e)
 
 line_named : (net : NetworkValue) (sheet : Sheet) (number : ℕ) (entry : Option Entry) (f : CertRefusal) → after_line sheet number entry ≡ Err f → IsNamed net f

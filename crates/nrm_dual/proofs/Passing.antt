@@ -1,6 +1,6 @@
 -- A certificate at which no condition fails shows what it should, and one that shows it fails none.
 use Rattle.std.proofs.Common.{Option, Some, None, ◌≢◌, ◌≡◌, ℕ, ◌*◌, ◌<◌, ℤ, pos, negsuc, nat_abs, arith, refl, ap, ◌∙◌, List, [], ◌∷◌, length, All, Bool, true, false, cond, ◌&&◌, eqb, ltb, lt-ltb, eq-eqb}
-use Rattle.std.proofs.lemmas.Bool.{ltb-true, eqb-true}
+use Rattle.std.proofs.lemmas.Bool.{ltb-true, eqb-true, false≢true, and_parts}
 use Rattle.std.proofs.lemmas.List.{length-map}
 use Rattle.std.proofs.lemmas.List.Elements.{All-nil, All-cons, All-head, All-tail}
 use Rattle.nrm_lp.specs.declared.certificate.Certificate.{Certificate}
@@ -14,7 +14,7 @@ use Rattle.nrm_dual.specs.declared.verdict.Verdict.{Verdict}
 use Rattle.nrm_dual.specs.declared.verdict.Verdict.TheVariants.{Optimal, WrongShape, WrongValue}
 use Rattle.nrm_dual.specs.Conditions.{is_above_demand, is_above_capacity, is_priced_with_seats_left, is_rejected_above_bid_price, is_accepted_below_bid_price, least, is_small, are_small, has_shape, or_product, or_leg, first_wrong, first_failing}
 use Rattle.nrm_dual.specs.Laws.{OptimalPasses}
-use Rattle.nrm_dual.proofs.Failing.{Holds, conditions_hold, meet_passes, false_true, and_true, both_true}
+use Rattle.nrm_dual.proofs.Failing.{Holds, conditions_hold, meet_passes, both_true}
 
 wrong_shape : WrongShape ≡ Optimal → ⊥
 wrong_shape e = cc
@@ -25,7 +25,7 @@ number_small limit n h = ap (is_small limit) h.1 ∙ lt-ltb h.0 limit h.2
 
 pub small_number : (limit : ℕ) (n : ℤ) → is_small limit n ≡ true → IsNumber limit n
 small_number limit (pos k) e = (k, refl, ltb-true k limit e)
-small_number limit (negsuc k) e = absurd (false_true e)
+small_number limit (negsuc k) e = absurd (false≢true e)
 
 pub numbers_small : (limit : ℕ) (ns : List ℤ) → All (IsNumber limit) ns → are_small limit ns ≡ true
 numbers_small limit [] h = refl
@@ -35,7 +35,7 @@ numbers_small limit (n ∷ ns) h =
 pub small_numbers : (limit : ℕ) (ns : List ℤ) → are_small limit ns ≡ true → All (IsNumber limit) ns
 small_numbers limit [] e = All-nil (IsNumber limit)
 small_numbers limit (n ∷ ns) e =
-    let both : (is_small limit n ≡ true) × (are_small limit ns ≡ true) = and_true (is_small limit n) (are_small limit ns) e in
+    let both : (is_small limit n ≡ true) × (are_small limit ns ≡ true) = and_parts (is_small limit n) (are_small limit ns) e in
     All-cons (IsNumber limit) n ns (small_number limit n both.0) (small_numbers limit ns both.1)
 
 -- ---- the test of the shape
@@ -45,14 +45,14 @@ module _ (limit : ℕ) (a : ProgramValue) (c : Certificate) where
 
   pub shape_out : has_shape limit a c ≡ true → HasShape limit (length a.bounds) (length a.caps) c
   shape_out e =
-      let e1 : (eqb (length c.x) (length a.bounds) ≡ true) × ((eqb (length c.p) (length a.caps) && (ltb 0 (nat_abs c.q) && (ltb 0 (nat_abs c.den) && from_sizes))) ≡ true) = and_true _ _ e in
-      let e2 : (eqb (length c.p) (length a.caps) ≡ true) × ((ltb 0 (nat_abs c.q) && (ltb 0 (nat_abs c.den) && from_sizes)) ≡ true) = and_true _ _ e1.1 in
-      let e3 : (ltb 0 (nat_abs c.q) ≡ true) × ((ltb 0 (nat_abs c.den) && from_sizes) ≡ true) = and_true _ _ e2.1 in
-      let e4 : (ltb 0 (nat_abs c.den) ≡ true) × (from_sizes ≡ true) = and_true _ _ e3.1 in
-      let e5 : (is_small limit c.q ≡ true) × ((are_small limit c.x && (is_small limit c.den && (are_small limit c.p && is_small limit c.value))) ≡ true) = and_true _ _ e4.1 in
-      let e6 : (are_small limit c.x ≡ true) × ((is_small limit c.den && (are_small limit c.p && is_small limit c.value)) ≡ true) = and_true _ _ e5.1 in
-      let e7 : (is_small limit c.den ≡ true) × ((are_small limit c.p && is_small limit c.value) ≡ true) = and_true _ _ e6.1 in
-      let e8 : (are_small limit c.p ≡ true) × (is_small limit c.value ≡ true) = and_true _ _ e7.1 in
+      let e1 : (eqb (length c.x) (length a.bounds) ≡ true) × ((eqb (length c.p) (length a.caps) && (ltb 0 (nat_abs c.q) && (ltb 0 (nat_abs c.den) && from_sizes))) ≡ true) = and_parts _ _ e in
+      let e2 : (eqb (length c.p) (length a.caps) ≡ true) × ((ltb 0 (nat_abs c.q) && (ltb 0 (nat_abs c.den) && from_sizes)) ≡ true) = and_parts _ _ e1.1 in
+      let e3 : (ltb 0 (nat_abs c.q) ≡ true) × ((ltb 0 (nat_abs c.den) && from_sizes) ≡ true) = and_parts _ _ e2.1 in
+      let e4 : (ltb 0 (nat_abs c.den) ≡ true) × (from_sizes ≡ true) = and_parts _ _ e3.1 in
+      let e5 : (is_small limit c.q ≡ true) × ((are_small limit c.x && (is_small limit c.den && (are_small limit c.p && is_small limit c.value))) ≡ true) = and_parts _ _ e4.1 in
+      let e6 : (are_small limit c.x ≡ true) × ((is_small limit c.den && (are_small limit c.p && is_small limit c.value)) ≡ true) = and_parts _ _ e5.1 in
+      let e7 : (is_small limit c.den ≡ true) × ((are_small limit c.p && is_small limit c.value) ≡ true) = and_parts _ _ e6.1 in
+      let e8 : (are_small limit c.p ≡ true) × (is_small limit c.value ≡ true) = and_parts _ _ e7.1 in
       record {
         allocation = eqb-true (length c.x) (length a.bounds) e1.0;
         prices = eqb-true (length c.p) (length a.caps) e2.0;

@@ -3,6 +3,7 @@ use Rattle.std.proofs.Common.{◌≡◌, ℕ, ◌≤◌, List, length, false, Ok
 use Rattle.std.specs.Prelude.{Option, Some, None, Result, IfOk, if◌then◌else◌}
 use Rattle.std.specs.Option.{option_map}
 use Rattle.std.proofs.lemmas.Bool.Decides.{nat_tests}
+use Rattle.std.proofs.lemmas.Option.{same_Some}
 use Rattle.nrm_fraction.specs.Large.{size_limit}
 use Rattle.nrm_model.specs.Network.{NetworkValue}
 use Rattle.nrm_stream.specs.Lines.{lines_of}
@@ -31,14 +32,11 @@ pub answer_shaped : (net : NetworkValue) (bytes : List ℕ) (result : Result Cer
 answer_shaped net bytes (Ok certificate) read = read_shaped net bytes certificate read
 answer_shaped net bytes (Err cause) read = tt
 
-some_same : {X : Type 0} (x y : X) → Some x ≡ Some y → x ≡ y
-some_same x y e = cc
-
 -- lines that are refused refuse the file
 refused_on : (refusal : Option CertRefusal) (read : Result Sheet CertRefusal) (next : Sheet → Result Certificate CertRefusal) (file : Result Certificate CertRefusal)
     → Some read ≡ option_map Err refusal → file ≡ or_refusal read next → IsRefusedFor refusal file
 refused_on None read next file e is = tt
-refused_on (Some refusal) read next file e is = is ∙ ap (λ r. or_refusal r next) (some_same read (Err refusal) e)
+refused_on (Some refusal) read next file e is = is ∙ ap (λ r. or_refusal r next) (same_Some read (Err refusal) e)
 
 pub lines_refuse : (net : NetworkValue) (bytes : List ℕ) (cause : CertFault) → length bytes ≤ 65536 → Refuses cause (after_lines net (blank net) 1 (lines_of bytes)) → AnswersCertificate (Err cause) (certificate_of net bytes)
 lines_refuse net bytes cause short e =

@@ -21,11 +21,9 @@ use Rattle.nrm_dual.specs.Refusals.{cause_of}
 use Rattle.nrm_dual.specs.declared.fault.CertFault.{CertFault}
 use Rattle.nrm_dual.specs.Refusals.{AnswersCertificate, CertRefusal, too_fine}
 use Rattle.std.specs.Result.{IsErrAnd}
+use Rattle.std.proofs.lemmas.Option.{none-some}
 use Rattle.nrm_fraction.proofs.Reaching.{reaching_no}
 use Rattle.nrm_fraction.proofs.Sizes.{small_same}
-
-none_some : (n : ℤ) → None ≡ Some n → ⊥
-none_some n e = cc
 
 -- each running denominator divides what all denominators divide
 running_small : (m d : ℕ) (xs : List Fraction) → 0 < m → m < 2 ^ 48 → 0 < d → d ∣ m → common xs ∣ m → first_reaching size_limit (running d xs) ≡ None
@@ -54,7 +52,7 @@ found_large xs n e = go (large_number size_limit xs) refl
   where
     go : (o : Option ℤ) → large_number size_limit xs ≡ o → (m : ℤ) × (large_number size_limit xs ≡ Some m)
     go (Some m) is = (m, is)
-    go None is = absurd (none_some n (sym (none_on_the_way xs is) ∙ e))
+    go None is = absurd (none-some n (sym (none_on_the_way xs is) ∙ e))
 
 -- an answer that fails by this fault answers as it does
 pub err_answer : (result : Result Certificate CertFault) (cause : CertFault) (file : Result Certificate CertRefusal) → IsErrAnd result (λ e. e ≡ cause)

@@ -4,8 +4,9 @@ use Rattle.std.specs.Prelude.{◌==◌, codes, if◌then◌else◌}
 use Rattle.std.specs.Option.{option_map}
 use Rattle.std.specs.List.{position_from, slice_split}
 use Rattle.std.specs.Str.Lines.{strip_carriage_return}
-use Rattle.std.proofs.lemmas.Bool.{cases_Bool}
+use Rattle.std.proofs.lemmas.Bool.{cases_Bool, false≢true}
 use Rattle.std.proofs.lemmas.Slice.Eq.{bytes_eq-Decides}
+use Rattle.std.proofs.lemmas.Option.{none-some}
 use Rattle.nrm_text.specs.Names.{is_name, name_in}
 use Rattle.nrm_model.specs.Network.{NetworkValue, leg_named, product_named}
 use Rattle.nrm_model.specs.Limits.{IsNetwork}
@@ -21,16 +22,13 @@ pub too-many-words : (net : NetworkValue) (kind name fraction : List ℕ) (more 
 too-many-words net kind name fraction [] some = absurd (omega arith)
 too-many-words net kind name fraction (further ∷ more) some = refl
 
-false_true : false ≡ true → ⊥
-false_true e = cc
-
 -- a word that is no name is none of these names
 pub none-named : {X : Type 0} (name : X → List ℕ) (word : List ℕ) (i : ℕ) (xs : List X) → is_name word ≡ false
     → ((k : ℕ) (d : X) → k < length xs → IsTrue (is_name (name (get_or xs k d)))) → position_from (λ x. bytes_eq (name x) word) i xs ≡ None
 none-named name word i [] off names = refl
 none-named name word i (x ∷ xs) off names =
     elim (cases_Bool (bytes_eq (name x) word)) [
-      | inl same ↦ absurd (false_true (sym off ∙ ap is_name (sym ((bytes_eq-Decides (name x) word).0 same)) ∙ names 0 x (omega arith)))
+      | inl same ↦ absurd (false≢true (sym off ∙ ap is_name (sym ((bytes_eq-Decides (name x) word).0 same)) ∙ names 0 x (omega arith)))
       | inr other ↦ rw other (none-named name word (i + 1) xs off (λ k d l. names (suc k) d (omega arith)))
     ]
 
@@ -44,10 +42,7 @@ off-name : (word : List ℕ) → name_in word ≡ None → is_name word ≡ fals
 off-name word none = go (is_name word) refl none
   where
     go : (b : Bool) → is_name word ≡ b → (if b then Some word else None) ≡ None → is_name word ≡ false
-    go true is e = absurd (some_none word e)
-      where
-        some_none : (w : List ℕ) → Some w ≡ None → ⊥
-        some_none w e = cc
+    go true is e = absurd (none-some word (sym e))
     go false is e = is
 
 pub no-place : (net : NetworkValue) (kind word : List ℕ) → IsNetwork net → name_in word ≡ None → named_place net kind word ≡ None

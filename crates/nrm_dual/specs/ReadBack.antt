@@ -19,7 +19,8 @@ pub record IsLowest (c : Certificate) : Type 0 where
 
 -- the text of a certificate in lowest terms is read as that certificate
 abbrev pub WrittenIsRead : Type 0
-WrittenIsRead = (net : NetworkValue) → IsNetwork net → (c : Certificate) → HasShape size_limit (length net.products) (length net.legs) c → IsLowest c → certificate_of net (certificate_text net c) ≡ Ok c
+WrittenIsRead = (net : NetworkValue) → IsNetwork net → (c : Certificate) → HasShape size_limit (length net.products) (length net.legs) c
+    → IsLowest c → certificate_of net (certificate_text net c) ≡ Ok c
 
 -- and so is the text of a closing, of a program with the network's legs and products
 abbrev pub ClosingsAreRead : Type 0
@@ -30,4 +31,5 @@ ClosingsAreRead = (net : NetworkValue) → IsNetwork net → (a : ProgramValue) 
 
 -- a certificate that is read has the shape of the network's
 abbrev pub ReadIsShaped : Type 0
-ReadIsShaped = (net : NetworkValue) → IsNetwork net → (bytes : List ℕ) (c : Certificate) → certificate_of net bytes ≡ Ok c → HasShape size_limit (length net.products) (length net.legs) c
+ReadIsShaped = (net : NetworkValue) → IsNetwork net → (bytes : List ℕ) (c : Certificate) → certificate_of net bytes ≡ Ok c
+    → HasShape size_limit (length net.products) (length net.legs) c

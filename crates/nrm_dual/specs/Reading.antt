@@ -1,6 +1,7 @@
 -- How a certificate is read: the lines of a file, in any order, give the value, an allocation for each product and a bid price for
 -- each leg, each of them once.
-use Rattle.std.specs.Prelude.{ℕ, suc, ◌*◌, ◌-◌, ◌^◌, ℤ, pos, Bool, ◌&&◌, ◌||◌, ◌==◌, List, [], ◌∷◌, length, map, set, get_or, replicate, codes, bytes_eq, nat_lt, nat_le, Option, Some, None, Result, Ok, Err, if◌then◌else◌}
+use Rattle.std.specs.Prelude.{ℕ, suc, ◌*◌, ◌-◌, ◌^◌, ℤ, pos, Bool, ◌&&◌, ◌||◌, ◌==◌, List, [], ◌∷◌, length, map, set, get_or, replicate}
+use Rattle.std.specs.Prelude.{codes, bytes_eq, nat_lt, nat_le, Option, Some, None, Result, Ok, Err, if◌then◌else◌}
 use Rattle.std.specs.Option.{option_map}
 use Rattle.std.specs.List.{slice_split}
 use Rattle.std.specs.Str.Lines.{strip_carriage_return}
@@ -22,7 +23,8 @@ pub record Written : Type 0 where
 abbrev pub written_by : List (List ℕ) → Option Written
 written_by [] = None
 written_by (num ∷ []) = None
-written_by (num ∷ den ∷ []) = if is_whole num && is_whole den && nat_le 1 (value_of den) then Some (record { num = value_of num; den = value_of den }) else None
+written_by (num ∷ den ∷ []) =
+    if is_whole num && is_whole den && nat_le 1 (value_of den) then Some (record { num = value_of num; den = value_of den }) else None
 written_by (num ∷ den ∷ further ∷ more) = None
 
 abbrev pub written_in : List ℕ → Option Written
@@ -90,7 +92,8 @@ is_over fraction = nat_lt (2 ^ 63 - 1) fraction.num || nat_lt (2 ^ 63 - 1) fract
 -- the sheet after a line of this number: the line is of one of the forms, what it gives is new, and its numbers aren't too large
 abbrev pub after_entry : Sheet → ℕ → Entry → Option Written → Result Sheet CertRefusal
 after_entry sheet number entry (Some before) = Err (bad_line number)
-after_entry sheet number entry None = if is_over entry.fraction then Err (large_line number) else Ok (with_given sheet entry.place entry.fraction)
+after_entry sheet number entry None =
+    if is_over entry.fraction then Err (large_line number) else Ok (with_given sheet entry.place entry.fraction)
 
 abbrev pub after_line : Sheet → ℕ → Option Entry → Result Sheet CertRefusal
 after_line sheet number None = Err (bad_line number)
@@ -104,7 +107,8 @@ or_refusal (Err cause) next = Err cause
 -- the sheet after these lines, of which the first has this number, or the refusal at the first that fails
 abbrev pub after_lines : NetworkValue → Sheet → ℕ → List (List ℕ) → Result Sheet CertRefusal
 after_lines net sheet number [] = Ok sheet
-after_lines net sheet number (line ∷ more) = or_refusal (after_line sheet number (entry_of net line)) (λ next. after_lines net next (suc number) more)
+after_lines net sheet number (line ∷ more) =
+    or_refusal (after_line sheet number (entry_of net line)) (λ next. after_lines net next (suc number) more)
 
 -- the first of these that wasn't given, counted from k on
 abbrev pub first_missing : ℕ → List (Option Written) → Option ℕ

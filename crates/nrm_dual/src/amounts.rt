@@ -61,7 +61,8 @@ fn value_and_prices(
 // The certificate of these numbers, of which the value stands before the bid prices.
 fn certificate_with(q: i64, x: Vec<i64>, den: i64, value_and_prices: Vec<i64>) -> Certificate
     requires { 0 < length value_and_prices.items }
-    ensures { result ≡ record { q = q; x = x.items; den = den; p = drop 1 value_and_prices.items; value = get_or value_and_prices.items 0 (pos 0) } }
+    ensures { result
+        ≡ record { q = q; x = x.items; den = den; p = drop 1 value_and_prices.items; value = get_or value_and_prices.items 0 (pos 0) } }
 {
     let mut prices = value_and_prices;
     let value = prices.remove(0);
@@ -84,7 +85,8 @@ pub(crate) fn certificate_over(
     sheet: &Sheet,
 ) -> Result<Certificate, CertFault>
     requires { histories ≤ MOST_HISTORIES }
-    ensures { AnswersCertificate result (certificate_or_refusal (map (times histories) sheet.now.products) (times histories sheet.now.value) (prices_in sheet.now)) }
+    ensures { AnswersCertificate result
+        (certificate_or_refusal (map (times histories) sheet.now.products) (times histories sheet.now.value) (prices_in sheet.now)) }
 {
     let (q, x) = over_common(alloc, &shares(alloc, histories, sheet)?)?;
     let (den, money) = over_common(alloc, &value_and_prices(alloc, histories, sheet)?)?;

@@ -46,7 +46,8 @@ pub fn check(program: &Program, certificate: &Certificate) -> Verdict
 // What the conditions after the shape say.
 fn first_wrong(program: &Program, certificate: &Certificate) -> Verdict
     requires { HasItsShape program.now certificate.now }
-    ensures { result ≡ first_wrong program.now (nat_abs certificate.now.q) (sizes certificate.now.x) (nat_abs certificate.now.den) (sizes certificate.now.p) (nat_abs certificate.now.value) }
+    ensures { result ≡ first_wrong program.now (nat_abs certificate.now.q) (sizes certificate.now.x) (nat_abs certificate.now.den)
+        (sizes certificate.now.p) (nat_abs certificate.now.value) }
 {
     if let Some(product) = above_demand(program, certificate) {
         Verdict::WrongProduct(product)

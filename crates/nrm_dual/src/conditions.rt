@@ -3,16 +3,18 @@
 
 ghost use Rattle.std.specs.Prelude.{◌≡◌, ◌<◌, nat_abs, length};
 ghost use Rattle.nrm_lp.specs.Certified.{sizes};
-ghost use Rattle.nrm_dual.specs.Conditions.{is_above_demand, is_above_capacity, is_priced_with_seats_left, is_rejected_above_bid_price, is_accepted_below_bid_price, least};
+ghost use Rattle.nrm_dual.specs.Conditions.{is_above_demand, is_above_capacity, is_priced_with_seats_left, is_rejected_above_bid_price};
+ghost use Rattle.nrm_dual.specs.Conditions.{is_accepted_below_bid_price, least};
 ghost use Rattle.nrm_dual.specs.Inner.Shapes.{HasItsShape};
 
 use crate::sums::{allotted, bound, cap, fare, load, price, price_sum};
 use nrm_lp::{Certificate, Program};
 
 /// The least product with more seats than its demand.
-pub fn above_demand(program: &Program, certificate: &Certificate) -> Option<u16>
+pub(crate) fn above_demand(program: &Program, certificate: &Certificate) -> Option<u16>
     requires shaped { HasItsShape program.now certificate.now }
-    ensures { result ≡ least (is_above_demand program.now (nat_abs certificate.now.q) (sizes certificate.now.x)) 0 (length program.now.bounds) }
+    ensures { result ≡ least (is_above_demand program.now (nat_abs certificate.now.q) (sizes certificate.now.x)) 0
+        (length program.now.bounds) }
 {
     for product in 0..program.product_count() {
         if is_above_demand(program, certificate, product) {
@@ -23,9 +25,10 @@ pub fn above_demand(program: &Program, certificate: &Certificate) -> Option<u16>
 }
 
 /// The least leg with more seats than its capacity.
-pub fn above_capacity(program: &Program, certificate: &Certificate) -> Option<u8>
+pub(crate) fn above_capacity(program: &Program, certificate: &Certificate) -> Option<u8>
     requires shaped { HasItsShape program.now certificate.now }
-    ensures { result ≡ least (is_above_capacity program.now (nat_abs certificate.now.q) (sizes certificate.now.x)) 0 (length program.now.caps) }
+    ensures { result ≡ least (is_above_capacity program.now (nat_abs certificate.now.q) (sizes certificate.now.x)) 0
+        (length program.now.caps) }
 {
     for leg in 0..program.leg_count() {
         if is_above_capacity(program, certificate, leg) {
@@ -36,9 +39,11 @@ pub fn above_capacity(program: &Program, certificate: &Certificate) -> Option<u8
 }
 
 /// The least leg with a bid price above 0 and seats left.
-pub fn priced_with_seats_left(program: &Program, certificate: &Certificate) -> Option<u8>
+pub(crate) fn priced_with_seats_left(program: &Program, certificate: &Certificate) -> Option<u8>
     requires shaped { HasItsShape program.now certificate.now }
-    ensures { result ≡ least (is_priced_with_seats_left program.now (nat_abs certificate.now.q) (sizes certificate.now.x) (sizes certificate.now.p)) 0 (length program.now.caps) }
+    ensures { result ≡ least
+        (is_priced_with_seats_left program.now (nat_abs certificate.now.q) (sizes certificate.now.x) (sizes certificate.now.p)) 0
+        (length program.now.caps) }
 {
     for leg in 0..program.leg_count() {
         if is_priced_with_seats_left(program, certificate, leg) {
@@ -49,9 +54,11 @@ pub fn priced_with_seats_left(program: &Program, certificate: &Certificate) -> O
 }
 
 /// The least product with demand that is turned away and a fare above the bid prices of its legs.
-pub fn rejected_above_bid_price(program: &Program, certificate: &Certificate) -> Option<u16>
+pub(crate) fn rejected_above_bid_price(program: &Program, certificate: &Certificate) -> Option<u16>
     requires shaped { HasItsShape program.now certificate.now }
-    ensures { result ≡ least (is_rejected_above_bid_price program.now (nat_abs certificate.now.q) (sizes certificate.now.x) (nat_abs certificate.now.den) (sizes certificate.now.p)) 0 (length program.now.bounds) }
+    ensures { result ≡ least
+        (is_rejected_above_bid_price program.now (nat_abs certificate.now.q) (sizes certificate.now.x) (nat_abs certificate.now.den)
+        (sizes certificate.now.p)) 0 (length program.now.bounds) }
 {
     for product in 0..program.product_count() {
         if is_rejected_above_bid_price(program, certificate, product) {
@@ -62,9 +69,11 @@ pub fn rejected_above_bid_price(program: &Program, certificate: &Certificate) ->
 }
 
 /// The least product that is allotted seats at a fare below the bid prices of its legs.
-pub fn accepted_below_bid_price(program: &Program, certificate: &Certificate) -> Option<u16>
+pub(crate) fn accepted_below_bid_price(program: &Program, certificate: &Certificate) -> Option<u16>
     requires shaped { HasItsShape program.now certificate.now }
-    ensures { result ≡ least (is_accepted_below_bid_price program.now (sizes certificate.now.x) (nat_abs certificate.now.den) (sizes certificate.now.p)) 0 (length program.now.bounds) }
+    ensures { result ≡ least
+        (is_accepted_below_bid_price program.now (sizes certificate.now.x) (nat_abs certificate.now.den) (sizes certificate.now.p)) 0
+        (length program.now.bounds) }
 {
     for product in 0..program.product_count() {
         if is_accepted_below_bid_price(program, certificate, product) {
@@ -93,7 +102,8 @@ fn is_above_capacity(program: &Program, certificate: &Certificate, leg: u8) -> b
 fn is_priced_with_seats_left(program: &Program, certificate: &Certificate, leg: u8) -> bool
     requires shaped { HasItsShape program.now certificate.now }
     requires within { leg < length program.now.caps }
-    ensures { result ≡ is_priced_with_seats_left program.now (nat_abs certificate.now.q) (sizes certificate.now.x) (sizes certificate.now.p) leg }
+    ensures { result ≡ is_priced_with_seats_left program.now (nat_abs certificate.now.q) (sizes certificate.now.x)
+        (sizes certificate.now.p) leg }
 {
     price(certificate, leg) > 0 && load(program, certificate, leg) < cap(program, certificate, leg)
 }
@@ -101,7 +111,8 @@ fn is_priced_with_seats_left(program: &Program, certificate: &Certificate, leg: 
 fn is_rejected_above_bid_price(program: &Program, certificate: &Certificate, product: u16) -> bool
     requires shaped { HasItsShape program.now certificate.now }
     requires within { product < length program.now.bounds }
-    ensures { result ≡ is_rejected_above_bid_price program.now (nat_abs certificate.now.q) (sizes certificate.now.x) (nat_abs certificate.now.den) (sizes certificate.now.p) product }
+    ensures { result ≡ is_rejected_above_bid_price program.now (nat_abs certificate.now.q) (sizes certificate.now.x)
+        (nat_abs certificate.now.den) (sizes certificate.now.p) product }
 {
     allotted(certificate, product) < bound(program, certificate, product)
         && price_sum(program, certificate, product) < fare(program, certificate, product)
@@ -110,7 +121,8 @@ fn is_rejected_above_bid_price(program: &Program, certificate: &Certificate, pro
 fn is_accepted_below_bid_price(program: &Program, certificate: &Certificate, product: u16) -> bool
     requires shaped { HasItsShape program.now certificate.now }
     requires within { product < length program.now.bounds }
-    ensures { result ≡ is_accepted_below_bid_price program.now (sizes certificate.now.x) (nat_abs certificate.now.den) (sizes certificate.now.p) product }
+    ensures { result ≡ is_accepted_below_bid_price program.now (sizes certificate.now.x) (nat_abs certificate.now.den)
+        (sizes certificate.now.p) product }
 {
     allotted(certificate, product) > 0
         && fare(program, certificate, product) < price_sum(program, certificate, product)

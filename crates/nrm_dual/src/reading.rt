@@ -55,7 +55,8 @@ fn read_lines(sheet: &mut Sheet, net: &Network, bytes: &[u8]) -> Result<(), Cert
     requires limits { IsNetwork net.now }
     requires sheet { IsSheetOf net.now sheet.old }
     requires size { length bytes.now ≤ MOST_CERTIFICATE_BYTES }
-    ensures lines { MatchResult result (λ _. after_lines net.now sheet.old 1 (lines_of bytes.now) ≡ Ok sheet.new) (λ fault. Refuses fault (after_lines net.now sheet.old 1 (lines_of bytes.now))) }
+    ensures lines { MatchResult result (λ _. after_lines net.now sheet.old 1 (lines_of bytes.now) ≡ Ok sheet.new)
+        (λ fault. Refuses fault (after_lines net.now sheet.old 1 (lines_of bytes.now))) }
     ensures sheet { IfOk result (λ _. IsSheetOf net.now sheet.new) }
 {
     let mut rest = bytes;
@@ -72,7 +73,8 @@ fn read_lines(sheet: &mut Sheet, net: &Network, bytes: &[u8]) -> Result<(), Cert
 fn read_line(sheet: &mut Sheet, net: &Network, line: &[u8], number: u32) -> Result<(), CertFault>
     requires limits { IsNetwork net.now }
     requires sheet { IsSheetOf net.now sheet.old }
-    ensures line { MatchResult result (λ _. after_line sheet.old number (entry_of net.now line.now) ≡ Ok sheet.new) (λ fault. Refuses fault (after_line sheet.old number (entry_of net.now line.now))) }
+    ensures line { MatchResult result (λ _. after_line sheet.old number (entry_of net.now line.now) ≡ Ok sheet.new)
+        (λ fault. Refuses fault (after_line sheet.old number (entry_of net.now line.now))) }
     ensures sheet { IfOk result (λ _. IsSheetOf net.now sheet.new) }
 {
     let Some((place, word)) = place_in(net, line) else {

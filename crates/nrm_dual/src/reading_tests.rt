@@ -16,9 +16,12 @@ fn is_certificate(read: &Certificate, q: i64, x: &[i64], den: i64, p: &[i64], va
 fn files_are_read(rt: HostRuntime) -> Result<(), Fail> {
     let net = two_legs_five_products(rt.alloc())?;
     let files = [
-        b"value 4130/1\nproduct ABH 3/1\nproduct ABL 3/1\nproduct ACH 4/1\nproduct BCL 6/1\nproduct ACL 0/1\nleg AB 150/1\nleg BC 80/1\n".as_slice(),
-        b"leg BC 80/1\r\nleg AB 150/1\r\nproduct ACL 0/1\r\nproduct BCL 6/1\r\nproduct ACH 4/1\r\nproduct ABL 3/1\r\nproduct ABH 3/1\r\nvalue 4130/1\r".as_slice(),
-        b"value 8260/2\nproduct ABH 6/2\nproduct ABL 3/1\nproduct ACH 4/1\nproduct BCL 6/1\nproduct ACL 0/9223372036854775807\nleg AB 300/2\nleg BC 80/1\n".as_slice(),
+        b"value 4130/1\nproduct ABH 3/1\nproduct ABL 3/1\nproduct ACH 4/1\nproduct BCL 6/1\nproduct ACL 0/1\n\
+          leg AB 150/1\nleg BC 80/1\n".as_slice(),
+        b"leg BC 80/1\r\nleg AB 150/1\r\nproduct ACL 0/1\r\nproduct BCL 6/1\r\nproduct ACH 4/1\r\nproduct ABL 3/1\r\n\
+          product ABH 3/1\r\nvalue 4130/1\r".as_slice(),
+        b"value 8260/2\nproduct ABH 6/2\nproduct ABL 3/1\nproduct ACH 4/1\nproduct BCL 6/1\n\
+          product ACL 0/9223372036854775807\nleg AB 300/2\nleg BC 80/1\n".as_slice(),
     ];
     for file in files {
         let read = read_certificate(rt.alloc(), &net, file).expect(&rt, "a certificate");
@@ -36,12 +39,14 @@ fn fractions_are_brought_over_one_denominator(rt: HostRuntime) -> Result<(), Fai
     assert!(rt; is_certificate(&read, 2, &[1, 24, 32, 48, 0], 1, &[150, 80], 16520));
 
     let prices =
-        b"value 1/8\nproduct ABH 3/1\nproduct ABL 3/1\nproduct ACH 4/1\nproduct BCL 6/1\nproduct ACL 0/1\nleg AB 1/3\nleg BC 1/281474976710655\n";
+        b"value 1/8\nproduct ABH 3/1\nproduct ABL 3/1\nproduct ACH 4/1\nproduct BCL 6/1\nproduct ACL 0/1\nleg AB 1/3\n\
+          leg BC 1/281474976710655\n";
     let read = read_certificate(rt.alloc(), &net, prices).err();
     assert_eq!(rt; read, Some(CertFault::TooFine));
 
     let finest =
-        b"value 1/4\nproduct ABH 3/1\nproduct ABL 3/1\nproduct ACH 4/1\nproduct BCL 6/1\nproduct ACL 0/1\nleg AB 1/3\nleg BC 1/281474976710655\n";
+        b"value 1/4\nproduct ABH 3/1\nproduct ABL 3/1\nproduct ACH 4/1\nproduct BCL 6/1\nproduct ACL 0/1\nleg AB 1/3\n\
+          leg BC 1/281474976710655\n";
     let read = read_certificate(rt.alloc(), &net, finest).expect(&rt, "a certificate");
     assert!(rt;
         is_certificate(
@@ -99,7 +104,8 @@ fn lines_are_refused(rt: HostRuntime) -> Result<(), Fail> {
             CertFault::Line(2),
         ),
         (
-            b"value 4130/1\nproduct ABH 3/1\nproduct ABL 3/1\nproduct ACH 4/1\nproduct BCL 6/1\nproduct ACL 0/1\nleg AB 150/1\nleg BC 80/1\nleg AB 150/1\n".as_slice(),
+            b"value 4130/1\nproduct ABH 3/1\nproduct ABL 3/1\nproduct ACH 4/1\nproduct BCL 6/1\nproduct ACL 0/1\n\
+              leg AB 150/1\nleg BC 80/1\nleg AB 150/1\n".as_slice(),
             CertFault::Line(9),
         ),
     ];
@@ -127,11 +133,13 @@ fn files_are_refused(rt: HostRuntime) -> Result<(), Fail> {
             CertFault::NoLeg(1),
         ),
         (
-            b"value 4130/1\nproduct ABH 3/1\nproduct ABL 3/1\nproduct ACH 4/1\nproduct BCL 6/1\nproduct ACL 0/1\nleg AB 150/1\nleg BC 1/281474976710656\n".as_slice(),
+            b"value 4130/1\nproduct ABH 3/1\nproduct ABL 3/1\nproduct ACH 4/1\nproduct BCL 6/1\nproduct ACL 0/1\n\
+              leg AB 150/1\nleg BC 1/281474976710656\n".as_slice(),
             CertFault::TooFine,
         ),
         (
-            b"value 4130/1\nproduct ABH 70368744177664/1\nproduct ABL 3/1\nproduct ACH 4/1\nproduct BCL 6/1\nproduct ACL 0/1\nleg AB 150/1\nleg BC 80/1\n".as_slice(),
+            b"value 4130/1\nproduct ABH 70368744177664/1\nproduct ABL 3/1\nproduct ACH 4/1\nproduct BCL 6/1\n\
+              product ACL 0/1\nleg AB 150/1\nleg BC 80/1\n".as_slice(),
             CertFault::TooFine,
         ),
     ];

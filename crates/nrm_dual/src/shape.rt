@@ -9,7 +9,7 @@ use nrm_lp::{Certificate, Program};
 
 /// Whether the lists have the program's lengths, both denominators are at least 1, and no number is negative or
 /// reaches the limit.
-pub fn has_shape(program: &Program, certificate: &Certificate) -> bool
+pub(crate) fn has_shape(program: &Program, certificate: &Certificate) -> bool
     ensures shape { result ≡ has_shape size_limit program.now certificate.now }
     ensures limits { IsLimited program.now }
 {
@@ -19,7 +19,8 @@ pub fn has_shape(program: &Program, certificate: &Certificate) -> bool
 }
 
 fn has_lengths(program: &Program, certificate: &Certificate) -> bool
-    ensures lengths { result ≡ (eqb (length certificate.now.x) (length program.now.bounds) && eqb (length certificate.now.p) (length program.now.caps)) }
+    ensures lengths { result ≡
+        (eqb (length certificate.now.x) (length program.now.bounds) && eqb (length certificate.now.p) (length program.now.caps)) }
     ensures limits { IsLimited program.now }
 {
     certificate.x.as_slice().len() == program.bounds().len()
@@ -33,7 +34,10 @@ fn has_denominators(certificate: &Certificate) -> bool
 }
 
 fn has_small_numbers(certificate: &Certificate) -> bool
-    ensures { result ≡ ((is_small size_limit certificate.now.q && are_small size_limit certificate.now.x) && (is_small size_limit certificate.now.den && (are_small size_limit certificate.now.p && is_small size_limit certificate.now.value))) }
+    ensures { result ≡
+        ((is_small size_limit certificate.now.q && are_small size_limit certificate.now.x)
+        && (is_small size_limit certificate.now.den
+        && (are_small size_limit certificate.now.p && is_small size_limit certificate.now.value))) }
 {
     is_small(certificate.q)
         && are_small(certificate.x.as_slice())

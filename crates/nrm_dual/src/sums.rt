@@ -10,7 +10,7 @@ ghost use Rattle.nrm_dual.specs.Inner.Shapes.{HasItsShape};
 use nrm_lp::{Certificate, Program};
 
 /// What a product is allotted, over `q`.
-pub fn allotted(certificate: &Certificate, product: u16) -> u64
+pub(crate) fn allotted(certificate: &Certificate, product: u16) -> u64
     requires within { product < length certificate.now.x }
     requires numbers { All (IsNumber size_limit) certificate.now.x }
     ensures value { result ≡ get_or (sizes certificate.now.x) product 0 }
@@ -20,7 +20,7 @@ pub fn allotted(certificate: &Certificate, product: u16) -> u64
 }
 
 /// The bid price of a leg, over `den`.
-pub fn price(certificate: &Certificate, leg: u8) -> u64
+pub(crate) fn price(certificate: &Certificate, leg: u8) -> u64
     requires within { leg < length certificate.now.p }
     requires numbers { All (IsNumber size_limit) certificate.now.p }
     ensures value { result ≡ get_or (sizes certificate.now.p) leg 0 }
@@ -30,7 +30,7 @@ pub fn price(certificate: &Certificate, leg: u8) -> u64
 }
 
 /// The bound of a product, over `q`.
-pub fn bound(program: &Program, certificate: &Certificate, product: u16) -> u64
+pub(crate) fn bound(program: &Program, certificate: &Certificate, product: u16) -> u64
     requires shaped { HasItsShape program.now certificate.now }
     requires within { product < length program.now.bounds }
     ensures { result ≡ nat_abs certificate.now.q * get_or program.now.bounds product 0 }
@@ -40,7 +40,7 @@ pub fn bound(program: &Program, certificate: &Certificate, product: u16) -> u64
 }
 
 /// The cap of a leg, over `q`.
-pub fn cap(program: &Program, certificate: &Certificate, leg: u8) -> u64
+pub(crate) fn cap(program: &Program, certificate: &Certificate, leg: u8) -> u64
     requires shaped { HasItsShape program.now certificate.now }
     requires within { leg < length program.now.caps }
     ensures { result ≡ nat_abs certificate.now.q * get_or program.now.caps leg 0 }
@@ -50,7 +50,7 @@ pub fn cap(program: &Program, certificate: &Certificate, leg: u8) -> u64
 }
 
 /// The fare of a product, over `den`.
-pub fn fare(program: &Program, certificate: &Certificate, product: u16) -> u128
+pub(crate) fn fare(program: &Program, certificate: &Certificate, product: u16) -> u128
     requires shaped { HasItsShape program.now certificate.now }
     requires within { product < length program.now.bounds }
     ensures value { result ≡ nat_abs certificate.now.den * get_or program.now.fares product 0 }
@@ -61,7 +61,7 @@ pub fn fare(program: &Program, certificate: &Certificate, product: u16) -> u128
 }
 
 /// The seats of a leg that the allocation takes, over `q`.
-pub fn load(program: &Program, certificate: &Certificate, leg: u8) -> u64
+pub(crate) fn load(program: &Program, certificate: &Certificate, leg: u8) -> u64
     requires shaped { HasItsShape program.now certificate.now }
     ensures { result ≡ load leg program.now.legs (sizes certificate.now.x) }
 {
@@ -75,7 +75,7 @@ pub fn load(program: &Program, certificate: &Certificate, leg: u8) -> u64
 }
 
 /// The sum of the bid prices of a product's legs, over `den`.
-pub fn price_sum(program: &Program, certificate: &Certificate, product: u16) -> u128
+pub(crate) fn price_sum(program: &Program, certificate: &Certificate, product: u16) -> u128
     requires shaped { HasItsShape program.now certificate.now }
     requires within { product < length program.now.bounds }
     ensures { result ≡ price_sum (sizes certificate.now.p) (get_or program.now.legs product []) }
@@ -89,7 +89,7 @@ pub fn price_sum(program: &Program, certificate: &Certificate, product: u16) -> 
 }
 
 /// The cost of the bid prices, over `den`: the caps at their prices, and the bounds at what each fare exceeds them by.
-pub fn cost(program: &Program, certificate: &Certificate) -> u128
+pub(crate) fn cost(program: &Program, certificate: &Certificate) -> u128
     requires shaped { HasItsShape program.now certificate.now }
     ensures { result ≡ cost program.now (nat_abs certificate.now.den) (sizes certificate.now.p) }
 {
@@ -111,7 +111,8 @@ fn caps_cost(program: &Program, certificate: &Certificate) -> u128
 
 fn bounds_cost(program: &Program, certificate: &Certificate) -> u128
     requires shaped { HasItsShape program.now certificate.now }
-    ensures value { result ≡ surplus (nat_abs certificate.now.den) (sizes certificate.now.p) program.now.bounds program.now.fares program.now.legs }
+    ensures value { result ≡ surplus (nat_abs certificate.now.den)
+        (sizes certificate.now.p) program.now.bounds program.now.fares program.now.legs }
     ensures limit { result ≤ 256 * 2 ^ 90 }
 {
     let mut sum = 0;
@@ -124,7 +125,9 @@ fn bounds_cost(program: &Program, certificate: &Certificate) -> u128
 fn bound_cost(program: &Program, certificate: &Certificate, product: u16) -> u128
     requires shaped { HasItsShape program.now certificate.now }
     requires within { product < length program.now.bounds }
-    ensures value { result ≡ get_or program.now.bounds product 0 * (nat_abs certificate.now.den * get_or program.now.fares product 0 - price_sum (sizes certificate.now.p) (get_or program.now.legs product [])) }
+    ensures value { result ≡ get_or program.now.bounds product 0 *
+        (nat_abs certificate.now.den * get_or program.now.fares product 0 - price_sum (sizes certificate.now.p)
+        (get_or program.now.legs product [])) }
     ensures limit { result ≤ 2 ^ 90 }
 {
     let fare = fare(program, certificate, product);

@@ -1,13 +1,11 @@
 -- Sums over a leg's products, one product at a time.
-use Rattle.std.proofs.Common.{ℕ, ◌≡◌, ◌∙◌, ◌+◌, ◌<◌, Bool, true, false, cond, List, [], ◌∷◌, ◌++◌, length, get_or, filter, map, take, sum_by, refl, sym, ap, arith, ℤ, pos, ◌+ℤ◌, ◌*ℤ◌}
+use Rattle.std.proofs.Common.{ℕ, ◌≡◌, ◌∙◌, ◌+◌, ◌<◌, Bool, true, false, cond, List, [], ◌∷◌, ◌++◌, length, get_or, filter, map, take, sum_by, refl, ap, arith, ℤ, pos, ◌+ℤ◌, ◌*ℤ◌}
 use Rattle.std.specs.Int.{is_in_range}
 use Rattle.std.proofs.lemmas.Int.{ints}
-use Rattle.std.proofs.lemmas.List.{append-nil, map-append, map-id}
-use Rattle.std.proofs.lemmas.List.Elements.{filter-append, filter_more}
+use Rattle.std.proofs.lemmas.List.{append-nil, map-append}
+use Rattle.std.proofs.lemmas.List.Elements.{filter_more}
 use Rattle.std.proofs.lemmas.List.Sums.{sum_by-append, sum_by-cons}
 use Rattle.nrm_emsr.specs.declared.nest.Nested.{Nested}
-use Rattle.std.specs.List.{range_with_len}
-use Rattle.std.proofs.lemmas.List.FromFn.{map-range_with_len_more}
 use Rattle.nrm_model.specs.Network.{NetworkValue}
 use Rattle.nrm_model.specs.Inventory.{inventory_of, products_on}
 use Rattle.nrm_lp.specs.declared.certificate.Certificate.{Certificate}
@@ -46,24 +44,6 @@ module _ (nest : List Nested) (k : ℕ) (d : Nested) (first last : ℕ) (short :
   -- and one in none of them
   pub in-no : is_in_range first last x.bucket ≡ false → in_buckets (take (k + 1) nest) first last ≡ in_buckets (take k nest) first last
   in-no e = stands false e ∙ append-nil (in_buckets (take k nest) first last)
-
--- ---- one more product of the leg
-range-more : (n : ℕ) → range_with_len 0 (n + 1) ≡ range_with_len 0 n ++ n ∷ []
-range-more n = sym (map-id (range_with_len 0 (n + 1))) ∙ map-range_with_len_more (λ (y : ℕ). y) 0 n n (omega arith) ∙ ap (λ (xs : List ℕ). xs ++ n ∷ []) (map-id (range_with_len 0 n))
-
-module _ (f : ℕ → Nested) (test-product : ℕ → Bool) (n : ℕ) (items : List Nested) (are : items ≡ map f (filter test-product (range_with_len 0 n))) where
-  more : (b : Bool) → test-product n ≡ b → map f (filter test-product (range_with_len 0 (n + 1))) ≡ items ++ map f (cond b (n ∷ []) [])
-  more b e =
-      ap (λ (xs : List ℕ). map f (filter test-product xs)) (range-more n) ∙ ap (map f) (filter-append test-product (range_with_len 0 n) (n ∷ []))
-      ∙ map-append f (filter test-product (range_with_len 0 n)) (filter test-product (n ∷ []))
-      ∙ ap (λ (es : List Nested). es ++ map f (cond (test-product n) (n ∷ []) [])) (sym are)
-      ∙ ap (λ (c : Bool). items ++ map f (cond c (n ∷ []) [])) e
-
-  pub push-yes : (after : List Nested) (y : Nested) → test-product n ≡ true → y ≡ f n → after ≡ items ++ y ∷ [] → after ≡ map f (filter test-product (range_with_len 0 (n + 1)))
-  push-yes after y passes stands-for put = put ∙ ap (λ (z : Nested). items ++ z ∷ []) stands-for ∙ sym (more true passes)
-
-  pub push-no : test-product n ≡ false → items ≡ map f (filter test-product (range_with_len 0 (n + 1)))
-  push-no fails = sym (append-nil items) ∙ sym (more false fails)
 
 -- ---- the list of a leg's products, and the definitions
 cond-map : {X Y : Type 0} (f : X → Y) (b : Bool) (u v : List X) → cond b (map f u) (map f v) ≡ map f (cond b u v)

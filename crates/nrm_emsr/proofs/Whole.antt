@@ -1,5 +1,5 @@
 -- The whole demand of the buckets suffices: no history is over it, and the next bucket's fare isn't negative.
-use Rattle.std.proofs.Common.{ap, subst, sym, zero-add, ◌∙◌, refl, ℕ, zero, suc, ◌≡◌, ◌≤◌, ◌+◌, ◌-◌, ◌*◌, ◌/◌, ◌==◌, ◌||◌, not, Bool, true, false, List, [], ◌∷◌, sum_by, slice_index, nat_lt, nat_abs, arith, inl, inr, ℤ, pos, negsuc, ◌*ℤ◌, neg_ℤ, int_lt}
+use Rattle.std.proofs.Common.{ap, subst, sym, zero-add, ◌∙◌, refl, ℕ, zero, suc, ◌≡◌, ◌≤◌, ◌+◌, ◌-◌, ◌*◌, ◌/◌, ◌==◌, ◌||◌, not, Bool, true, false, List, [], ◌∷◌, sum_by, slice_index, nat_lt, nat_abs, arith, inl, inr, ℤ, pos, ◌*ℤ◌, int_lt}
 use Rattle.std.proofs.lemmas.Bool.{cases_Bool}
 use Rattle.std.proofs.lemmas.List.Sums.{sum_by-cons, sum_by-le-sum_by}
 use Rattle.std.specs.List.{count_by, range_with_len}
@@ -14,10 +14,7 @@ use Rattle.nrm_emsr.specs.Fares.{bucket_fare, mean_fare, products_between, weigh
 use Rattle.nrm_emsr.specs.Protections.{at_most, histories_over, suffices}
 use Rattle.nrm_emsr.proofs.Crossing.{at_most-crosses}
 use Rattle.nrm_emsr.proofs.Signs.{IsNat, counted, nat-or-not, weighted-nat}
-
-zero-times : (a : ℤ) → pos 0 *ℤ a ≡ pos 0
-zero-times (pos n) = ap pos (omega arith)
-zero-times (negsuc n) = let none : 0 * suc n ≡ 0 = omega arith in ap (λ m. neg_ℤ (pos m)) none
+use Rattle.nrm_number.proofs.Integers.{nought-*ℤ}
 
 -- a fraction of numbers that aren't negative
 over-nat : (n d : ℕ) → IsNat (pos n over d).num
@@ -33,7 +30,7 @@ whole-nat n = over-nat n 1
 none-over : (x y : Fraction) (n c : ℕ) → y.num ≡ pos c → at_most 0 x n y ≡ true
 none-over x y n c is =
     let one : (z : Fraction) → IsValue z z.num (z.den * 1) = λ z. let e : z.den ≡ z.den * 1 = omega arith in subst (λ d. IsValue z z.num d) e (IsValue_self z) in
-    let right : (pos 0 *ℤ x.num) *ℤ pos y.den ≡ pos 0 = ap (λ z. z *ℤ pos y.den) (zero-times x.num) ∙ zero-times (pos y.den) in
+    let right : (pos 0 *ℤ x.num) *ℤ pos y.den ≡ pos 0 = ap (λ z. z *ℤ pos y.den) (nought-*ℤ x.num) ∙ nought-*ℤ (pos y.den) in
     let least : int_lt (pos (n * c * x.den)) (pos 0) ≡ false = grind arith in
     at_most-crosses 0 n x y x.num y.num x.den y.den 1 (omega arith) (one x) (one y)
     ∙ ap (λ z. not (int_lt ((pos n *ℤ z) *ℤ pos x.den) ((pos 0 *ℤ x.num) *ℤ pos y.den))) is

@@ -1,5 +1,6 @@
 -- The fares of buckets: means, weighted by the demand to come.
-use Rattle.std.specs.Prelude.{ℕ, ◌*◌, ◌==◌, ◌||◌, ◌-◌, List, [], ◌∷◌, map, filter, sum_by, slice_index, nat_lt, ℤ, pos, nat_abs, ◌+ℤ◌, ◌*ℤ◌, int_lt, if◌then◌else◌}
+use Rattle.std.specs.Prelude.{ℕ, ◌*◌, ◌==◌, ◌||◌, ◌-◌, List, [], ◌∷◌, map, filter, sum_by, slice_index, nat_lt, ℤ, pos, nat_abs, ◌+ℤ◌, ◌*ℤ◌}
+use Rattle.std.specs.Prelude.{int_lt, if◌then◌else◌}
 use Rattle.std.specs.Int.{is_in_range}
 use Rattle.nrm_fraction.specs.Fraction.{Fraction, ◌over◌, whole}
 use Rattle.nrm_model.specs.Network.{NetworkValue, leg_of}
@@ -24,7 +25,8 @@ sum_of (x ∷ xs) = x +ℤ sum_of xs
 
 -- their adjusted fares, each as often as its demand to come, over the certificate's denominator
 abbrev pub weighted_fares : NetworkValue → Certificate → ℕ → ℕ → ℕ → ℕ → ℤ
-weighted_fares net cert i k first last = sum_of (map (λ j. adjusted_fare net cert i j *ℤ pos (total_to_come net j k)) (products_between net cert i first last))
+weighted_fares net cert i k first last =
+    sum_of (map (λ j. adjusted_fare net cert i j *ℤ pos (total_to_come net j k)) (products_between net cert i first last))
 
 -- their mean fare, where there is demand
 abbrev pub mean_fare : NetworkValue → Certificate → ℕ → ℕ → ℕ → ℕ → Fraction
@@ -36,4 +38,5 @@ abbrev pub bucket_fare : NetworkValue → Certificate → ℕ → ℕ → ℕ �
 bucket_fare net cert i k b =
     if nat_lt b (bucket_count net i)
     then (if weight_of net cert i k b b == 0 then whole (pos (slice_index (leg_of net i).cuts (b - 1))) else mean_fare net cert i k b b)
-    else (if (weight_of net cert i k b b == 0) || int_lt (weighted_fares net cert i k b b) (pos 0) then whole (pos 0) else mean_fare net cert i k b b)
+    else (if (weight_of net cert i k b b == 0) || int_lt (weighted_fares net cert i k b b) (pos 0)
+        then whole (pos 0) else mean_fare net cert i k b b)

@@ -23,7 +23,8 @@ at_most m x n y = not (less (whole (pos n) *ᶠ y) (whole (pos m) *ᶠ x))
 -- y seats suffice for buckets 1 to b: their mean fare, times the share of the histories that have more than y of their
 -- demand, is at most the fare of the next bucket
 abbrev pub suffices : NetworkValue → Certificate → ℕ → ℕ → ℕ → ℕ → Bool
-suffices net cert i k b y = at_most (histories_over net cert i k b y) (mean_fare net cert i k 1 b) net.histories (bucket_fare net cert i k (b + 1))
+suffices net cert i k b y =
+    at_most (histories_over net cert i k b y) (mean_fare net cert i k 1 b) net.histories (bucket_fare net cert i k (b + 1))
 
 -- the first of n numbers from y on that passes a test, and the number after them where none does
 abbrev pub least_from : (ℕ → Bool) → ℕ → ℕ → ℕ

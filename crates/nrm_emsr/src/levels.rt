@@ -120,7 +120,10 @@ fn demands_of(
     requires known { All (IsOf (length net.now.products)) nest.now }
     requires few { length nest.now ≤ MOST_PRODUCTS }
     requires period { IsInRange 1 net.now.periods period }
-    ensures { IfOk result (λ demands. demands.items ≡ map (λ h. sum_by (λ nested. demand_to_come net.now nested.product h period) (in_buckets nest.now 1 last)) (range_with_len 0 net.now.histories)) }
+    ensures { IfOk result
+        (λ demands. demands.items ≡ map
+        (λ h. sum_by (λ nested. demand_to_come net.now nested.product h period) (in_buckets nest.now 1 last))
+        (range_with_len 0 net.now.histories)) }
 {
     let mut demands = Vec::new(alloc);
     for history in 0..net.n() {

@@ -90,7 +90,8 @@ fn two_legs_and_five_products(rt: HostRuntime) -> Result<(), Fail> {
 #[test]
 fn a_through_product_worth_less_than_its_second_leg(rt: HostRuntime) -> Result<(), Fail> {
     let file =
-        b"periods,2,1\nleg,PQ,5,40\nleg,QR,2,200\nproduct,QRH,300,QR\nproduct,PQL,50,PQ\nproduct,PRL,120,PQ,QR\ndemand,QRH,1,3\ndemand,QRH,2,3\ndemand,PQL,1,2\ndemand,PQL,2,1\ndemand,PRL,1,1\ndemand,PRL,2,1\n";
+        b"periods,2,1\nleg,PQ,5,40\nleg,QR,2,200\nproduct,QRH,300,QR\nproduct,PQL,50,PQ\nproduct,PRL,120,PQ,QR\n\
+          demand,QRH,1,3\ndemand,QRH,2,3\ndemand,PQL,1,2\ndemand,PQL,2,1\ndemand,PRL,1,1\ndemand,PRL,2,1\n";
     let cases: [(&[u32], u8, u8, &[u16]); 2] = [(&[0, 300], 0, 1, &[2]), (&[0, 300], 1, 1, &[2])];
     let net = parse(rt.alloc(), file).expect(&rt, "a network");
     assert_levels(&rt, rt.alloc(), net, &cases)?;
@@ -100,7 +101,15 @@ fn a_through_product_worth_less_than_its_second_leg(rt: HostRuntime) -> Result<(
 #[test]
 fn a_hub_at_opening_and_later(rt: HostRuntime) -> Result<(), Fail> {
     let file =
-        b"periods,2,2\nleg,NYC-CHI,130,400,150\nleg,BOS-CHI,70,400,150\nleg,CHI-LAX,120,400,150\nleg,CHI-SEA,60,400,150\nproduct,NC-Y,320,NYC-CHI\nproduct,NC-Q,110,NYC-CHI\nproduct,BC-Y,300,BOS-CHI\nproduct,BC-Q,95,BOS-CHI\nproduct,CL-Y,520,CHI-LAX\nproduct,CL-Q,180,CHI-LAX\nproduct,NL-Y,700,NYC-CHI,CHI-LAX\nproduct,NL-Q,260,NYC-CHI,CHI-LAX\nproduct,BL-Q,240,BOS-CHI,CHI-LAX\nproduct,CS-Y,450,CHI-SEA\nproduct,NS-Q,230,NYC-CHI,CHI-SEA\ndemand,NC-Y,1,10,10\ndemand,NC-Y,2,12,8\ndemand,NC-Q,1,20,10\ndemand,NC-Q,2,24,6\ndemand,BC-Y,1,8,8\ndemand,BC-Y,2,6,10\ndemand,BC-Q,1,15,5\ndemand,BC-Q,2,18,2\ndemand,CL-Y,1,15,20\ndemand,CL-Y,2,10,15\ndemand,CL-Q,1,40,10\ndemand,CL-Q,2,45,5\ndemand,NL-Y,1,10,10\ndemand,NL-Y,2,8,12\ndemand,NL-Q,1,25,5\ndemand,NL-Q,2,30,4\ndemand,BL-Q,1,20,5\ndemand,BL-Q,2,22,3\ndemand,CS-Y,1,12,12\ndemand,CS-Y,2,10,16\ndemand,NS-Q,1,15,5\ndemand,NS-Q,2,12,8\n";
+        b"periods,2,2\nleg,NYC-CHI,130,400,150\nleg,BOS-CHI,70,400,150\nleg,CHI-LAX,120,400,150\n\
+          leg,CHI-SEA,60,400,150\nproduct,NC-Y,320,NYC-CHI\nproduct,NC-Q,110,NYC-CHI\nproduct,BC-Y,300,BOS-CHI\n\
+          product,BC-Q,95,BOS-CHI\nproduct,CL-Y,520,CHI-LAX\nproduct,CL-Q,180,CHI-LAX\n\
+          product,NL-Y,700,NYC-CHI,CHI-LAX\nproduct,NL-Q,260,NYC-CHI,CHI-LAX\nproduct,BL-Q,240,BOS-CHI,CHI-LAX\n\
+          product,CS-Y,450,CHI-SEA\nproduct,NS-Q,230,NYC-CHI,CHI-SEA\ndemand,NC-Y,1,10,10\ndemand,NC-Y,2,12,8\n\
+          demand,NC-Q,1,20,10\ndemand,NC-Q,2,24,6\ndemand,BC-Y,1,8,8\ndemand,BC-Y,2,6,10\ndemand,BC-Q,1,15,5\n\
+          demand,BC-Q,2,18,2\ndemand,CL-Y,1,15,20\ndemand,CL-Y,2,10,15\ndemand,CL-Q,1,40,10\ndemand,CL-Q,2,45,5\n\
+          demand,NL-Y,1,10,10\ndemand,NL-Y,2,8,12\ndemand,NL-Q,1,25,5\ndemand,NL-Q,2,30,4\ndemand,BL-Q,1,20,5\n\
+          demand,BL-Q,2,22,3\ndemand,CS-Y,1,12,12\ndemand,CS-Y,2,10,16\ndemand,NS-Q,1,15,5\ndemand,NS-Q,2,12,8\n";
     let cases: [(&[u32], u8, u8, &[u16]); 5] = [
         (&[0, 0, 180, 0], 0, 1, &[20, 60]),
         (&[0, 0, 180, 0], 1, 1, &[0, 16]),
@@ -120,7 +129,11 @@ fn a_hub_at_opening_and_later(rt: HostRuntime) -> Result<(), Fail> {
 #[test]
 fn at_the_edges(rt: HostRuntime) -> Result<(), Fail> {
     let file =
-        b"periods,2,1\nleg,AB,4,300,200,100\nleg,BC,5\nleg,CD,5,50\nleg,GH,600,1000,300\nleg,IJ,9,200,100\nproduct,TOP,300,AB\nproduct,LOW,90,AB\nproduct,BOTH,120,AB,BC\nproduct,G1,1000,GH\nproduct,G2,300,GH\nproduct,G3,299,GH\nproduct,IH,200,IJ\ndemand,TOP,1,2\ndemand,TOP,2,6\ndemand,LOW,1,3\ndemand,LOW,2,3\ndemand,BOTH,1,1\ndemand,BOTH,2,1\ndemand,G1,1,10\ndemand,G1,2,0\ndemand,G2,1,500\ndemand,G2,2,5\ndemand,G3,1,1\ndemand,G3,2,1\ndemand,IH,1,3\ndemand,IH,2,5\n";
+        b"periods,2,1\nleg,AB,4,300,200,100\nleg,BC,5\nleg,CD,5,50\nleg,GH,600,1000,300\nleg,IJ,9,200,100\n\
+          product,TOP,300,AB\nproduct,LOW,90,AB\nproduct,BOTH,120,AB,BC\nproduct,G1,1000,GH\nproduct,G2,300,GH\n\
+          product,G3,299,GH\nproduct,IH,200,IJ\ndemand,TOP,1,2\ndemand,TOP,2,6\ndemand,LOW,1,3\ndemand,LOW,2,3\n\
+          demand,BOTH,1,1\ndemand,BOTH,2,1\ndemand,G1,1,10\ndemand,G1,2,0\ndemand,G2,1,500\ndemand,G2,2,5\n\
+          demand,G3,1,1\ndemand,G3,2,1\ndemand,IH,1,3\ndemand,IH,2,5\n";
     let cases: [(&[u32], u8, u8, &[u16]); 5] = [
         (&[0, 200, 0, 0, 0], 0, 1, &[2, 4, 4]),
         (&[0, 200, 0, 0, 0], 1, 1, &[]),

@@ -4,6 +4,7 @@ use mir.Syntax.{w128}
 use Rattle.std.proofs.lemmas.Bool.{lt-leb, le-leb}
 use Rattle.std.proofs.lemmas.Int.{ints}
 use Rattle.std.proofs.lemmas.List.{drop_all, drop_more, map-append, take_all, take_more}
+use Rattle.std.proofs.lemmas.Option.{none-some}
 use Rattle.nrm_fraction.specs.Fraction.{Fraction, whole}
 use Rattle.nrm_fraction.specs.Large.{numerators, first_reaching, size_limit}
 use Rattle.nrm_fraction.specs.Fault.{IsFault}
@@ -47,14 +48,8 @@ all_made den xs k made h l = (
 )
 
 -- ---- the numerators are tried behind the running denominators
-none_some : (n : ℤ) → None ≡ Some n → ⊥
-none_some n e = cc
-
-some_none : (n : ℤ) → Some n ≡ None → ⊥
-some_none n e = cc
-
 found_front : (n : ℤ) (ms ns : List ℤ) → first_reaching size_limit ms ≡ Some n → first_reaching size_limit (ms ++ ns) ≡ Some n
-found_front n [] ns e = absurd (none_some n e)
+found_front n [] ns e = absurd (none-some n e)
 found_front n (m ∷ ms) ns e = go (leb size_limit (nat_abs m)) refl (found_front n ms ns) e
   where
     go : (b : Bool) → leb size_limit (nat_abs m) ≡ b → (first_reaching size_limit ms ≡ Some n → first_reaching size_limit (ms ++ ns) ≡ Some n) → cond b (Some m) (first_reaching size_limit ms) ≡ Some n → first_reaching size_limit (m ∷ (ms ++ ns)) ≡ Some n
@@ -66,7 +61,7 @@ found_behind [] ns e = refl
 found_behind (m ∷ ms) ns e = go (leb size_limit (nat_abs m)) refl (found_behind ms ns) e
   where
     go : (b : Bool) → leb size_limit (nat_abs m) ≡ b → (first_reaching size_limit ms ≡ None → first_reaching size_limit (ms ++ ns) ≡ first_reaching size_limit ns) → cond b (Some m) (first_reaching size_limit ms) ≡ None → first_reaching size_limit (m ∷ (ms ++ ns)) ≡ first_reaching size_limit ns
-    go true f later e = absurd (some_none m e)
+    go true f later e = absurd (none-some m (sym e))
     go false f later e = reaching_no m (ms ++ ns) f ∙ later e
 
 pub fault_front : (f : RowFault) (ms ns : List ℤ) → IsFault f (first_reaching size_limit ms) → IsFault f (first_reaching size_limit (ms ++ ns))

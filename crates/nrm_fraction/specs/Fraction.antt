@@ -17,7 +17,8 @@ infixl 80 ◌over◌
 unfoldable pub ◌over◌ : ℤ → ℕ → Fraction
 unfolding in_lowest_terms gcd
 n over zero = record { num = pos 0; den = 1; is_lowest = tt }
-n over suc d = record { num = shrink n (gcd (nat_abs n) (suc d)); den = suc d / gcd (nat_abs n) (suc d); is_lowest = reduced_in_lowest_terms n d }
+n over suc d =
+    record { num = shrink n (gcd (nat_abs n) (suc d)); den = suc d / gcd (nat_abs n) (suc d); is_lowest = reduced_in_lowest_terms n d }
 
 -- the sum
 unfoldable pub ◌+ᶠ◌ : Fraction → Fraction → Fraction

@@ -1,11 +1,13 @@
 -- A list of fractions over its least common denominator, and when it is too large for the code.
-use Rattle.std.specs.Prelude.{ℕ, ◌/◌, ◌^◌, ◌<◌, ℤ, pos, ◌*ℤ◌, nat_abs, unsigned_abs, cond, leb, List, [], ◌∷◌, ◌++◌, map, Option, Some, None}
+use Rattle.std.specs.Prelude.{ℕ, ◌/◌, ◌<◌, ℤ, pos, ◌*ℤ◌, nat_abs, unsigned_abs, List, [], ◌∷◌, ◌++◌, map, Option, Some, None}
+use Rattle.std.specs.Prelude.{if◌then◌else◌, nat_le}
 use Rattle.nrm_number.specs.Gcd.{gcd, lcm}
+use Rattle.nrm_fraction.specs.declared.TheConstants.{SIZE_LIMIT}
 use Rattle.nrm_fraction.specs.Fraction.{Fraction, ◌over◌}
 
 -- what a number of a row or of a certificate, and a denominator, stays below in size
 abbrev pub size_limit : ℕ
-size_limit = 2 ^ 48
+size_limit = SIZE_LIMIT
 
 -- below the limit in size
 abbrev pub IsSmall : ℤ → Type 0
@@ -32,7 +34,7 @@ over_common xs = map (λ x. nat_abs x) (numerators (common xs) xs)
 -- the first number that reaches the limit in size
 abbrev pub first_reaching : ℕ → List ℤ → Option ℤ
 first_reaching limit [] = None
-first_reaching limit (n ∷ ns) = cond (leb limit (nat_abs n)) (Some n) (first_reaching limit ns)
+first_reaching limit (n ∷ ns) = if nat_le limit (nat_abs n) then Some n else first_reaching limit ns
 
 -- the first number that reaches the limit in size: among the running least common denominators of the list, then among the
 -- numerators over the last of them

@@ -30,7 +30,8 @@ minus_times a (u ∷ us) (x ∷ xs) = (x -ᶠ a *ᶠ u) ∷ minus_times a us xs
 abbrev pub combine : ℕ → List Fraction → List Fraction → List Fraction
 combine s us xs = minus_times (at xs s) us xs
 
--- the columns that decide which row leaves: the last one of a row, which is the right side, then the columns from the first slack on to the one before it
+-- the columns that decide which row leaves: the last one of a row, which is the right side, then the columns from the
+-- first slack on to the one before it
 abbrev pub ratio_columns : ℕ → ℕ → List ℕ
 ratio_columns from width = (width - 1) ∷ range_with_len from (width - 1 - from)
 

@@ -1,13 +1,13 @@
 -- Every made network is within the limits.
-use Rattle.std.proofs.Common.{ℕ, suc, ◌≡◌, ◌+◌, ◌*◌, ◌/◌, ◌%◌, ◌==◌, if◌then◌else◌, ◌<◌, ◌≤◌, Bool, true, false, List, [], ◌∷◌, length, get_or, map, take, drop, sum, filter, refl, ◌∙◌, zero-add, replicate, nat_le, nat_lt, arith, sym, subst, All}
+use Rattle.std.proofs.Common.{ℕ, suc, ◌≡◌, ◌+◌, ◌*◌, ◌/◌, ◌%◌, ◌==◌, if◌then◌else◌, ◌<◌, ◌≤◌, Bool, true, false, List, [], ◌∷◌, length, map, take, drop, sum, filter, refl, replicate, nat_le, nat_lt, arith, sym, subst, All}
 use Rattle.std.specs.Int.{IsInRange}
-use Rattle.std.specs.List.{list_all, range_with_len}
+use Rattle.std.specs.List.{range_with_len}
 use Rattle.std.proofs.lemmas.Bool.{leb-true}
 use Rattle.std.proofs.lemmas.Nat.{mod_below}
 use Rattle.std.proofs.lemmas.List.{length-take}
 use Rattle.std.proofs.lemmas.List.Elements.{All-drop, All-take}
-use Rattle.std.proofs.lemmas.List.FromFn.{get_or-range_with_len, length-map-range_with_len, length-range_with_len}
-use Rattle.std.proofs.lemmas.List.Sums.{AllPass-from_list_all, sum_by-le}
+use Rattle.std.proofs.lemmas.List.FromFn.{length-map-range_with_len}
+use Rattle.std.proofs.lemmas.List.Sums.{sum_by-le}
 use Rattle.nrm_model.specs.declared.leg.Leg.{Leg}
 use Rattle.nrm_model.specs.declared.product.Product.{Product}
 use Rattle.nrm_model.specs.Limits.{IsLeg, IsNetwork, IsProduct}
@@ -17,13 +17,7 @@ use Rattle.nrm_gen.specs.Draws.{draw_of, state_after}
 use Rattle.nrm_gen.specs.Laws.{MadeNetworksAreLimited, ProductsUseOneLegEachWay, UsesOneLegEachWay}
 use Rattle.nrm_gen.specs.MadeNetwork.{leg_name, made_demand, made_leg, made_network, made_product, product_legs, product_name}
 use Rattle.nrm_gen.proofs.Rows.{each-made}
-
--- a test that each number below n passes
-of-each : (n : ℕ) (p : ℕ → Bool) → list_all p (range_with_len 0 n) ≡ true → (i : ℕ) → i < n → p i ≡ true
-of-each n p h i few =
-    let at = AllPass-from_list_all p (range_with_len 0 n) h i 0 (rw length-range_with_len few) in
-    let number : get_or (range_with_len 0 n) i 0 ≡ i = get_or-range_with_len 0 n i 0 few ∙ zero-add i in
-    rw number at at
+use Rattle.nrm_number.proofs.Ranges.{passes-below}
 
 -- ---- a leg and a product: all but the seats and the fare is the same in each made network, and is tested
 is-leg : (number i : ℕ) → i < 12 → IsLeg (made_leg number i)
@@ -31,7 +25,7 @@ is-leg number i few =
     let first = IsLeg-from_test (record { name = leg_name 0; seats = 40; cuts = 400 ∷ 200 ∷ 100 ∷ [] }) refl in
     let below = mod_below (state_after number (suc i) / 65536) 40 (omega arith) in
     record {
-      name = of-each 12 (λ i. is_name (leg_name i)) refl i few;
+      name = passes-below 12 (λ i. is_name (leg_name i)) refl i few;
       seats = omega arith;
       cut_count = first.cut_count;
       cuts = first.cuts;
@@ -48,7 +42,7 @@ a-fare base m z some few more little = let below = mod_below (z / 65536) m more 
 is-product : (number j : ℕ) → j < 60 → IsProduct 12 (made_product number j)
 is-product number j few =
     let shape = IsProduct-from_test 12 (record { name = product_name j; fare = 100; legs = product_legs j })
-    (of-each 60 (λ j. product_fits 12 (record { name = product_name j; fare = 100; legs = product_legs j })) refl j few) in
+    (passes-below 60 (λ j. product_fits 12 (record { name = product_name j; fare = 100; legs = product_legs j })) refl j few) in
     let z = state_after number (suc (12 + j)) in
     record {
       name = shape.name;
@@ -103,8 +97,8 @@ limited number = record {
 
 uses-one-each : (number j : ℕ) → j < 60 → UsesOneLegEachWay (made_product number j)
 uses-one-each number j few = record {
-  inbound = leb-true _ 1 (of-each 60 (λ j. nat_le (length (filter (λ i. nat_lt i 6) (product_legs j))) 1) refl j few);
-  outbound = leb-true _ 1 (of-each 60 (λ j. nat_le (length (filter (λ i. nat_le 6 i) (product_legs j))) 1) refl j few);
+  inbound = leb-true _ 1 (passes-below 60 (λ j. nat_le (length (filter (λ i. nat_lt i 6) (product_legs j))) 1) refl j few);
+  outbound = leb-true _ 1 (passes-below 60 (λ j. nat_le (length (filter (λ i. nat_le 6 i) (product_legs j))) 1) refl j few);
 }
 
 pub one-leg-each-way : ProductsUseOneLegEachWay

@@ -5,15 +5,16 @@ use Rattle.nrm_stream.specs.declared.command.Command.TheVariants as command
 use Rattle.nrm_gen.specs.Draws.{drawn, state_after, stirred}
 use Rattle.nrm_gen.specs.MadeNetwork.{leg_name, product_name}
 
--- by a lot from 0 to 19, at the state after the lot was drawn: a request for a product, drawn first, and a party of 1 to 3; a cancellation of one of
--- the numbers 1 to 400; or a leg. With it the state after its draws
+-- by a lot from 0 to 19, at the state after the lot was drawn: a request for a product, drawn first, and a party of 1
+-- to 3; a cancellation of one of the numbers 1 to 400; or a leg. With it the state after its draws
 abbrev pub by_lot : ℕ → ℕ → Command × ℕ
 by_lot lot z =
     if nat_lt lot 15 then (command.Book (product_name (drawn 60 (stirred z))) (1 + drawn 3 (stirred (stirred z))), stirred (stirred z))
     else if nat_lt lot 19 then (command.Cancel (1 + drawn 400 (stirred z)), stirred z)
     else (command.Leg (leg_name (drawn 12 (stirred z))), stirred z)
 
--- the command of a number, from 1, at the state before it, and the state after it: three optimisations, hindsight at the end, and all others by lot
+-- the command of a number, from 1, at the state before it, and the state after it: three optimisations, hindsight at
+-- the end, and all others by lot
 abbrev pub command_at : ℕ → ℕ → Command × ℕ
 command_at n z =
     if n == 2500 then (command.Reoptimise 2, z)
@@ -46,4 +47,5 @@ next_of making = if nat_lt making.given command_count then Some (command_at (suc
 
 abbrev pub after_next : Making → Making
 after_next making =
-    if nat_lt making.given command_count then record { state = (command_at (suc making.given) making.state).1; given = suc making.given } else making
+    if nat_lt making.given command_count
+        then record { state = (command_at (suc making.given) making.state).1; given = suc making.given } else making

@@ -1,4 +1,5 @@
--- The network that is made of a number: a hub with six inbound and six outbound legs, local products on each and through products from each to each.
+-- The network that is made of a number: a hub with six inbound and six outbound legs, local products on each and
+-- through products from each to each.
 use Rattle.std.specs.Prelude.{ℕ, ◌+◌, ◌-◌, ◌/◌, ◌%◌, ◌==◌, ◌++◌, List, [], ◌∷◌, map, nat_lt, if◌then◌else◌}
 use Rattle.std.specs.List.{range_with_len}
 use Rattle.nrm_model.specs.Network.{NetworkValue}
@@ -14,7 +15,8 @@ leg_name i = if nat_lt i 6 then 73 ∷ (49 + i) ∷ [] else 79 ∷ (43 + i) ∷ 
 abbrev pub made_leg : ℕ → ℕ → Leg
 made_leg number i = record { name = leg_name i; seats = 40 + draw_of number i 40; cuts = 400 ∷ 200 ∷ 100 ∷ [] }
 
--- products 0 to 23: on each leg X the dear one, X-H, and then the cheap one, X-L; products 24 to 59: Ta-b on Ia and Ob, for each a and each b
+-- products 0 to 23: on each leg X the dear one, X-H, and then the cheap one, X-L; products 24 to 59: Ta-b on Ia and
+-- Ob, for each a and each b
 abbrev pub product_name : ℕ → List ℕ
 product_name j =
     if nat_lt j 24 then leg_name (j / 2) ++ 45 ∷ (if j % 2 == 0 then 72 else 76) ∷ []
@@ -32,7 +34,8 @@ product_fare number j =
 abbrev pub made_product : ℕ → ℕ → Product
 made_product number j = record { name = product_name j; fare = product_fare number j; legs = product_legs j }
 
--- the demand of product j, history h (from 0) and period t (from 0): 0 to 5, by the draws after all these, product by product, history by history, period by period
+-- the demand of product j, history h (from 0) and period t (from 0): 0 to 5, by the draws after all these, product by
+-- product, history by history, period by period
 unfoldable pub made_demand : ℕ → List ℕ
 made_demand number = map (λ k. draw_of number (72 + k) 6) (range_with_len 0 1920)
 

@@ -27,7 +27,8 @@ const DEMANDS: u16 = 1_920;
 
 /// The legs.
 pub(crate) fn made_legs(alloc: Global, draws: &mut Draws) -> Result<Vec<Leg>, AllocError>
-    ensures legs { IfOk result (λ legs. (number : ℕ) → draws.old ≡ state_after number 0 → legs.items ≡ map (made_leg number) (range_with_len 0 12)) }
+    ensures legs { IfOk result
+        (λ legs. (number : ℕ) → draws.old ≡ state_after number 0 → legs.items ≡ map (made_leg number) (range_with_len 0 12)) }
     ensures state { OnOk result ((number : ℕ) → draws.old ≡ state_after number 0 → draws.new ≡ state_after number 12) }
 {
     let mut legs = Vec::new(alloc);
@@ -39,7 +40,8 @@ pub(crate) fn made_legs(alloc: Global, draws: &mut Draws) -> Result<Vec<Leg>, Al
 
 /// The products.
 pub(crate) fn made_products(alloc: Global, draws: &mut Draws) -> Result<Vec<Product>, AllocError>
-    ensures products { IfOk result (λ products. (number : ℕ) → draws.old ≡ state_after number 12 → products.items ≡ map (made_product number) (range_with_len 0 60)) }
+    ensures products { IfOk result
+        (λ products. (number : ℕ) → draws.old ≡ state_after number 12 → products.items ≡ map (made_product number) (range_with_len 0 60)) }
     ensures state { OnOk result ((number : ℕ) → draws.old ≡ state_after number 12 → draws.new ≡ state_after number 72) }
 {
     let mut products = Vec::new(alloc);
@@ -78,8 +80,10 @@ fn made_leg(alloc: Global, draws: &mut Draws, leg: u8) -> Result<Leg, AllocError
 
 fn made_product(alloc: Global, draws: &mut Draws, product: u8) -> Result<Product, AllocError>
     requires { product < 60 }
-    ensures product { IfOk result (λ made. (number : ℕ) → draws.old ≡ state_after number (12 + product) → made ≡ made_product number product) }
-    ensures state { OnOk result ((number : ℕ) → draws.old ≡ state_after number (12 + product) → draws.new ≡ state_after number (12 + product + 1)) }
+    ensures product { IfOk result
+        (λ made. (number : ℕ) → draws.old ≡ state_after number (12 + product) → made ≡ made_product number product) }
+    ensures state { OnOk result
+        ((number : ℕ) → draws.old ≡ state_after number (12 + product) → draws.new ≡ state_after number (12 + product + 1)) }
 {
     let fare = product_fare(draws, product);
     let legs = product_legs(alloc, product)?;

@@ -24,7 +24,7 @@ use Rattle.nrm_hindsight.specs.Selections.{IsSelection, earned_by, seats_asked_o
 use Rattle.nrm_hindsight.proofs.Asked.{asked-cons, asked-is-sold, chosen-asks-le, party_for}
 use Rattle.nrm_dlp.proofs.Bounds.{hindsight-bounds}
 use Rattle.nrm_hindsight.proofs.Choices.{all-chosen}
-use Rattle.nrm_hindsight.proofs.Parts.{fare-is, fare-past, fares-count, legs-are, legs-count, seats-are}
+use Rattle.nrm_model.proofs.Inventories.{fare-is, fare-past, fares-count, legs-are, legs-count, seats-are}
 use Rattle.nrm_hindsight.proofs.Sums.{dot-is, load-is, one-term, passing-le}
 use Rattle.nrm_hindsight.proofs.Tallies.{tallies-capped}
 

@@ -1,5 +1,5 @@
 -- The laws of hindsight: its value bounds each selection of past requests, and capped tallies suffice for it.
-use Rattle.std.specs.Prelude.{ℕ, ◌≡◌, ◌+◌, ◌<◌, ◌≤◌, ◌==◌, List, [], ◌∷◌, ◌++◌, length, get_or, min, if◌then◌else◌}
+use Rattle.std.specs.Prelude.{ℕ, ◌≡◌, ◌+◌, ◌<◌, ◌≤◌, ◌==◌, List, [], ◌∷◌, ◌++◌, length, min, if◌then◌else◌, slice_index}
 use Rattle.nrm_fraction.specs.Fraction.{Fraction}
 use Rattle.nrm_model.specs.Inventory.{inventory_of, seats_of}
 use Rattle.nrm_model.specs.Limits.{IsNetwork}
@@ -36,11 +36,12 @@ TalliesAreCapped = (net : NetworkValue) (requests : List Request) → AreTallies
 -- a request adds its party to the tally of its product, up to the least seats among the product's legs
 abbrev pub TalliesGrow : Type 0
 TalliesGrow = (net : NetworkValue) (requests : List Request) (request : Request) (j : ℕ)
-    → tally_of net (requests ++ request ∷ []) j ≡ min (tally_of net requests j + (if request.product == j then request.party else 0)) (least_seats_of net j)
+    → tally_of net (requests ++ request ∷ []) j ≡ min (tally_of net requests j + (if request.product == j then request.party else 0))
+        (least_seats_of net j)
 
 -- tallies that are at least what is booked of each product, and at most the least seats, are those of some requests, of which the
 -- bookings are a choice
 abbrev pub SomeRequestsStand : Type 0
 SomeRequestsStand = (net : NetworkValue) (bookings : List Booking) (tallies : List ℕ) → AreTallies net tallies
-    → ((j : ℕ) → j < length net.products → sold_of bookings j ≤ get_or tallies j 0)
+    → ((j : ℕ) → j < length net.products → sold_of bookings j ≤ slice_index tallies j)
     → (requests : List Request) × (tallies_of net requests ≡ tallies) × ChosenFrom requests (requests_of bookings)

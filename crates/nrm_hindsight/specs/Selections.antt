@@ -10,7 +10,8 @@ use Rattle.nrm_hindsight.specs.Requests.{Request, asked_for}
 pub data ChosenFrom : List Request → List Request → Type 0 where
   none : ChosenFrom [] []
   left_out : {request : Request} {requests chosen : List Request} → ChosenFrom requests chosen → ChosenFrom (request ∷ requests) chosen
-  taken : {request : Request} {requests chosen : List Request} → ChosenFrom requests chosen → ChosenFrom (request ∷ requests) (request ∷ chosen)
+  taken : {request : Request} {requests chosen : List Request} → ChosenFrom requests chosen
+      → ChosenFrom (request ∷ requests) (request ∷ chosen)
 
 -- the seats that requests take on a leg: those of the products that use it
 abbrev pub seats_asked_on : NetworkValue → List Request → ℕ → ℕ
@@ -27,7 +28,8 @@ earned_by net chosen = sum_by (λ request. request.party * (product_of net reque
 
 -- no selection earns more than this fraction
 abbrev pub BoundsSelections : NetworkValue → List Request → Fraction → Type 0
-BoundsSelections net requests bound = (chosen : List Request) → IsSelection net requests chosen → pos (earned_by net chosen * bound.den) ≤ℤ bound.num
+BoundsSelections net requests bound =
+    (chosen : List Request) → IsSelection net requests chosen → pos (earned_by net chosen * bound.den) ≤ℤ bound.num
 
 -- what a choice of requests takes of each product
 abbrev pub taken_of_each : NetworkValue → List Request → List ℕ

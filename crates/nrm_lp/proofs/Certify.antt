@@ -6,6 +6,7 @@ use Rattle.std.proofs.lemmas.Nat.Gcd.{le_of_dvd}
 use Rattle.std.specs.List.{range_with_len}
 use Rattle.std.proofs.lemmas.List.{get_or-map, length-map}
 use Rattle.std.proofs.lemmas.List.FromFn.{length-range_with_len}
+use Rattle.std.proofs.lemmas.Option.{none-some, same_Some}
 use Rattle.nrm_number.proofs.Ring.{solve, v0, v1}
 use Rattle.nrm_number.proofs.Ring.Expr.{◌⊗◌, e0, e1}
 use Rattle.nrm_fraction.specs.Fraction.{◌*ᶠ◌, whole}
@@ -26,12 +27,6 @@ use Rattle.nrm_lp.proofs.Optimal.{p_at, cost_value}
 use Rattle.nrm_lp.proofs.Path.{path_kept, last_signs, path_ends_optimal}
 use Rattle.nrm_lp.proofs.Meeting.{ends_meet}
 use Rattle.nrm_lp.proofs.Small.{reach_first, reach_each, reach_parts, sizes_small, each_small, common_below, common_of, value_row_small, scaled_le, not_negative}
-
-some_tableau : (x y : Tableau) → Some x ≡ Some y → x ≡ y
-some_tableau x y e = cc
-
-none_some : (y : Tableau) → None ≡ Some y → ⊥
-none_some y e = cc
 
 sizes_back : (ns : List ℕ) → sizes (map (λ n. pos n) ns) ≡ ns
 sizes_back [] = refl
@@ -78,13 +73,13 @@ module _ (limit : ℕ) (room : 1 < limit) (a : ProgramValue) where
 
   -- the last tableau is the first one, or a pivot made it that isn't Large
   pub last_value : (n : ℕ) (t : Tableau) → Reaches limit a n t → (first_tableau a ≡ t) ⊎ (large_number limit t.value ≡ None)
-  last_value zero t r = inl (some_tableau (first_tableau a) t r.path)
+  last_value zero t r = inl (same_Some (first_tableau a) t r.path)
   last_value (suc n) t r = inr (from (after a n) refl r.path)
     where
       from_column : (u : Tableau) → after a n ≡ Some u → (c : Option ℕ) → entering u ≡ c → next_at a u c ≡ Some t → large_number limit t.value ≡ None
-      from_column u g None f e = absurd (none_some t e)
+      from_column u g None f e = absurd (none-some t e)
       from_column u g (Some s) f e =
-          subst (λ v. large_number limit v.value ≡ None) (some_tableau (pivot u (row_number (leaving a u s)) s) t e)
+          subst (λ v. large_number limit v.value ≡ None) (same_Some (pivot u (row_number (leaving a u s)) s) t e)
           (value_row_small limit
           (get_or (pivot u (row_number (leaving a u s)) s).rows (row_number (leaving a u s)) [])
           (pivot u (row_number (leaving a u s)) s).value
@@ -92,7 +87,7 @@ module _ (limit : ℕ) (room : 1 < limit) (a : ProgramValue) where
           (ap (large_at limit a u) (sym f) ∙ r.small n u (omega arith) g))
 
       from : (o : Option Tableau) → after a n ≡ o → next_of a o ≡ Some t → large_number limit t.value ≡ None
-      from None g e = absurd (none_some t e)
+      from None g e = absurd (none-some t e)
       from (Some u) g e = from_column u g (entering u) refl e
 
   last_bounds : (n : ℕ) (t : Tableau) → Reaches limit a n t → Bounds limit a t

@@ -1,5 +1,6 @@
 -- Weak duality: no allocation gains more than any prices cost.
 use Rattle.std.proofs.Common.{◌≡◌, ◌≢◌, ℕ, suc, ◌+◌, ◌*◌, ◌-◌, ◌<◌, ◌≤◌, ◌⊎◌, ◌||◌, inl, inr, arith, refl, sym, ap, ap₂, ◌∙◌, List, [], ◌∷◌, length, get_or, false, cond, eqb, eq-eqb, ne_eqb}
+use Rattle.std.proofs.lemmas.Bool.{cases_eq}
 use native.Mathlib.Nat.{mul-le-mul_left, mul-le-mul_right, le_of_mul-le-mul_right}
 use Rattle.nrm_number.proofs.Totals.{sum_below, sum_same, sum_le, sum_plus, sum_times, sum_front, sum_zero, only}
 use Rattle.nrm_lp.specs.Program.{ProgramValue, dot, names, AreLegs, load, price_sum, surplus, gain, cost, AreProducts, IsProgram, IsAllocation, IsPrices, IsOptimalAllocation, IsOptimalPrices}
@@ -11,11 +12,8 @@ dot_is (x ∷ xs) (y ∷ ys) e = omega (arith, dot_is xs ys (omega arith), sum_f
 
 -- a list that names l and then others: at each leg it is one or the other
 named_once : (k l : ℕ) (ls : List ℕ) (x : ℕ) → names l ls ≡ false → cond (eqb k l || names k ls) x 0 ≡ cond (eqb k l) x 0 + cond (names k ls) x 0
-named_once k l ls x h = go (same_or_not k l)
+named_once k l ls x h = go (cases_eq k l)
   where
-    same_or_not : (i k : ℕ) → (i ≡ k) ⊎ (i ≢ k)
-    same_or_not i k = grind arith
-
     go : (k ≡ l) ⊎ (k ≢ l) → cond (eqb k l || names k ls) x 0 ≡ cond (eqb k l) x 0 + cond (names k ls) x 0
     go (inl e) = ap (λ b. cond (b || names k ls) x 0) (eq-eqb k l e) ∙ sym (ap₂ (λ a b. cond a x 0 + cond b x 0) (eq-eqb k l e) (ap (λ t. names t ls) e ∙ h) ∙ omega arith)
     go (inr d) = ap (λ b. cond (b || names k ls) x 0) (ne_eqb k l d) ∙ sym (ap (λ a. cond a x 0 + cond (names k ls) x 0) (ne_eqb k l d) ∙ omega arith)
@@ -48,7 +46,7 @@ held_is n p (u ∷ us) (r ∷ rs) (ls ∷ legs) (x ∷ xs) h =
     ∙ ap₂ (λ s t. s + t) (priced n p ls x h.0) (held_is n p us rs legs xs h.1)
 
 -- one product: its fare is at most its price sum and what is above it
-one_product : (q d x u r s : ℕ) → x ≤ q * u → d * (r * x) ≤ s * x + q * (u * (d * r - s))
+pub one_product : (q d x u r s : ℕ) → x ≤ q * u → d * (r * x) ≤ s * x + q * (u * (d * r - s))
 one_product q d x u r s h = omega (arith, mul-le-mul_right x above, mul-le-mul_left (d * r - s) h)
   where
     above : d * r ≤ s + (d * r - s)

@@ -3,6 +3,7 @@ use Rattle.std.proofs.Common.{◌≡◌, ℕ, zero, suc, ◌+◌, ◌-◌, ◌<�
 use Rattle.std.specs.List.{range_with_len}
 use Rattle.std.proofs.lemmas.List.{get_or-map, length-map}
 use Rattle.std.proofs.lemmas.List.FromFn.{get_or-range_with_len, length-range_with_len}
+use Rattle.std.proofs.lemmas.Option.{none-some, same_Some}
 use Rattle.nrm_fraction.specs.Fraction.{Fraction}
 use Rattle.nrm_fraction.specs.Large.{large_number}
 use Rattle.nrm_fraction.specs.Rows.{at}
@@ -50,12 +51,9 @@ next_reached limit a n t s r e small = record { path = ap (next_of a) r.path ∙
     earlier : (m : ℕ) → m < suc n → (m < n) ⊎ (m ≡ n)
     earlier m l = grind arith
 
-    same_table : (x y : Tableau) → Some x ≡ Some y → x ≡ y
-    same_table x y e = cc
-
     before_or_here : (m : ℕ) (u : Tableau) → after a m ≡ Some u → (m < n) ⊎ (m ≡ n) → pivot_large limit a u ≡ None
     before_or_here m u f (inl k) = r.small m u k f
-    before_or_here m u f (inr k) = subst (λ v. pivot_large limit a v ≡ None) (same_table t u (sym r.path ∙ ap (after a) (sym k) ∙ f)) small
+    before_or_here m u f (inr k) = subst (λ v. pivot_large limit a v ≡ None) (same_Some t u (sym r.path ∙ ap (after a) (sym k) ∙ f)) small
 
 -- how far the measure may still rise
 pub rise_left : ℕ → ProgramValue → Tableau → ℕ
@@ -99,12 +97,6 @@ module _ (limit : ℕ) (room : 1 < limit) (a : ProgramValue) where
   every_path_ends = ends_from (suc (rise_left limit a (first_tableau a))) 0 (first_tableau a) (omega arith) (record { path = refl; small = λ m u l e. absurd (omega (arith, l)) })
 
 -- ---- in one place
-some_same : {A : Type 0} (x y : A) → Some x ≡ Some y → x ≡ y
-some_same x y e = cc
-
-some_none : {A : Type 0} (x : A) → Some x ≡ None → ⊥
-some_none x e = cc
-
 module _ (limit : ℕ) (a : ProgramValue) where
   -- no column enters, or the pivot is Large
   abbrev IsStop : Tableau → Type 0
@@ -122,8 +114,8 @@ module _ (limit : ℕ) (a : ProgramValue) where
 
   -- no tableau is reached behind a stop
   no_further : (n m : ℕ) (t u : Tableau) → Reaches limit a n t → IsStop t → Reaches limit a m u → n < m → ⊥
-  no_further n m t u r (inr (x, f)) q l = some_none x (sym f ∙ q.small n t l r.path)
-  no_further n m t u r (inl e) q l = some_none u (sym q.path ∙ ap (after a) (apart n m l) ∙ nothing_after n t r.path e (m - suc n))
+  no_further n m t u r (inr (x, f)) q l = none-some x (sym (q.small n t l r.path) ∙ f)
+  no_further n m t u r (inl e) q l = none-some u (sym (sym q.path ∙ ap (after a) (apart n m l) ∙ nothing_after n t r.path e (m - suc n)))
     where
       apart : (n m : ℕ) → n < m → m ≡ suc n + (m - suc n)
       apart n m l = omega (arith, l)
@@ -140,17 +132,17 @@ module _ (limit : ℕ) (a : ProgramValue) where
       of (inr (inr e)) = e
 
   same_tableau : (n m : ℕ) (t u : Tableau) → Reaches limit a n t → Reaches limit a m u → n ≡ m → t ≡ u
-  same_tableau n m t u r q e = some_same t u (sym r.path ∙ ap (after a) e ∙ q.path)
+  same_tableau n m t u r q e = same_Some t u (sym r.path ∙ ap (after a) e ∙ q.path)
 
   overflow_stop : (t : Tableau) (x : ℤ) → (pivot_large limit a t ≡ Some x) ⊎ ((entering t ≡ None) × (closing_large limit a t ≡ Some x)) → IsStop t
   overflow_stop t x (inl f) = inr (x, f)
   overflow_stop t x (inr (e, f)) = inl e
 
   same_number : (t : Tableau) (x y : ℤ) → (pivot_large limit a t ≡ Some x) ⊎ ((entering t ≡ None) × (closing_large limit a t ≡ Some x)) → (pivot_large limit a t ≡ Some y) ⊎ ((entering t ≡ None) × (closing_large limit a t ≡ Some y)) → x ≡ y
-  same_number t x y (inl f) (inl g) = some_same x y (sym f ∙ g)
-  same_number t x y (inl f) (inr (e, g)) = absurd (some_none x (sym f ∙ ap (large_at limit a t) e))
-  same_number t x y (inr (e, f)) (inl g) = absurd (some_none y (sym g ∙ ap (large_at limit a t) e))
-  same_number t x y (inr (e, f)) (inr (h, g)) = some_same x y (sym f ∙ g)
+  same_number t x y (inl f) (inl g) = same_Some x y (sym f ∙ g)
+  same_number t x y (inl f) (inr (e, g)) = absurd (none-some x (sym (sym f ∙ ap (large_at limit a t) e)))
+  same_number t x y (inr (e, f)) (inl g) = absurd (none-some y (sym (sym g ∙ ap (large_at limit a t) e)))
+  same_number t x y (inr (e, f)) (inr (h, g)) = same_Some x y (sym f ∙ g)
 
   pub ends_once : EndsOnce limit a
   ends_once = record {
@@ -166,5 +158,5 @@ module _ (limit : ℕ) (a : ProgramValue) where
   }
     where
       of_overflow : (t : Tableau) (x : ℤ) → entering t ≡ None → closing_large limit a t ≡ None → (pivot_large limit a t ≡ Some x) ⊎ ((entering t ≡ None) × (closing_large limit a t ≡ Some x)) → ⊥
-      of_overflow t x e f (inl g) = some_none x (sym g ∙ ap (large_at limit a t) e)
-      of_overflow t x e f (inr (h, g)) = some_none x (sym g ∙ f)
+      of_overflow t x e f (inl g) = none-some x (sym (sym g ∙ ap (large_at limit a t) e))
+      of_overflow t x e f (inr (h, g)) = none-some x (sym f ∙ g)

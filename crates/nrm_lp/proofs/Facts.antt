@@ -1,5 +1,6 @@
 -- The facts of a path's tableaux, from those that each pivot keeps.
 use Rattle.std.proofs.Common.{◌≡◌, ◌≢◌, ℕ, zero, suc, ◌<◌, ◌⊎◌, inl, inr, arith, refl, sym, ap, ◌∙◌, eqb, eq-eqb, ne_eqb}
+use Rattle.std.proofs.lemmas.Bool.{cases_eq}
 use Rattle.nrm_fraction.specs.Fraction.{Fraction, ◌+ᶠ◌, ◌*ᶠ◌}
 use Rattle.nrm_fraction.specs.Rows.{at}
 use Rattle.nrm_fraction.proofs.Sums.{sum_to}
@@ -20,7 +21,7 @@ has_facts a t h = record {
   value_width = h.value_width;
   basics = h.basis_shape;
   before_end = h.basis_below;
-  unit_columns = λ i k li lk. unit_column i k li lk (same_or_not i k);
+  unit_columns = λ i k li lk. unit_column i k li lk (cases_eq i k);
   value_noughts = h.facts.value_zeros;
   positive = h.positive;
   from_first = λ i c l. h.facts.from_first i c l ∙ total_is (row_count a) (λ k. entry t i (slack a k) *ᶠ entry (first_tableau a) k c);
@@ -29,9 +30,6 @@ has_facts a t h = record {
   leaves = λ s l. found s (leaving_exists a t s h l);
 }
   where
-    same_or_not : (i k : ℕ) → (i ≡ k) ⊎ (i ≢ k)
-    same_or_not i k = grind arith
-
     unit_column : (i k : ℕ) → i < row_count a → k < row_count a → (i ≡ k) ⊎ (i ≢ k) → entry t i (basic t k) ≡ one_if (eqb i k)
     unit_column i k li lk (inl e) = ap (λ j. entry t j (basic t k)) e ∙ h.facts.ones k lk ∙ ap one_if (sym (eq-eqb i k e))
     unit_column i k li lk (inr d) = h.facts.zeros i k li lk d ∙ ap one_if (sym (ne_eqb i k d))

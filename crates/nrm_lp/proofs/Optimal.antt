@@ -5,6 +5,7 @@ use Rattle.nrm_number.proofs.Ring.{solve, ◌⊖◌, v0, v1, v2, v3}
 use Rattle.nrm_number.proofs.Ring.Expr.{◌⊕◌, ◌⊗◌, minus, e0, e1}
 use Rattle.std.specs.List.{range_with_len}
 use Rattle.std.proofs.lemmas.List.FromFn.{length-range_with_len, get_or-range_with_len}
+use Rattle.std.proofs.lemmas.Bool.{cases_eq}
 use Rattle.nrm_fraction.specs.Fraction.{Fraction, ◌+ᶠ◌, ◌*ᶠ◌, ◌-ᶠ◌, negative, whole}
 use Rattle.nrm_lp.specs.Program.{ProgramValue, dot, names, AreLegs, load, price_sum, surplus, gain, cost, AreProducts, IsProgram, IsAllocation, IsPrices, IsOptimalAllocation, IsOptimalPrices}
 use Rattle.nrm_fraction.specs.Large.{common, over_common}
@@ -49,12 +50,9 @@ value_is_sum end j [] [] e d = refl
 value_is_sum end j [] (xs ∷ rows) e d = absurd (omega arith)
 value_is_sum end j (b ∷ bs) [] e d = absurd (omega arith)
 value_is_sum end j (b ∷ bs) (xs ∷ rows) e d =
-    by_first (value_is_sum end j bs rows (omega arith) (λ k l lk ll q. omega (arith, d (suc k) (suc l) (omega arith) (omega arith) q))) (same_or_not b j)
+    by_first (value_is_sum end j bs rows (omega arith) (λ k l lk ll q. omega (arith, d (suc k) (suc l) (omega arith) (omega arith) q))) (cases_eq b j)
     ∙ sym (sum_front_F (length rows) (λ k. keep_if (eqb (get_or (b ∷ bs) k 0) j) (at (get_or (xs ∷ rows) k []) end)))
   where
-    same_or_not : (i k : ℕ) → (i ≡ k) ⊎ (i ≢ k)
-    same_or_not i k = grind arith
-
     none : b ≡ j → (k : ℕ) → k < length rows → keep_if (eqb (get_or bs k 0) j) (at (get_or rows k []) end) ≡ whole (pos 0)
     none q k l = ap (λ z. keep_if z (at (get_or rows k []) end)) (ne_eqb (get_or bs k 0) j (λ f. apart (d 0 (suc k) (omega arith) (omega arith) (q ∙ sym f))))
       where
@@ -125,11 +123,8 @@ module _ (a : ProgramValue) (ok : IsProgram a) (t : Tableau) (h : IsKept a t) (b
   values = product_values a t
 
   distinct : (k l : ℕ) → k < row_count a → l < row_count a → get_or t.basis k 0 ≡ get_or t.basis l 0 → k ≡ l
-  distinct k l lk ll e = go (same_or_not k l)
+  distinct k l lk ll e = go (cases_eq k l)
     where
-      same_or_not : (i k : ℕ) → (i ≡ k) ⊎ (i ≢ k)
-      same_or_not i k = grind arith
-
       go : (k ≡ l) ⊎ (k ≢ l) → k ≡ l
       go (inl q) = q
       go (inr d) = absurd (positive_not_nought (whole (pos 1)) one_positive (sym (h.facts.ones k lk) ∙ ap (at (row t k)) e ∙ h.facts.zeros k l lk ll d))

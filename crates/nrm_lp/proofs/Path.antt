@@ -1,5 +1,6 @@
 -- What is known of each tableau of a path, and that the closing of its last one is optimal.
 use Rattle.std.proofs.Common.{◌≡◌, ℕ, zero, suc, ◌+◌, ◌<◌, ◌⊎◌, inl, inr, pos, arith, refl, sym, ap, ◌∙◌, subst, List, [], ◌∷◌, length, Bool, true, false, cond, Option, Some, None}
+use Rattle.std.proofs.lemmas.Option.{none-some, same_Some}
 use Rattle.nrm_fraction.specs.Fraction.{Fraction, whole, less, ◌<ᶠ◌}
 use Rattle.nrm_lp.specs.Program.{ProgramValue, IsProgram, IsOptimalAllocation, IsOptimalPrices}
 use Rattle.nrm_fraction.specs.Large.{common, over_common}
@@ -20,29 +21,14 @@ non_negative_unless x n = go (trichotomy x (whole (pos 0)))
     go (inr (inl e)) = inr e
     go (inr (inr h)) = inl h
 
-some_same : (x y : ℕ) → Some x ≡ Some y → x ≡ y
-some_same x y e = cc
-
-some_tableau : (x y : Tableau) → Some x ≡ Some y → x ≡ y
-some_tableau x y e = cc
-
-none_some : (y : Tableau) → None ≡ Some y → ⊥
-none_some y e = cc
-
-none_number : (y : ℕ) → None ≡ Some y → ⊥
-none_number y e = cc
-
-some_none : (y : ℕ) → Some y ≡ None → ⊥
-some_none y e = cc
-
 -- the entering column stands before the right side, and its entry is below 0
 pub entering_is : (c : ℕ) (xs : List Fraction) (s : ℕ) → entering_from c xs ≡ Some s → (i : ℕ) × (s ≡ c + i) × (suc i < length xs) × (at xs i <ᶠ whole (pos 0))
-entering_is c [] s e = absurd (none_number s e)
-entering_is c (x ∷ []) s e = absurd (none_number s e)
+entering_is c [] s e = absurd (none-some s e)
+entering_is c (x ∷ []) s e = absurd (none-some s e)
 entering_is c (x ∷ y ∷ ys) s e = go (less x (whole (pos 0))) refl (entering_is (suc c) (y ∷ ys) s) e
   where
     go : (b : Bool) → less x (whole (pos 0)) ≡ b → (entering_from (suc c) (y ∷ ys) ≡ Some s → (i : ℕ) × (s ≡ suc c + i) × (suc i < length (y ∷ ys)) × (at (y ∷ ys) i <ᶠ whole (pos 0))) → cond b (Some c) (entering_from (suc c) (y ∷ ys)) ≡ Some s → (i : ℕ) × (s ≡ c + i) × (suc i < length (x ∷ y ∷ ys)) × (at (x ∷ y ∷ ys) i <ᶠ whole (pos 0))
-    go true f rest e = (0, sym (some_same c s e) ∙ plus_zero c, omega arith, less_true x (whole (pos 0)) f)
+    go true f rest e = (0, sym (same_Some c s e) ∙ plus_zero c, omega arith, less_true x (whole (pos 0)) f)
       where
         plus_zero : (c : ℕ) → c ≡ c + 0
         plus_zero c = omega arith
@@ -54,7 +40,7 @@ entering_none c (x ∷ []) e i l = absurd (omega arith)
 entering_none c (x ∷ y ∷ ys) e i l = go (less x (whole (pos 0))) refl (entering_none (suc c) (y ∷ ys)) e i l
   where
     go : (b : Bool) → less x (whole (pos 0)) ≡ b → (entering_from (suc c) (y ∷ ys) ≡ None → (i : ℕ) → suc i < length (y ∷ ys) → IsNonNegative (at (y ∷ ys) i)) → cond b (Some c) (entering_from (suc c) (y ∷ ys)) ≡ None → (i : ℕ) → suc i < length (x ∷ y ∷ ys) → IsNonNegative (at (x ∷ y ∷ ys) i)
-    go true f rest e i l = absurd (some_none c e)
+    go true f rest e i l = absurd (none-some c (sym e))
     go false f rest e zero l = non_negative_unless x (less_false x (whole (pos 0)) f)
     go false f rest e (suc i) l = rest e i (omega arith)
 
@@ -67,15 +53,15 @@ module _ (a : ProgramValue) where
       subst (λ r. IsKept a (pivot t r s)) (sym (ap row_number (found.1).answer)) (pivot_keeps a t s h below found.0 found.1)
 
   pub path_kept : (n : ℕ) (t : Tableau) → after a n ≡ Some t → IsKept a t
-  path_kept zero t e = subst (λ u. IsKept a u) (some_tableau (first_tableau a) t e) (first_kept a)
+  path_kept zero t e = subst (λ u. IsKept a u) (same_Some (first_tableau a) t e) (first_kept a)
   path_kept (suc n) t e = from (after a n) (path_kept n) refl e
     where
       from_column : (u : Tableau) → IsKept a u → (c : Option ℕ) → entering u ≡ c → next_at a u c ≡ Some t → IsKept a t
-      from_column u h None f e = absurd (none_some t e)
-      from_column u h (Some s) f e = subst (λ v. IsKept a v) (some_tableau (pivot u (row_number (leaving a u s)) s) t e) (next_kept u s h f)
+      from_column u h None f e = absurd (none-some t e)
+      from_column u h (Some s) f e = subst (λ v. IsKept a v) (same_Some (pivot u (row_number (leaving a u s)) s) t e) (next_kept u s h f)
 
       from : (o : Option Tableau) → ((u : Tableau) → o ≡ Some u → IsKept a u) → after a n ≡ o → next_of a o ≡ Some t → IsKept a t
-      from None kept f e = absurd (none_some t e)
+      from None kept f e = absurd (none-some t e)
       from (Some u) kept f e = from_column u (kept u refl) (entering u) refl e
 
   pub last_signs : (t : Tableau) → IsKept a t → entering t ≡ None → (c : ℕ) → c < right_side a → IsNonNegative (at t.value c)

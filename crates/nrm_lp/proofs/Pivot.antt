@@ -2,6 +2,7 @@
 -- columns, each row is a combination of the first rows by its own slack entries, and each first row is a combination of
 -- the present rows.
 use Rattle.std.proofs.Common.{◌≡◌, ◌≢◌, ℕ, ◌<◌, ◌⊎◌, inl, inr, pos, arith, refl, sym, ap, ap₂, ◌∙◌, subst, [], ◌∷◌}
+use Rattle.std.proofs.lemmas.Bool.{cases_eq}
 use Rattle.nrm_number.proofs.Ring.{solve, ◌⊖◌, v0, v1, v2, v3}
 use Rattle.nrm_number.proofs.Ring.Expr.{◌⊕◌, ◌⊗◌, e0, e1}
 use Rattle.nrm_fraction.specs.Fraction.{Fraction, ◌+ᶠ◌, ◌*ᶠ◌, ◌-ᶠ◌, ◌/ᶠ◌, inverse, whole}
@@ -52,11 +53,8 @@ module _ (m : ℕ) (slack : ℕ → ℕ) (first old new : Table) (r s : ℕ) (p 
   value_same : (k : ℕ) → k < m → k ≢ r → new.v (old.b k) ≡ old.v (old.b k)
   value_same k lk dk = p.value (old.b k) ∙ ap (λ t. old.v (old.b k) -ᶠ old.v s *ᶠ t) (unit_zero k lk dk) ∙ solve ring_F (old.v (old.b k) ∷ old.v s ∷ []) (v0 ⊖ v1 ⊗ e0) v0 refl
 
-  same_or_not : (i k : ℕ) → (i ≡ k) ⊎ (i ≢ k)
-  same_or_not i k = grind arith
-
   new_zeros : (i k : ℕ) → i < m → k < m → i ≢ k → new.t i (new.b k) ≡ whole (pos 0)
-  new_zeros i k l lk d = by_column (same_or_not k r)
+  new_zeros i k l lk d = by_column (cases_eq k r)
     where
       by_row : k ≢ r → (i ≡ r) ⊎ (i ≢ r) → new.t i (old.b k) ≡ whole (pos 0)
       by_row dk (inl e) = ap (λ j. new.t j (old.b k)) e ∙ unit_zero k lk dk
@@ -64,17 +62,17 @@ module _ (m : ℕ) (slack : ℕ → ℕ) (first old new : Table) (r s : ℕ) (p 
 
       by_column : (k ≡ r) ⊎ (k ≢ r) → new.t i (new.b k) ≡ whole (pos 0)
       by_column (inl e) = ap (λ j. new.t i (new.b j)) e ∙ ap (new.t i) p.basic ∙ new_zero i l (λ f. d (f ∙ sym e))
-      by_column (inr dk) = ap (new.t i) (p.kept k lk dk) ∙ by_row dk (same_or_not i r)
+      by_column (inr dk) = ap (new.t i) (p.kept k lk dk) ∙ by_row dk (cases_eq i r)
 
   new_ones : (k : ℕ) → k < m → new.t k (new.b k) ≡ whole (pos 1)
-  new_ones k lk = by_column (same_or_not k r)
+  new_ones k lk = by_column (cases_eq k r)
     where
       by_column : (k ≡ r) ⊎ (k ≢ r) → new.t k (new.b k) ≡ whole (pos 1)
       by_column (inl e) = ap (λ j. new.t j (new.b j)) e ∙ ap (new.t r) p.basic ∙ new_one
       by_column (inr dk) = ap (new.t k) (p.kept k lk dk) ∙ other_same k k lk lk dk dk ∙ h.ones k lk
 
   new_value_zeros : (k : ℕ) → k < m → new.v (new.b k) ≡ whole (pos 0)
-  new_value_zeros k lk = by_column (same_or_not k r)
+  new_value_zeros k lk = by_column (cases_eq k r)
     where
       by_column : (k ≡ r) ⊎ (k ≢ r) → new.v (new.b k) ≡ whole (pos 0)
       by_column (inl e) = ap (λ j. new.v (new.b j)) e ∙ ap new.v p.basic ∙ new_value_zero
@@ -91,7 +89,7 @@ module _ (m : ℕ) (slack : ℕ → ℕ) (first old new : Table) (r s : ℕ) (p 
       (λ k l. solve ring_F (inverse (old.t r s) ∷ old.t r (slack k) ∷ first.t k c ∷ []) (v0 ⊗ (v1 ⊗ v2)) (v1 ⊗ v0 ⊗ v2) refl ∙ ap (λ x. x *ᶠ first.t k c) (sym (p.unit (slack k))))
 
   new_from_first : (i c : ℕ) → i < m → new.t i c ≡ sum_to m (λ k. new.t i (slack k) *ᶠ first.t k c)
-  new_from_first i c l = by_row (same_or_not i r)
+  new_from_first i c l = by_row (cases_eq i r)
     where
       by_row : (i ≡ r) ⊎ (i ≢ r) → new.t i c ≡ sum_to m (λ k. new.t i (slack k) *ᶠ first.t k c)
       by_row (inl e) = subst (λ j. new.t j c ≡ sum_to m (λ k. new.t j (slack k) *ᶠ first.t k c)) (sym e) (unit_from_first c)

@@ -1,11 +1,11 @@
 -- At each pivot of a path the value row's number rises, where no row made is Large: so a path of such rows ends.
-use Rattle.std.proofs.Common.{◌≡◌, ℕ, zero, suc, ◌+◌, ◌*◌, ◌/◌, ◌^◌, ◌<◌, ◌≤◌, ℤ, pos, ◌*ℤ◌, nat_abs, arith, refl, sym, ap, ◌∙◌, subst, List, [], ◌∷◌, map, length, get_or, Some, None, Bool, true, false, cond, leb, leb-false}
+use Rattle.std.proofs.Common.{◌≡◌, ℕ, suc, ◌+◌, ◌*◌, ◌/◌, ◌^◌, ◌<◌, ◌≤◌, ℤ, pos, ◌*ℤ◌, nat_abs, arith, refl, sym, ap, ◌∙◌, subst, List, [], ◌∷◌, map, length, get_or, Some, None}
 use Rattle.std.proofs.lemmas.Int.{unsigned_abs-mul}
 use Rattle.std.proofs.lemmas.List.{length-map, get_or-map}
 use Prim.Native.Nat.{◌∣◌}
 use native.Mathlib.Nat.{le_of_dvd, mul-le-mul_left, le-div_iff_mul-le}
 use Rattle.nrm_fraction.specs.Fraction.{Fraction, negative, whole, ◌<ᶠ◌, ◌-ᶠ◌}
-use Rattle.nrm_fraction.specs.Large.{common, numerators, large_number, first_reaching}
+use Rattle.nrm_fraction.specs.Large.{common, numerators, large_number}
 use Rattle.nrm_lp.specs.Program.{ProgramValue}
 use Rattle.nrm_lp.specs.Tableau.{Tableau, row_count, key_columns, entering, pivot}
 use Rattle.nrm_fraction.specs.Rows.{at}
@@ -21,29 +21,17 @@ use Rattle.nrm_lp.proofs.Rule.{IsKept, IsLeaving}
 use Rattle.nrm_lp.proofs.Path.{entering_is}
 use Rattle.nrm_number.proofs.Ring.{solve, ◌⊖◌, v0}
 use Rattle.nrm_number.proofs.Ring.Expr.{minus, e0}
-
--- no number reaches the limit
-none_reaches : (l : ℕ) (ns : List ℤ) → first_reaching l ns ≡ None → (k : ℕ) → k < length ns → nat_abs (get_or ns k (pos 0)) < l
-none_reaches l [] h k m = absurd (omega arith)
-none_reaches l (n ∷ ns) h k m = go (leb l (nat_abs n)) refl (none_reaches l ns) h k m
-  where
-    some_not_none : Some n ≡ None → ⊥
-    some_not_none e = cc
-
-    go : (b : Bool) → leb l (nat_abs n) ≡ b → (first_reaching l ns ≡ None → (k : ℕ) → k < length ns → nat_abs (get_or ns k (pos 0)) < l) → cond b (Some n) (first_reaching l ns) ≡ None → (k : ℕ) → k < suc (length ns) → nat_abs (get_or (n ∷ ns) k (pos 0)) < l
-    go true e rest h k m = absurd (some_not_none h)
-    go false e rest h zero m = leb-false l (nat_abs n) e
-    go false e rest h (suc k) m = rest h k (omega arith)
+use Rattle.nrm_lp.proofs.Small.{reach_each}
 
 -- an entry of a row that isn't Large is below the limit
 entry_below : (l : ℕ) (xs : List Fraction) (k : ℕ) → large_number l xs ≡ None → k < length xs → IsBelow l (at xs k)
-entry_below l xs k h m = record { num_below = omega (arith, sizes, numerator, mul-le-mul_left (nat_abs (at xs k).num) quotient); den_below = omega (arith, le_of_dvd (common_pos xs) divides, none_reaches l (pos (common xs) ∷ numerators (common xs) xs) h 0 (omega arith)) }
+entry_below l xs k h m = record { num_below = omega (arith, sizes, numerator, mul-le-mul_left (nat_abs (at xs k).num) quotient); den_below = omega (arith, le_of_dvd (common_pos xs) divides, reach_each l (pos (common xs) ∷ numerators (common xs) xs) h 0 (omega arith)) }
   where
     divides : (at xs k).den ∣ common xs
     divides = den-dvd-common xs k m (whole (pos 0))
 
     numerator : nat_abs (get_or (numerators (common xs) xs) k (pos 0)) < l
-    numerator = none_reaches l (pos (common xs) ∷ numerators (common xs) xs) h (suc k) (omega (arith, length-map xs (λ x. x.num *ℤ pos (common xs / x.den))))
+    numerator = reach_each l (pos (common xs) ∷ numerators (common xs) xs) h (suc k) (omega (arith, length-map xs (λ x. x.num *ℤ pos (common xs / x.den))))
 
     sizes : nat_abs (get_or (numerators (common xs) xs) k (pos 0)) ≡ nat_abs (at xs k).num * (common xs / (at xs k).den)
     sizes = ap nat_abs (get_or-map (λ x. x.num *ℤ pos (common xs / x.den)) xs k (whole (pos 0)) (pos 0) m) ∙ unsigned_abs-mul (at xs k).num (pos (common xs / (at xs k).den))

@@ -3,6 +3,7 @@ use Rattle.std.proofs.Common.{◌≡◌, ◌≢◌, ℕ, zero, suc, ◌+◌, ◌
 use Rattle.std.proofs.lemmas.List.{length-map, length-set, get_or-map, get_or-set_same, get_or-set_other}
 use Rattle.std.specs.List.{range_with_len}
 use Rattle.std.proofs.lemmas.List.FromFn.{length-range_with_len, get_or-range_with_len}
+use Rattle.std.proofs.lemmas.Bool.{cases_eq}
 use Rattle.nrm_fraction.specs.Fraction.{Fraction, ◌/ᶠ◌, whole, less}
 use Rattle.nrm_fraction.specs.Lex.{LexBelow, LexPositive, lex_below}
 use Rattle.nrm_lp.specs.Program.{ProgramValue}
@@ -136,14 +137,11 @@ module _ (a : ProgramValue) (t : Tableau) (s : ℕ) (h : IsKept a t) (before_end
     basis_shape = length-set t.basis r s ∙ h.basis_shape;
     facts = facts_kept (row_count a) (slack a) (table (first_tableau a)) (table t) (table (pivot t r s)) r s is_pivot h.facts;
     positive = rows_stay_positive (row_count a) (key_columns a) (table t) (table (pivot t r s)) r s is_pivot h.positive w.least;
-    basis_below = λ k lk. below_at k lk (same_or_not k r);
-    widths = λ i li. width_at i li (same_or_not i r);
+    basis_below = λ k lk. below_at k lk (cases_eq k r);
+    widths = λ i li. width_at i li (cases_eq i r);
     value_width = length-minus_times (at t.value s) (unit_row s (row t r)) t.value (unit_width ∙ sym h.value_width) ∙ h.value_width;
   }
     where
-      same_or_not : (i k : ℕ) → (i ≡ k) ⊎ (i ≢ k)
-      same_or_not i k = grind arith
-
       unit_width : length (unit_row s (row t r)) ≡ suc (right_side a)
       unit_width = length-map (row t r) (λ x. x /ᶠ at (row t r) s) ∙ h.widths r w.row_below
 

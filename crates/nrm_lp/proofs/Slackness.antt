@@ -1,9 +1,9 @@
 -- Where gain and cost meet, each inequality on the way is an equality: both kinds of slackness.
 use Rattle.std.proofs.Common.{◌≡◌, ℕ, zero, suc, ◌+◌, ◌*◌, ◌-◌, ◌<◌, ◌≤◌, ◌⊎◌, inl, inr, arith, refl, sym, ap, ap₂, ◌∙◌, subst, List, [], ◌∷◌, length, get_or}
-use native.Mathlib.Nat.{mul-le-mul_left, mul-le-mul_right, eq_of_mul-eq-mul_left, mul-lt-mul_of_pos_right}
+use native.Mathlib.Nat.{mul-le-mul_left, eq_of_mul-eq-mul_left, mul-lt-mul_of_pos_right}
 use Rattle.nrm_lp.specs.Program.{ProgramValue, dot, load, price_sum, surplus, gain, cost, IsProgram, IsAllocation, IsPrices}
 use Rattle.nrm_number.proofs.Totals.{sum_below, sum_same, sum_le, sum_plus, sum_times, sum_front}
-use Rattle.nrm_lp.proofs.Duality.{dot_is, held, held_is}
+use Rattle.nrm_lp.proofs.Duality.{dot_is, held, held_is, one_product}
 use Rattle.nrm_lp.proofs.Optimal.{lengths_are, surplus_is}
 
 -- terms that are at most others, with the same sum, are the same
@@ -24,12 +24,6 @@ held_sum p [] (x ∷ xs) e = absurd (omega arith)
 held_sum p (ls ∷ legs) [] e = absurd (omega arith)
 held_sum p (ls ∷ legs) (x ∷ xs) e =
     ap (λ s. price_sum p ls * x + s) (held_sum p legs xs (omega arith)) ∙ sym (sum_front (length xs) (λ j. price_sum p (get_or (ls ∷ legs) j []) * get_or (x ∷ xs) j 0))
-
-one_product : (q d x u r s : ℕ) → x ≤ q * u → d * (r * x) ≤ s * x + q * (u * (d * r - s))
-one_product q d x u r s h = omega (arith, mul-le-mul_right x above, mul-le-mul_left (d * r - s) h)
-  where
-    above : d * r ≤ s + (d * r - s)
-    above = omega arith
 
 -- the two conditions of one product, where its inequality is an equality
 below_bound : (q d x u r s : ℕ) → d * (r * x) ≡ s * x + q * (u * (d * r - s)) → x < q * u → d * r ≤ s

@@ -5,6 +5,7 @@ use native.Mathlib.Nat.{one-dvd}
 use Rattle.std.proofs.lemmas.Bool.{lt-leb}
 use Rattle.std.proofs.lemmas.List.{get_or-map, length-map}
 use Rattle.std.proofs.lemmas.Nat.Gcd.{dvd_trans, dvd_refl, le_of_dvd}
+use Rattle.std.proofs.lemmas.Option.{none-some}
 use Rattle.nrm_number.specs.Gcd.{lcm}
 use Rattle.nrm_number.proofs.GcdLaws.{dvd-lcm_left, dvd-lcm_right, lcm-dvd, lcm_pos}
 use Rattle.nrm_number.proofs.Ring.{solve, ◌⊖◌, v0, v1, v2}
@@ -18,15 +19,12 @@ use Rattle.nrm_fraction.proofs.Field.{ring_F, IsPositive, IsNonNegative, sign_of
 use Rattle.nrm_fraction.proofs.Embed.{W, W-le, W-plus, W-sign, W-positive}
 use Rattle.nrm_fraction.proofs.Lowest.{common_pos}
 
-some_none : (n : ℤ) → Some n ≡ None → ⊥
-some_none n e = cc
-
 -- ---- no number of a list reaches the limit
 pub reach_first : (limit : ℕ) (n : ℤ) (ns : List ℤ) → first_reaching limit (n ∷ ns) ≡ None → (nat_abs n < limit) × (first_reaching limit ns ≡ None)
 reach_first limit n ns e = go (leb limit (nat_abs n)) refl e
   where
     go : (b : Bool) → leb limit (nat_abs n) ≡ b → cond b (Some n) (first_reaching limit ns) ≡ None → (nat_abs n < limit) × (first_reaching limit ns ≡ None)
-    go true f e = absurd (some_none n e)
+    go true f e = absurd (none-some n (sym e))
     go false f e = (leb-false limit (nat_abs n) f, e)
 
 pub reach_each : (limit : ℕ) (ns : List ℤ) → first_reaching limit ns ≡ None → (k : ℕ) → k < length ns → nat_abs (get_or ns k (pos 0)) < limit
@@ -74,14 +72,14 @@ common_of (x ∷ xs) m h =
 -- ---- the value row is among the rows that a pivot makes
 first_none : (o l : Option ℤ) → first_of_two o l ≡ None → l ≡ None
 first_none None l e = e
-first_none (Some n) l e = absurd (some_none n e)
+first_none (Some n) l e = absurd (none-some n (sym e))
 
 last_none : (limit : ℕ) (rows : List (List Fraction)) (value : List Fraction) → first_large limit (rows ++ value ∷ []) ≡ None → large_number limit value ≡ None
 last_none limit [] value e = both_none (large_number limit value) e
   where
     both_none : (o : Option ℤ) → first_of_two o None ≡ None → o ≡ None
     both_none None e = refl
-    both_none (Some n) e = absurd (some_none n e)
+    both_none (Some n) e = absurd (none-some n (sym e))
 last_none limit (row ∷ rows) value e = last_none limit rows value (first_none (large_number limit row) (first_large limit (rows ++ value ∷ [])) e)
 
 pub value_row_small : (limit : ℕ) (own value : List Fraction) (rows : List (List Fraction)) → first_large limit (own ∷ (rows ++ value ∷ [])) ≡ None → large_number limit value ≡ None

@@ -6,6 +6,7 @@ use Rattle.nrm_number.proofs.Ring.{solve, ◌⊖◌, v0, v1}
 use Rattle.nrm_number.proofs.Ring.Expr.{◌⊗◌, e0}
 use Rattle.std.specs.List.{range_with_len}
 use Rattle.std.proofs.lemmas.List.FromFn.{length-range_with_len, get_or-range_with_len}
+use Rattle.std.proofs.lemmas.Bool.{cases_lt}
 use Rattle.nrm_fraction.specs.Fraction.{Fraction, ◌*ᶠ◌, ◌-ᶠ◌, ◌/ᶠ◌, inverse, whole}
 use Rattle.nrm_lp.specs.Program.{ProgramValue, names}
 use Rattle.nrm_lp.specs.Tableau.{Tableau, product_count, row_count, slack, right_side, one_if, row_bound, uses, first_entry, first_value, first_tableau, pivot}
@@ -171,11 +172,8 @@ entry_product a c l =
     ∙ ap one_if (eq-eqb c (length a.caps + c - length a.caps) (omega arith))
 
 pub column_has_one : (a : ProgramValue) (s : ℕ) → s < right_side a → (i : ℕ) × (i < row_count a) × IsPositive (at (row (first_tableau a) i) s)
-column_has_one a s l = go (product_or_slack s (product_count a))
+column_has_one a s l = go (cases_lt s (product_count a))
   where
-    product_or_slack : (s n : ℕ) → (s < n) ⊎ (n ≤ s)
-    product_or_slack s n = grind arith
-
     go : (s < product_count a) ⊎ (product_count a ≤ s) → (i : ℕ) × (i < row_count a) × IsPositive (at (row (first_tableau a) i) s)
     go (inl lp) = (
       length a.caps + s,

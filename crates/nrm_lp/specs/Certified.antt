@@ -1,8 +1,9 @@
 -- Complementary slackness: an allocation and bid prices that meet, what a certificate of them says, and that the
 -- closing of a path is one.
-use Rattle.std.specs.Prelude.{ℕ, ◌≡◌, ◌<◌, ◌≤◌, ◌*◌, ℤ, nat_abs, List, [], length, map, get_or}
+use Rattle.std.specs.Prelude.{ℕ, ◌≡◌, ◌<◌, ◌≤◌, ◌*◌, ℤ, nat_abs, List, [], length, map, get_or, slice_index}
 use Rattle.nrm_lp.specs.declared.certificate.Certificate.{Certificate}
-use Rattle.nrm_lp.specs.Program.{ProgramValue, IsProgram, IsAllocation, IsPrices, IsOptimalAllocation, IsOptimalPrices, load, price_sum, gain, cost}
+use Rattle.nrm_lp.specs.Program.{ProgramValue, IsProgram, IsAllocation, IsPrices, IsOptimalAllocation, IsOptimalPrices, load, price_sum}
+use Rattle.nrm_lp.specs.Program.{gain, cost}
 use Rattle.nrm_lp.specs.Tableau.{Tableau}
 use Rattle.nrm_lp.specs.Path.{IsLast}
 use Rattle.nrm_lp.specs.Closing.{closing, value_over, certificate}
@@ -15,9 +16,10 @@ use Rattle.nrm_lp.specs.Shape.{HasShape}
 pub record Meet (a : ProgramValue) (q : ℕ) (x : List ℕ) (d : ℕ) (p : List ℕ) (value : ℕ) : Type 0 where
   pub allocation : IsAllocation a q x
   pub prices : IsPrices a d p
-  pub full : (i : ℕ) → i < length a.caps → 0 < get_or p i 0 → load i a.legs x ≡ q * get_or a.caps i 0
-  pub unmet : (j : ℕ) → j < length a.bounds → get_or x j 0 < q * get_or a.bounds j 0 → d * get_or a.fares j 0 ≤ price_sum p (get_or a.legs j [])
-  pub used : (j : ℕ) → j < length a.bounds → 0 < get_or x j 0 → price_sum p (get_or a.legs j []) ≤ d * get_or a.fares j 0
+  pub full : (i : ℕ) → i < length a.caps → 0 < slice_index p i → load i a.legs x ≡ q * slice_index a.caps i
+  pub unmet : (j : ℕ) → j < length a.bounds → slice_index x j < q * slice_index a.bounds j
+      → d * slice_index a.fares j ≤ price_sum p (get_or a.legs j [])
+  pub used : (j : ℕ) → j < length a.bounds → 0 < slice_index x j → price_sum p (get_or a.legs j []) ≤ d * slice_index a.fares j
   pub value_is : value ≡ cost a d p
   pub worth : value * q ≡ gain a x * d
 
@@ -40,7 +42,8 @@ EndsMeet = (a : ProgramValue) → IsProgram a → (t : Tableau) → IsLast a t
 
 -- the certificate of a path that ends, and whose closing isn't Large, shows what it should
 abbrev pub ClosesCertify : Type 0
-ClosesCertify = (limit : ℕ) → 1 < limit → (a : ProgramValue) → IsProgram a → (n : ℕ) (t : Tableau) → Closes limit a n t → Certifies limit a (certificate a t)
+ClosesCertify = (limit : ℕ) → 1 < limit → (a : ProgramValue) → IsProgram a → (n : ℕ) (t : Tableau) → Closes limit a n t
+    → Certifies limit a (certificate a t)
 
 -- where some allocation and bid prices meet, all that are optimal do, whichever path or hand they come from
 abbrev pub OptimalMeet : Type 0

@@ -1,6 +1,6 @@
 -- The closing of a path: the allocation and the bid prices that its last tableau shows, as whole numbers over two
 -- denominators.
-use Rattle.std.specs.Prelude.{ℕ, ◌≡◌, pos, nat_abs, cond, eqb, List, ◌∷◌, map, length}
+use Rattle.std.specs.Prelude.{ℕ, ◌≡◌, pos, nat_abs, List, ◌∷◌, map, length, if◌then◌else◌, ◌==◌}
 use Rattle.std.specs.List.{range_with_len}
 use Rattle.nrm_fraction.specs.Fraction.{Fraction, ◌*ᶠ◌, whole}
 use Rattle.nrm_lp.specs.declared.certificate.Certificate.{Certificate}
@@ -12,7 +12,7 @@ use Rattle.nrm_fraction.specs.Rows.{at}
 
 -- the right side, which is column end, of the row whose basic column is j, and 0 where there is none
 abbrev pub basic_value : ℕ → ℕ → List ℕ → List (List Fraction) → Fraction
-basic_value end j (b ∷ bs) (xs ∷ rows) = cond (eqb b j) (at xs end) (basic_value end j bs rows)
+basic_value end j (b ∷ bs) (xs ∷ rows) = if b == j then at xs end else basic_value end j bs rows
 basic_value end j _ _ = whole (pos 0)
 
 -- what is allotted to each product
@@ -31,7 +31,8 @@ pub record Closing : Type 0 where
   pub p : List ℕ
 
 abbrev pub closing : ProgramValue → Tableau → Closing
-closing a t = record { q = common (product_values a t); x = over_common (product_values a t); den = common (leg_prices a t); p = over_common (leg_prices a t) }
+closing a t = record { q = common (product_values a t); x = over_common (product_values a t); den = common (leg_prices a t);
+    p = over_common (leg_prices a t) }
 
 -- the value over the denominator d of the bid prices: the size of the value row's right side times d. Where the path
 -- ends that is the number itself

@@ -1,5 +1,5 @@
 -- What is true of every tableau on the path of a program.
-use Rattle.std.specs.Prelude.{ℕ, zero, suc, ◌<◌, ◌≡◌, ◌≢◌, pos, eqb, List, [], map, length, get_or, Some}
+use Rattle.std.specs.Prelude.{ℕ, zero, suc, ◌<◌, ◌≡◌, ◌≢◌, pos, List, [], map, length, get_or, Some, ◌==◌, slice_index}
 use Rattle.nrm_fraction.specs.Fraction.{Fraction, ◌+ᶠ◌, ◌*ᶠ◌, ◌<ᶠ◌, whole}
 use Rattle.nrm_fraction.specs.Lex.{LexBelow, LexPositive}
 use Rattle.nrm_fraction.specs.Rows.{at, ratios}
@@ -13,7 +13,7 @@ entry t i c = at (get_or t.rows i []) c
 
 -- the basic column of constraint row k
 abbrev pub basic : Tableau → ℕ → ℕ
-basic t k = get_or t.basis k 0
+basic t k = slice_index t.basis k
 
 -- the sum of f over the numbers below n
 abbrev pub total : ℕ → (ℕ → Fraction) → Fraction
@@ -40,15 +40,18 @@ pub record HasPathFacts (a : ProgramValue) (t : Tableau) : Type 0 where
   pub basics : length t.basis ≡ row_count a
   pub before_end : (k : ℕ) → k < row_count a → basic t k < right_side a
   -- basic columns are unit columns, and 0 in the value row
-  pub unit_columns : (i k : ℕ) → i < row_count a → k < row_count a → entry t i (basic t k) ≡ one_if (eqb i k)
+  pub unit_columns : (i k : ℕ) → i < row_count a → k < row_count a → entry t i (basic t k) ≡ one_if (i == k)
   pub value_noughts : (k : ℕ) → k < row_count a → at t.value (basic t k) ≡ whole (pos 0)
   -- every constraint row is above 0 in the order of the rule
   pub positive : (i : ℕ) → i < row_count a → LexPositive (map (λ c. entry t i c) (key_columns a))
   -- every row is a combination of the first rows, by its own entries in the slack columns
-  pub from_first : (i c : ℕ) → i < row_count a → entry t i c ≡ total (row_count a) (λ k. entry t i (slack a k) *ᶠ entry (first_tableau a) k c)
-  pub value_from_first : (c : ℕ) → at t.value c ≡ at (first_tableau a).value c +ᶠ total (row_count a) (λ k. at t.value (slack a k) *ᶠ entry (first_tableau a) k c)
+  pub from_first : (i c : ℕ) → i < row_count a
+      → entry t i c ≡ total (row_count a) (λ k. entry t i (slack a k) *ᶠ entry (first_tableau a) k c)
+  pub value_from_first : (c : ℕ)
+      → at t.value c ≡ at (first_tableau a).value c +ᶠ total (row_count a) (λ k. at t.value (slack a k) *ᶠ entry (first_tableau a) k c)
   -- and every first row is a combination of these, by its entries in the basic columns
-  pub to_first : (i c : ℕ) → i < row_count a → entry (first_tableau a) i c ≡ total (row_count a) (λ k. entry (first_tableau a) i (basic t k) *ᶠ entry t k c)
+  pub to_first : (i c : ℕ) → i < row_count a
+      → entry (first_tableau a) i c ≡ total (row_count a) (λ k. entry (first_tableau a) i (basic t k) *ᶠ entry t k c)
   -- a row leaves whichever column enters
   pub leaves : (s : ℕ) → s < right_side a → (r : ℕ) × Leaves a t s r
 

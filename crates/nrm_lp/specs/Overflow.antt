@@ -28,7 +28,8 @@ pivot_large limit a t = large_at limit a t (entering t)
 
 -- the number of a Large closing: the running denominators of the allocation, then its numbers over the last of them
 abbrev pub closing_large : ℕ → ProgramValue → Tableau → Option ℤ
-closing_large limit a t = first_reaching limit (running 1 (product_values a t) ++ numerators (common (product_values a t)) (product_values a t))
+closing_large limit a t =
+    first_reaching limit (running 1 (product_values a t) ++ numerators (common (product_values a t)) (product_values a t))
 
 -- the first n pivots are not Large, and make this tableau
 pub record Reaches (limit : ℕ) (a : ProgramValue) (n : ℕ) (t : Tableau) : Type 0 where

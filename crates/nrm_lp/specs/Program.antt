@@ -1,7 +1,7 @@
 -- The deterministic linear program of a network, and its dual. The program allots seats to products, so that the
 -- revenue is greatest; the dual sets bid prices for the legs, so that their cost is least. Both are told in whole
 -- numbers: an allocation is x over a denominator q, bid prices are p over a denominator d.
-use Rattle.std.specs.Prelude.{ℕ, ◌+◌, ◌*◌, ◌-◌, ◌<◌, ◌≤◌, ◌≡◌, ◌||◌, Bool, false, cond, eqb, List, [], ◌∷◌, length, get_or}
+use Rattle.std.specs.Prelude.{ℕ, ◌+◌, ◌*◌, ◌-◌, ◌<◌, ◌≤◌, ◌≡◌, ◌||◌, Bool, false, List, [], ◌∷◌, length, if◌then◌else◌, ◌==◌, slice_index}
 
 -- the seats of each leg, and for each product the most that can be sold, the fare and the numbers of its legs
 pub record ProgramValue : Type 0 where
@@ -19,7 +19,7 @@ dot (x ∷ xs) (y ∷ ys) = x * y + dot xs ys
 -- whether leg i is among these legs
 abbrev pub names : ℕ → List ℕ → Bool
 names i [] = false
-names i (l ∷ ls) = eqb i l || names i ls
+names i (l ∷ ls) = (i == l) || names i ls
 
 -- these are legs of a network with n legs, each named once
 abbrev pub AreLegs : ℕ → List ℕ → Type 0
@@ -30,12 +30,12 @@ AreLegs n (l ∷ ls) = (l < n) × (names l ls ≡ false) × AreLegs n ls
 abbrev pub load : ℕ → List (List ℕ) → List ℕ → ℕ
 load i [] xs = 0
 load i (ls ∷ legs) [] = 0
-load i (ls ∷ legs) (x ∷ xs) = cond (names i ls) x 0 + load i legs xs
+load i (ls ∷ legs) (x ∷ xs) = (if names i ls then x else 0) + load i legs xs
 
 -- the sum of the bid prices of a product's legs
 abbrev pub price_sum : List ℕ → List ℕ → ℕ
 price_sum p [] = 0
-price_sum p (l ∷ ls) = get_or p l 0 + price_sum p ls
+price_sum p (l ∷ ls) = slice_index p l + price_sum p ls
 
 -- what the fares exceed the bid prices by, each product times its bound: a product that isn't worth its bid prices
 -- counts 0, since a difference of whole numbers ends at 0
@@ -65,8 +65,8 @@ IsProgram a = AreProducts (length a.caps) a.bounds a.fares a.legs
 pub record IsAllocation (a : ProgramValue) (q : ℕ) (x : List ℕ) : Type 0 where
   pub whole : 1 ≤ q
   pub shape : length x ≡ length a.bounds
-  pub within : (j : ℕ) → j < length x → get_or x j 0 ≤ q * get_or a.bounds j 0
-  pub seats : (i : ℕ) → i < length a.caps → load i a.legs x ≤ q * get_or a.caps i 0
+  pub within : (j : ℕ) → j < length x → slice_index x j ≤ q * slice_index a.bounds j
+  pub seats : (i : ℕ) → i < length a.caps → load i a.legs x ≤ q * slice_index a.caps i
 
 -- p over d: a price for each leg, none below 0
 pub record IsPrices (a : ProgramValue) (d : ℕ) (p : List ℕ) : Type 0 where

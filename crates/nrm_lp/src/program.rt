@@ -21,9 +21,11 @@ impl Model for Program {
 
     ghost Value = { ProgramValue };
 
-    ghost view = { λ p. record { caps = p.caps.items; bounds = p.bounds.items; fares = p.fares.items; legs = map (λ v. v.items) p.legs.items } };
+    ghost view =
+        { λ p. record { caps = p.caps.items; bounds = p.bounds.items; fares = p.fares.items; legs = map (λ v. v.items) p.legs.items } };
 
-    ghost invariant = { λ p. IsLimited (record { caps = p.caps.items; bounds = p.bounds.items; fares = p.fares.items; legs = map (λ v. v.items) p.legs.items }) };
+    ghost invariant = { λ p. IsLimited
+        (record { caps = p.caps.items; bounds = p.bounds.items; fares = p.fares.items; legs = map (λ v. v.items) p.legs.items }) };
 }
 
 impl Program {
@@ -32,7 +34,8 @@ impl Program {
 
     /// The program of these parts. It takes no memory.
     pub fn new(caps: Vec<u32>, bounds: Vec<u32>, fares: Vec<u32>, legs: Vec<Vec<u8>>) -> Program
-        requires { IsLimited (record { caps = caps.items; bounds = bounds.items; fares = fares.items; legs = map (λ v. v.items) legs.items }) }
+        requires { IsLimited
+            (record { caps = caps.items; bounds = bounds.items; fares = fares.items; legs = map (λ v. v.items) legs.items }) }
         ensures { result ≡ record { caps = caps.items; bounds = bounds.items; fares = fares.items; legs = map (λ v. v.items) legs.items } }
     {
         Program {

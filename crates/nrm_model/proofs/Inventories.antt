@@ -1,6 +1,8 @@
--- What a network's inventory has of a leg or a product that was found.
-use Rattle.std.proofs.Common.{ℕ, ◌≡◌, ◌∙◌, [], map, slice_get, unwrap_or, option_map, Some, sym, ap}
-use Rattle.std.proofs.lemmas.Option.{get_or_from_slice_get, slice_get-map}
+-- What a network's inventory has of a leg or a product: one that was found, and one by its number.
+use Rattle.std.proofs.Common.{ℕ, ◌≡◌, ◌∙◌, [], map, slice_get, unwrap_or, option_map, Some, sym, ap, ◌≤◌, length}
+use Rattle.std.proofs.lemmas.Option.{get_or_from_slice_get, slice_get-map, unwrap_or-slice_get}
+use Rattle.std.proofs.Math.ListN.{get_or-map}
+use Rattle.std.proofs.lemmas.List.{get_or_past, length-map}
 use Rattle.nrm_model.specs.declared.leg.Leg.{Leg}
 use Rattle.nrm_model.specs.declared.product.Product.{Product}
 use Rattle.nrm_model.specs.Inventory.{inventory_of, legs_of, fare_of, seats_of}
@@ -23,3 +25,32 @@ fare_of-product net j product is =
 pub seats_of-leg : (net : NetworkValue) (i : ℕ) (leg : Leg) → Some leg ≡ slice_get net.legs i → leg.seats ≡ seats_of (inventory_of net) i
 seats_of-leg net i leg is =
     sym (get_or_from_slice_get (map (λ (l : Leg). l.seats) net.legs) i leg.seats 0 (slice_get-map (λ (l : Leg). l.seats) net.legs i ∙ ap (option_map (λ (l : Leg). l.seats)) (sym is)))
+
+-- ---- by number, past the last one too
+abbrev no_leg : Leg
+no_leg = record { name = []; seats = 0; cuts = [] }
+
+abbrev no_product : Product
+no_product = record { name = []; fare = 0; legs = [] }
+
+pub seats-are : (net : NetworkValue) (i : ℕ) → seats_of (inventory_of net) i ≡ (leg_of net i).seats
+seats-are net i = get_or-map (λ (leg : Leg). leg.seats) net.legs i no_leg ∙ ap (λ (leg : Leg). leg.seats) (sym (unwrap_or-slice_get net.legs i no_leg))
+
+pub fare-is : (net : NetworkValue) (j : ℕ) → fare_of (inventory_of net) j ≡ (product_of net j).fare
+fare-is net j = get_or-map (λ (product : Product). product.fare) net.products j no_product ∙ ap (λ (product : Product). product.fare) (sym (unwrap_or-slice_get net.products j no_product))
+
+pub legs-are : (net : NetworkValue) (j : ℕ) → legs_of (inventory_of net) j ≡ (product_of net j).legs
+legs-are net j =
+    unwrap_or-slice_get (inventory_of net).legs j []
+    ∙ get_or-map (λ (product : Product). product.legs) net.products j no_product
+    ∙ ap (λ (product : Product). product.legs) (sym (unwrap_or-slice_get net.products j no_product))
+
+pub fare-past : (net : NetworkValue) (j : ℕ) → length net.products ≤ j → (product_of net j).fare ≡ 0
+fare-past net j past = ap (λ (product : Product). product.fare) (unwrap_or-slice_get net.products j no_product ∙ get_or_past net.products j no_product past)
+
+-- there are as many
+pub fares-count : (net : NetworkValue) → length (inventory_of net).fares ≡ length net.products
+fares-count net = length-map net.products (λ (product : Product). product.fare)
+
+pub legs-count : (net : NetworkValue) → length (inventory_of net).legs ≡ length net.products
+legs-count net = length-map net.products (λ (product : Product). product.legs)

@@ -4,7 +4,8 @@ use Rattle.std.specs.List.{position_from}
 use Rattle.nrm_model.specs.declared.leg.Leg.{Leg}
 use Rattle.nrm_model.specs.declared.product.Product.{Product}
 
--- a network: how many histories and periods it has, its legs, its products, and the demand product by product, in each history by history and period by period
+-- a network: how many histories and periods it has, its legs, its products, and the demand product by product, in each
+-- history by history and period by period
 pub record NetworkValue : Type 0 where
   pub histories : ℕ
   pub periods : ℕ

@@ -29,9 +29,12 @@ impl Model for Network {
 
     ghost Value = { NetworkValue };
 
-    ghost view = { λ n. record { histories = n.histories; periods = n.periods; legs = n.legs.items; products = n.products.items; demand = n.demand.items } };
+    ghost view = { λ n. record { histories = n.histories; periods = n.periods; legs = n.legs.items; products = n.products.items;
+        demand = n.demand.items } };
 
-    ghost invariant = { λ n. NamesInOrder (record { histories = n.histories; periods = n.periods; legs = n.legs.items; products = n.products.items; demand = n.demand.items }) n.leg_names n.product_names };
+    ghost invariant = { λ n. NamesInOrder
+        (record { histories = n.histories; periods = n.periods; legs = n.legs.items; products = n.products.items;
+        demand = n.demand.items }) n.leg_names n.product_names };
 }
 
 impl Network {
@@ -53,8 +56,11 @@ impl Network {
         products: Vec<Product>,
         demand: Vec<u16>,
     ) -> Result<Network, AllocError>
-        requires { IsNetwork (record { histories = histories; periods = periods; legs = legs.items; products = products.items; demand = demand.items }) }
-        ensures { IfOk result (λ net. net ≡ record { histories = histories; periods = periods; legs = legs.items; products = products.items; demand = demand.items }) }
+        requires { IsNetwork
+            (record { histories = histories; periods = periods; legs = legs.items; products = products.items; demand = demand.items }) }
+        ensures { IfOk result
+            (λ net. net
+            ≡ record { histories = histories; periods = periods; legs = legs.items; products = products.items; demand = demand.items }) }
     {
         let leg_names = names_of_legs(alloc, &legs)?;
         let product_names = names_of_products(alloc, &products)?;

@@ -21,6 +21,10 @@ pub *ℤ-+ℤ : (a b c : ℤ) → a *ℤ (b +ℤ c) ≡ a *ℤ b +ℤ a *ℤ c
     same_in (a *ℤ (b +ℤ c)) (a *ℤ b +ℤ a *ℤ c)
     (simp (up-product, down-product) (omega (arith, sum_is_lem (a *ℤ b) (a *ℤ c), up-product a b, down-product a b, up-product a c, down-product a c, ap (λ t. up a * t) (sum_is_lem b c), ap (λ t. down a * t) (sum_is_lem b c))))
 
+pub nought-*ℤ : (a : ℤ) → pos 0 *ℤ a ≡ pos 0
+nought-*ℤ (pos n) = ap pos (omega arith)
+nought-*ℤ (negsuc n) = let none : 0 * suc n ≡ 0 = omega arith in ap (λ m. neg_ℤ (pos m)) none
+
 pub *ℤ-unit : (a : ℤ) → a *ℤ pos 1 ≡ a
 *ℤ-unit a = same_in (a *ℤ pos 1) a (omega (arith, up-product a (pos 1), down-product a (pos 1)))
 

@@ -1,5 +1,6 @@
 -- Sums of whole numbers below n.
 use Rattle.std.proofs.Common.{◌≡◌, ◌≢◌, ℕ, zero, suc, ◌+◌, ◌*◌, ◌<◌, ◌≤◌, ◌⊎◌, inl, inr, arith, refl, ap, ap₂, ◌∙◌, cond, eqb, eq-eqb, ne_eqb}
+use Rattle.std.proofs.lemmas.Bool.{cases_eq}
 
 -- f 0 + f 1 + .. + f (n - 1)
 abbrev pub sum_below : ℕ → (ℕ → ℕ) → ℕ
@@ -40,11 +41,8 @@ term_no k l f x d = ap (λ b. f k * cond b x 0) (ne_eqb k l d) ∙ omega arith
 
 pub only : (n l : ℕ) (f : ℕ → ℕ) (x : ℕ) → l < n → sum_below n (λ k. f k * cond (eqb k l) x 0) ≡ f l * x
 only zero l f x h = absurd (omega arith)
-only (suc n) l f x h = go (only n l f x) (same_or_not n l)
+only (suc n) l f x h = go (only n l f x) (cases_eq n l)
   where
-    same_or_not : (i k : ℕ) → (i ≡ k) ⊎ (i ≢ k)
-    same_or_not i k = grind arith
-
     go : (l < n → sum_below n (λ k. f k * cond (eqb k l) x 0) ≡ f l * x) → (n ≡ l) ⊎ (n ≢ l) → sum_below (suc n) (λ k. f k * cond (eqb k l) x 0) ≡ f l * x
     go rest (inl e) =
         ap₂ (λ s t. s + t) (sum_zero n (λ k. f k * cond (eqb k l) x 0) (λ k m. term_no k l f x (omega arith))) (term_yes n l f x e)

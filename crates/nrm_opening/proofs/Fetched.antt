@@ -1,5 +1,5 @@
 -- What a fetch and a parse say together of the file that was asked for.
-use Rattle.std.proofs.Common.{◌≡◌, ◌<◌, ℕ, List, length, nat_lt, true, Option, Some, None, Ok, Err, refl, ap, Vec, Global, arith}
+use Rattle.std.proofs.Common.{◌≡◌, ℕ, List, Option, Some, None, Ok, Err, refl, ap, Vec, Global, arith}
 use Rattle.nrm_edge.specs.Fetch.{Folder, AnswersFetch}
 use Rattle.nrm_edge.specs.declared.files.Fetched.TheVariants.{Whole, Longer, Absent}
 use Rattle.nrm_model.specs.Network.{NetworkValue}
@@ -8,11 +8,9 @@ use Rattle.nrm_network.specs.declared.fault.Why.{Why}
 use Rattle.nrm_network.specs.declared.fault.Why.TheVariants as why
 use Rattle.nrm_opening.specs.Refusals.{no_file, at_row, network_in, network_under}
 use Rattle.nrm_opening.specs.Outside.{OnFile}
+use Rattle.nrm_network.proofs.TooLong.{file_of-too_long}
 
 -- a file that is longer than may be read is refused before all else
-longer-refused : (bytes : List ℕ) → 4194304 < length bytes → file_of bytes ≡ Err (0, why.Size)
-longer-refused bytes longer = let e : nat_lt 4194304 (length bytes) ≡ true = grind arith in rw e refl
-
 pub OnFile-absent : (files : Option Folder) (name : List ℕ) → AnswersFetch files name 4194304 (Ok Absent)
     → OnFile files name (λ file. network_under file ≡ Err no_file)
 OnFile-absent None name answer = tt
@@ -21,7 +19,7 @@ OnFile-absent (Some files) name answer = rw answer refl
 pub OnFile-longer : (files : Option Folder) (name : List ℕ) → AnswersFetch files name 4194304 (Ok Longer)
     → OnFile files name (λ file. network_under file ≡ Err (at_row 0 why.Size))
 OnFile-longer None name answer = tt
-OnFile-longer (Some files) name (bytes, file_is, longer) = rw file_is (ap network_in (longer-refused bytes longer))
+OnFile-longer (Some files) name (bytes, file_is, longer) = rw file_is (ap network_in (file_of-too_long bytes longer))
 
 pub OnFile-refused : (files : Option Folder) (name : List ℕ) (bytes : Vec ℕ Global) (row : ℕ) (cause : Why) → AnswersFetch files name 4194304 (Ok (Whole bytes))
     → file_of bytes.items ≡ Err (row, cause) → OnFile files name (λ file. network_under file ≡ Err (at_row row cause))

@@ -4,6 +4,7 @@ use Rattle.std.specs.List.{range_with_len}
 use Rattle.std.proofs.lemmas.List.FromFn.{get_or-map-range_with_len, length-map-range_with_len, map-range_with_len_more}
 use Rattle.std.proofs.lemmas.List.Sums.{count_by-le-length}
 use Rattle.std.specs.Prelude.{pos, nat_abs, int_lt}
+use Rattle.std.proofs.lemmas.Option.{none-some}
 use Rattle.nrm_model.specs.Network.{NetworkValue, leg_of}
 use Rattle.nrm_model.specs.declared.mode.Mode.{Mode}
 use Rattle.nrm_model.specs.declared.mode.Mode.TheVariants as mode
@@ -49,13 +50,10 @@ NestsOf net plan nests = (cert : Certificate) × AreNestsOf net plan.period cert
 pub plan-nests : (net : NetworkValue) (plan : PlanValue) (nests : NestsValue) → IsPlanOf net plan → plan.nests ≡ Some nests → NestsOf net plan nests
 plan-nests net plan nests of has = by plan.mode plan.certificate refl refl (subst (λ (n : Option NestsValue). HasNests net plan.period plan.mode plan.certificate n) has of.nests)
   where
-    none-some : {x : NestsValue} → Some x ≡ None → ⊥
-    none-some e = cc
-
     by : (m : Mode) (cert : Option Certificate) → plan.mode ≡ m → plan.certificate ≡ cert → HasNests net plan.period m cert (Some nests)
         → (c : Certificate) × AreNestsOf net plan.period c nests × ((i j : ℕ) → seats_kept net plan.mode plan.period plan.certificate i j ≡ protection_of net c i plan.period (bucket_of net c i j - 1))
-    by mode.FirstCome cert em ec nested = absurd (none-some nested)
-    by mode.Bid cert em ec nested = absurd (none-some nested)
+    by mode.FirstCome cert em ec nested = absurd (none-some nests (sym nested))
+    by mode.Bid cert em ec nested = absurd (none-some nests (sym nested))
     by mode.Davn None em ec nested = absurd nested
     by mode.Davn (Some c) em ec nested = (c, nested, λ i j. (λ n. seats_kept net (em n) plan.period (ec n) i j))
 

@@ -3,6 +3,7 @@ use Rattle.std.proofs.Common.{map, ◌*◌, length, ℕ, ◌≡◌, ◌≢◌, �
 use Rattle.std.specs.List.{range_with_len}
 use Rattle.std.proofs.lemmas.List.{length-map}
 use Rattle.std.proofs.lemmas.List.FromFn.{length-map-range_with_len}
+use Rattle.std.proofs.lemmas.Option.{none-some, same_Some}
 use Rattle.nrm_fraction.specs.Large.{size_limit}
 use Rattle.nrm_model.specs.Demand.{total_to_come}
 use Rattle.nrm_model.specs.Limits.{IsNetwork}
@@ -101,17 +102,11 @@ shape-of-network net left k cert legs shape =
 pub plan-shape : (net : NetworkValue) (plan : PlanValue) (cert : Certificate) → IsNetwork net → IsPlanOf net plan → plan.certificate ≡ Some cert → HasShape size_limit (length net.products) (length net.legs) cert
 plan-shape net plan cert is of has = by plan.mode of.certificate
   where
-    none-some : None ≡ Some cert → ⊥
-    none-some e = cc
-
     shown : Shows net plan.left plan.period plan.certificate → HasShape size_limit (length net.products) (length net.legs) cert
-    shown (c, same, shows) = shape-of-network net plan.left plan.period cert of.left.legs (subst (λ (d : Certificate). HasShape size_limit (length (program_at net plan.left plan.period).bounds) (length (program_at net plan.left plan.period).caps) d) (some-same c cert (sym same ∙ has)) shows.shape)
-      where
-        some-same : (x y : Certificate) → Some x ≡ Some y → x ≡ y
-        some-same x y e = cc
+    shown (c, same, shows) = shape-of-network net plan.left plan.period cert of.left.legs (subst (λ (d : Certificate). HasShape size_limit (length (program_at net plan.left plan.period).bounds) (length (program_at net plan.left plan.period).caps) d) (same_Some c cert (sym same ∙ has)) shows.shape)
 
     by : (m : Mode) → HasCertificate net plan.left plan.period m plan.certificate → HasShape size_limit (length net.products) (length net.legs) cert
-    by mode.FirstCome none = absurd (none-some (sym none ∙ has))
+    by mode.FirstCome none = absurd (none-some cert (sym none ∙ has))
     by mode.Bid solved = shown (solved-optimal net plan.left plan.period plan.certificate is of.left solved)
     by mode.Davn solved = shown (solved-optimal net plan.left plan.period plan.certificate is of.left solved)
 

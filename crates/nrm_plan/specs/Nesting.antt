@@ -1,5 +1,5 @@
 -- The nests of a plan: the bucket of each product on each of its legs, and the protections of each leg.
-use Rattle.std.specs.Prelude.{ℕ, zero, suc, ◌≡◌, List, length, map, get_or}
+use Rattle.std.specs.Prelude.{ℕ, zero, suc, ◌≡◌, List, length, map, slice_index}
 use Rattle.std.specs.List.{range_with_len}
 use Rattle.nrm_model.specs.Network.{NetworkValue}
 use Rattle.nrm_lp.specs.declared.certificate.Certificate.{Certificate}
@@ -19,4 +19,4 @@ pub record AreNestsOf (net : NetworkValue) (k : ℕ) (cert : Certificate) (nests
 -- the seats protected for buckets 1 to b, among those of a leg; none are for no bucket
 abbrev pub level_at : List ℕ → ℕ → ℕ
 level_at levels zero = 0
-level_at levels (suc b) = get_or levels b 0
+level_at levels (suc b) = slice_index levels b

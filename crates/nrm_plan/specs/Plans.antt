@@ -1,5 +1,6 @@
 -- Plans: what the last optimisation was of, and what it gave.
-use Rattle.std.specs.Prelude.{ℕ, ◌≡◌, ◌≢◌, ◌<◌, ◌≤◌, ◌*◌, ◌-◌, ◌^◌, ℤ, min, nat_abs, nat_lt, Bool, false, List, length, get_or, Option, Some, None, option_map}
+use Rattle.std.specs.Prelude.{ℕ, ◌≡◌, ◌≢◌, ◌<◌, ◌≤◌, ◌*◌, ◌-◌, ◌^◌, ℤ, min, nat_abs, nat_lt, Bool, false, List, length, Option, Some, None}
+use Rattle.std.specs.Prelude.{option_map, slice_index}
 use Rattle.nrm_fraction.specs.Fraction.{Fraction}
 use Rattle.nrm_fraction.specs.Large.{size_limit}
 use Rattle.nrm_model.specs.Inventory.{inventory_of}
@@ -31,7 +32,7 @@ pub record PlanValue : Type 0 where
 -- seats left of a network: on each leg no more than it has
 pub record AreSeatsLeft (net : NetworkValue) (left : List ℕ) : Type 0 where
   pub legs : length left ≡ length net.legs
-  pub seats : (i : ℕ) → i < length net.legs → get_or left i 0 ≤ (leg_of net i).seats
+  pub seats : (i : ℕ) → i < length net.legs → slice_index left i ≤ (leg_of net i).seats
 
 -- the program at these seats left and period k was solved, and this is the certificate of its closing
 abbrev pub IsSolved : NetworkValue → List ℕ → ℕ → Option Certificate → Type 0
@@ -119,4 +120,5 @@ kept_from net plan i j = seats_kept net plan.mode plan.period plan.certificate i
 -- a plan's bid prices are optimal duals: its certificate has an optimal allocation and optimal bid prices, against every allocation and
 -- all prices of the program at the plan's seats left and period, and its value is the gain of the one and the cost of the others
 abbrev pub HasOptimalPrices : NetworkValue → PlanValue → Type 0
-HasOptimalPrices net plan = (cert : Certificate) × (plan.certificate ≡ Some cert) × Certifies size_limit (program_at net plan.left plan.period) cert
+HasOptimalPrices net plan =
+    (cert : Certificate) × (plan.certificate ≡ Some cert) × Certifies size_limit (program_at net plan.left plan.period) cert

@@ -45,7 +45,9 @@ fn protections_of_legs(
     requires prices { HasPrices size_limit (length net.now.legs) certificate.now }
     requires table { IsTableOf net.now certificate.now buckets.now }
     requires period { IsInRange 1 net.now.periods period }
-    ensures { IfOk result (λ levels. map (λ v. v.items) levels.items ≡ map (λ i. protections_of net.now certificate.now i period) (range_with_len 0 (length net.now.legs))) }
+    ensures { IfOk result
+        (λ levels. map (λ v. v.items) levels.items ≡ map (λ i. protections_of net.now certificate.now i period)
+        (range_with_len 0 (length net.now.legs))) }
 {
     let mut levels = Vec::new(alloc);
     for leg in 0..net.leg_count() as u8 {
@@ -81,7 +83,8 @@ impl Nests {
     pub(crate) fn bucket(&self, leg: u8, product: u16) -> u8
         requires { HasPair self.now.buckets leg product }
         ensures found { Some result ≡ bucket_in self.now.buckets leg product }
-        ensures bucket { (net : NetworkValue) (cert : Cert) → IsTableOf net cert self.now.buckets → result ≡ bucket_of net cert leg product }
+        ensures bucket { (net : NetworkValue) (cert : Cert) → IsTableOf net cert self.now.buckets
+            → result ≡ bucket_of net cert leg product }
     {
         self.buckets.bucket_of(leg, product)
     }

@@ -8,7 +8,8 @@ ghost use Rattle.nrm_model.specs.Inventory.{inventory_of, uses_leg};
 ghost use Rattle.nrm_model.specs.Limits.{IsNetwork};
 ghost use Rattle.nrm_virtual.specs.Table.{HasPair, bucket_in};
 ghost use Rattle.nrm_plan.specs.Nesting.{NestsValue, level_at};
-ghost use Rattle.nrm_plan.specs.Plans.{AreSeatsLeft, IsOpeningPlan, IsPlanFault, IsPlanFor, IsPlanOf, HasCertificate, HasNests, fare_refuses, kept_from, value_of};
+ghost use Rattle.nrm_plan.specs.Plans.{AreSeatsLeft, IsOpeningPlan, IsPlanFault, IsPlanFor, IsPlanOf, HasCertificate, HasNests};
+ghost use Rattle.nrm_plan.specs.Plans.{fare_refuses, kept_from, value_of};
 
 use crate::SeatsLeft;
 use crate::fares::below_bid_prices;
@@ -140,6 +141,8 @@ impl Plan {
 
     /// The bid price of a seat on a leg, in currency units: a numerator over the denominator of the certificate, not
     /// reduced.
+    ///
+    /// The program prints no single price; the call is there for users of the library.
     pub fn price(&self, leg: u8) -> (i64, i64)
         requires { (cert : CertificateValue) × (self.now.certificate ≡ Some cert) × (leg < length cert.p) }
         ensures { IfSome self.now.certificate (λ cert. (result.0 ≡ get_or cert.p leg (pos 0)) × (result.1 ≡ cert.den)) }
@@ -163,7 +166,8 @@ impl Plan {
 
     /// The seats of a leg that are protected for its buckets 1 to `bucket`, under virtual nesting; none are for no bucket.
     pub fn protection(&self, leg: u8, bucket: u8) -> u16
-        requires { (nests : NestsValue) × (self.now.nests ≡ Some nests) × (leg < length nests.protections) × (bucket ≤ length (get_or nests.protections leg [])) }
+        requires { (nests : NestsValue) × (self.now.nests ≡ Some nests) × (leg < length nests.protections)
+            × (bucket ≤ length (get_or nests.protections leg [])) }
         ensures { (nests : NestsValue) → self.now.nests ≡ Some nests → result ≡ level_at (get_or nests.protections leg []) bucket }
     {
         match self.nests.as_ref() {

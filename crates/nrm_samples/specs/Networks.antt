@@ -27,7 +27,8 @@ abbrev pub two_legs_five_products : NetworkValue
 two_legs_five_products = record {
   histories = 4;
   periods = 1;
-  legs = record { name = codes "AB"; seats = 10; cuts = 300 ∷ 100 ∷ [] } ∷ record { name = codes "BC"; seats = 10; cuts = 300 ∷ 100 ∷ [] } ∷ [];
+  legs = record { name = codes "AB"; seats = 10; cuts = 300 ∷ 100 ∷ [] } ∷ record { name = codes "BC"; seats = 10; cuts = 300 ∷ 100 ∷ [] }
+      ∷ [];
   products = record { name = codes "ABH"; fare = 400; legs = 0 ∷ [] } ∷ record { name = codes "ABL"; fare = 150; legs = 0 ∷ [] }
       ∷ record { name = codes "ACH"; fare = 500; legs = 0 ∷ 1 ∷ [] } ∷ record { name = codes "BCL"; fare = 80; legs = 1 ∷ [] }
       ∷ record { name = codes "ACL"; fare = 229; legs = 0 ∷ 1 ∷ [] } ∷ [];

@@ -9,5 +9,4 @@ mod programs;
 mod tests;
 
 pub use networks::{two_legs, two_legs_five_products, two_legs_last_first};
-pub use parts::{leg, name, product};
 pub use programs::two_legs_five_products_program;

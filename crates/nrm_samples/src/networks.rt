@@ -2,7 +2,7 @@
 ghost use Rattle.std.specs.Prelude.{◌≡◌, [], ◌∷◌, codes, IfOk};
 ghost use Rattle.nrm_samples.specs.Networks as networks;
 
-use crate::{leg, product};
+use crate::parts::{leg, product};
 use nrm_model::{Leg, Network, Product};
 use std::alloc::{AllocError, Global};
 
@@ -17,7 +17,9 @@ fn three_and_two_seats(alloc: Global) -> Result<Vec<Leg>, AllocError>
 
 // A through product for 500 over both legs, in this order, and a local one on the first leg for 200.
 fn through_and_local(alloc: Global, order: &[u8]) -> Result<Vec<Product>, AllocError>
-    ensures { IfOk result (λ products. products.items ≡ record { name = codes "THRU"; fare = 500; legs = order.now } ∷ record { name = codes "LOC"; fare = 200; legs = 0 ∷ [] } ∷ []) }
+    ensures { IfOk result
+        (λ products. products.items ≡ record { name = codes "THRU"; fare = 500; legs = order.now }
+        ∷ record { name = codes "LOC"; fare = 200; legs = 0 ∷ [] } ∷ []) }
 {
     let through = product(alloc, b"THRU", 500, order)?;
     let local = product(alloc, b"LOC", 200, &[0])?;

@@ -7,7 +7,7 @@ use nrm_text::{Name, name_of};
 use std::alloc::{AllocError, Global};
 
 /// The name that these bytes are.
-pub fn name(text: &[u8]) -> Name
+pub(crate) fn name(text: &[u8]) -> Name
     requires { IsTrue (is_name text.now) }
     ensures { result ≡ text.now }
 {
@@ -18,7 +18,7 @@ pub fn name(text: &[u8]) -> Name
 ///
 /// # Errors
 /// Want of memory.
-pub fn leg(alloc: Global, text: &[u8], seats: u16, thresholds: &[u32]) -> Result<Leg, AllocError>
+pub(crate) fn leg(alloc: Global, text: &[u8], seats: u16, thresholds: &[u32]) -> Result<Leg, AllocError>
     requires { IsTrue (is_name text.now) }
     ensures { IfOk result (λ leg. leg ≡ record { name = text.now; seats = seats; cuts = thresholds.now }) }
 {
@@ -33,7 +33,7 @@ pub fn leg(alloc: Global, text: &[u8], seats: u16, thresholds: &[u32]) -> Result
 ///
 /// # Errors
 /// Want of memory.
-pub fn product(alloc: Global, text: &[u8], fare: u32, legs: &[u8]) -> Result<Product, AllocError>
+pub(crate) fn product(alloc: Global, text: &[u8], fare: u32, legs: &[u8]) -> Result<Product, AllocError>
     requires { IsTrue (is_name text.now) }
     ensures { IfOk result (λ product. product ≡ record { name = text.now; fare = fare; legs = legs.now }) }
 {

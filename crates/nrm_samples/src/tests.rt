@@ -1,6 +1,7 @@
 //! What the calls of a network answer of the samples, worked by hand.
+use crate::parts::name;
 use crate::{
-    name, two_legs, two_legs_five_products, two_legs_five_products_program, two_legs_last_first,
+    two_legs, two_legs_five_products, two_legs_five_products_program, two_legs_last_first,
 };
 use std::test::Fail;
 

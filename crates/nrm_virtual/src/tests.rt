@@ -114,7 +114,8 @@ fn two_legs_over_a_denominator(rt: HostRuntime) -> Result<(), Fail> {
 #[test]
 fn a_negative_fare_falls_in_the_last_bucket(rt: HostRuntime) -> Result<(), Fail> {
     let file =
-        b"periods,2,1\nleg,PQ,5,40\nleg,QR,2,200\nproduct,QRH,300,QR\nproduct,PQL,50,PQ\nproduct,PRL,120,PQ,QR\ndemand,QRH,1,3\ndemand,QRH,2,3\ndemand,PQL,1,2\ndemand,PQL,2,1\ndemand,PRL,1,1\ndemand,PRL,2,1\n";
+        b"periods,2,1\nleg,PQ,5,40\nleg,QR,2,200\nproduct,QRH,300,QR\nproduct,PQL,50,PQ\nproduct,PRL,120,PQ,QR\n\
+          demand,QRH,1,3\ndemand,QRH,2,3\ndemand,PQL,1,2\ndemand,PQL,2,1\ndemand,PRL,1,1\ndemand,PRL,2,1\n";
     let cases: [(u32, &[u32], u8, &[(u16, i128, u8)]); 2] = [
         (1, &[0, 300], 0, &[(1, 50, 1), (2, -180, 2)]),
         (1, &[0, 300], 1, &[(0, 300, 1), (2, 120, 2)]),
@@ -128,7 +129,8 @@ fn a_negative_fare_falls_in_the_last_bucket(rt: HostRuntime) -> Result<(), Fail>
 #[test]
 fn at_a_threshold_and_without_any(rt: HostRuntime) -> Result<(), Fail> {
     let file =
-        b"periods,1,1\nleg,AB,5,300,100\nleg,BC,5\nleg,CD,5,50\nproduct,TOP,300,AB\nproduct,BOTH,299,AB,BC\ndemand,TOP,1,1\ndemand,BOTH,1,1\n";
+        b"periods,1,1\nleg,AB,5,300,100\nleg,BC,5\nleg,CD,5,50\nproduct,TOP,300,AB\nproduct,BOTH,299,AB,BC\n\
+          demand,TOP,1,1\ndemand,BOTH,1,1\n";
     let cases: [(u32, &[u32], u8, &[(u16, i128, u8)]); 3] = [
         (1, &[10, 199, 7], 0, &[(0, 300, 1), (1, 100, 2)]),
         (1, &[300, 199, 7], 1, &[(1, -1, 1)]),

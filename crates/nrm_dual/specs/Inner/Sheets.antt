@@ -8,7 +8,8 @@ use Rattle.nrm_model.specs.Network.{NetworkValue}
 use Rattle.nrm_dual.specs.declared.fault.CertFault.{CertFault}
 use Rattle.nrm_dual.specs.declared.fault.CertFault.TheVariants as fault
 use Rattle.nrm_dual.specs.Refusals.{CertRefusal, refusal_of}
-use Rattle.nrm_dual.specs.Reading.{Place, the_value, of_product, of_leg, Sheet, Written, is_over, certificate_or_refusal, first_missing, prices_in, times, whole_or_refusal}
+use Rattle.nrm_dual.specs.Reading.{Place, the_value, of_product, of_leg, Sheet, Written, is_over, certificate_or_refusal, first_missing}
+use Rattle.nrm_dual.specs.Reading.{prices_in, times, whole_or_refusal}
 use Rattle.nrm_dual.specs.declared.place.Place.{Place as Kept}
 use Rattle.nrm_dual.specs.declared.place.Place.TheVariants as kept
 

@@ -1,5 +1,6 @@
 -- A leg's products as a list, with what was found of each, and sums over it.
-use Rattle.std.specs.Prelude.{ℕ, ◌+◌, ◌-◌, ◌*◌, ◌^◌, ◌<◌, ◌≤◌, ◌==◌, ◌||◌, not, Bool, List, filter, length, map, sum_by, slice_index, nat_lt, ℤ, pos, ◌*ℤ◌, int_lt, unsigned_abs, if◌then◌else◌}
+use Rattle.std.specs.Prelude.{ℕ, ◌+◌, ◌-◌, ◌*◌, ◌^◌, ◌<◌, ◌≤◌, ◌==◌, ◌||◌, not, Bool, List, filter, length, map, sum_by, slice_index}
+use Rattle.std.specs.Prelude.{nat_lt, ℤ, pos, ◌*ℤ◌, int_lt, unsigned_abs, if◌then◌else◌}
 use Rattle.std.specs.Int.{is_in_range}
 use Rattle.nrm_model.specs.Network.{NetworkValue}
 use Rattle.nrm_model.specs.Demand.{total_to_come}
@@ -12,7 +13,8 @@ use Rattle.nrm_emsr.specs.Fares.{sum_of}
 
 -- what is found of product j on leg i, from period k on
 abbrev pub nested_of : NetworkValue → Certificate → ℕ → ℕ → ℕ → Nested
-nested_of net cert i k j = record { product = j; bucket = bucket_of net cert i j; fare = adjusted_fare net cert i j; seats = total_to_come net j k }
+nested_of net cert i k j =
+    record { product = j; bucket = bucket_of net cert i j; fare = adjusted_fare net cert i j; seats = total_to_come net j k }
 
 -- its numbers are within their bounds, and its product is one of so many
 pub record IsSmall (nested : Nested) : Type 0 where
@@ -37,8 +39,10 @@ abbrev pub nest_fare : List Nested → List ℕ → ℕ → ℕ → ℤ × ℕ
 nest_fare nest cuts den b =
     if nat_lt b (length cuts + 1)
     then (if nest_weight nest b b == 0 then (pos (slice_index cuts (b - 1) * den), 1) else (nest_fares nest b b, nest_weight nest b b))
-    else (if (nest_weight nest b b == 0) || int_lt (nest_fares nest b b) (pos 0) then (pos 0, 1) else (nest_fares nest b b, nest_weight nest b b))
+    else (if (nest_weight nest b b == 0) || int_lt (nest_fares nest b b) (pos 0)
+        then (pos 0, 1) else (nest_fares nest b b, nest_weight nest b b))
 
 -- a count times one fare is at most n times another, multiplied across
 abbrev pub crosses : ℕ → ℤ → ℕ → ℕ → ℤ → ℕ → Bool
-crosses count fares seats n next_fares next_seats = not (int_lt ((pos n *ℤ next_fares) *ℤ pos seats) ((pos count *ℤ fares) *ℤ pos next_seats))
+crosses count fares seats n next_fares next_seats =
+    not (int_lt ((pos n *ℤ next_fares) *ℤ pos seats) ((pos count *ℤ fares) *ℤ pos next_seats))

@@ -1,3 +1,4 @@
+-- The shares over their least common denominator, and the money over its own, make the certificate of the sheet, or say what is too large.
 use Rattle.std.proofs.Common.{◌≡◌, ◌∙◌, ◌∷◌, subst, List, map, None}
 use Rattle.nrm_fraction.specs.Fraction.{Fraction}
 use Rattle.nrm_fraction.specs.Fault.{IsFault}

@@ -1,11 +1,11 @@
 -- Where no condition fails, the certificate shows what it should.
 use Rattle.std.proofs.Common.{◌≡◌, ◌∙◌, sym, subst, ap, true, cond, nat_abs}
+use Rattle.std.proofs.lemmas.Bool.{false≢true}
 use Rattle.nrm_fraction.specs.Large.{size_limit}
 use Rattle.nrm_lp.specs.Certified.{sizes}
 use Rattle.nrm_dual.specs.declared.verdict.Verdict.TheVariants.{WrongShape}
 use Rattle.nrm_dual.specs.Conditions.{has_shape, first_wrong}
 use Rattle.nrm_dual.specs.Named.{IsOfProgram}
-use Rattle.nrm_dual.proofs.Failing.{false_true}
 use Rattle.nrm_dual.proofs.Naming.{first_named}
 use Rattle.nrm_dual.proofs.Passing.{passing_certifies, shape_in, shape_out, wrong_elsewhere}
 use Rattle.nrm_dual.proofs.checking.check.Goals as goal
@@ -19,7 +19,7 @@ returns-then-has_shape-clause-shape c =
     λ shape e. wrong_elsewhere c.args.program.now (nat_abs k.q) (sizes k.x) (nat_abs k.den) (sizes k.p) (nat_abs k.value) (sym c.first_wrong.ensures ∙ e)
 
 pub returns-else-has_shape-clause-shape : goal.returns-else-has_shape-clause-shape
-returns-else-has_shape-clause-shape c = λ shape e. false_true (sym c.if-has_shape.false ∙ c.has_shape.ensures.shape ∙ shape_in size_limit c.args.program.now c.args.certificate.now shape)
+returns-else-has_shape-clause-shape c = λ shape e. false≢true (sym c.if-has_shape.false ∙ c.has_shape.ensures.shape ∙ shape_in size_limit c.args.program.now c.args.certificate.now shape)
 
 pub returns-then-has_shape-clause-optimal : goal.returns-then-has_shape-clause-optimal
 returns-then-has_shape-clause-optimal c =

@@ -1,3 +1,4 @@
+-- Two words are the value's, three a product's or a leg's by its name, and any others no entry.
 use Rattle.std.proofs.Common.{◌∙◌, sym, ap, ◌≡◌, None}
 use Rattle.std.specs.Option.{option_map}
 use Rattle.nrm_dual.specs.Reading.{entry_at, written_in, named_place}

@@ -1,3 +1,4 @@
+-- A file that is too long, whose lines refuse it, or whose sheet gives no certificate is refused as defined; else it gives its own.
 use Rattle.std.proofs.Common.{◌≡◌, arith, Ok}
 use Rattle.nrm_stream.specs.Lines.{lines_of}
 use Rattle.nrm_dual.specs.Refusals.{AnswersCertificate}

@@ -1,3 +1,4 @@
+-- From all histories down, no count above this one passes; the first that does is the greatest.
 use Rattle.std.proofs.Common.{ℕ, ◌≡◌, ◌∙◌, Bool, false, true, sym, arith}
 use Rattle.nrm_emsr.specs.Inner.Nest.{crosses}
 use Rattle.nrm_emsr.proofs.Places.{greatest-no, greatest-yes}

@@ -1,3 +1,4 @@
+-- No greater count passes.
 use Rattle.std.proofs.Common.{◌≡◌, ◌≤◌}
 use Rattle.nrm_emsr.specs.Inner.Nest.{crosses}
 use Rattle.nrm_emsr.specs.Inner.Ranked.{greatest_count}

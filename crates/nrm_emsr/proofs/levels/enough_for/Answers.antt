@@ -1,3 +1,4 @@
+-- With no demand above, none are protected; else the demand at the greatest count that passes is the least that suffices.
 use Rattle.std.proofs.Common.{ℕ, ◌≡◌, ◌∙◌, ◌+◌, ◌<◌, nat_abs, pos, ◌≤ℤ◌, map, min, slice_index, sum_by, List, sym, ap, ap₂, arith}
 use Rattle.std.proofs.lemmas.Int.{ints}
 use Rattle.nrm_fraction.specs.Large.{IsSmall, size_limit}

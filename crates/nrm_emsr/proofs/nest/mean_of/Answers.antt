@@ -1,3 +1,4 @@
+-- One product more in the buckets adds its seats and its weighted fare, and one outside them nothing.
 use Rattle.std.proofs.Common.{ℕ, ℤ, List, get_or, map, sum_by, ◌∙◌, pos, ◌+ℤ◌, ◌*ℤ◌, sym, ap, arith, unsigned_abs}
 use Rattle.nrm_emsr.specs.declared.nest.Nested.{Nested}
 use Rattle.nrm_emsr.specs.declared.nest.Mean.{Mean}

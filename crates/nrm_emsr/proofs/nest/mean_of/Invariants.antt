@@ -1,3 +1,4 @@
+-- The sums are those of the products so far.
 use Rattle.std.proofs.Common.{◌≡◌, ◌≤◌, ◌*◌, ◌^◌, take, unsigned_abs}
 use Rattle.nrm_emsr.specs.Inner.Nest.{nest_fares, nest_weight}
 use Rattle.nrm_emsr.proofs.nest.mean_of.Given as goal

@@ -1,9 +1,10 @@
+-- One product more that uses the leg joins the nest, and one that doesn't leaves it.
 use Rattle.std.proofs.Common.{ℕ, Bool, ◌≡◌, ◌∙◌, ◌<◌, [], ◌∷◌, ◌++◌, length, sym, ap, subst, arith, All, length-append}
 use Rattle.std.proofs.lemmas.List.Elements.{All-push}
 use Rattle.nrm_model.specs.Inventory.{inventory_of, uses_leg}
 use Rattle.nrm_emsr.specs.declared.nest.Nested.{Nested}
 use Rattle.nrm_emsr.specs.Inner.Nest.{IsOf, IsSmall, nested_of}
-use Rattle.nrm_emsr.proofs.Nests.{push-no, push-yes}
+use Rattle.nrm_number.proofs.Ranges.{push-no, push-yes}
 use Rattle.nrm_emsr.proofs.nest.nest_of.Goals as goal
 use Rattle.nrm_emsr.proofs.nest.nest_of.Goals.{then-uses_leg+in_ok-push, else-uses_leg}
 

@@ -1,3 +1,4 @@
+-- The nest is that of the products so far.
 use Rattle.std.proofs.Common.{◌≡◌, ◌≤◌, All, filter, length, map}
 use Rattle.std.specs.List.{range_with_len}
 use Rattle.nrm_model.specs.Inventory.{inventory_of, uses_leg}

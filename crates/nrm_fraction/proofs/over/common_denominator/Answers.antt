@@ -1,3 +1,4 @@
+-- The least common denominator so far, below the limit, up to the first that reaches it.
 use Rattle.std.proofs.Common.{◌≡◌, ◌+◌, arith, sym, ap, ◌∙◌, subst, pos}
 use Rattle.std.proofs.lemmas.List.{get_or_read}
 use Rattle.nrm_number.specs.Gcd.{lcm as lcm_of}

@@ -1,3 +1,4 @@
+-- Numerators below the limit so far, up to the first that reaches it.
 use Rattle.std.proofs.Common.{arith, sym, ap, ◌∙◌, pos, ◌++◌, [], ◌∷◌, refl, Some}
 use Rattle.std.proofs.lemmas.List.{get_or_read}
 use Rattle.nrm_fraction.specs.Fraction.{whole}

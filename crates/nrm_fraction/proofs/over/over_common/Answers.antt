@@ -1,3 +1,4 @@
+-- The denominator, and then the numerators: the first number that is too large is the first on this way.
 use Rattle.std.proofs.Common.{◌≡◌, ap, ◌∙◌, subst, pos, None}
 use Rattle.std.proofs.lemmas.Result.{err_from_is_err_and}
 use Rattle.nrm_fraction.specs.Large.{common, running, numerators as numerators_over, first_reaching, size_limit}

@@ -1,3 +1,4 @@
+-- The parts that were drawn are a network within the limits, and that of the number.
 use Rattle.std.proofs.Common.{◌∙◌}
 use Rattle.nrm_gen.proofs.Within.{of-parts, parts-limited}
 use Rattle.nrm_gen.proofs.maker.made.Goals as goal

@@ -1,3 +1,4 @@
+-- One draw more is the demand of the next place.
 use Rattle.std.proofs.Common.{◌≡◌, ◌+◌, arith}
 use Rattle.nrm_gen.specs.Draws.{draw_of}
 use Rattle.nrm_gen.proofs.DrawLemmas.{next-number, next-state, whole-demand}

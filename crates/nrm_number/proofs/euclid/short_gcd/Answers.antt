@@ -1,3 +1,4 @@
+-- A remainder keeps the greatest common divisor.
 use Rattle.std.proofs.Common.{sym, ◌∙◌, ap, subst}
 use Rattle.std.specs.Int.{IsGcd}
 use Rattle.nrm_number.proofs.GcdLaws.{gcd-mod, gcd-zero, gcd_is}

@@ -1,3 +1,4 @@
+-- One leg more adds its price, and four prices stay small.
 use Rattle.std.proofs.Common.{ℕ, ℤ, ◌≡◌, ◌∙◌, ◌+◌, List, ◌∷◌, [], length, get_or, take, pos, nat_abs, to_z, of_z, w64, ap, arith}
 use Rattle.std.proofs.lemmas.List.{take_more}
 use Rattle.nrm_fraction.specs.Large.{size_limit}

@@ -1,3 +1,4 @@
+-- One leg more adds its price, unless it is the one that is left out.
 use Rattle.std.proofs.Common.{ℕ, ℤ, ◌∙◌, List, length, get_or, pos, nat_abs, to_z, of_z, w64, ap, arith}
 use Rattle.nrm_fraction.specs.Large.{size_limit}
 use Rattle.nrm_lp.specs.Certified.{sizes}

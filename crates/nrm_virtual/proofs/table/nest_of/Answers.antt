@@ -1,7 +1,7 @@
 use Rattle.std.proofs.Common.{ℕ, ◌∙◌, sym, ap}
 use Rattle.nrm_model.specs.Inventory.{inventory_of, uses_leg}
 use Rattle.nrm_virtual.specs.Buckets.{bucket_of}
-use Rattle.nrm_virtual.proofs.Tables.{kept-no, kept-yes}
+use Rattle.nrm_model.proofs.Maps.{kept-no, kept-yes}
 use Rattle.nrm_virtual.proofs.table.nest_of.Goals as goal
 use Rattle.nrm_virtual.proofs.table.nest_of.Goals.{then-uses_leg+in_ok-insert, else-uses_leg}
 

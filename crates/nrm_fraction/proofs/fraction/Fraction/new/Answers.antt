@@ -1,3 +1,4 @@
+-- Both numbers over their greatest common divisor are the fraction in lowest terms.
 use Rattle.std.proofs.Common.{◌≡◌, ◌<◌, ◌/◌, arith, sym, ap, ap₂, ◌∙◌, subst, pos}
 use native.Mathlib.Nat.{div-le_self}
 use Rattle.nrm_number.specs.Gcd.{gcd as gcd_of}

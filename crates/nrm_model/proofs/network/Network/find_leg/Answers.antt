@@ -1,3 +1,4 @@
+-- The number in the table of names is that of the first leg of the name.
 use Rattle.std.proofs.Common.{◌∙◌, ◌<◌, ap, arith, length, subst}
 use Rattle.nrm_model.specs.declared.leg.Leg.{Leg}
 use Rattle.nrm_model.specs.Network.{NetworkValue, leg_named}

@@ -1,3 +1,4 @@
+-- The number in the table of names is that of the first product of the name.
 use Rattle.std.proofs.Common.{◌∙◌, ◌<◌, ap, arith, length, subst}
 use Rattle.nrm_model.specs.declared.product.Product.{Product}
 use Rattle.nrm_model.specs.Network.{NetworkValue, product_named}

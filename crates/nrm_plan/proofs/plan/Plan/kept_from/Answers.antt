@@ -1,3 +1,4 @@
+-- A plan with nests has the product's bucket and the protection above it; one without keeps nothing.
 use Rattle.std.proofs.Common.{◌∙◌, ap, arith, sym}
 use Rattle.nrm_plan.specs.Plans.{PlanValue}
 use Rattle.nrm_plan.proofs.Looked.{bucket-within, legs-held, levels-held, looked-up, plan-nests}

@@ -1,3 +1,4 @@
+-- What the map of maps has for a leg and a product is the bucket of the table.
 use Rattle.std.proofs.Common.{IsSome, ◌∙◌, sym, subst}
 use Rattle.nrm_virtual.proofs.Tables.{bucket-is, held, leg-held}
 use Rattle.nrm_virtual.proofs.table.BucketTable.bucket_of.Goals as goal
