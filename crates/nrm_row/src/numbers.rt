@@ -32,8 +32,40 @@ pub fn cross(x: i64, e: i64, a: i64, u: i64) -> i128
     left - right
 }
 
-// The denominator den e, and a bound on the numbers x e - a u, where both stay below the limit: x is at most `most` in size,
-// and u at most `size`.
+// The denominator den e, where it stays below the limit.
+fn denominator(den: i64, e: i64) -> Option<i64>
+    requires den_small { IsSmall den }
+    requires e_small { IsSmall e }
+    ensures value { IfSome result (λ d. d ≡ den *ℤ e) }
+    ensures small { IfSome result (λ d. IsSmall d) }
+{
+    let wide = product(den, e);
+    if is_large(wide) {
+        None
+    } else {
+        Some(wide as i64)
+    }
+}
+
+// A bound on the numbers x e - a u, where it stays below the limit: x is at most `most` in size, and u at most `size`.
+fn bound(most: u64, a: i64, e: i64, size: u64) -> Option<u64>
+    requires most_small { most < size_limit }
+    requires a_small { IsSmall a }
+    requires e_small { IsSmall e }
+    requires size_small { size < size_limit }
+    ensures value { IfSome result (λ b. b ≡ most * unsigned_abs e + unsigned_abs a * size) }
+    ensures room { IfSome result (λ b. b < size_limit) }
+{
+    let scaled = u128::from(most) * u128::from(e.unsigned_abs());
+    let taken = u128::from(a.unsigned_abs()) * u128::from(size);
+    if scaled + taken < SIZE_LIMIT as u128 {
+        Some((scaled + taken) as u64)
+    } else {
+        None
+    }
+}
+
+// Both, where both stay below the limit.
 pub fn bounds(den: i64, most: u64, a: i64, e: i64, size: u64) -> Option<(i64, u64)>
     requires den_small { IsSmall den }
     requires e_small { IsSmall e }
@@ -43,15 +75,9 @@ pub fn bounds(den: i64, most: u64, a: i64, e: i64, size: u64) -> Option<(i64, u6
     ensures den { IfSome result (λ b. (b.0 ≡ den *ℤ e) × IsSmall b.0) }
     ensures most { IfSome result (λ b. (b.1 ≡ most * unsigned_abs e + unsigned_abs a * size) × (b.1 < size_limit)) }
 {
-    let scaled = u128::from(most) * u128::from(e.unsigned_abs());
-    let taken = u128::from(a.unsigned_abs()) * u128::from(size);
-    let bound = scaled + taken;
-    let wide = product(den, e);
-    if bound < SIZE_LIMIT as u128 && !is_large(wide) {
-        Some((wide as i64, bound as u64))
-    } else {
-        None
-    }
+    let den = denominator(den, e)?;
+    let most = bound(most, a, e, size)?;
+    Some((den, most))
 }
 
 // Whether a number reaches the limit in size.
