@@ -1,6 +1,7 @@
 -- The greatest common divisor of a denominator and numbers, and these divided by it.
-use Rattle.std.proofs.Common.{◌≡◌, ℕ, zero, suc, ◌*◌, ◌/◌, ◌<◌, ◌⊎◌, inl, inr, ℤ, pos, negsuc, ◌*ℤ◌, neg_ℤ, ◌<ℤ◌, nat_abs, arith, refl, sym, ap, ap₂, ◌∙◌, subst, List, [], ◌∷◌, map, drop}
+use Rattle.std.proofs.Common.{length, get_or, ◌+◌, ◌-◌, ◌≡◌, ℕ, zero, suc, ◌*◌, ◌/◌, ◌<◌, ◌≤◌, ◌⊎◌, inl, inr, ℤ, pos, negsuc, ◌*ℤ◌, neg_ℤ, ◌<ℤ◌, nat_abs, arith, refl, sym, ap, ap₂, ◌∙◌, subst, List, [], ◌∷◌, map, drop}
 use Prim.Native.Nat.{◌∣◌}
+use Rattle.std.proofs.lemmas.List.{drop_more}
 use Rattle.std.proofs.lemmas.Int.{ints}
 use Rattle.std.specs.Int.RustNames.{int_div}
 use native.Mathlib.Nat.{div-mul_cancel, eq_of_mul-eq-mul_right, div-one}
@@ -13,7 +14,14 @@ use Rattle.nrm_fraction.specs.Fraction.{◌over◌}
 use Rattle.nrm_fraction.specs.Large.{fractions, gcd_all}
 use Rattle.nrm_fraction.proofs.Values.{IsValue_over, same_value, shrink_worth}
 use Rattle.nrm_row.specs.Inner.Crossed.{shrunk}
-use Rattle.nrm_fraction.proofs.CommonDivisors.{gcd_all_pos, gcd_all-dvd, DividesAll, gcd_all-divides, gcd_one}
+use Rattle.nrm_fraction.proofs.CommonDivisors.{gcd_all_pos, gcd_all-dvd, DividesAll, gcd_all-divides, gcd_one, gcd_nought}
+
+pub nought_more : (d g : ℕ) (ns : List ℤ) (i : ℕ) → 0 < i → i ≤ length ns → g ≡ gcd_all d (drop i ns) → get_or ns (i - 1) (pos 0) ≡ pos 0 → g ≡ gcd_all d (drop (i - 1) ns)
+nought_more d g ns i h k p z =
+    sym (gcd_nought g) ∙ ap₂ (λ n m. gcd (nat_abs n) m) (sym z) (p ∙ ap (λ j. gcd_all d (drop j ns)) back) ∙ ap (gcd_all d) (sym (drop_more ns (i - 1) (pos 0) (omega arith)))
+  where
+    back : i ≡ i - 1 + 1
+    back = omega arith
 
 -- a common divisor 1 stays 1
 one_stays : (d : ℕ) (ns : List ℤ) (i : ℕ) → gcd_all d (drop i ns) ≡ 1 → gcd_all d ns ≡ 1
@@ -34,6 +42,10 @@ quotient_is t (negsuc g) h = absurd (omega (arith, ints))
 pub shrink_one : (n : ℤ) → shrink n 1 ≡ n
 shrink_one (pos n) = ap pos (div-one n)
 shrink_one (negsuc n) = ap (λ t. neg_ℤ (pos t)) (div-one (suc n))
+
+pub shrunk_one : (ns : List ℤ) → shrunk 1 ns ≡ ns
+shrunk_one [] = refl
+shrunk_one (n ∷ ns) = ap₂ (λ x y. x ∷ y) (shrink_one n) (shrunk_one ns)
 
 -- and multiplied again
 pub shrink_back : (n : ℤ) (g : ℕ) → g ∣ nat_abs n → shrink n g *ℤ pos g ≡ n

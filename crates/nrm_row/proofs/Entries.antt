@@ -15,9 +15,10 @@ use Rattle.nrm_fraction.proofs.Lowest.{common_pos}
 use Rattle.nrm_fraction.proofs.Embed.{den-dvd-common}
 use native.Mathlib.Nat.{div-mul_cancel}
 use Rattle.nrm_fraction.proofs.Field.{IsValue_whole, below_to}
+use Rattle.nrm_row.specs.Numbers.{IsRow}
 use Rattle.nrm_row.specs.Inner.Crossed.{shrunk, crossed_below}
 use Rattle.nrm_row.proofs.RatioLaws.{less_values, unit_is, crossed_below_is, ratio_columns_within}
-use Rattle.nrm_row.proofs.LowestTerms.{IsLowest, row_length, lowest_same, small_is_row, row_not_large}
+use Rattle.nrm_row.proofs.LowestTerms.{row_length, lowest_same, small_is_row, row_not_large}
 use Rattle.nrm_fraction.proofs.Sizes.{positive_abs}
 
 pub entry_is : (D : ℕ) (ns : List ℤ) (col : ℕ) → col < length ns → at (fractions D ns) col ≡ get_or ns col (pos 0) over D
@@ -49,6 +50,19 @@ positive_is row col h =
     sym (less_values (whole (pos 0)) (at row col) (pos 0) (get_or (numerators (common row) row) col (pos 0)) 1 (common row) (IsValue_whole (pos 0)) (entry_value row col h)
     ∙ ap₂ int_lt (nought_times (pos (common row))) (times_one (get_or (numerators (common row) row) col (pos 0))))
 
+-- the same of a number over any denominator
+pub negative_over : (d : ℤ) (ns : List ℤ) (row : List Fraction) (col : ℕ) → pos 0 <ℤ d → fractions (nat_abs d) ns ≡ row → col < length ns → int_lt (get_or ns col (pos 0)) (pos 0) ≡ less (at row col) (whole (pos 0))
+negative_over d ns row col h e w =
+    sym (less_values (get_or ns col (pos 0) over nat_abs d) (whole (pos 0)) (get_or ns col (pos 0)) (pos 0) (nat_abs d) 1 (IsValue_over (get_or ns col (pos 0)) (nat_abs d) (positive_abs d h).1) (IsValue_whole (pos 0))
+    ∙ ap₂ int_lt (times_one (get_or ns col (pos 0))) (nought_times (pos (nat_abs d))))
+    ∙ ap (λ x. less x (whole (pos 0))) (sym (entry_is (nat_abs d) ns col w) ∙ ap (λ xs. at xs col) e)
+
+pub positive_over : (d : ℤ) (ns : List ℤ) (row : List Fraction) (col : ℕ) → pos 0 <ℤ d → fractions (nat_abs d) ns ≡ row → col < length ns → int_lt (pos 0) (get_or ns col (pos 0)) ≡ less (whole (pos 0)) (at row col)
+positive_over d ns row col h e w =
+    sym (less_values (whole (pos 0)) (get_or ns col (pos 0) over nat_abs d) (pos 0) (get_or ns col (pos 0)) 1 (nat_abs d) (IsValue_whole (pos 0)) (IsValue_over (get_or ns col (pos 0)) (nat_abs d) (positive_abs d h).1)
+    ∙ ap₂ int_lt (nought_times (pos (nat_abs d))) (times_one (get_or ns col (pos 0))))
+    ∙ ap (λ x. less (whole (pos 0)) x) (sym (entry_is (nat_abs d) ns col w) ∙ ap (λ xs. at xs col) e)
+
 -- a positive entry has a positive number
 pub positive_number : (d : ℤ) (ns : List ℤ) (row : List Fraction) (col : ℕ) → pos 0 <ℤ d → fractions (nat_abs d) ns ≡ row → col < length ns → whole (pos 0) <ᶠ at row col → pos 0 <ℤ get_or ns col (pos 0)
 positive_number d ns row col h e w p =
@@ -61,7 +75,7 @@ pub unit_row_is : (d : ℤ) (ns : List ℤ) (row : List Fraction) (col : ℕ) (p
 unit_row_is d ns row col p h e w r k =
     sym (unit_is (nat_abs d) ns col (nat_abs p) (positive_abs d h).1 (positive_abs p k).1 (sym r ∙ (positive_abs p k).0) w) ∙ ap (unit_row col) e
 
-pub unit_small : (d : ℤ) (ns : List ℤ) (row : List Fraction) (col : ℕ) → IsLowest d ns → fractions (nat_abs d) ns ≡ row → col < length ns → pos 0 <ℤ get_or ns col (pos 0) → large_number size_limit (unit_row col row) ≡ None
+pub unit_small : (d : ℤ) (ns : List ℤ) (row : List Fraction) (col : ℕ) → IsRow d ns → fractions (nat_abs d) ns ≡ row → col < length ns → pos 0 <ℤ get_or ns col (pos 0) → large_number size_limit (unit_row col row) ≡ None
 unit_small d ns row col r e w k =
     ap (large_number size_limit) (sym (lowest_same (get_or ns col (pos 0)) ns k ∙ unit_row_is d ns row col (get_or ns col (pos 0)) r.positive e w refl k))
     ∙ row_not_large (shrink (get_or ns col (pos 0)) (gcd_all (nat_abs (get_or ns col (pos 0))) ns)) (shrunk (gcd_all (nat_abs (get_or ns col (pos 0))) ns) ns)

@@ -5,8 +5,4 @@ pub mod Combining
 pub mod RatioLaws
 pub mod Entries
 pub mod Filled
-pub mod Rising
-pub mod Merging
-pub mod Cutting
-pub mod Finishing
-mod Examples
+pub mod InPlace

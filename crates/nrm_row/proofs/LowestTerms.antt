@@ -66,7 +66,7 @@ lowest_is_row d ns h small smalls w = record {
   width = subst (IsInRange 1 577) (sym (length-map ns (λ n. shrink n (gcd_all (nat_abs d) ns)))) w;
 }
 
-shrink_small : (g : ℕ) (n : ℤ) → IsSmall n → IsSmall (shrink n g)
+pub shrink_small : (g : ℕ) (n : ℤ) → IsSmall n → IsSmall (shrink n g)
 shrink_small g n h = omega (arith, nat_abs-shrink n g, div-le_self (nat_abs n) g)
 
 -- numbers below the limit stay below it

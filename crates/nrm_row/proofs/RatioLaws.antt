@@ -59,6 +59,12 @@ first_differs x y rest n = by_lt_z x y less more
             let f : true ≡ int_lt y x = omega (arith, ints) in
             ap₂ (λ b d. cond b true (cond d false rest)) (sym e) (sym f) ∙ e
 
+pub range_more : (i last : ℕ) → i < last → range_with_len i (last - i) ≡ i ∷ range_with_len (i + 1) (last - (i + 1))
+range_more i last h = ap (λ n. range_with_len i n) one_more
+  where
+    one_more : last - i ≡ suc (last - (i + 1))
+    one_more = omega arith
+
 -- each column is below the width
 abbrev pub AreColumns : ℕ → List ℕ → Type 0
 AreColumns width [] = Unit {0}

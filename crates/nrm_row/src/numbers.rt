@@ -2,15 +2,12 @@
 //! divided again.
 #![tactic(auto)]
 
-ghost use Rattle.std.specs.Prelude.{◌≡◌, ◌<◌, ◌^◌, pos, ◌-ℤ◌, ◌*ℤ◌, ◌<ℤ◌, unsigned_abs, leb, nat_lt};
+ghost use Rattle.std.specs.Prelude.{◌≡◌, ◌+◌, ◌*◌, ◌<◌, ◌^◌, pos, ◌-ℤ◌, ◌*ℤ◌, ◌<ℤ◌, unsigned_abs, leb, IfSome};
 ghost use Rattle.nrm_number.specs.Gcd.{gcd as gcd_of, shrink};
-ghost use Rattle.nrm_row.specs.Inner.Crossed.{IsShort};
 ghost use Rattle.nrm_fraction.specs.Large.{size_limit, IsSmall};
 
 use nrm_fraction::SIZE_LIMIT;
 use nrm_number::short_gcd;
-
-const SHORT_FACTOR: u64 = 1 << 14;
 
 pub fn product(x: i64, y: i64) -> i128
     requires x_small { IsSmall x }
@@ -35,41 +32,52 @@ pub fn cross(x: i64, e: i64, a: i64, u: i64) -> i128
     left - right
 }
 
-// Whether a factor is below 2^14 in size, so that its product with a number of a row stays below 2^62.
-pub fn is_short(n: i64) -> bool
-    ensures { result ≡ nat_lt (unsigned_abs n) (2 ^ 14) }
+// The denominator den e, where it stays below the limit.
+fn denominator(den: i64, e: i64) -> Option<i64>
+    requires den_small { IsSmall den }
+    requires e_small { IsSmall e }
+    ensures value { IfSome result (λ d. d ≡ den *ℤ e) }
+    ensures small { IfSome result (λ d. IsSmall d) }
 {
-    n.unsigned_abs() < SHORT_FACTOR
+    let wide = product(den, e);
+    if is_large(wide) {
+        None
+    } else {
+        Some(wide as i64)
+    }
 }
 
-pub fn short_product(x: i64, y: i64) -> i64
-    requires x_small { IsSmall x }
-    requires y_short { IsShort y }
-    ensures value { result ≡ x *ℤ y }
-    ensures bound { unsigned_abs result < 2 ^ 62 }
+// A bound on the numbers x e - a u, where it stays below the limit: x is at most `most` in size, and u at most `size`.
+fn bound(most: u64, a: i64, e: i64, size: u64) -> Option<u64>
+    requires most_small { most < size_limit }
+    requires a_small { IsSmall a }
+    requires e_small { IsSmall e }
+    requires size_small { size < size_limit }
+    ensures value { IfSome result (λ b. b ≡ most * unsigned_abs e + unsigned_abs a * size) }
+    ensures room { IfSome result (λ b. b < size_limit) }
 {
-    x * y
+    let scaled = u128::from(most) * u128::from(e.unsigned_abs());
+    let taken = u128::from(a.unsigned_abs()) * u128::from(size);
+    if scaled + taken < SIZE_LIMIT as u128 {
+        Some((scaled + taken) as u64)
+    } else {
+        None
+    }
 }
 
-// x e - a u, at 64 bits.
-pub fn short_cross(x: i64, e: i64, a: i64, u: i64) -> i64
-    requires x_small { IsSmall x }
-    requires e_short { IsShort e }
-    requires a_short { IsShort a }
-    requires u_small { IsSmall u }
-    ensures value { result ≡ x *ℤ e -ℤ a *ℤ u }
-    ensures bound { unsigned_abs result < 2 ^ 63 }
+// Both, where both stay below the limit.
+pub fn bounds(den: i64, most: u64, a: i64, e: i64, size: u64) -> Option<(i64, u64)>
+    requires den_small { IsSmall den }
+    requires e_small { IsSmall e }
+    requires a_small { IsSmall a }
+    requires most_small { most < size_limit }
+    requires size_small { size < size_limit }
+    ensures den { IfSome result (λ b. (b.0 ≡ den *ℤ e) × IsSmall b.0) }
+    ensures most { IfSome result (λ b. (b.1 ≡ most * unsigned_abs e + unsigned_abs a * size) × (b.1 < size_limit)) }
 {
-    let left = short_product(x, e);
-    let right = short_product(u, a);
-    left - right
-}
-
-// Whether a number at 64 bits reaches the limit in size.
-pub fn is_short_large(n: i64) -> bool
-    ensures { result ≡ leb size_limit (unsigned_abs n) }
-{
-    n.unsigned_abs() >= SIZE_LIMIT
+    let den = denominator(den, e)?;
+    let most = bound(most, a, e, size)?;
+    Some((den, most))
 }
 
 // Whether a number reaches the limit in size.

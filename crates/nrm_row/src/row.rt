@@ -1,117 +1,53 @@
-//! A row of fractions: whole numbers over one denominator, in lowest terms.
+//! A row of fractions: whole numbers over one denominator, and a bound on their sizes. A unit row has its columns listed besides.
 #![tactic(auto)]
 
-ghost use Rattle.std.specs.Prelude.{◌≡◌, ◌≢◌, ◌+◌, ◌-◌, ◌<◌, ◌≤◌, ◌^◌, ◌<ℤ◌, ◌*ℤ◌, ℕ, ℤ, pos, unsigned_abs, length, map, take, drop, All, IfOk, MatchResult, None, List, get_or, unwrap_or};
+ghost use Rattle.std.specs.Prelude.{◌≡◌, ◌+◌, ◌<◌, ◌≤◌, ◌^◌, ◌<ℤ◌, ◌*ℤ◌, pos, unsigned_abs, length, map, take, drop, All, IfOk, OnErr, MatchResult, None, List, get_or};
 ghost use Rattle.std.specs.Int.{IsInRange};
+ghost use Rattle.std.specs.List.{range_with_len};
 ghost use Rattle.nrm_fraction.specs.Fraction.{Fraction, ◌<ᶠ◌, less, whole};
 ghost use Rattle.nrm_fraction.specs.Large.{fractions, common, numerators, large_number, size_limit, IsSmall};
 ghost use Rattle.nrm_fraction.specs.Lex.{lex_below};
-ghost use Rattle.nrm_fraction.specs.Rows.{at, row_of, unit_row, combine as combined, ratio_columns, ratios};
-ghost use Rattle.nrm_row.specs.Numbers.{AreEntries, IsRow, entries_of, numbers_of};
-ghost use Rattle.nrm_row.specs.Inner.Crossed.{crossed, kept};
+ghost use Rattle.nrm_fraction.specs.Rows.{at, number_at, row_of, unit_row, combine as combined, ratio_columns, ratios};
+ghost use Rattle.nrm_row.specs.Numbers.{AreEntries, IsRow, IsBoundedRow, IsUnit};
+ghost use Rattle.nrm_row.specs.Inner.Crossed.{crossed};
 ghost use Rattle.nrm_fraction.specs.Fault.{IsFault};
 
-use crate::crossed::{first_large, short_entries, wide_divided, wide_divisor, wide_entries};
-use crate::lowest::{divide_in_place, divisor};
-use crate::numbers::{
-    is_large, is_short, is_short_large, product, quotient, shared_divisor, short_product,
-    wide_quotient,
-};
-use crate::places::{between, number};
+use crate::crossed::{crossed_divisor, crossed_numbers};
+use crate::in_place::{cross_in_place, greatest, listed};
+use crate::lowest::{divided, divisor};
+use crate::numbers::{bounds, is_large, product, quotient, shared_divisor, wide_quotient};
 use crate::ratios::ratios_below;
 use nrm_fraction::RowFault;
 use std::alloc::{AllocError, Global};
 use std::marker::Model;
 
-// The entries whose number isn't 0.
-fn without_zeros(alloc: Global, entries: &[(u16, i64)]) -> Result<Vec<(u16, i64)>, AllocError>
-    ensures { IfOk result (λ made. made.items ≡ kept entries.now) }
+// The numbers at these columns, and 0 elsewhere.
+fn filled(alloc: Global, width: u16, entries: &[(u16, i64)]) -> Result<Vec<i64>, AllocError>
+    requires { AreEntries width entries.now }
+    ensures { IfOk result (λ made. made.items ≡ map (λ c. number_at entries.now c) (range_with_len 0 width)) }
 {
-    let mut made = Vec::new(alloc);
+    let mut made = vec![in alloc; 0i64; usize::from(width)]?;
     for (col, number) in entries {
-        if *number != 0 {
-            made.push((*col, *number))?;
-        }
+        made[usize::from(*col)] = *number;
     }
     Ok(made)
 }
 
-// The entries of the columns from `from` on, each so many columns further left.
-fn moved(alloc: Global, entries: &[(u16, i64)], from: u16) -> Result<Vec<(u16, i64)>, AllocError>
-    requires { All (λ (e : ℕ × ℤ). from ≤ e.0) entries.now }
-    ensures { IfOk result (λ made. made.items ≡ map (λ (e : ℕ × ℤ). (e.0 - from, e.1)) entries.now) }
-{
-    let mut made = Vec::with_capacity(alloc, entries.len())?;
-    for (col, number) in entries {
-        made.push((*col - from, *number))?;
-    }
-    Ok(made)
-}
-
-// The entries over a denominator, as a row in lowest terms.
-fn lowest_row(den: i64, width: u16, mut entries: Vec<(u16, i64)>) -> Row
+// The numbers over a denominator, as a row in lowest terms.
+fn lowest_row(alloc: Global, den: i64, nums: &[i64]) -> Result<Row, AllocError>
     requires positive { pos 0 <ℤ den }
     requires small { IsSmall den }
-    requires entries { AreEntries width entries.items }
-    requires no_zero { All (λ (e : ℕ × ℤ). e.1 ≢ pos 0) entries.items }
-    requires width { IsInRange 1 577 width }
-    ensures { result ≡ fractions (unsigned_abs den) (numbers_of width entries.items) }
+    requires smalls { All IsSmall nums.now }
+    requires width { IsInRange 1 577 (length nums.now) }
+    ensures { IfOk result (λ row. row ≡ fractions (unsigned_abs den) nums.now) }
 {
-    let common = divisor(den, &entries);
-    divide_in_place(&mut entries, common);
-    Row {
-        den: quotient(den, common),
-        width,
-        entries,
-    }
-}
-
-// The same where numbers may reach the limit, at 64 bits.
-fn short_row(den: i64, width: u16, mut entries: Vec<(u16, i64)>) -> Result<Row, RowFault>
-    requires positive { pos 0 <ℤ den }
-    requires entries { entries.items ≡ entries_of (numbers_of width entries.items) }
-    requires width { IsInRange 1 577 width }
-    ensures { let exact = fractions (unsigned_abs den) (numbers_of width entries.items) in
-        MatchResult result (λ r. (r ≡ exact) × (large_number size_limit exact ≡ None)) (λ f. IsFault f (large_number size_limit exact)) }
-{
-    let common = divisor(den, &entries);
-    let den = quotient(den, common);
-    if is_short_large(den) {
-        return Err(RowFault::Large {
-            number: i128::from(den),
-        });
-    }
-    divide_in_place(&mut entries, common);
-    match first_large(&entries) {
-        Some(number) => Err(RowFault::Large {
-            number: i128::from(number),
-        }),
-        None => Ok(Row {
-            den,
-            width,
-            entries,
-        }),
-    }
-}
-
-// The same at 128 bits.
-fn wide_row(alloc: Global, den: i128, width: u16, entries: &[(u16, i128)]) -> Result<Row, RowFault>
-    requires positive { pos 0 <ℤ den }
-    requires entries { entries.now ≡ entries_of (numbers_of width entries.now) }
-    requires width { IsInRange 1 577 width }
-    ensures { let exact = fractions (unsigned_abs den) (numbers_of width entries.now) in
-        MatchResult result (λ r. (r ≡ exact) × (large_number size_limit exact ≡ None)) (λ f. IsFault f (large_number size_limit exact)) }
-{
-    let common = wide_divisor(den.unsigned_abs(), entries) as i128;
-    let den = wide_quotient(den, common);
-    if is_large(den) {
-        return Err(RowFault::Large { number: den });
-    }
-    let entries = wide_divided(alloc, entries, common)?;
+    let common = divisor(den, nums);
+    let lowest = quotient(den, common);
+    let made = divided(alloc, nums, common)?;
     Ok(Row {
-        den: den as i64,
-        width,
-        entries,
+        den: lowest,
+        most: greatest(&made),
+        nums: made,
     })
 }
 
@@ -119,76 +55,97 @@ fn wide_row(alloc: Global, den: i128, width: u16, entries: &[(u16, i128)]) -> Re
 fn crossed_row(
     alloc: Global,
     den: i64,
-    width: u16,
-    xs: &[(u16, i64)],
+    xs: &[i64],
     a: i64,
     e: i64,
-    us: &[(u16, i64)],
+    us: &[i64],
 ) -> Result<Row, RowFault>
-    requires row { IsRow den width xs.now }
+    requires row { IsRow den xs.now }
     requires positive { pos 0 <ℤ e }
     requires e_small { IsSmall e }
     requires a_small { IsSmall a }
-    requires us_entries { AreEntries width us.now }
-    requires us_no_zero { All (λ (e : ℕ × ℤ). e.1 ≢ pos 0) us.now }
-    ensures { let exact = fractions (unsigned_abs (den *ℤ e)) (crossed a e (numbers_of width us.now) (numbers_of width xs.now)) in
+    requires us_small { All IsSmall us.now }
+    requires lengths { length us.now ≡ length xs.now }
+    ensures { let exact = fractions (unsigned_abs (den *ℤ e)) (crossed a e us.now xs.now) in
         MatchResult result (λ r. (r ≡ exact) × (large_number size_limit exact ≡ None)) (λ f. IsFault f (large_number size_limit exact)) }
 {
-    if is_short(a) && is_short(e) {
-        let made = short_entries(alloc, xs, us, a, e)?;
-        return short_row(short_product(den, e), width, made);
+    let common = crossed_divisor(den, a, e, us, xs);
+    let wide = wide_quotient(product(den, e), common);
+    if is_large(wide) {
+        return Err(RowFault::Large { number: wide });
     }
-    let made = wide_entries(alloc, xs, us, a, e)?;
-    wide_row(alloc, product(den, e), width, &made)
+    let made = crossed_numbers(alloc, xs, us, a, e, common)?;
+    Ok(Row {
+        den: wide as i64,
+        most: greatest(&made),
+        nums: made,
+    })
 }
 
-// The combined row, over the parts of two rows and the first one's entry at the column. An entry of 0 takes nothing
-// away; else what the entry and the unit row's denominator have in common goes out before the products are made.
-fn combined_row(
-    alloc: Global,
+// The numbers over one of them, as a unit row in lowest terms.
+fn unit_of(alloc: Global, den: i64, nums: &[i64]) -> Result<Unit, AllocError>
+    requires positive { pos 0 <ℤ den }
+    requires small { IsSmall den }
+    requires smalls { All IsSmall nums.now }
+    requires width { IsInRange 1 577 (length nums.now) }
+    ensures { IfOk result (λ row. row ≡ fractions (unsigned_abs den) nums.now) }
+{
+    let common = divisor(den, nums);
+    let lowest = quotient(den, common);
+    let made = divided(alloc, nums, common)?;
+    let entries = listed(alloc, &made)?;
+    Ok(Unit {
+        den: lowest,
+        most: greatest(&made),
+        nums: made,
+        entries,
+    })
+}
+
+/// A row divided by its entry at a column, with the columns whose number isn't 0 listed.
+#[derive(Drop)]
+pub struct Unit {
     den: i64,
-    width: u16,
-    entries: &[(u16, i64)],
-    unit_den: i64,
-    unit_entries: &[(u16, i64)],
-    entry: i64,
-) -> Result<Row, RowFault>
-    requires row { IsRow den width entries.now }
-    requires unit { IsRow unit_den width unit_entries.now }
-    requires entry_small { IsSmall entry }
-    ensures { (col : ℕ) → col < width → entry ≡ get_or (numbers_of width entries.now) col (pos 0) →
-        let exact = combined col (fractions (unsigned_abs unit_den) (numbers_of width unit_entries.now)) (fractions (unsigned_abs den) (numbers_of width entries.now)) in
-        MatchResult result (λ r. (r ≡ exact) × (large_number size_limit exact ≡ None)) (λ f. IsFault f (large_number size_limit exact)) }
-{
-    if entry == 0 {
-        let entries = Vec::from_slice(alloc, entries)?;
-        return Ok(Row {
-            den,
-            width,
-            entries,
-        });
-    }
-    let shared = shared_divisor(entry, unit_den);
-    let a = quotient(entry, shared);
-    let e = quotient(unit_den, shared);
-    crossed_row(alloc, den, width, entries, a, e, unit_entries)
+    most: u64,
+    nums: Vec<i64>,
+    entries: Vec<(u16, i64)>,
 }
 
-/// A row of fractions: whole numbers over one denominator, in lowest terms, each with its column. Those that are 0 are
-/// left out.
+impl Model for Unit {
+    ghost Value = { List Fraction };
+
+    ghost view = { λ u. fractions (unsigned_abs u.den) u.nums.items };
+
+    ghost invariant = { λ u. IsUnit u.den u.most u.nums.items u.entries.items };
+}
+
+impl Unit {
+    /// The row, without the list.
+    pub fn into_row(self) -> Row
+        ensures { result ≡ self }
+    {
+        Row {
+            den: self.den,
+            most: self.most,
+            nums: self.nums,
+        }
+    }
+}
+
+/// A row of fractions: whole numbers over one denominator, not always in lowest terms, and a bound on their sizes.
 #[derive(Drop)]
 pub struct Row {
     den: i64,
-    width: u16,
-    entries: Vec<(u16, i64)>,
+    most: u64,
+    nums: Vec<i64>,
 }
 
 impl Model for Row {
     ghost Value = { List Fraction };
 
-    ghost view = { λ r. fractions (unsigned_abs r.den) (numbers_of r.width r.entries.items) };
+    ghost view = { λ r. fractions (unsigned_abs r.den) r.nums.items };
 
-    ghost invariant = { λ r. IsRow r.den r.width r.entries.items };
+    ghost invariant = { λ r. IsBoundedRow r.den r.most r.nums.items };
 }
 
 impl Row {
@@ -198,11 +155,11 @@ impl Row {
         requires entries { AreEntries width entries.now }
         ensures { IfOk result (λ row. row ≡ row_of width entries.now) }
     {
-        let entries = without_zeros(alloc, entries)?;
+        let nums = filled(alloc, width, entries)?;
         Ok(Row {
             den: 1,
-            width,
-            entries,
+            most: greatest(&nums),
+            nums,
         })
     }
 
@@ -211,7 +168,7 @@ impl Row {
         ensures den { result ≡ pos (common self.now) }
         ensures small { IsSmall result }
     {
-        self.den
+        quotient(self.den, divisor(self.den, &self.nums))
     }
 
     /// The number at a column, over the least common denominator.
@@ -220,15 +177,7 @@ impl Row {
         ensures num { result ≡ get_or (numerators (common self.now) self.now) col (pos 0) }
         ensures small { IsSmall result }
     {
-        number(&self.entries, col)
-    }
-
-    /// The columns whose number isn't 0, by rising column, each with its number over the least common denominator.
-    pub fn entries(&self) -> &[(u16, i64)]
-        ensures entries { result.now ≡ entries_of (numerators (common self.now) self.now) }
-        ensures small { All (λ (e : ℕ × ℤ). IsSmall e.1) result.now }
-    {
-        &self.entries
+        quotient(self.nums[usize::from(col)], divisor(self.den, &self.nums))
     }
 
     /// How many columns the row has, the right side counted: 1 to 577.
@@ -236,7 +185,7 @@ impl Row {
         ensures width { result ≡ length self.now }
         ensures within { IsInRange 1 577 result }
     {
-        self.width
+        self.nums.len() as u16
     }
 
     /// Whether the entry at a column is negative.
@@ -244,7 +193,7 @@ impl Row {
         requires { col < length self.now }
         ensures { result ≡ less (at self.now col) (whole (pos 0)) }
     {
-        self.num(col) < 0
+        self.nums[usize::from(col)] < 0
     }
 
     /// Whether the entry at a column is positive.
@@ -252,19 +201,17 @@ impl Row {
         requires { col < length self.now }
         ensures { result ≡ less (whole (pos 0)) (at self.now col) }
     {
-        self.num(col) > 0
+        self.nums[usize::from(col)] > 0
     }
 
     /// This row divided by its entry at `col`. It is never Large.
-    pub fn unit(&self, alloc: Global, col: u16) -> Result<Row, AllocError>
+    pub fn unit(&self, alloc: Global, col: u16) -> Result<Unit, AllocError>
         requires within { col < length self.now }
         requires positive { whole (pos 0) <ᶠ at self.now col }
         ensures row { IfOk result (λ row. row ≡ unit_row col self.now) }
         ensures small { large_number size_limit (unit_row col self.now) ≡ None }
     {
-        let pivot = self.num(col);
-        let entries = Vec::from_slice(alloc, &self.entries)?;
-        Ok(lowest_row(pivot, self.width, entries))
+        unit_of(alloc, self.nums[usize::from(col)], &self.nums)
     }
 
     /// The columns from `from` on, so many of them, as a row over their own least common denominator. It is never Large.
@@ -273,9 +220,9 @@ impl Row {
         requires within { from + width ≤ length self.now }
         ensures { IfOk result (λ row. row ≡ take width (drop from self.now)) }
     {
-        let inner = between(&self.entries, from, from + width);
-        let entries = moved(alloc, inner, from)?;
-        Ok(lowest_row(self.den, width, entries))
+        let start = usize::from(from);
+        let end = start + usize::from(width);
+        lowest_row(alloc, self.den, &self.nums[start..end])
     }
 
     /// Whether this row's list (the last column, then the columns from `from` to the one before it), divided by its
@@ -288,55 +235,37 @@ impl Row {
         requires other_positive { whole (pos 0) <ᶠ at other.now col }
         ensures { result ≡ lex_below (ratios (ratio_columns from (length self.now)) col self.now) (ratios (ratio_columns from (length self.now)) col other.now) }
     {
-        ratios_below(&self.entries, &other.entries, self.width, col, from)
+        ratios_below(&self.nums, &other.nums, usize::from(col), usize::from(from))
     }
 
-    /// This row minus its entry at `col` times `unit`.
-    pub fn combine(&self, alloc: Global, unit: &Row, col: u16) -> Result<Row, RowFault>
-        requires widths { length unit.now ≡ length self.now }
-        requires within { col < length self.now }
-        ensures { let exact = combined col unit.now self.now in
-            MatchResult result (λ r. (r ≡ exact) × (large_number size_limit exact ≡ None)) (λ f. IsFault f (large_number size_limit exact)) }
+    /// Takes this row's entry at `col` times `unit` away. After an error the row is as it was.
+    pub fn combine(&mut self, alloc: Global, unit: &Unit, col: u16) -> Result<(), RowFault>
+        requires widths { length unit.now ≡ length self.old }
+        requires within { col < length self.old }
+        ensures row { let exact = combined col unit.now self.old in
+            MatchResult result (λ _. (self.new ≡ exact) × (large_number size_limit exact ≡ None)) (λ f. IsFault f (large_number size_limit exact)) }
+        ensures kept { OnErr result (self.new ≡ self.old) }
     {
-        let entry = self.num(col);
-        self.combine_entry(alloc, unit, entry)
-    }
-
-    /// The same, or `None` where this row's entry at `col` is 0: the row is then as it was.
-    pub fn changed(&self, alloc: Global, unit: &Row, col: u16) -> Result<Option<Row>, RowFault>
-        requires widths { length unit.now ≡ length self.now }
-        requires within { col < length self.now }
-        ensures { let exact = combined col unit.now self.now in
-            MatchResult result (λ r. (unwrap_or r self.now ≡ exact) × (large_number size_limit exact ≡ None)) (λ f. IsFault f (large_number size_limit exact)) }
-    {
-        // For the invariants of both rows alone.
-        let _ = &self.den;
+        // For the unit row's invariant alone.
         let _ = &unit.den;
-        let entry = self.num(col);
+        let entry = self.nums[usize::from(col)];
         if entry == 0 {
-            return Ok(None);
+            return Ok(());
         }
-        let row = self.combine_entry(alloc, unit, entry)?;
-        Ok(Some(row))
-    }
-
-    // The combined row at a column where this row's number is `entry`, so that a caller that has it needn't look it up
-    // again.
-    fn combine_entry(&self, alloc: Global, unit: &Row, entry: i64) -> Result<Row, RowFault>
-        requires widths { length unit.now ≡ length self.now }
-        requires small { IsSmall entry }
-        ensures { (col : ℕ) → col < length self.now → entry ≡ get_or (numerators (common self.now) self.now) col (pos 0) →
-            let exact = combined col unit.now self.now in
-            MatchResult result (λ r. (r ≡ exact) × (large_number size_limit exact ≡ None)) (λ f. IsFault f (large_number size_limit exact)) }
-    {
-        combined_row(
-            alloc,
-            self.den,
-            self.width,
-            &self.entries,
-            unit.den,
-            &unit.entries,
-            entry,
-        )
+        let shared = shared_divisor(entry, unit.den);
+        let a = quotient(entry, shared);
+        let e = quotient(unit.den, shared);
+        match bounds(self.den, self.most, a, e, unit.most) {
+            Some((den, most)) => {
+                cross_in_place(&mut self.nums, self.most, a, e, &unit.entries, unit.most);
+                self.den = den;
+                self.most = most;
+            }
+            None => {
+                let row = crossed_row(alloc, self.den, &self.nums, a, e, &unit.nums)?;
+                *self = row;
+            }
+        }
+        Ok(())
     }
 }

@@ -24,9 +24,10 @@ pub fn solve(alloc: Global, program: &Program) -> Result<Certificate, SolveFault
     let mut pivots = 0u32;
     while let Some(col) = tableau.entering() {
         let row = tableau.leaving(col);
-        if let Err(fault) = tableau.pivot(alloc, row, col) {
-            return Err(SolveFault::after(pivots, fault));
-        }
+        tableau = match tableau.pivot(alloc, row, col) {
+            Ok(next) => next,
+            Err(fault) => return Err(SolveFault::after(pivots, fault)),
+        };
         pivots = pivots.saturating_add(1);
     }
     tableau

@@ -6,4 +6,3 @@ pub mod Paths
 pub mod LastRows
 pub mod LastValue
 pub mod Changing
-pub mod Walks

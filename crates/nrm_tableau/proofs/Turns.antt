@@ -1,5 +1,5 @@
 -- The steps of the walks that find the entering column and the leaving row.
-use Rattle.std.proofs.Common.{◌≡◌, ℕ, suc, ◌+◌, ◌-◌, ◌<◌, ◌≤◌, pos, arith, sym, ap, ◌∙◌, subst, List, [], ◌∷◌, drop, length, get_or, Bool, true, cond, Option, Some, None, inl, inr}
+use Rattle.std.proofs.Common.{◌≡◌, ℕ, suc, ◌+◌, ◌-◌, ◌<◌, ◌≤◌, pos, arith, sym, ap, ◌∙◌, subst, List, [], ◌∷◌, drop, length, get_or, Bool, true, false, cond, Option, Some, None, inl, inr}
 use Rattle.std.specs.List.{range_with_len}
 use Rattle.std.specs.Option.{option_map}
 use Rattle.std.proofs.lemmas.Bool.{cases_lt}
@@ -29,6 +29,13 @@ enter_end c xs l = elim (cases_lt c (length xs)) [
   | inl m ↦ at_drop_more (entering_from c) xs c (whole (pos 0)) m ∙ at_drop_all (λ ys. entering_from c (at xs c ∷ ys)) xs (c + 1) l
   | inr m ↦ at_drop_all (entering_from c) xs c m
 ]
+
+-- a negative entry settles it, and another does not
+pub enter_here : (c : ℕ) (xs : List Fraction) (b : Bool) → c + 1 < length xs → b ≡ less (at xs c) (whole (pos 0)) → b ≡ true → entering_from c (drop c xs) ≡ entering_from 0 xs → Some c ≡ entering_from 0 xs
+enter_here c xs b l e t h = sym (enter_more c xs l ∙ ap (λ b. cond b (Some c) (entering_from (c + 1) (drop (c + 1) xs))) (sym e ∙ t)) ∙ h
+
+pub enter_later : (c : ℕ) (xs : List Fraction) (b : Bool) → c + 1 < length xs → b ≡ less (at xs c) (whole (pos 0)) → b ≡ false → entering_from c (drop c xs) ≡ entering_from 0 xs → entering_from (c + 1) (drop (c + 1) xs) ≡ entering_from 0 xs
+enter_later c xs b l e t h = sym (enter_more c xs l ∙ ap (λ b. cond b (Some c) (entering_from (c + 1) (drop (c + 1) xs))) (sym e ∙ t)) ∙ h
 
 -- ---- the leaving row
 pub columns_are : (a : ProgramValue) (w : ℕ) → w ≡ suc (right_side a) → ratio_columns (product_count a) w ≡ key_columns a

@@ -92,9 +92,9 @@ pub fn leg_prices(alloc: Global, program: &Program, value: &Row) -> Result<Row, 
 pub fn numbers(alloc: Global, row: &Row) -> Result<Vec<i64>, AllocError>
     ensures { IfOk result (λ made. made.items ≡ numerators (common row.now) row.now) }
 {
-    let mut made = vec![in alloc; 0i64; usize::from(row.width())]?;
-    for (col, number) in row.entries() {
-        made[usize::from(*col)] = *number;
+    let mut made = Vec::new(alloc);
+    for col in 0..row.width() {
+        made.push(row.num(col))?;
     }
     Ok(made)
 }

@@ -16,10 +16,9 @@ use nrm_row::Row;
 pub fn entering_column(value: &Row) -> Option<u16>
     ensures { result ≡ entering_from 0 value.now }
 {
-    let end = value.width() - 1;
-    for (col, number) in value.entries() {
-        if *number < 0 && *col < end {
-            return Some(*col);
+    for col in 0..value.width() - 1 {
+        if value.is_negative(col) {
+            return Some(col);
         }
     }
     None

@@ -1,7 +1,7 @@
 //! A tableau: its rows as exact fractions, and the basic column of each constraint row. It is kept on its program's path.
 #![tactic(auto)]
 
-ghost use Rattle.std.specs.Prelude.{◌≡◌, ◌<◌, ◌^◌, pos, true, IfOk, IfErr, IfSome, MatchResult, OnOk, OnErr, Some, None};
+ghost use Rattle.std.specs.Prelude.{◌≡◌, ◌<◌, ◌^◌, pos, true, IfOk, IfErr, IfSome, MatchResult, OnOk, Some, None};
 ghost use Rattle.std.specs.Option.{option_map};
 ghost use Rattle.nrm_fraction.specs.Fraction.{less, whole};
 ghost use Rattle.nrm_fraction.specs.Rows.{at};
@@ -16,7 +16,7 @@ use crate::columns::right_side;
 use crate::ending::{allotted, leg_prices, numbers, value_over};
 use crate::first::{first_basis, first_rows, first_value};
 use crate::leaving::{entering_column, leaving_row};
-use crate::pivot::{other_rows, pivot_row, replace_rows};
+use crate::pivot::{combine_others, pivot_row};
 use nrm_lp::{Certificate, Numbers, Program};
 use nrm_row::{Row, RowFault};
 use std::alloc::{AllocError, Global};
@@ -80,25 +80,31 @@ impl<'a> Tableau<'a> {
         leaving_row(self.program, &self.rows, col).unwrap()
     }
 
-    /// Makes the next tableau: the pivot row first, then the other constraint rows by number, then the value row. After
-    /// an error the tableau is as it was. The number of a fault is the first that reaches the limit in size, in this order.
-    pub fn pivot(&mut self, alloc: Global, row: u16, col: u16) -> Result<(), RowFault>
-        requires enters { entering self.old.table ≡ Some col }
-        requires leaves { option_map (λ found. found.0) (leaving self.old.program self.old.table col) ≡ Some row }
-        ensures next { OnOk result (self.new ≡ record self.old { table = pivot self.old.table row col }) }
-        ensures small { OnOk result (pivot_large size_limit self.old.program self.old.table ≡ None) }
-        ensures fault { IfErr result (λ f. IsFault f (pivot_large size_limit self.old.program self.old.table)) }
-        ensures kept { OnErr result (self.new ≡ self.old) }
+    /// The next tableau: the pivot row is made first, then the other constraint rows by number, then the value row, each in
+    /// its place, so that a tableau whose pivot fails is gone. The number of a fault is the first that reaches the limit in
+    /// size, in this order.
+    pub fn pivot(self, alloc: Global, row: u16, col: u16) -> Result<Tableau<'a>, RowFault>
+        requires enters { entering self.table ≡ Some col }
+        requires leaves { option_map (λ found. found.0) (leaving self.program self.table col) ≡ Some row }
+        ensures next { IfOk result (λ t. t ≡ record self.entry { table = pivot self.entry.table row col }) }
+        ensures small { OnOk result (pivot_large size_limit self.entry.program self.entry.table ≡ None) }
+        ensures fault { IfErr result (λ f. IsFault f (pivot_large size_limit self.entry.program self.entry.table)) }
     {
         let place = usize::from(row);
-        let unit = pivot_row(alloc, &self.rows, row, col)?;
-        let made = other_rows(alloc, &self.rows, row, &unit, col)?;
-        let value = self.value.combine(alloc, &unit, col)?;
-        replace_rows(&mut self.rows, made);
-        self.rows[place] = unit;
-        self.value = value;
-        self.basis[place] = col;
-        Ok(())
+        let mut rows = self.rows;
+        let mut value = self.value;
+        let mut basis = self.basis;
+        let unit = pivot_row(alloc, &rows, row, col)?;
+        combine_others(alloc, &mut rows, row, &unit, col)?;
+        value.combine(alloc, &unit, col)?;
+        rows[place] = unit.into_row();
+        basis[place] = col;
+        Ok(Tableau {
+            program: self.program,
+            rows,
+            value,
+            basis,
+        })
     }
 
     /// The closing certificate of a tableau in which no column enters: what is allotted to each product, over the least

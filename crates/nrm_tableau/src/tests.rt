@@ -17,7 +17,9 @@ fn takes_the_pivots_of_two_legs(rt: HostRuntime) -> Result<(), Fail> {
         };
         let leaves = tableau.leaving(enters);
         assert_eq!(rt; (enters, leaves), (col, row));
-        assert!(rt; tableau.pivot(alloc, leaves, enters).is_ok());
+        tableau = tableau
+            .pivot(alloc, leaves, enters)
+            .expect(&rt, "a tableau");
     }
     assert!(rt; tableau.entering().is_none());
     let closing = tableau.closing(alloc).expect(&rt, "a certificate");
@@ -35,7 +37,7 @@ fn certificate(alloc: Global, program: &Program) -> Option<Certificate> {
             return tableau.closing(alloc).ok();
         };
         let row = tableau.leaving(col);
-        tableau.pivot(alloc, row, col).ok()?;
+        tableau = tableau.pivot(alloc, row, col).ok()?;
     }
     None
 }

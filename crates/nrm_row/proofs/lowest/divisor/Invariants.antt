@@ -1,10 +1,9 @@
 use Rattle.std.proofs.Common.{◌≡◌, ◌≤◌, length, drop, unsigned_abs}
 use Rattle.nrm_fraction.specs.Large.{gcd_all}
-use Rattle.nrm_row.specs.Inner.Crossed.{numbers_in}
 use Rattle.nrm_row.proofs.lowest.divisor.Given as goal
 
 abbrev pub invariant-loop-i : goal.invariant-loop-i
-invariant-loop-i l = (l.i ≤ length l.entries) × (l.common ≡ gcd_all (unsigned_abs l.fn.den) (numbers_in (drop l.i l.entries)))
+invariant-loop-i l = (l.i ≤ length l.nums) × (l.common ≡ gcd_all (unsigned_abs l.fn.den) (drop l.i l.nums))
 
 abbrev pub decreases-loop-i : goal.decreases-loop-i
 decreases-loop-i l = l.i

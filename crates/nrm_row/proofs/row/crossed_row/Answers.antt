@@ -1,55 +1,125 @@
-use Rattle.std.proofs.Common.{rules, ◌≡◌, ap₂, sym, subst, ◌∙◌, pos, ◌*ℤ◌, ◌<ℤ◌, unsigned_abs, to_z, of_z, to_z-of_z, w64, None, MatchResult}
+use Rattle.std.proofs.Common.{rules, ◌≡◌, ap, ap₂, sym, subst, subst₂, ◌∙◌, unsigned_abs, pos, List, ℤ, ℕ, ◌*ℤ◌, ◌<ℤ◌, to_z, of_z, to_z-of_z, w64, Some, None, leb, true, false, All}
+use Rattle.std.proofs.lemmas.Result.{err_from_is_err_and}
 use mir.Syntax.{w128}
 use mir.Val.{SFits}
+use Rattle.std.specs.Int.{IsInRange}
+use Rattle.nrm_number.specs.Gcd.{shrink}
 use Rattle.nrm_number.proofs.Integers.{positive_product}
-use Rattle.nrm_fraction.specs.Large.{fractions, large_number, size_limit}
+use Rattle.nrm_fraction.specs.Large.{gcd_all, first_reaching, fractions, size_limit, IsSmall}
 use Rattle.nrm_fraction.specs.Fault.{IsFault}
-use Rattle.nrm_row.specs.Numbers.{numbers_of}
-use Rattle.nrm_row.specs.Inner.Crossed.{crossed}
-use Rattle.nrm_row.proofs.Rising.{entries_are, own_entries, own_again}
-use Rattle.nrm_row.proofs.Finishing.{crossed_entries, crossed_length, row_entries}
+use Rattle.nrm_row.specs.Numbers.{IsRow, IsBounded}
+use Rattle.nrm_row.proofs.InPlace.{loosened}
+use Rattle.nrm_row.specs.Inner.Crossed.{crossed, shrunk}
+use Rattle.nrm_row.proofs.Combining.{common_read, wide_read, length-crossed}
+use Rattle.nrm_row.proofs.LowestTerms.{divisor_positive, made_is_row, lowest_same, large_is}
+use Rattle.nrm_fraction.proofs.Sizes.{small_fits}
+use Rattle.nrm_fraction.proofs.Reaching.{reaching_yes, reaching_no}
 use Rattle.nrm_row.proofs.row.crossed_row.Goals as goal
 
-pub short_row-requires-clause-positive : goal.short_row-requires-clause-positive
-short_row-requires-clause-positive c =
-    let f : SFits w64 c.short_product.result = search rules in
-    subst (λ z. pos 0 <ℤ z) (sym (to_z-of_z f ∙ c.short_product.ensures.value ∙ ap₂ (λ d e. d *ℤ e) (to_z-of_z c.ranges.den) (to_z-of_z c.ranges.e))) (positive_product c.args.den c.args.e c.requires.row.positive c.requires.positive)
+pub wide_quotient-wide-requires : goal.wide_quotient-wide-requires
+wide_quotient-wide-requires c =
+    let positive : pos 0 <ℤ (c.args.den *ℤ c.args.e) = positive_product c.args.den c.args.e c.requires.row.positive c.requires.positive in
+    let fg : SFits w128 c.crossed_divisor-common.result = search rules in
+    let common : to_z w128 (of_z w128 c.crossed_divisor-common.result) ≡ pos (gcd_all (unsigned_abs (c.args.den *ℤ c.args.e)) (crossed c.args.a c.args.e c.args.us.now c.args.xs.now)) = common_read c.args.den c.args.e c.args.a c.crossed_divisor-common.result c.args.us.now c.args.xs.now c.ranges.den c.ranges.e c.ranges.a fg c.crossed_divisor-common.ensures in
+    subst (λ z. pos 0 <ℤ z) (sym common) (divisor_positive (c.args.den *ℤ c.args.e) (crossed c.args.a c.args.e c.args.us.now c.args.xs.now) positive)
 
-pub short_row-requires-clause-entries : goal.short_row-requires-clause-entries
-short_row-requires-clause-entries c =
-    own_again c.args.width c.in_ok-made.made.items (crossed c.args.a c.args.e (numbers_of c.args.width c.args.us.now) (numbers_of c.args.width c.args.xs.now)) (crossed_length c.args.a c.args.e c.args.width c.args.xs.now c.args.us.now)
-    (crossed_entries c.args.a c.args.e (to_z w64 (of_z w64 c.args.a)) (to_z w64 (of_z w64 c.args.e)) c.args.width c.args.xs.now c.args.us.now c.in_ok-made.made.items (to_z-of_z c.ranges.a) (to_z-of_z c.ranges.e)
-    (row_entries c.args.den c.args.width c.args.xs.now c.requires.row) (entries_are c.args.width c.args.us.now c.requires.us_entries c.requires.us_no_zero) c.in_ok-made.ensures)
+pub returns-then-is_large : goal.returns-then-is_large
+returns-then-is_large c =
+    let ns : List ℤ = crossed c.args.a c.args.e c.args.us.now c.args.xs.now in
+    let G : ℕ = gcd_all (unsigned_abs (c.args.den *ℤ c.args.e)) (crossed c.args.a c.args.e c.args.us.now c.args.xs.now) in
+    let positive : pos 0 <ℤ (c.args.den *ℤ c.args.e) = positive_product c.args.den c.args.e c.requires.row.positive c.requires.positive in
+    let fg : SFits w128 c.crossed_divisor-common.result = search rules in
+    let common : to_z w128 (of_z w128 c.crossed_divisor-common.result) ≡ pos (gcd_all (unsigned_abs (c.args.den *ℤ c.args.e)) (crossed c.args.a c.args.e c.args.us.now c.args.xs.now)) = common_read c.args.den c.args.e c.args.a c.crossed_divisor-common.result c.args.us.now c.args.xs.now c.ranges.den c.ranges.e c.ranges.a fg c.crossed_divisor-common.ensures in
+    let fp : SFits w128 c.product.result = search rules in
+    let fw : SFits w128 c.wide_quotient-wide.result = search rules in
+    let wide : to_z w128 (of_z w128 c.wide_quotient-wide.result) ≡ shrink (c.args.den *ℤ c.args.e) G = wide_read c.args.den c.args.e c.crossed_divisor-common.result c.product.result c.wide_quotient-wide.result G c.ranges.den c.ranges.e fp fw common c.product.ensures.value c.wide_quotient-wide.ensures in
+    let large : leb size_limit (unsigned_abs (shrink (c.args.den *ℤ c.args.e) G)) ≡ true = ap (λ z. leb size_limit (unsigned_abs z)) (sym wide) ∙ sym c.is_large.ensures ∙ c.if-is_large.true in
+    large_is size_limit (c.args.den *ℤ c.args.e) ns positive ∙ reaching_yes (shrink (c.args.den *ℤ c.args.e) G) (shrunk G ns) large ∙ ap Some (sym wide)
 
-pub returns-then-is_short-2 : goal.returns-then-is_short-2
-returns-then-is_short-2 c =
-    let f : SFits w64 c.short_product.result = search rules in
-    let product = to_z-of_z f ∙ c.short_product.ensures.value ∙ ap₂ (λ d e. d *ℤ e) (to_z-of_z c.ranges.den) (to_z-of_z c.ranges.e) in
-    let numbers = own_entries c.args.width c.in_ok-made.made.items (crossed c.args.a c.args.e (numbers_of c.args.width c.args.us.now) (numbers_of c.args.width c.args.xs.now)) (crossed_length c.args.a c.args.e c.args.width c.args.xs.now c.args.us.now)
-    (crossed_entries c.args.a c.args.e (to_z w64 (of_z w64 c.args.a)) (to_z w64 (of_z w64 c.args.e)) c.args.width c.args.xs.now c.args.us.now c.in_ok-made.made.items (to_z-of_z c.ranges.a) (to_z-of_z c.ranges.e)
-    (row_entries c.args.den c.args.width c.args.xs.now c.requires.row) (entries_are c.args.width c.args.us.now c.requires.us_entries c.requires.us_no_zero) c.in_ok-made.ensures) in
-    subst (λ exact. MatchResult c.short_row.result (λ r. (r ≡ exact) × (large_number size_limit exact ≡ None)) (λ f. IsFault f (large_number size_limit exact)))
-    (ap₂ (λ d ns. fractions (unsigned_abs d) ns) product numbers)
-    c.short_row.ensures
+pub crossed_numbers-requires-clause-positive : goal.crossed_numbers-requires-clause-positive
+crossed_numbers-requires-clause-positive c =
+    let positive : pos 0 <ℤ (c.args.den *ℤ c.args.e) = positive_product c.args.den c.args.e c.requires.row.positive c.requires.positive in
+    let fg : SFits w128 c.crossed_divisor-common.result = search rules in
+    let common : to_z w128 (of_z w128 c.crossed_divisor-common.result) ≡ pos (gcd_all (unsigned_abs (c.args.den *ℤ c.args.e)) (crossed c.args.a c.args.e c.args.us.now c.args.xs.now)) = common_read c.args.den c.args.e c.args.a c.crossed_divisor-common.result c.args.us.now c.args.xs.now c.ranges.den c.ranges.e c.ranges.a fg c.crossed_divisor-common.ensures in
+    subst (λ z. pos 0 <ℤ z) (sym common) (divisor_positive (c.args.den *ℤ c.args.e) (crossed c.args.a c.args.e c.args.us.now c.args.xs.now) positive)
 
-pub wide_row-requires-clause-positive : goal.wide_row-requires-clause-positive
-wide_row-requires-clause-positive c =
-    let f : SFits w128 c.product.result = search rules in
-    subst (λ z. pos 0 <ℤ z) (sym (to_z-of_z f ∙ c.product.ensures.value ∙ ap₂ (λ d e. d *ℤ e) (to_z-of_z c.ranges.den) (to_z-of_z c.ranges.e))) (positive_product c.args.den c.args.e c.requires.row.positive c.requires.positive)
+pub greatest-requires : goal.greatest-requires
+greatest-requires c =
+    let ns : List ℤ = crossed c.args.a c.args.e c.args.us.now c.args.xs.now in
+    let G : ℕ = gcd_all (unsigned_abs (c.args.den *ℤ c.args.e)) (crossed c.args.a c.args.e c.args.us.now c.args.xs.now) in
+    let positive : pos 0 <ℤ (c.args.den *ℤ c.args.e) = positive_product c.args.den c.args.e c.requires.row.positive c.requires.positive in
+    let fg : SFits w128 c.crossed_divisor-common.result = search rules in
+    let common : to_z w128 (of_z w128 c.crossed_divisor-common.result) ≡ pos (gcd_all (unsigned_abs (c.args.den *ℤ c.args.e)) (crossed c.args.a c.args.e c.args.us.now c.args.xs.now)) = common_read c.args.den c.args.e c.args.a c.crossed_divisor-common.result c.args.us.now c.args.xs.now c.ranges.den c.ranges.e c.ranges.a fg c.crossed_divisor-common.ensures in
+    let fp : SFits w128 c.product.result = search rules in
+    let fw : SFits w128 c.wide_quotient-wide.result = search rules in
+    let wide : to_z w128 (of_z w128 c.wide_quotient-wide.result) ≡ shrink (c.args.den *ℤ c.args.e) G = wide_read c.args.den c.args.e c.crossed_divisor-common.result c.product.result c.wide_quotient-wide.result G c.ranges.den c.ranges.e fp fw common c.product.ensures.value c.wide_quotient-wide.ensures in
+    let small : leb size_limit (unsigned_abs (shrink (c.args.den *ℤ c.args.e) G)) ≡ false = ap (λ z. leb size_limit (unsigned_abs z)) (sym wide) ∙ sym c.is_large.ensures ∙ c.if-is_large.false in
+    let numbers : shrunk (unsigned_abs (to_z w128 (of_z w128 c.crossed_divisor-common.result))) (crossed (to_z w64 (of_z w64 c.args.a)) (to_z w64 (of_z w64 c.args.e)) c.args.us.now c.args.xs.now) ≡ shrunk G ns =
+    (λ i. shrunk (unsigned_abs (common i)) (crossed (to_z-of_z c.ranges.a i) (to_z-of_z c.ranges.e i) c.args.us.now c.args.xs.now)) in
+    let den : to_z w64 (of_z w64 (to_z w128 (of_z w128 c.wide_quotient-wide.result))) ≡ shrink (c.args.den *ℤ c.args.e) G = ap (λ z. to_z w64 (of_z w64 z)) wide ∙ small_fits (shrink (c.args.den *ℤ c.args.e) G) small in
+    let items : c.in_ok-made.made.items ≡ shrunk G ns = c.in_ok-made.ensures.0 ∙ numbers in
+    let none : first_reaching size_limit (shrunk G ns) ≡ None = ap (first_reaching size_limit) (sym numbers) ∙ c.in_ok-made.ensures.1 in
+    let wide_enough = subst (IsInRange 1 577) (sym (length-crossed c.args.a c.args.e c.args.us.now c.args.xs.now c.requires.lengths)) c.requires.row.width in
+    subst (All IsSmall) (sym c.deref.ensures.value) (subst (All IsSmall) (sym items) (made_is_row (c.args.den *ℤ c.args.e) ns positive small none wide_enough).smalls)
 
-pub wide_row-requires-clause-entries : goal.wide_row-requires-clause-entries
-wide_row-requires-clause-entries c =
-    own_again c.args.width c.deref.result.now (crossed c.args.a c.args.e (numbers_of c.args.width c.args.us.now) (numbers_of c.args.width c.args.xs.now)) (crossed_length c.args.a c.args.e c.args.width c.args.xs.now c.args.us.now)
-    (crossed_entries c.args.a c.args.e (to_z w64 (of_z w64 c.args.a)) (to_z w64 (of_z w64 c.args.e)) c.args.width c.args.xs.now c.args.us.now c.deref.result.now (to_z-of_z c.ranges.a) (to_z-of_z c.ranges.e)
-    (row_entries c.args.den c.args.width c.args.xs.now c.requires.row) (entries_are c.args.width c.args.us.now c.requires.us_entries c.requires.us_no_zero) (c.deref.ensures.value ∙ c.in_ok-made-2.ensures))
+pub invariant_of-result : goal.invariant_of-result
+invariant_of-result c =
+    let ns : List ℤ = crossed c.args.a c.args.e c.args.us.now c.args.xs.now in
+    let G : ℕ = gcd_all (unsigned_abs (c.args.den *ℤ c.args.e)) (crossed c.args.a c.args.e c.args.us.now c.args.xs.now) in
+    let positive : pos 0 <ℤ (c.args.den *ℤ c.args.e) = positive_product c.args.den c.args.e c.requires.row.positive c.requires.positive in
+    let fg : SFits w128 c.crossed_divisor-common.result = search rules in
+    let common : to_z w128 (of_z w128 c.crossed_divisor-common.result) ≡ pos (gcd_all (unsigned_abs (c.args.den *ℤ c.args.e)) (crossed c.args.a c.args.e c.args.us.now c.args.xs.now)) = common_read c.args.den c.args.e c.args.a c.crossed_divisor-common.result c.args.us.now c.args.xs.now c.ranges.den c.ranges.e c.ranges.a fg c.crossed_divisor-common.ensures in
+    let fp : SFits w128 c.product.result = search rules in
+    let fw : SFits w128 c.wide_quotient-wide.result = search rules in
+    let wide : to_z w128 (of_z w128 c.wide_quotient-wide.result) ≡ shrink (c.args.den *ℤ c.args.e) G = wide_read c.args.den c.args.e c.crossed_divisor-common.result c.product.result c.wide_quotient-wide.result G c.ranges.den c.ranges.e fp fw common c.product.ensures.value c.wide_quotient-wide.ensures in
+    let small : leb size_limit (unsigned_abs (shrink (c.args.den *ℤ c.args.e) G)) ≡ false = ap (λ z. leb size_limit (unsigned_abs z)) (sym wide) ∙ sym c.is_large.ensures ∙ c.if-is_large.false in
+    let numbers : shrunk (unsigned_abs (to_z w128 (of_z w128 c.crossed_divisor-common.result))) (crossed (to_z w64 (of_z w64 c.args.a)) (to_z w64 (of_z w64 c.args.e)) c.args.us.now c.args.xs.now) ≡ shrunk G ns =
+    (λ i. shrunk (unsigned_abs (common i)) (crossed (to_z-of_z c.ranges.a i) (to_z-of_z c.ranges.e i) c.args.us.now c.args.xs.now)) in
+    let den : to_z w64 (of_z w64 (to_z w128 (of_z w128 c.wide_quotient-wide.result))) ≡ shrink (c.args.den *ℤ c.args.e) G = ap (λ z. to_z w64 (of_z w64 z)) wide ∙ small_fits (shrink (c.args.den *ℤ c.args.e) G) small in
+    let items : c.in_ok-made.made.items ≡ shrunk G ns = c.in_ok-made.ensures.0 ∙ numbers in
+    let none : first_reaching size_limit (shrunk G ns) ≡ None = ap (first_reaching size_limit) (sym numbers) ∙ c.in_ok-made.ensures.1 in
+    let wide_enough = subst (IsInRange 1 577) (sym (length-crossed c.args.a c.args.e c.args.us.now c.args.xs.now c.requires.lengths)) c.requires.row.width in
+    record {
+      row = subst₂ (λ d ms. IsRow d ms) (sym den) (sym items) (loosened (shrink (c.args.den *ℤ c.args.e) G) (shrunk G ns) (made_is_row (c.args.den *ℤ c.args.e) ns positive small none wide_enough));
+      bounded = subst (IsBounded c.greatest.result) c.deref.ensures.value c.greatest.ensures.bound;
+      room = c.greatest.ensures.small;
+    }
 
 pub returns : goal.returns
 returns c =
-    let f : SFits w128 c.product.result = search rules in
-    let product = to_z-of_z f ∙ c.product.ensures.value ∙ ap₂ (λ d e. d *ℤ e) (to_z-of_z c.ranges.den) (to_z-of_z c.ranges.e) in
-    let numbers = own_entries c.args.width c.deref.result.now (crossed c.args.a c.args.e (numbers_of c.args.width c.args.us.now) (numbers_of c.args.width c.args.xs.now)) (crossed_length c.args.a c.args.e c.args.width c.args.xs.now c.args.us.now)
-    (crossed_entries c.args.a c.args.e (to_z w64 (of_z w64 c.args.a)) (to_z w64 (of_z w64 c.args.e)) c.args.width c.args.xs.now c.args.us.now c.deref.result.now (to_z-of_z c.ranges.a) (to_z-of_z c.ranges.e)
-    (row_entries c.args.den c.args.width c.args.xs.now c.requires.row) (entries_are c.args.width c.args.us.now c.requires.us_entries c.requires.us_no_zero) (c.deref.ensures.value ∙ c.in_ok-made-2.ensures)) in
-    subst (λ exact. MatchResult c.wide_row.result (λ r. (r ≡ exact) × (large_number size_limit exact ≡ None)) (λ f. IsFault f (large_number size_limit exact)))
-    (ap₂ (λ d ns. fractions (unsigned_abs d) ns) product numbers)
-    c.wide_row.ensures
+    let ns : List ℤ = crossed c.args.a c.args.e c.args.us.now c.args.xs.now in
+    let G : ℕ = gcd_all (unsigned_abs (c.args.den *ℤ c.args.e)) (crossed c.args.a c.args.e c.args.us.now c.args.xs.now) in
+    let positive : pos 0 <ℤ (c.args.den *ℤ c.args.e) = positive_product c.args.den c.args.e c.requires.row.positive c.requires.positive in
+    let fg : SFits w128 c.crossed_divisor-common.result = search rules in
+    let common : to_z w128 (of_z w128 c.crossed_divisor-common.result) ≡ pos (gcd_all (unsigned_abs (c.args.den *ℤ c.args.e)) (crossed c.args.a c.args.e c.args.us.now c.args.xs.now)) = common_read c.args.den c.args.e c.args.a c.crossed_divisor-common.result c.args.us.now c.args.xs.now c.ranges.den c.ranges.e c.ranges.a fg c.crossed_divisor-common.ensures in
+    let fp : SFits w128 c.product.result = search rules in
+    let fw : SFits w128 c.wide_quotient-wide.result = search rules in
+    let wide : to_z w128 (of_z w128 c.wide_quotient-wide.result) ≡ shrink (c.args.den *ℤ c.args.e) G = wide_read c.args.den c.args.e c.crossed_divisor-common.result c.product.result c.wide_quotient-wide.result G c.ranges.den c.ranges.e fp fw common c.product.ensures.value c.wide_quotient-wide.ensures in
+    let small : leb size_limit (unsigned_abs (shrink (c.args.den *ℤ c.args.e) G)) ≡ false = ap (λ z. leb size_limit (unsigned_abs z)) (sym wide) ∙ sym c.is_large.ensures ∙ c.if-is_large.false in
+    let numbers : shrunk (unsigned_abs (to_z w128 (of_z w128 c.crossed_divisor-common.result))) (crossed (to_z w64 (of_z w64 c.args.a)) (to_z w64 (of_z w64 c.args.e)) c.args.us.now c.args.xs.now) ≡ shrunk G ns =
+    (λ i. shrunk (unsigned_abs (common i)) (crossed (to_z-of_z c.ranges.a i) (to_z-of_z c.ranges.e i) c.args.us.now c.args.xs.now)) in
+    let den : to_z w64 (of_z w64 (to_z w128 (of_z w128 c.wide_quotient-wide.result))) ≡ shrink (c.args.den *ℤ c.args.e) G = ap (λ z. to_z w64 (of_z w64 z)) wide ∙ small_fits (shrink (c.args.den *ℤ c.args.e) G) small in
+    let items : c.in_ok-made.made.items ≡ shrunk G ns = c.in_ok-made.ensures.0 ∙ numbers in
+    let none : first_reaching size_limit (shrunk G ns) ≡ None = ap (first_reaching size_limit) (sym numbers) ∙ c.in_ok-made.ensures.1 in (
+      ap₂ (λ d ms. fractions (unsigned_abs d) ms) den items ∙ lowest_same (c.args.den *ℤ c.args.e) ns positive,
+      large_is size_limit (c.args.den *ℤ c.args.e) ns positive ∙ reaching_no (shrink (c.args.den *ℤ c.args.e) G) (shrunk G ns) small ∙ none,
+    )
+
+pub returns-in_err-made : goal.returns-in_err-made
+returns-in_err-made c =
+    let ns : List ℤ = crossed c.args.a c.args.e c.args.us.now c.args.xs.now in
+    let G : ℕ = gcd_all (unsigned_abs (c.args.den *ℤ c.args.e)) (crossed c.args.a c.args.e c.args.us.now c.args.xs.now) in
+    let positive : pos 0 <ℤ (c.args.den *ℤ c.args.e) = positive_product c.args.den c.args.e c.requires.row.positive c.requires.positive in
+    let fg : SFits w128 c.crossed_divisor-common.result = search rules in
+    let common : to_z w128 (of_z w128 c.crossed_divisor-common.result) ≡ pos (gcd_all (unsigned_abs (c.args.den *ℤ c.args.e)) (crossed c.args.a c.args.e c.args.us.now c.args.xs.now)) = common_read c.args.den c.args.e c.args.a c.crossed_divisor-common.result c.args.us.now c.args.xs.now c.ranges.den c.ranges.e c.ranges.a fg c.crossed_divisor-common.ensures in
+    let fp : SFits w128 c.product.result = search rules in
+    let fw : SFits w128 c.wide_quotient-wide.result = search rules in
+    let wide : to_z w128 (of_z w128 c.wide_quotient-wide.result) ≡ shrink (c.args.den *ℤ c.args.e) G = wide_read c.args.den c.args.e c.crossed_divisor-common.result c.product.result c.wide_quotient-wide.result G c.ranges.den c.ranges.e fp fw common c.product.ensures.value c.wide_quotient-wide.ensures in
+    let small : leb size_limit (unsigned_abs (shrink (c.args.den *ℤ c.args.e) G)) ≡ false = ap (λ z. leb size_limit (unsigned_abs z)) (sym wide) ∙ sym c.is_large.ensures ∙ c.if-is_large.false in
+    let numbers : shrunk (unsigned_abs (to_z w128 (of_z w128 c.crossed_divisor-common.result))) (crossed (to_z w64 (of_z w64 c.args.a)) (to_z w64 (of_z w64 c.args.e)) c.args.us.now c.args.xs.now) ≡ shrunk G ns =
+    (λ i. shrunk (unsigned_abs (common i)) (crossed (to_z-of_z c.ranges.a i) (to_z-of_z c.ranges.e i) c.args.us.now c.args.xs.now)) in
+    let p = err_from_is_err_and c.from_residual.result c.from_residual.ensures.1 in
+    rw (p.1, p.2)
+    (subst (λ found. IsFault c.in_err-made.field-0.0 found)
+    (ap (first_reaching size_limit) numbers ∙ sym (large_is size_limit (c.args.den *ℤ c.args.e) ns positive ∙ reaching_no (shrink (c.args.den *ℤ c.args.e) G) (shrunk G ns) small))
+    c.in_err-made.ensures)

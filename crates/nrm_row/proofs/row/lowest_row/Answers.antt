@@ -1,35 +1,46 @@
-use Rattle.std.proofs.Common.{rules, ◌++◌, sym, subst, length, take, drop, pos, ◌<ℤ◌, unsigned_abs, to_z, of_z, w64}
+use Rattle.std.proofs.Common.{rules, ◌≡◌, ap, ap₂, sym, subst, ◌∙◌, pos, ◌<ℤ◌, unsigned_abs, to_z, of_z, to_z-of_z, w64, All}
 use mir.Val.{SFits}
-use Rattle.nrm_fraction.specs.Large.{gcd_all}
-use Rattle.nrm_row.specs.Inner.Crossed.{numbers_in}
-use Rattle.nrm_row.proofs.LowestTerms.{divisor_positive}
-use Rattle.nrm_row.proofs.Rising.{entries_are}
-use Rattle.nrm_row.proofs.Finishing.{AreDivided, divisor_read, divided_same, divided_small_row, divided_steps}
+use Rattle.nrm_number.specs.Gcd.{shrink}
+use Rattle.nrm_fraction.specs.Large.{gcd_all, fractions, IsSmall}
+use Rattle.nrm_row.specs.Numbers.{IsBounded}
+use Rattle.nrm_row.specs.Inner.Crossed.{shrunk}
+use Rattle.nrm_row.proofs.LowestTerms.{divisor_positive, lowest_same}
+use Rattle.nrm_row.proofs.InPlace.{lowest_bounded, lowest_smalls}
 use Rattle.nrm_row.proofs.row.lowest_row.Goals as goal
 
-pub divide_in_place-requires : goal.divide_in_place-requires
-divide_in_place-requires c =
+pub quotient-lowest-requires : goal.quotient-lowest-requires
+quotient-lowest-requires c =
     let f : SFits w64 c.divisor-common.result = search rules in
-    subst (λ z. pos 0 <ℤ z) (sym (divisor_read c.args.den c.divisor-common.result c.args.entries.items c.deref.result.now c.ranges.den f c.deref.ensures.value c.divisor-common.ensures)) (divisor_positive c.args.den (numbers_in c.args.entries.items) c.requires.positive)
+    let divisor : to_z w64 (of_z w64 c.divisor-common.result) ≡ pos (gcd_all (unsigned_abs c.args.den) c.args.nums.now) = to_z-of_z f ∙ c.divisor-common.ensures ∙ ap (λ d. pos (gcd_all (unsigned_abs d) c.args.nums.now)) (to_z-of_z c.ranges.den) in
+    subst (λ z. pos 0 <ℤ z) (sym divisor) (divisor_positive c.args.den c.args.nums.now c.requires.positive)
 
-pub quotient-requires : goal.quotient-requires
-quotient-requires c =
+pub divided-requires : goal.divided-requires
+divided-requires c =
     let f : SFits w64 c.divisor-common.result = search rules in
-    subst (λ z. pos 0 <ℤ z) (sym (divisor_read c.args.den c.divisor-common.result c.args.entries.items c.deref.result.now c.ranges.den f c.deref.ensures.value c.divisor-common.ensures)) (divisor_positive c.args.den (numbers_in c.args.entries.items) c.requires.positive)
+    let divisor : to_z w64 (of_z w64 c.divisor-common.result) ≡ pos (gcd_all (unsigned_abs c.args.den) c.args.nums.now) = to_z-of_z f ∙ c.divisor-common.ensures ∙ ap (λ d. pos (gcd_all (unsigned_abs d) c.args.nums.now)) (to_z-of_z c.ranges.den) in
+    subst (λ z. pos 0 <ℤ z) (sym divisor) (divisor_positive c.args.den c.args.nums.now c.requires.positive)
 
-divided : (c : goal.After-quotient) → AreDivided c.args.den c.args.width c.args.entries.items (take c.args.entries.len (c.divide_in_place.new.entries ++ drop (length c.divide_in_place.new.entries) c.args.entries.items)) (gcd_all (unsigned_abs c.args.den) (numbers_in c.args.entries.items)) (to_z w64 (of_z w64 c.quotient.result))
-divided c =
+pub greatest-requires : goal.greatest-requires
+greatest-requires c =
     let f : SFits w64 c.divisor-common.result = search rules in
-    let fq : SFits w64 c.quotient.result = search rules in
-    divided_steps c.args.den c.divisor-common.result c.quotient.result c.args.width c.args.entries.len c.args.entries.items c.deref.result.now c.deref_mut.result.now c.divide_in_place.new.entries
-    c.requires.positive c.requires.width (entries_are c.args.width c.args.entries.items c.requires.entries c.requires.no_zero) c.ranges.den f fq c.args.entries.ok.0 c.deref.ensures.value c.deref_mut.ensures.value c.divisor-common.ensures c.quotient.ensures c.divide_in_place.ensures
+    let divisor : to_z w64 (of_z w64 c.divisor-common.result) ≡ pos (gcd_all (unsigned_abs c.args.den) c.args.nums.now) = to_z-of_z f ∙ c.divisor-common.ensures ∙ ap (λ d. pos (gcd_all (unsigned_abs d) c.args.nums.now)) (to_z-of_z c.ranges.den) in
+    let made : c.in_ok-made.made.items ≡ shrunk (gcd_all (unsigned_abs c.args.den) c.args.nums.now) c.args.nums.now = c.in_ok-made.ensures ∙ ap (λ g. shrunk (unsigned_abs g) c.args.nums.now) divisor in
+    subst (All IsSmall) (sym c.deref.ensures.value) (lowest_smalls c.args.den c.args.nums.now c.in_ok-made.made.items c.requires.positive c.requires.small c.requires.smalls c.requires.width made)
 
 pub invariant_of-result : goal.invariant_of-result
 invariant_of-result c =
-    divided_small_row c.args.den (to_z w64 (of_z w64 c.quotient.result)) c.args.width c.args.entries.items (take c.args.entries.len (c.divide_in_place.new.entries ++ drop (length c.divide_in_place.new.entries) c.args.entries.items))
-    (gcd_all (unsigned_abs c.args.den) (numbers_in c.args.entries.items)) (divided c) c.requires.small c.requires.entries.small
+    let f : SFits w64 c.divisor-common.result = search rules in
+    let divisor : to_z w64 (of_z w64 c.divisor-common.result) ≡ pos (gcd_all (unsigned_abs c.args.den) c.args.nums.now) = to_z-of_z f ∙ c.divisor-common.ensures ∙ ap (λ d. pos (gcd_all (unsigned_abs d) c.args.nums.now)) (to_z-of_z c.ranges.den) in
+    let fq : SFits w64 c.quotient-lowest.result = search rules in
+    let den : to_z w64 (of_z w64 c.quotient-lowest.result) ≡ shrink c.args.den (gcd_all (unsigned_abs c.args.den) c.args.nums.now) = to_z-of_z fq ∙ c.quotient-lowest.ensures ∙ ap₂ (λ d g. shrink d (unsigned_abs g)) (to_z-of_z c.ranges.den) divisor in
+    let made : c.in_ok-made.made.items ≡ shrunk (gcd_all (unsigned_abs c.args.den) c.args.nums.now) c.args.nums.now = c.in_ok-made.ensures ∙ ap (λ g. shrunk (unsigned_abs g) c.args.nums.now) divisor in
+    lowest_bounded c.args.den c.args.nums.now c.in_ok-made.made.items _ c.greatest.result c.requires.positive c.requires.small c.requires.smalls c.requires.width den made (subst (IsBounded c.greatest.result) c.deref.ensures.value c.greatest.ensures.bound) c.greatest.ensures.small
 
 pub returns : goal.returns
 returns c =
-    divided_same c.args.den (to_z w64 (of_z w64 c.quotient.result)) c.args.width c.args.entries.items (take c.args.entries.len (c.divide_in_place.new.entries ++ drop (length c.divide_in_place.new.entries) c.args.entries.items))
-    (gcd_all (unsigned_abs c.args.den) (numbers_in c.args.entries.items)) (divided c)
+    let f : SFits w64 c.divisor-common.result = search rules in
+    let divisor : to_z w64 (of_z w64 c.divisor-common.result) ≡ pos (gcd_all (unsigned_abs c.args.den) c.args.nums.now) = to_z-of_z f ∙ c.divisor-common.ensures ∙ ap (λ d. pos (gcd_all (unsigned_abs d) c.args.nums.now)) (to_z-of_z c.ranges.den) in
+    let fq : SFits w64 c.quotient-lowest.result = search rules in
+    let den : to_z w64 (of_z w64 c.quotient-lowest.result) ≡ shrink c.args.den (gcd_all (unsigned_abs c.args.den) c.args.nums.now) = to_z-of_z fq ∙ c.quotient-lowest.ensures ∙ ap₂ (λ d g. shrink d (unsigned_abs g)) (to_z-of_z c.ranges.den) divisor in
+    let made : c.in_ok-made.made.items ≡ shrunk (gcd_all (unsigned_abs c.args.den) c.args.nums.now) c.args.nums.now = c.in_ok-made.ensures ∙ ap (λ g. shrunk (unsigned_abs g) c.args.nums.now) divisor in
+    ap₂ (λ d ns. fractions (unsigned_abs d) ns) den made ∙ lowest_same c.args.den c.args.nums.now c.requires.positive

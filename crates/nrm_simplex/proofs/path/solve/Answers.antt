@@ -5,10 +5,10 @@ use Rattle.nrm_simplex.proofs.Walk.{walk_on, walk_falls, certified}
 use Rattle.nrm_simplex.proofs.path.solve.Goals as goal
 
 pub loop-col-smaller : goal.loop-col-smaller
-loop-col-smaller c = walk_falls c.args.program.now c.loop-col.tableau c.loop-col.pivots c.loop-col.invariant c.in-Some.col c.leaving-row.result c.pivot.new.self c.saturating_add-pivots.result (sym c.entering.ensures.column ∙ c.in-Some.is) c.leaving-row.ensures.row c.in_default-pivot.ensures.small c.in_default-pivot.ensures.next
+loop-col-smaller c = walk_falls c.args.program.now c.loop-col.tableau c.loop-col.pivots c.loop-col.invariant c.in-Some.col c.leaving-row.result c.in-Ok.next c.saturating_add-pivots.result (sym c.entering.ensures.column ∙ c.in-Some.is) c.leaving-row.ensures.row c.in-Ok.ensures.small c.in-Ok.ensures.next
 
 pub loop-col-preserved : goal.loop-col-preserved
-loop-col-preserved c = walk_on c.args.program.now c.loop-col.tableau c.loop-col.pivots c.loop-col.invariant c.in-Some.col c.leaving-row.result c.pivot.new.self c.saturating_add-pivots.result (sym c.entering.ensures.column ∙ c.in-Some.is) c.leaving-row.ensures.row c.in_default-pivot.ensures.small c.in_default-pivot.ensures.next c.saturating_add-pivots.ensures
+loop-col-preserved c = walk_on c.args.program.now c.loop-col.tableau c.loop-col.pivots c.loop-col.invariant c.in-Some.col c.leaving-row.result c.in-Ok.next c.saturating_add-pivots.result (sym c.entering.ensures.column ∙ c.in-Some.is) c.leaving-row.ensures.row c.in-Ok.ensures.small c.in-Ok.ensures.next c.saturating_add-pivots.ensures
 
 pub returns-clause-certified : goal.returns-clause-certified
 returns-clause-certified c =
