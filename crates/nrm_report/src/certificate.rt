@@ -17,9 +17,12 @@ use nrm_lp::Certificate;
 use nrm_model::Network;
 use nrm_text::{Line, Name};
 
+// The most bytes of a line.
+const LINE_ROOM: usize = 112;
+
 // The line of a mean value.
 #[tactic(auto, using(nrm_text::proofs::Fractions::short_fraction))]
-fn line_of_value(value: i64, den: u128) -> Line
+fn line_of_value(value: i64, den: u128) -> Line<LINE_ROOM>
     requires some { 1 ≤ den }
     requires den_size { den < 2 ^ 126 }
     ensures { result ≡ text_line (codes "value" ∷ fraction_text (value over den) ∷ []) }
@@ -33,7 +36,7 @@ fn line_of_value(value: i64, den: u128) -> Line
 
 // The line of a product that is allotted so much.
 #[tactic(auto, using(nrm_text::proofs::Fractions::short_fraction))]
-fn line_of_product(name: &Name, allotted: i64, den: u128) -> Line
+fn line_of_product(name: &Name, allotted: i64, den: u128) -> Line<LINE_ROOM>
     requires some { 1 ≤ den }
     requires den_size { den < 2 ^ 126 }
     ensures { result ≡ text_line (codes "product" ∷ name.now ∷ fraction_text (allotted over den) ∷ []) }
@@ -49,7 +52,7 @@ fn line_of_product(name: &Name, allotted: i64, den: u128) -> Line
 
 // The line of a leg at so much a seat.
 #[tactic(auto, using(nrm_text::proofs::Fractions::short_fraction))]
-fn line_of_leg(name: &Name, price: i64, den: u128) -> Line
+fn line_of_leg(name: &Name, price: i64, den: u128) -> Line<LINE_ROOM>
     requires some { 1 ≤ den }
     requires den_size { den < 2 ^ 126 }
     ensures { result ≡ text_line (codes "leg" ∷ name.now ∷ fraction_text (price over den) ∷ []) }
@@ -74,7 +77,7 @@ fn over_histories(net: &Network, den: i64) -> u128
 }
 
 // The line of the mean value.
-fn line_for_value(net: &Network, certificate: &Certificate) -> Line
+fn line_for_value(net: &Network, certificate: &Certificate) -> Line<LINE_ROOM>
     requires { HasShape size_limit (length net.now.products) (length net.now.legs) certificate.now }
     ensures { result ≡ value_line net.now certificate.now }
 {
@@ -82,7 +85,7 @@ fn line_for_value(net: &Network, certificate: &Certificate) -> Line
 }
 
 // The line of a product.
-fn line_for_product(net: &Network, certificate: &Certificate, product: u16) -> Line
+fn line_for_product(net: &Network, certificate: &Certificate, product: u16) -> Line<LINE_ROOM>
     requires shape { HasShape size_limit (length net.now.products) (length net.now.legs) certificate.now }
     requires product { product < length net.now.products }
     ensures { result ≡ product_line net.now certificate.now product }
@@ -96,7 +99,7 @@ fn line_for_product(net: &Network, certificate: &Certificate, product: u16) -> L
 }
 
 // The line of a leg.
-fn line_for_leg(net: &Network, certificate: &Certificate, leg: u8) -> Line
+fn line_for_leg(net: &Network, certificate: &Certificate, leg: u8) -> Line<LINE_ROOM>
     requires shape { HasShape size_limit (length net.now.products) (length net.now.legs) certificate.now }
     requires leg { leg < length net.now.legs }
     ensures { result ≡ leg_line net.now certificate.now leg }

@@ -19,6 +19,9 @@ use nrm_stream::Command;
 use nrm_text::{Line, Name};
 use std::alloc::Global;
 
+// The most bytes of a reply of one line.
+const LINE_ROOM: usize = 128;
+
 /// What a line is answered. Legs are named by their numbers in the network.
 #[derive(Clone, Copy, Debug, PartialEq, Eq)]
 pub enum Reply {
@@ -150,17 +153,17 @@ pub fn carry_out(alloc: Global, controller: &mut Controller, command: &Command) 
 
 // Writes the line of a request that was sold.
 #[tactic(auto, using(nrm_text::proofs::Decimals::short_decimal))]
-fn write_sold(line: &mut Line, number: u64)
+fn write_sold(line: &mut Line<LINE_ROOM>, number: u64)
     requires { line.old ≡ [] }
     ensures { line.new ≡ text_of (sold number) }
 {
     line.push_bytes(b"ok ");
-    line.push_whole(u128::from(number));
+    line.push_whole(number);
     line.push_bytes(b"\n");
 }
 
 // Writes the line of a request that a leg refused.
-fn write_refused(line: &mut Line, leg: &Name)
+fn write_refused(line: &mut Line<LINE_ROOM>, leg: &Name)
     requires { line.old ≡ [] }
     ensures { line.new ≡ text_of (no_leg leg.now) }
 {
@@ -171,20 +174,20 @@ fn write_refused(line: &mut Line, leg: &Name)
 
 // Writes the line of a cancellation.
 #[tactic(auto, using(nrm_text::proofs::Decimals::short_decimal))]
-fn write_cancelled(line: &mut Line, number: u64, refund: u64)
+fn write_cancelled(line: &mut Line<LINE_ROOM>, number: u64, refund: u64)
     requires { line.old ≡ [] }
     ensures { line.new ≡ text_of (cancelled number refund) }
 {
     line.push_bytes(b"cancelled ");
-    line.push_whole(u128::from(number));
+    line.push_whole(number);
     line.push_bytes(b" ");
-    line.push_whole(u128::from(refund));
+    line.push_whole(refund);
     line.push_bytes(b"\n");
 }
 
 // Writes the line of a new plan with its mean value.
 #[tactic(auto, using(nrm_text::proofs::Fractions::short_fraction))]
-fn write_optimised(line: &mut Line, num: u64, den: u64)
+fn write_optimised(line: &mut Line<LINE_ROOM>, num: u64, den: u64)
     requires empty { line.old ≡ [] }
     requires some { 1 ≤ den }
     ensures { line.new ≡ text_of (optimised (pos num over den)) }
@@ -196,7 +199,7 @@ fn write_optimised(line: &mut Line, num: u64, den: u64)
 
 // Writes the line of hindsight, with the revenue of the bookings that stand.
 #[tactic(auto, using(nrm_text::proofs::Fractions::short_fraction, nrm_text::proofs::Decimals::short_decimal))]
-fn write_hindsight(line: &mut Line, num: u64, den: u64, revenue: u64)
+fn write_hindsight(line: &mut Line<LINE_ROOM>, num: u64, den: u64, revenue: u64)
     requires empty { line.old ≡ [] }
     requires some { 1 ≤ den }
     ensures { line.new ≡ text_of (hindsight_told (pos num over den) revenue) }
@@ -204,7 +207,7 @@ fn write_hindsight(line: &mut Line, num: u64, den: u64, revenue: u64)
     line.push_bytes(b"hindsight ");
     line.push_fraction(i128::from(num), u128::from(den));
     line.push_bytes(b" revenue ");
-    line.push_whole(u128::from(revenue));
+    line.push_whole(revenue);
     line.push_bytes(b"\n");
 }
 

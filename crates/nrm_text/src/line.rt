@@ -1,30 +1,28 @@
-//! Lines that are written: a text of at most 512 bytes in an array, so that writing one takes no memory.
+//! Lines that are written: a text in an array of as much room as its writer asks for, so that writing one takes no memory.
+//! A number is written to where it goes.
 ghost use Rattle.std.specs.Prelude.{◌≡◌, ◌≤◌, ◌<◌, ◌^◌, ◌+◌, ◌++◌, [], ◌∷◌, length, take, decimal, unsigned_abs};
 ghost use Rattle.nrm_fraction.specs.Fraction.{◌over◌};
 ghost use Rattle.nrm_text.specs.Fractions.{sign_of, fraction_text};
 
-use itoa::Buffer;
+use itoa::{Buffer, write_digits};
 use nrm_number::gcd;
 use std::marker::Model;
 
-/// The most bytes that a line holds.
-pub const LINE_ROOM: usize = 512;
-
-/// A text of at most 512 bytes. Contracts see its bytes.
+/// A text of at most `ROOM` bytes. Contracts see its bytes.
 #[derive(Drop)]
-pub struct Line {
-    bytes: [u8; LINE_ROOM],
+pub struct Line<const ROOM: usize> {
+    bytes: [u8; ROOM],
     len: usize,
 }
 
-impl Model for Line {
+impl<const ROOM: usize> Model for Line<ROOM> {
     ghost use Rattle.std.specs.Prelude.{ℕ, List, ◌≡◌, ◌≤◌, take, length};
 
     ghost Value = { List ℕ };
 
     ghost view = { λ line. take line.len line.bytes };
 
-    ghost invariant = { λ line. (length line.bytes ≡ 512) × (line.len ≤ 512) };
+    ghost invariant = { λ line. (length line.bytes ≡ ROOM) × (line.len ≤ ROOM) };
 }
 
 // Writes a piece into a buffer from a place on, where it fits.
@@ -35,14 +33,35 @@ fn write_at(buffer: &mut [u8], at: usize, piece: &[u8])
     buffer[at..at + piece.len()].copy_from_slice(piece);
 }
 
-impl Line {
+// Writes a number into a buffer from a place on, where it fits, and gives the place behind it.
+fn write_whole_at(buffer: &mut [u8], at: usize, number: u64) -> usize
+    requires { at + length (decimal number) ≤ length buffer.old }
+    ensures end { result ≡ at + length (decimal number) }
+    ensures text { take result buffer.new ≡ take at buffer.old ++ decimal number }
+{
+    let end = at + digit_count(number);
+    write_digits(number, buffer, end);
+    end
+}
+
+// How many decimal digits a number has.
+fn digit_count(number: u64) -> usize
+    ensures { result ≡ length (decimal number) }
+{
+    match number.checked_ilog10() {
+        Some(power) => power as usize + 1,
+        None => 1,
+    }
+}
+
+impl<const ROOM: usize> Line<ROOM> {
     /// An empty line.
-    pub fn new() -> Line
+    pub fn new() -> Line<ROOM>
         ensures text { result ≡ [] }
         ensures length { length result ≡ 0 }
     {
         Line {
-            bytes: [0; LINE_ROOM],
+            bytes: [0; ROOM],
             len: 0,
         }
     }
@@ -57,7 +76,7 @@ impl Line {
 
     /// Appends these bytes.
     pub fn push_bytes(&mut self, bytes: &[u8])
-        requires { length self.old + length bytes.now ≤ 512 }
+        requires { length self.old + length bytes.now ≤ ROOM }
         ensures text { self.new ≡ self.old ++ bytes.now }
         ensures length { length self.new ≡ length self.old + length bytes.now }
     {
@@ -66,8 +85,17 @@ impl Line {
     }
 
     /// Appends a number in decimal digits.
-    pub fn push_whole(&mut self, number: u128)
-        requires { length self.old + length (decimal number) ≤ 512 }
+    pub fn push_whole(&mut self, number: u64)
+        requires { length self.old + length (decimal number) ≤ ROOM }
+        ensures text { self.new ≡ self.old ++ decimal number }
+        ensures length { length self.new ≡ length self.old + length (decimal number) }
+    {
+        self.len = write_whole_at(&mut self.bytes, self.len, number);
+    }
+
+    // Appends a number of up to 128 bits in decimal digits.
+    fn push_wide(&mut self, number: u128)
+        requires { length self.old + length (decimal number) ≤ ROOM }
         ensures text { self.new ≡ self.old ++ decimal number }
         ensures length { length self.new ≡ length self.old + length (decimal number) }
     {
@@ -77,7 +105,7 @@ impl Line {
 
     // Appends `-` before a negative number.
     fn push_sign(&mut self, num: i128)
-        requires { length self.old + length (sign_of num) ≤ 512 }
+        requires { length self.old + length (sign_of num) ≤ ROOM }
         ensures text { self.new ≡ self.old ++ sign_of num }
         ensures length { length self.new ≡ length self.old + length (sign_of num) }
     {
@@ -88,13 +116,13 @@ impl Line {
 
     // Appends the sign of the first number, then the second, `/` and the third.
     fn push_parts(&mut self, num: i128, top: u128, bottom: u128)
-        requires { length self.old + (length (sign_of num) + length (decimal top) + 1 + length (decimal bottom)) ≤ 512 }
+        requires { length self.old + (length (sign_of num) + length (decimal top) + 1 + length (decimal bottom)) ≤ ROOM }
         ensures { self.new ≡ self.old ++ (sign_of num ++ decimal top ++ 47 ∷ [] ++ decimal bottom) }
     {
         self.push_sign(num);
-        self.push_whole(top);
+        self.push_wide(top);
         self.push_bytes(b"/");
-        self.push_whole(bottom);
+        self.push_wide(bottom);
     }
 
     /// Appends a fraction as `n/d` in lowest terms, with `-` before a negative one; zero is `0/1`.
@@ -102,7 +130,7 @@ impl Line {
         requires den { 1 ≤ den }
         requires num_size { unsigned_abs num < 2 ^ 126 }
         requires den_size { den < 2 ^ 126 }
-        requires room { length self.old + length (fraction_text (num over den)) ≤ 512 }
+        requires room { length self.old + length (fraction_text (num over den)) ≤ ROOM }
         ensures text { self.new ≡ self.old ++ fraction_text (num over den) }
         ensures length { length self.new ≡ length self.old + length (fraction_text (num over den)) }
     {
@@ -119,7 +147,7 @@ mod tests {
     #[test]
     #[tactic(auto, using(crate::proofs::Decimals::short_decimal))]
     fn a_line_is_its_pieces(rt: HostRuntime) {
-        let mut line = Line::new();
+        let mut line: Line<512> = Line::new();
         line.push_bytes(b"ok ");
         line.push_whole(1_000_000_000_000);
         line.push_bytes(b"\n");
@@ -128,7 +156,7 @@ mod tests {
 
     // Appends a fraction and a space.
     #[tactic(auto, using(crate::proofs::Fractions::short_fraction))]
-    fn push_word(line: &mut Line, num: i128, den: u128)
+    fn push_word(line: &mut Line<512>, num: i128, den: u128)
         requires den { 1 ≤ den }
         requires num_size { unsigned_abs num < 2 ^ 126 }
         requires den_size { den < 2 ^ 126 }
@@ -141,7 +169,7 @@ mod tests {
 
     #[test]
     fn fractions_stand_in_lowest_terms(rt: HostRuntime) {
-        let mut line = Line::new();
+        let mut line: Line<512> = Line::new();
         push_word(&mut line, 6, 4);
         push_word(&mut line, 0, 7);
         push_word(&mut line, -180, 1);
