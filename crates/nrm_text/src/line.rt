@@ -1,28 +1,34 @@
 //! Lines that are written: a text in an array of as much room as its writer asks for, so that writing one takes no memory.
-//! A number is written to where it goes.
 ghost use Rattle.std.specs.Prelude.{◌≡◌, ◌≤◌, ◌<◌, ◌^◌, ◌+◌, ◌++◌, [], ◌∷◌, length, take, decimal, unsigned_abs};
 ghost use Rattle.nrm_fraction.specs.Fraction.{◌over◌};
 ghost use Rattle.nrm_text.specs.Fractions.{sign_of, fraction_text};
 
+use crate::Name;
 use itoa::{Buffer, write_digits};
 use nrm_number::gcd;
 use std::marker::Model;
 
+/// The most bytes that a `Line` holds.
+pub const LINE_ROOM: usize = 512;
+
+/// A line of at most 512 bytes.
+pub type Line = Text<LINE_ROOM>;
+
 /// A text of at most `ROOM` bytes. Contracts see its bytes.
 #[derive(Drop)]
-pub struct Line<const ROOM: usize> {
+pub struct Text<const ROOM: usize> {
     bytes: [u8; ROOM],
     len: usize,
 }
 
-impl<const ROOM: usize> Model for Line<ROOM> {
+impl<const ROOM: usize> Model for Text<ROOM> {
     ghost use Rattle.std.specs.Prelude.{ℕ, List, ◌≡◌, ◌≤◌, take, length};
 
     ghost Value = { List ℕ };
 
-    ghost view = { λ line. take line.len line.bytes };
+    ghost view = { λ text. take text.len text.bytes };
 
-    ghost invariant = { λ line. (length line.bytes ≡ ROOM) × (line.len ≤ ROOM) };
+    ghost invariant = { λ text. (length text.bytes ≡ ROOM) × (text.len ≤ ROOM) };
 }
 
 // Writes a piece into a buffer from a place on, where it fits.
@@ -44,6 +50,15 @@ fn write_whole_at(buffer: &mut [u8], at: usize, number: u64) -> usize
     end
 }
 
+// Writes a name into a buffer from a place on: always twelve bytes, of which those behind the name don't count.
+fn write_name_at(buffer: &mut [u8], at: usize, name: &Name)
+    requires { at + 12 ≤ length buffer.old }
+    ensures text { take (at + length name.now) buffer.new ≡ take at buffer.old ++ name.now }
+    ensures few { length name.now ≤ 12 }
+{
+    buffer[at..at + 12].copy_from_slice(name.padded());
+}
+
 // How many decimal digits a number has.
 fn digit_count(number: u64) -> usize
     ensures { result ≡ length (decimal number) }
@@ -54,19 +69,19 @@ fn digit_count(number: u64) -> usize
     }
 }
 
-impl<const ROOM: usize> Line<ROOM> {
-    /// An empty line.
-    pub fn new() -> Line<ROOM>
+impl<const ROOM: usize> Text<ROOM> {
+    /// An empty text.
+    pub fn new() -> Text<ROOM>
         ensures text { result ≡ [] }
         ensures length { length result ≡ 0 }
     {
-        Line {
+        Text {
             bytes: [0; ROOM],
             len: 0,
         }
     }
 
-    /// The bytes of the line so far.
+    /// The bytes so far.
     pub fn bytes(&self) -> &[u8]
         ensures { result.now ≡ self.now }
     {
@@ -84,8 +99,19 @@ impl<const ROOM: usize> Line<ROOM> {
         self.len += bytes.len();
     }
 
-    /// Appends a number in decimal digits.
-    pub fn push_whole(&mut self, number: u64)
+    /// Appends a name. Twelve bytes are copied, however long it is.
+    pub fn push_name(&mut self, name: &Name)
+        requires { length self.old + 12 ≤ ROOM }
+        ensures text { self.new ≡ self.old ++ name.now }
+        ensures length { length self.new ≡ length self.old + length name.now }
+        ensures few { length name.now ≤ 12 }
+    {
+        write_name_at(&mut self.bytes, self.len, name);
+        self.len += name.len();
+    }
+
+    /// Appends a number of 64 bits in decimal digits. It is written to where it goes.
+    pub fn push_u64(&mut self, number: u64)
         requires { length self.old + length (decimal number) ≤ ROOM }
         ensures text { self.new ≡ self.old ++ decimal number }
         ensures length { length self.new ≡ length self.old + length (decimal number) }
@@ -93,8 +119,8 @@ impl<const ROOM: usize> Line<ROOM> {
         self.len = write_whole_at(&mut self.bytes, self.len, number);
     }
 
-    // Appends a number of up to 128 bits in decimal digits.
-    fn push_wide(&mut self, number: u128)
+    /// Appends a number in decimal digits.
+    pub fn push_whole(&mut self, number: u128)
         requires { length self.old + length (decimal number) ≤ ROOM }
         ensures text { self.new ≡ self.old ++ decimal number }
         ensures length { length self.new ≡ length self.old + length (decimal number) }
@@ -120,9 +146,9 @@ impl<const ROOM: usize> Line<ROOM> {
         ensures { self.new ≡ self.old ++ (sign_of num ++ decimal top ++ 47 ∷ [] ++ decimal bottom) }
     {
         self.push_sign(num);
-        self.push_wide(top);
+        self.push_whole(top);
         self.push_bytes(b"/");
-        self.push_wide(bottom);
+        self.push_whole(bottom);
     }
 
     /// Appends a fraction as `n/d` in lowest terms, with `-` before a negative one; zero is `0/1`.
@@ -143,20 +169,41 @@ impl<const ROOM: usize> Line<ROOM> {
 #[cfg(test)]
 mod tests {
     use super::*;
+    use crate::name_of;
 
     #[test]
     #[tactic(auto, using(crate::proofs::Decimals::short_decimal))]
     fn a_line_is_its_pieces(rt: HostRuntime) {
-        let mut line: Line<512> = Line::new();
+        let mut line = Line::new();
         line.push_bytes(b"ok ");
-        line.push_whole(1_000_000_000_000);
+        line.push_u64(1_000_000_000_000);
+        line.push_bytes(b" ");
+        line.push_u64(0);
         line.push_bytes(b"\n");
-        assert_eq!(rt; line.bytes(), b"ok 1000000000000\n".as_slice());
+        assert_eq!(rt; line.bytes(), b"ok 1000000000000 0\n".as_slice());
+    }
+
+    // The text of a name, if these bytes are one.
+    fn text_of_name(bytes: &[u8]) -> Option<Text<12>> {
+        let name = name_of(bytes)?;
+        let mut text = Text::new();
+        text.push_name(&name);
+        Some(text)
+    }
+
+    #[test]
+    fn a_name_is_its_bytes(rt: HostRuntime) {
+        for bytes in [b"A".as_slice(), b"TWELVE-BYTES".as_slice()] {
+            let Some(text) = text_of_name(bytes) else {
+                panic!(rt; "no name");
+            };
+            assert_eq!(rt; text.bytes(), bytes);
+        }
     }
 
     // Appends a fraction and a space.
     #[tactic(auto, using(crate::proofs::Fractions::short_fraction))]
-    fn push_word(line: &mut Line<512>, num: i128, den: u128)
+    fn push_word(line: &mut Line, num: i128, den: u128)
         requires den { 1 ≤ den }
         requires num_size { unsigned_abs num < 2 ^ 126 }
         requires den_size { den < 2 ^ 126 }
@@ -169,7 +216,7 @@ mod tests {
 
     #[test]
     fn fractions_stand_in_lowest_terms(rt: HostRuntime) {
-        let mut line: Line<512> = Line::new();
+        let mut line = Line::new();
         push_word(&mut line, 6, 4);
         push_word(&mut line, 0, 7);
         push_word(&mut line, -180, 1);

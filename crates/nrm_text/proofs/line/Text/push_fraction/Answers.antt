@@ -3,8 +3,8 @@ use Rattle.nrm_number.proofs.GcdLaws.{gcd_pos}
 use Rattle.nrm_fraction.specs.Fraction.{◌over◌}
 use Rattle.nrm_text.specs.Fractions.{fraction_text}
 use Rattle.nrm_text.proofs.Fractions.{over_pieces, over_length}
-use Rattle.nrm_text.proofs.line.Line.push_fraction.Given.{Over}
-use Rattle.nrm_text.proofs.line.Line.push_fraction.Goals as goal
+use Rattle.nrm_text.proofs.line.Text.push_fraction.Given.{Over}
+use Rattle.nrm_text.proofs.line.Text.push_fraction.Goals as goal
 
 pub nonzero_div-size : goal.nonzero_div-size
 nonzero_div-size g c = subst (λ g. 0 < g) (sym c.gcd-shared.ensures.value) (gcd_pos c.unsigned_abs-size.result c.args.den c.requires.den)
