@@ -15,16 +15,19 @@ ghost use Rattle.nrm_dual.specs.Texts.{certificate_text, leg_line, product_line,
 use nrm_edge::{Failed, Sink, put_all};
 use nrm_lp::Certificate;
 use nrm_model::Network;
-use nrm_text::{Line, Name};
+use nrm_text::{Name, Text};
+
+// The most bytes of a line.
+const ROOM: usize = 112;
 
 // The line of a mean value.
 #[tactic(auto, using(nrm_text::proofs::Fractions::short_fraction))]
-fn line_of_value(value: i64, den: u128) -> Line
+fn line_of_value(value: i64, den: u128) -> Text<ROOM>
     requires some { 1 ≤ den }
     requires den_size { den < 2 ^ 126 }
     ensures { result ≡ text_line (codes "value" ∷ fraction_text (value over den) ∷ []) }
 {
-    let mut line = Line::new();
+    let mut line = Text::new();
     line.push_bytes(b"value ");
     line.push_fraction(i128::from(value), den);
     line.push_bytes(b"\n");
@@ -33,14 +36,14 @@ fn line_of_value(value: i64, den: u128) -> Line
 
 // The line of a product that is allotted so much.
 #[tactic(auto, using(nrm_text::proofs::Fractions::short_fraction))]
-fn line_of_product(name: &Name, allotted: i64, den: u128) -> Line
+fn line_of_product(name: &Name, allotted: i64, den: u128) -> Text<ROOM>
     requires some { 1 ≤ den }
     requires den_size { den < 2 ^ 126 }
     ensures { result ≡ text_line (codes "product" ∷ name.now ∷ fraction_text (allotted over den) ∷ []) }
 {
-    let mut line = Line::new();
+    let mut line = Text::new();
     line.push_bytes(b"product ");
-    line.push_bytes(name.bytes());
+    line.push_name(name);
     line.push_bytes(b" ");
     line.push_fraction(i128::from(allotted), den);
     line.push_bytes(b"\n");
@@ -49,14 +52,14 @@ fn line_of_product(name: &Name, allotted: i64, den: u128) -> Line
 
 // The line of a leg at so much a seat.
 #[tactic(auto, using(nrm_text::proofs::Fractions::short_fraction))]
-fn line_of_leg(name: &Name, price: i64, den: u128) -> Line
+fn line_of_leg(name: &Name, price: i64, den: u128) -> Text<ROOM>
     requires some { 1 ≤ den }
     requires den_size { den < 2 ^ 126 }
     ensures { result ≡ text_line (codes "leg" ∷ name.now ∷ fraction_text (price over den) ∷ []) }
 {
-    let mut line = Line::new();
+    let mut line = Text::new();
     line.push_bytes(b"leg ");
-    line.push_bytes(name.bytes());
+    line.push_name(name);
     line.push_bytes(b" ");
     line.push_fraction(i128::from(price), den);
     line.push_bytes(b"\n");
@@ -74,7 +77,7 @@ fn over_histories(net: &Network, den: i64) -> u128
 }
 
 // The line of the mean value.
-fn line_for_value(net: &Network, certificate: &Certificate) -> Line
+fn line_for_value(net: &Network, certificate: &Certificate) -> Text<ROOM>
     requires { HasShape size_limit (length net.now.products) (length net.now.legs) certificate.now }
     ensures { result ≡ value_line net.now certificate.now }
 {
@@ -82,7 +85,7 @@ fn line_for_value(net: &Network, certificate: &Certificate) -> Line
 }
 
 // The line of a product.
-fn line_for_product(net: &Network, certificate: &Certificate, product: u16) -> Line
+fn line_for_product(net: &Network, certificate: &Certificate, product: u16) -> Text<ROOM>
     requires shape { HasShape size_limit (length net.now.products) (length net.now.legs) certificate.now }
     requires product { product < length net.now.products }
     ensures { result ≡ product_line net.now certificate.now product }
@@ -96,7 +99,7 @@ fn line_for_product(net: &Network, certificate: &Certificate, product: u16) -> L
 }
 
 // The line of a leg.
-fn line_for_leg(net: &Network, certificate: &Certificate, leg: u8) -> Line
+fn line_for_leg(net: &Network, certificate: &Certificate, leg: u8) -> Text<ROOM>
     requires shape { HasShape size_limit (length net.now.products) (length net.now.legs) certificate.now }
     requires leg { leg < length net.now.legs }
     ensures { result ≡ leg_line net.now certificate.now leg }

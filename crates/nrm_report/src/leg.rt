@@ -11,38 +11,41 @@ ghost use Rattle.nrm_report.specs.Texts.{leg_line, leg_text, on_line};
 use nrm_book::Book;
 use nrm_edge::{Failed, Sink, put_all};
 use nrm_model::Network;
-use nrm_text::{Line, Name};
+use nrm_text::{Name, Text};
+
+// The most bytes of a line.
+const ROOM: usize = 96;
 
 // The line of a leg, from its numbers.
 #[tactic(auto, using(nrm_text::proofs::Decimals::short_decimal))]
-fn line_of_leg(name: &Name, seats: u16, sold: u16, left: u16) -> Line
+fn line_of_leg(name: &Name, seats: u16, sold: u16, left: u16) -> Text<ROOM>
     ensures { result ≡ text_line (codes "leg" ∷ name.now ∷ codes "seats" ∷ decimal seats ∷ codes "sold" ∷ decimal sold ∷ codes "left" ∷ decimal left ∷ []) }
 {
-    let mut line = Line::new();
+    let mut line = Text::new();
     line.push_bytes(b"leg ");
-    line.push_bytes(name.bytes());
+    line.push_name(name);
     line.push_bytes(b" seats ");
-    line.push_whole(u128::from(seats));
+    line.push_u64(u64::from(seats));
     line.push_bytes(b" sold ");
-    line.push_whole(u128::from(sold));
+    line.push_u64(u64::from(sold));
     line.push_bytes(b" left ");
-    line.push_whole(u128::from(left));
+    line.push_u64(u64::from(left));
     line.push_bytes(b"\n");
     line
 }
 
 // The line of a product on a leg, with the seats that it has sold.
 #[tactic(auto, using(nrm_text::proofs::Decimals::short_decimal))]
-fn line_of_product(leg: &Name, product: &Name, sold: u16) -> Line
+fn line_of_product(leg: &Name, product: &Name, sold: u16) -> Text<ROOM>
     ensures { result ≡ text_line (codes "on" ∷ leg.now ∷ product.now ∷ decimal sold ∷ []) }
 {
-    let mut line = Line::new();
+    let mut line = Text::new();
     line.push_bytes(b"on ");
-    line.push_bytes(leg.bytes());
+    line.push_name(leg);
     line.push_bytes(b" ");
-    line.push_bytes(product.bytes());
+    line.push_name(product);
     line.push_bytes(b" ");
-    line.push_whole(u128::from(sold));
+    line.push_u64(u64::from(sold));
     line.push_bytes(b"\n");
     line
 }
@@ -69,7 +72,7 @@ fn put_product<K: Sink>(
 }
 
 // The line of the leg.
-fn line_for_leg(net: &Network, book: &Book, leg: u8) -> Line
+fn line_for_leg(net: &Network, book: &Book, leg: u8) -> Text<ROOM>
     requires book { book.now.inventory ≡ inventory_of net.now }
     requires leg { leg < length net.now.legs }
     ensures { result ≡ leg_line net.now book.now.bookings leg }

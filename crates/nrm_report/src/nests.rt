@@ -21,25 +21,28 @@ use nrm_edge::{Failed, Sink, put_all};
 use nrm_lp::Certificate;
 use nrm_model::Network;
 use nrm_plan::Plan;
-use nrm_text::{Line, Name};
+use nrm_text::{Name, Text};
 use nrm_virtual::adjusted;
 
+// The most bytes of a line.
+const ROOM: usize = 320;
+
 // The names in the line of a product on a leg.
-fn names_of_nest(leg: &Name, product: &Name) -> Line
+fn names_of_nest(leg: &Name, product: &Name) -> Text<ROOM>
     ensures text { result ≡ codes "nest " ++ leg.now ++ 32 ∷ product.now }
     ensures length { length result ≤ 30 }
 {
-    let mut line = Line::new();
+    let mut line = Text::new();
     line.push_bytes(b"nest ");
-    line.push_bytes(leg.bytes());
+    line.push_name(leg);
     line.push_bytes(b" ");
-    line.push_bytes(product.bytes());
+    line.push_name(product);
     line
 }
 
 // The line of a product on a leg, from its numbers.
 #[tactic(auto, using(nrm_text::proofs::Fractions::short_fraction, nrm_text::proofs::Decimals::short_decimal))]
-fn line_of_nest(leg: &Name, product: &Name, fare: i128, den: u128, bucket: u8) -> Line
+fn line_of_nest(leg: &Name, product: &Name, fare: i128, den: u128, bucket: u8) -> Text<ROOM>
     requires some { 1 ≤ den }
     requires fare_size { unsigned_abs fare < 2 ^ 126 }
     requires den_size { den < 2 ^ 126 }
@@ -49,7 +52,7 @@ fn line_of_nest(leg: &Name, product: &Name, fare: i128, den: u128, bucket: u8) -
     line.push_bytes(b" ");
     line.push_fraction(fare, den);
     line.push_bytes(b" ");
-    line.push_whole(u128::from(bucket));
+    line.push_u64(u64::from(bucket));
     line.push_bytes(b"\n");
     line
 }
@@ -61,7 +64,7 @@ fn line_for_nest(
     certificate: &Certificate,
     leg: u8,
     product: u16,
-) -> Line
+) -> Text<ROOM>
     requires nested { IsNested net.now certificate.now plan.now }
     requires leg { leg < length net.now.legs }
     requires product { product < length net.now.products }
@@ -142,17 +145,17 @@ fn put_nests<K: Sink>(
 
 // Appends a space and a number.
 #[tactic(auto, using(nrm_text::proofs::Decimals::short_decimal))]
-fn push_word(line: &mut Line, number: u16)
-    requires { length line.old + 21 ≤ 512 }
+fn push_word(line: &mut Text<ROOM>, number: u16)
+    requires { length line.old + 21 ≤ ROOM }
     ensures text { line.new ≡ line.old ++ 32 ∷ decimal number }
     ensures length { length line.new ≤ length line.old + 21 }
 {
     line.push_bytes(b" ");
-    line.push_whole(u128::from(number));
+    line.push_u64(u64::from(number));
 }
 
 // Appends the protections of a leg, for each of so many buckets.
-fn push_protections(line: &mut Line, plan: &Plan, leg: u8, buckets: u8)
+fn push_protections(line: &mut Text<ROOM>, plan: &Plan, leg: u8, buckets: u8)
     requires nests { (nests : NestsValue) × (plan.now.nests ≡ Some nests) × (leg < length nests.protections) × (length (get_or nests.protections leg []) ≡ buckets) }
     requires few { buckets ≤ MOST_THRESHOLDS }
     requires room { length line.old ≤ 100 }
@@ -165,15 +168,15 @@ fn push_protections(line: &mut Line, plan: &Plan, leg: u8, buckets: u8)
 }
 
 // The line of a leg's protections, for each of its buckets but the last.
-fn line_for_protections(net: &Network, plan: &Plan, leg: u8) -> Line
+fn line_for_protections(net: &Network, plan: &Plan, leg: u8) -> Text<ROOM>
     requires nested { (cert : Cert) × IsNested net.now cert plan.now }
     requires leg { leg < length net.now.legs }
     ensures { result ≡ protections_line net.now plan.now leg }
 {
     let row = net.leg_at(leg);
-    let mut line = Line::new();
+    let mut line = Text::new();
     line.push_bytes(b"protect ");
-    line.push_bytes(row.name.bytes());
+    line.push_name(&row.name);
     push_protections(&mut line, plan, leg, row.cuts.as_slice().len() as u8);
     line.push_bytes(b"\n");
     line

@@ -17,8 +17,11 @@ use nrm_edge::{Failed, Sink, put_all};
 use nrm_report::{leg_text, plan_text};
 use nrm_simplex::SolveFault;
 use nrm_stream::Command;
-use nrm_text::{Line, Name};
+use nrm_text::{Name, Text};
 use std::alloc::Global;
+
+// The most bytes of a reply of one line.
+const ROOM: usize = 128;
 
 /// What a line is answered. Legs are named by their numbers in the network.
 #[derive(Clone, Copy, Debug, PartialEq, Eq)]
@@ -151,41 +154,41 @@ pub fn carry_out(alloc: Global, controller: &mut Controller, command: &Command) 
 
 // Writes the line of a request that was sold.
 #[tactic(auto, using(nrm_text::proofs::Decimals::short_decimal))]
-fn write_sold(line: &mut Line, number: u64)
+fn write_sold(line: &mut Text<ROOM>, number: u64)
     requires { line.old ≡ [] }
     ensures { line.new ≡ text_of (sold number) }
 {
     line.push_bytes(b"ok ");
-    line.push_whole(u128::from(number));
+    line.push_u64(number);
     line.push_bytes(b"\n");
 }
 
 // Writes the line of a request that a leg refused.
-fn write_refused(line: &mut Line, leg: &Name)
+fn write_refused(line: &mut Text<ROOM>, leg: &Name)
     requires { line.old ≡ [] }
     ensures { line.new ≡ text_of (no_leg leg.now) }
 {
     line.push_bytes(b"no ");
-    line.push_bytes(leg.bytes());
+    line.push_name(leg);
     line.push_bytes(b"\n");
 }
 
 // Writes the line of a cancellation.
 #[tactic(auto, using(nrm_text::proofs::Decimals::short_decimal))]
-fn write_cancelled(line: &mut Line, number: u64, refund: u64)
+fn write_cancelled(line: &mut Text<ROOM>, number: u64, refund: u64)
     requires { line.old ≡ [] }
     ensures { line.new ≡ text_of (cancelled number refund) }
 {
     line.push_bytes(b"cancelled ");
-    line.push_whole(u128::from(number));
+    line.push_u64(number);
     line.push_bytes(b" ");
-    line.push_whole(u128::from(refund));
+    line.push_u64(refund);
     line.push_bytes(b"\n");
 }
 
 // Writes the line of a new plan with its mean value.
 #[tactic(auto, using(nrm_text::proofs::Fractions::short_fraction))]
-fn write_optimised(line: &mut Line, num: u64, den: u64)
+fn write_optimised(line: &mut Text<ROOM>, num: u64, den: u64)
     requires empty { line.old ≡ [] }
     requires some { 1 ≤ den }
     ensures { line.new ≡ text_of (optimised (pos num over den)) }
@@ -197,7 +200,7 @@ fn write_optimised(line: &mut Line, num: u64, den: u64)
 
 // Writes the line of hindsight, with the revenue of the bookings that stand.
 #[tactic(auto, using(nrm_text::proofs::Fractions::short_fraction, nrm_text::proofs::Decimals::short_decimal))]
-fn write_hindsight(line: &mut Line, num: u64, den: u64, revenue: u64)
+fn write_hindsight(line: &mut Text<ROOM>, num: u64, den: u64, revenue: u64)
     requires empty { line.old ≡ [] }
     requires some { 1 ≤ den }
     ensures { line.new ≡ text_of (hindsight_told (pos num over den) revenue) }
@@ -205,7 +208,7 @@ fn write_hindsight(line: &mut Line, num: u64, den: u64, revenue: u64)
     line.push_bytes(b"hindsight ");
     line.push_fraction(i128::from(num), u128::from(den));
     line.push_bytes(b" revenue ");
-    line.push_whole(u128::from(revenue));
+    line.push_u64(revenue);
     line.push_bytes(b"\n");
 }
 
@@ -220,7 +223,7 @@ pub fn put_reply<K: Sink>(controller: &Controller, reply: Reply, sink: &mut K) -
     ensures cause { HasCause (K.faults sink.old) (K.faults sink.new) result }
 {
     let net = controller.network();
-    let mut line = Line::new();
+    let mut line = Text::new();
     match reply {
         Reply::Bad => return put_all(sink, b"bad\n"),
         Reply::Unknown => return put_all(sink, b"unknown\n"),

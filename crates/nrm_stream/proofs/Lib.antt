@@ -6,3 +6,4 @@ pub mod Kept
 pub mod LongLines
 pub mod Pieces
 pub mod Words
+mod FirstWords

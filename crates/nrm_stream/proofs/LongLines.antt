@@ -13,7 +13,7 @@ use Rattle.nrm_stream.specs.Splitting.{kept_of}
 use Rattle.nrm_stream.specs.declared.command.Command.TheVariants as command
 use Rattle.nrm_stream.proofs.Cuts.{some-parts}
 
-both : (a b : Bool) → (a && b) ≡ true → (a ≡ true) × (b ≡ true)
+pub both : (a b : Bool) → (a && b) ≡ true → (a ≡ true) × (b ≡ true)
 both true b h = (refl, h)
 both false b h = cc
 
@@ -95,7 +95,7 @@ no-name b long =
       | inr e ↦ rw e refl
     ]
 
-booking-none : (name : Option (List ℕ)) → booking_of name None ≡ command.Bad
+pub booking-none : (name : Option (List ℕ)) → booking_of name None ≡ command.Bad
 booking-none (Some product) = refl
 booking-none None = refl
 

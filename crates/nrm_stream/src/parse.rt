@@ -1,6 +1,6 @@
 //! Commands as they are read: lower-case words with one space between each two, and one carriage return dropped at the
 //! end of the line.
-ghost use Rattle.std.specs.Prelude.{◌≡◌, ◌==◌, bytes_eq};
+ghost use Rattle.std.specs.Prelude.{◌≡◌, ◌==◌, ◌∷◌, bytes_eq, codes};
 ghost use Rattle.std.specs.List.{slice_split};
 ghost use Rattle.std.specs.Str.Lines.{strip_carriage_return};
 ghost use Rattle.nrm_stream.specs.Commands.{command_of, command_of_words, IsCommand, one_word, three_words, two_words};
@@ -89,7 +89,7 @@ fn command_of_three(word: &[u8], name: &[u8], party: &[u8]) -> Command
 }
 
 // What the words of a line ask for.
-fn command_in(line: &[u8]) -> Command
+fn command_in_words(line: &[u8]) -> Command
     ensures command { result ≡ command_of_words (slice_split (λ c. c == 32) line.now) }
     ensures within { IsCommand result }
 {
@@ -102,6 +102,37 @@ fn command_in(line: &[u8]) -> Command
     match split_once(rest, b' ') {
         None => command_of_three(first, second, rest),
         Some(_) => Command::Bad,
+    }
+}
+
+// What a line asks for that begins with `book` and a space. A party with a space in it is no number.
+fn booking_in(rest: &[u8]) -> Command
+    ensures command { result ≡ command_of_words (codes "book" ∷ slice_split (λ c. c == 32) rest.now) }
+    ensures within { IsCommand result }
+{
+    match split_once(rest, b' ') {
+        Some((name, party)) => command_of_three(b"book", name, party),
+        None => Command::Bad,
+    }
+}
+
+// What a line asks for that begins with `cancel` and a space. A number has no space in it.
+fn cancellation_in(rest: &[u8]) -> Command
+    ensures command { result ≡ command_of_words (codes "cancel" ∷ slice_split (λ c. c == 32) rest.now) }
+    ensures within { IsCommand result }
+{
+    command_of_two(b"cancel", rest)
+}
+
+// What the words of a line ask for: those of most lines are told by their first bytes.
+fn command_in(line: &[u8]) -> Command
+    ensures command { result ≡ command_of_words (slice_split (λ c. c == 32) line.now) }
+    ensures within { IsCommand result }
+{
+    match line {
+        [b'b', b'o', b'o', b'k', b' ', rest @ ..] => booking_in(rest),
+        [b'c', b'a', b'n', b'c', b'e', b'l', b' ', rest @ ..] => cancellation_in(rest),
+        _ => command_in_words(line),
     }
 }
 

@@ -1,5 +1,5 @@
 -- Decimal text is a whole number, and its value is the number that was written.
-use Rattle.std.proofs.Common.{ℕ, ◌≡◌, ◌⊎◌, ◌+◌, ◌-◌, ◌*◌, ◌/◌, ◌%◌, ◌^◌, ◌<◌, ◌≤◌, true, false, ◌&&◌, ◌==◌, List, [], ◌∷◌, ◌++◌, length, get_or, Some, refl, ap, arith, inl, inr, nat_le, length-append}
+use Rattle.std.proofs.Common.{ℕ, zero, suc, ◌≡◌, ◌⊎◌, ◌+◌, ◌-◌, ◌*◌, ◌/◌, ◌%◌, ◌^◌, ◌<◌, ◌≤◌, true, false, ◌&&◌, ◌==◌, List, [], ◌∷◌, ◌++◌, length, get_or, Some, refl, ap, arith, inl, inr, nat_le, length-append}
 use Rattle.std.specs.Prelude.{decimal, fold}
 use Rattle.std.specs.List.{list_all}
 use Rattle.std.specs.Char.{is_ascii_digit}
@@ -68,3 +68,26 @@ whole_between-decimal low high n small above below =
 -- a number of 64 bits has at most 20 digits
 pub short_decimal : (n : ℕ) → n < 2 ^ 64 → length (decimal n) ≤ 20
 short_decimal n small = length-decimal-le 20 n (omega arith) (omega arith) small
+
+-- a number of no less than 10 ^ k has more than k digits
+abbrev HasMore : ℕ → List ℕ → Type 0
+HasMore n ds = (k : ℕ) → 10 ^ k ≤ n → k < length ds
+
+some-power : (k : ℕ) → 0 < 10 ^ k
+some-power zero = omega arith
+some-power (suc k) = omega (arith, some-power k)
+
+more-digit : (n : ℕ) → n < 10 → HasMore n ((48 + n) ∷ [])
+more-digit n few zero reached = omega arith
+more-digit n few (suc k) reached = absurd (omega (arith, some-power k))
+
+more-step : (n : ℕ) (ds : List ℕ) → 10 ≤ n → HasMore (n / 10) ds → HasMore n (ds ++ ((48 + n % 10) ∷ []))
+more-step n ds many more zero reached = omega (arith, length-append ds ((48 + n % 10) ∷ []))
+more-step n ds many more (suc k) reached = let tenth : 10 ^ k ≤ n / 10 = omega arith in omega (arith, more k tenth, length-append ds ((48 + n % 10) ∷ []))
+
+-- from 10 ^ k on and below the next power a number has k + 1 digits
+pub digits-of_power : (n k : ℕ) → n < 2 ^ 64 → 10 ^ k ≤ n → n < 10 * 10 ^ k → length (decimal n) ≡ k + 1
+digits-of_power n k small reached below =
+    let few : length (decimal n) ≤ suc k = length-decimal-le (suc k) n (omega arith) (omega arith) small in
+    let many : k < length (decimal n) = decimal_by_steps HasMore more-digit more-step n small k reached in
+    omega (arith, few, many)

@@ -1,30 +1,34 @@
-//! Lines that are written: a text of at most 512 bytes in an array, so that writing one takes no memory.
+//! Lines that are written: a text in an array of as much room as its writer asks for, so that writing one takes no memory.
 ghost use Rattle.std.specs.Prelude.{◌≡◌, ◌≤◌, ◌<◌, ◌^◌, ◌+◌, ◌++◌, [], ◌∷◌, length, take, decimal, unsigned_abs};
 ghost use Rattle.nrm_fraction.specs.Fraction.{◌over◌};
 ghost use Rattle.nrm_text.specs.Fractions.{sign_of, fraction_text};
 
-use itoa::Buffer;
+use crate::Name;
+use itoa::{Buffer, write_digits};
 use nrm_number::gcd;
 use std::marker::Model;
 
-/// The most bytes that a line holds.
+/// The most bytes that a `Line` holds.
 pub const LINE_ROOM: usize = 512;
 
-/// A text of at most 512 bytes. Contracts see its bytes.
+/// A line of at most 512 bytes.
+pub type Line = Text<LINE_ROOM>;
+
+/// A text of at most `ROOM` bytes. Contracts see its bytes.
 #[derive(Drop)]
-pub struct Line {
-    bytes: [u8; LINE_ROOM],
+pub struct Text<const ROOM: usize> {
+    bytes: [u8; ROOM],
     len: usize,
 }
 
-impl Model for Line {
+impl<const ROOM: usize> Model for Text<ROOM> {
     ghost use Rattle.std.specs.Prelude.{ℕ, List, ◌≡◌, ◌≤◌, take, length};
 
     ghost Value = { List ℕ };
 
-    ghost view = { λ line. take line.len line.bytes };
+    ghost view = { λ text. take text.len text.bytes };
 
-    ghost invariant = { λ line. (length line.bytes ≡ 512) × (line.len ≤ 512) };
+    ghost invariant = { λ text. (length text.bytes ≡ ROOM) × (text.len ≤ ROOM) };
 }
 
 // Writes a piece into a buffer from a place on, where it fits.
@@ -35,19 +39,49 @@ fn write_at(buffer: &mut [u8], at: usize, piece: &[u8])
     buffer[at..at + piece.len()].copy_from_slice(piece);
 }
 
-impl Line {
-    /// An empty line.
-    pub fn new() -> Line
+// Writes a number into a buffer from a place on, where it fits, and gives the place behind it.
+fn write_whole_at(buffer: &mut [u8], at: usize, number: u64) -> usize
+    requires { at + length (decimal number) ≤ length buffer.old }
+    ensures end { result ≡ at + length (decimal number) }
+    ensures text { take result buffer.new ≡ take at buffer.old ++ decimal number }
+{
+    let end = at + digit_count(number);
+    write_digits(number, buffer, end);
+    end
+}
+
+// Writes a name into a buffer from a place on: always twelve bytes, of which those behind the name don't count.
+fn write_name_at(buffer: &mut [u8], at: usize, name: &Name)
+    requires { at + 12 ≤ length buffer.old }
+    ensures text { take (at + length name.now) buffer.new ≡ take at buffer.old ++ name.now }
+    ensures few { length name.now ≤ 12 }
+{
+    buffer[at..at + 12].copy_from_slice(name.padded());
+}
+
+// How many decimal digits a number has.
+fn digit_count(number: u64) -> usize
+    ensures { result ≡ length (decimal number) }
+{
+    match number.checked_ilog10() {
+        Some(power) => power as usize + 1,
+        None => 1,
+    }
+}
+
+impl<const ROOM: usize> Text<ROOM> {
+    /// An empty text.
+    pub fn new() -> Text<ROOM>
         ensures text { result ≡ [] }
         ensures length { length result ≡ 0 }
     {
-        Line {
-            bytes: [0; LINE_ROOM],
+        Text {
+            bytes: [0; ROOM],
             len: 0,
         }
     }
 
-    /// The bytes of the line so far.
+    /// The bytes so far.
     pub fn bytes(&self) -> &[u8]
         ensures { result.now ≡ self.now }
     {
@@ -57,7 +91,7 @@ impl Line {
 
     /// Appends these bytes.
     pub fn push_bytes(&mut self, bytes: &[u8])
-        requires { length self.old + length bytes.now ≤ 512 }
+        requires { length self.old + length bytes.now ≤ ROOM }
         ensures text { self.new ≡ self.old ++ bytes.now }
         ensures length { length self.new ≡ length self.old + length bytes.now }
     {
@@ -65,9 +99,29 @@ impl Line {
         self.len += bytes.len();
     }
 
+    /// Appends a name. Twelve bytes are copied, however long it is.
+    pub fn push_name(&mut self, name: &Name)
+        requires { length self.old + 12 ≤ ROOM }
+        ensures text { self.new ≡ self.old ++ name.now }
+        ensures length { length self.new ≡ length self.old + length name.now }
+        ensures few { length name.now ≤ 12 }
+    {
+        write_name_at(&mut self.bytes, self.len, name);
+        self.len += name.len();
+    }
+
+    /// Appends a number of 64 bits in decimal digits. It is written to where it goes.
+    pub fn push_u64(&mut self, number: u64)
+        requires { length self.old + length (decimal number) ≤ ROOM }
+        ensures text { self.new ≡ self.old ++ decimal number }
+        ensures length { length self.new ≡ length self.old + length (decimal number) }
+    {
+        self.len = write_whole_at(&mut self.bytes, self.len, number);
+    }
+
     /// Appends a number in decimal digits.
     pub fn push_whole(&mut self, number: u128)
-        requires { length self.old + length (decimal number) ≤ 512 }
+        requires { length self.old + length (decimal number) ≤ ROOM }
         ensures text { self.new ≡ self.old ++ decimal number }
         ensures length { length self.new ≡ length self.old + length (decimal number) }
     {
@@ -77,7 +131,7 @@ impl Line {
 
     // Appends `-` before a negative number.
     fn push_sign(&mut self, num: i128)
-        requires { length self.old + length (sign_of num) ≤ 512 }
+        requires { length self.old + length (sign_of num) ≤ ROOM }
         ensures text { self.new ≡ self.old ++ sign_of num }
         ensures length { length self.new ≡ length self.old + length (sign_of num) }
     {
@@ -88,7 +142,7 @@ impl Line {
 
     // Appends the sign of the first number, then the second, `/` and the third.
     fn push_parts(&mut self, num: i128, top: u128, bottom: u128)
-        requires { length self.old + (length (sign_of num) + length (decimal top) + 1 + length (decimal bottom)) ≤ 512 }
+        requires { length self.old + (length (sign_of num) + length (decimal top) + 1 + length (decimal bottom)) ≤ ROOM }
         ensures { self.new ≡ self.old ++ (sign_of num ++ decimal top ++ 47 ∷ [] ++ decimal bottom) }
     {
         self.push_sign(num);
@@ -102,7 +156,7 @@ impl Line {
         requires den { 1 ≤ den }
         requires num_size { unsigned_abs num < 2 ^ 126 }
         requires den_size { den < 2 ^ 126 }
-        requires room { length self.old + length (fraction_text (num over den)) ≤ 512 }
+        requires room { length self.old + length (fraction_text (num over den)) ≤ ROOM }
         ensures text { self.new ≡ self.old ++ fraction_text (num over den) }
         ensures length { length self.new ≡ length self.old + length (fraction_text (num over den)) }
     {
@@ -115,15 +169,36 @@ impl Line {
 #[cfg(test)]
 mod tests {
     use super::*;
+    use crate::name_of;
 
     #[test]
     #[tactic(auto, using(crate::proofs::Decimals::short_decimal))]
     fn a_line_is_its_pieces(rt: HostRuntime) {
         let mut line = Line::new();
         line.push_bytes(b"ok ");
-        line.push_whole(1_000_000_000_000);
+        line.push_u64(1_000_000_000_000);
+        line.push_bytes(b" ");
+        line.push_u64(0);
         line.push_bytes(b"\n");
-        assert_eq!(rt; line.bytes(), b"ok 1000000000000\n".as_slice());
+        assert_eq!(rt; line.bytes(), b"ok 1000000000000 0\n".as_slice());
+    }
+
+    // The text of a name, if these bytes are one.
+    fn text_of_name(bytes: &[u8]) -> Option<Text<12>> {
+        let name = name_of(bytes)?;
+        let mut text = Text::new();
+        text.push_name(&name);
+        Some(text)
+    }
+
+    #[test]
+    fn a_name_is_its_bytes(rt: HostRuntime) {
+        for bytes in [b"A".as_slice(), b"TWELVE-BYTES".as_slice()] {
+            let Some(text) = text_of_name(bytes) else {
+                panic!(rt; "no name");
+            };
+            assert_eq!(rt; text.bytes(), bytes);
+        }
     }
 
     // Appends a fraction and a space.

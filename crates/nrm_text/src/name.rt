@@ -41,6 +41,22 @@ impl Name {
         let len = self.len as usize;
         &self.bytes[..len]
     }
+
+    // The bytes of the name with zeros behind them.
+    pub(crate) fn padded(&self) -> &[u8; 12]
+        ensures padded { result.now ≡ self.now ++ replicate (12 - length self.now) 0 }
+        ensures length { length result.now ≡ 12 }
+        ensures within { length self.now ≤ 12 }
+    {
+        &self.bytes
+    }
+
+    // How many bytes the name has.
+    pub(crate) fn len(&self) -> usize
+        ensures { result ≡ length self.now }
+    {
+        self.len as usize
+    }
 }
 
 impl PartialEq for Name {
@@ -66,15 +82,15 @@ impl Eq for Name {
 
 impl Hash for Name {
     ghost use Rattle.std.proofs.Common.{rules};
-    ghost use Rattle.std.specs.Hash as fed;
+    ghost use Rattle.std.specs.Prelude.{◌∷◌, []};
     ghost use Rattle.std.specs.Cmp.Rules.{hashing};
 
-    ghost hash_input = { fed.slice fed.u8 };
+    ghost hash_input = { λ name. name ∷ [] };
 
     ghost respects_eq = { Prim.search (hashing, rules) };
 
     fn hash<H: Hasher>(&self, state: &mut H) {
-        self.bytes().hash(state);
+        state.write(self.bytes());
     }
 }
 

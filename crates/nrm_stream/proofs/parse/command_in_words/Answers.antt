@@ -3,7 +3,7 @@ use Rattle.std.specs.List.{slice_split}
 use Rattle.nrm_stream.specs.Commands.{command_of_words}
 use Rattle.nrm_stream.proofs.Cuts.{some-parts}
 use Rattle.nrm_stream.proofs.Words.{too-many-words}
-use Rattle.nrm_stream.proofs.parse.command_in.Goals as goal
+use Rattle.nrm_stream.proofs.parse.command_in_words.Goals as goal
 
 pub returns-in-Some-split_once-2-clause-command : goal.returns-in-Some-split_once-2-clause-command
 returns-in-Some-split_once-2-clause-command c =

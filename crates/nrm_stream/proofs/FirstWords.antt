@@ -1,0 +1,76 @@
+-- What the words after `book` and after `cancel` ask for. A number has no space in it: where its bytes have one, the line is bad
+-- as a line of too many words.
+use Rattle.std.proofs.Common.{ℕ, suc, ◌≡◌, ◌≤◌, ◌+◌, ◌-◌, ◌∙◌, Bool, true, false, ◌&&◌, ◌==◌, not, List, [], ◌∷◌, length, take, drop, Option, Some, None, refl, ap, sym, inl, inr, arith, codes, nat_le}
+use Rattle.std.specs.List.{list_all, onto_first, position, slice_split}
+use Rattle.std.specs.Char.{is_ascii_digit}
+use Rattle.std.proofs.lemmas.Bool.{cases_Bool}
+use Rattle.std.proofs.lemmas.List.Splits.{slice_split-cons_no}
+use Rattle.nrm_text.specs.Numbers.{is_whole}
+use Rattle.nrm_text.specs.Names.{name_in}
+use Rattle.nrm_stream.specs.Commands.{command_of_words, three_words, two_words}
+use Rattle.nrm_stream.specs.declared.command.Command.TheVariants as command
+use Rattle.nrm_stream.proofs.Cuts.{some-parts, split-found, split-missing}
+use Rattle.nrm_stream.proofs.LongLines.{booking-none, both}
+use Rattle.nrm_stream.proofs.Words.{too-many-words}
+
+abbrev is_space : ℕ → Bool
+is_space c = c == 32
+
+digit-no-space : (c : ℕ) → is_ascii_digit c ≡ true → (c == 32) ≡ false
+digit-no-space c digit = let low : nat_le 48 c ≡ true = (both (nat_le 48 c) (nat_le c 57) digit).0 in grind arith
+
+digits-alone : (xs : List ℕ) → list_all is_ascii_digit xs ≡ true → slice_split is_space xs ≡ xs ∷ []
+digits-alone [] digits = refl
+digits-alone (x ∷ xs) digits =
+    let (digit, others) = both (is_ascii_digit x) (list_all is_ascii_digit xs) digits in
+    slice_split-cons_no is_space x xs (digit-no-space x digit) ∙ ap (onto_first x) (digits-alone xs others)
+
+whole-digits : (xs : List ℕ) → is_whole xs ≡ true → list_all is_ascii_digit xs ≡ true
+whole-digits [] whole = refl
+whole-digits (c ∷ []) whole = let digit : is_ascii_digit c ≡ true = whole in rw digit refl
+whole-digits (c ∷ d ∷ more) whole =
+    let (front, others) = both (is_ascii_digit c && not (c == 48)) (list_all is_ascii_digit (d ∷ more)) whole in
+    let digit = (both (is_ascii_digit c) (not (c == 48)) front).0 in
+    rw (digit, others) refl
+
+-- bytes with a space in them are no whole number
+spaced-number : (xs : List ℕ) (i : ℕ) → position is_space xs ≡ Some i → is_whole xs ≡ false
+spaced-number xs i found =
+    elim (cases_Bool (is_whole xs)) [
+      | inl whole ↦
+          let alone : length (slice_split is_space xs) ≡ 1 = ap length (digits-alone xs (whole-digits xs whole)) in
+          let more = take (length xs - (i + 1)) (drop (i + 1) xs) in
+          let cut : length (slice_split is_space xs) ≡ suc (length (slice_split is_space more)) = ap length (split-found is_space xs i found).0 in
+          let some : 1 ≤ length (slice_split is_space more) = some-parts is_space more in
+          absurd (omega (arith, alone, cut, some))
+      | inr other ↦ other
+    ]
+
+pub booking-words : (name party : List ℕ) → command_of_words (codes "book" ∷ name ∷ slice_split (λ c. c == 32) party) ≡ three_words (codes "book") name party
+booking-words name party = by (position is_space party) refl
+  where
+    by : (at : Option ℕ) → position is_space party ≡ at → command_of_words (codes "book" ∷ name ∷ slice_split is_space party) ≡ three_words (codes "book") name party
+    by None e = ap (λ (parts : List (List ℕ)). command_of_words (codes "book" ∷ name ∷ parts)) (split-missing is_space party e)
+    by (Some i) e =
+        let more = take (length party - (i + 1)) (drop (i + 1) party) in
+        let bad : three_words (codes "book") name party ≡ command.Bad = rw (spaced-number party i e) (booking-none (name_in name)) in
+        ap (λ (parts : List (List ℕ)). command_of_words (codes "book" ∷ name ∷ parts)) (split-found is_space party i e).0
+        ∙ too-many-words (codes "book") name (take i party) (slice_split is_space more) (some-parts is_space more)
+        ∙ sym bad
+
+cancel-more : (number : List ℕ) (more : List (List ℕ)) → 1 ≤ length more → command_of_words (codes "cancel" ∷ number ∷ more) ≡ command.Bad
+cancel-more number [] some = absurd (omega arith)
+cancel-more number (x ∷ []) some = refl
+cancel-more number (x ∷ y ∷ more) some = refl
+
+pub cancellation-words : (number : List ℕ) → command_of_words (codes "cancel" ∷ slice_split (λ c. c == 32) number) ≡ two_words (codes "cancel") number
+cancellation-words number = by (position is_space number) refl
+  where
+    by : (at : Option ℕ) → position is_space number ≡ at → command_of_words (codes "cancel" ∷ slice_split is_space number) ≡ two_words (codes "cancel") number
+    by None e = ap (λ (parts : List (List ℕ)). command_of_words (codes "cancel" ∷ parts)) (split-missing is_space number e)
+    by (Some i) e =
+        let more = take (length number - (i + 1)) (drop (i + 1) number) in
+        let bad : two_words (codes "cancel") number ≡ command.Bad = rw (spaced-number number i e) refl in
+        ap (λ (parts : List (List ℕ)). command_of_words (codes "cancel" ∷ parts)) (split-found is_space number i e).0
+        ∙ cancel-more (take i number) (slice_split is_space more) (some-parts is_space more)
+        ∙ sym bad
