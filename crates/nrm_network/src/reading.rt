@@ -15,15 +15,16 @@ use std::alloc::Global;
 // How many bytes a file may have.
 const MOST_BYTES: usize = 4_194_304;
 
-// The network that the rows of a file give. One record is read into again for each row.
+// The network that the rows of a file give. One record is read into again for each row. The reader keeps the first row
+// twice over unless it has been given headers and is to have them: no row is one.
 fn read_rows(alloc: Global, bytes: &[u8]) -> Result<Network, NetFault>
     requires { length bytes.now ≤ 4194304 }
     ensures { AnswersFile result (network_or_refusal why_refused why.Empty (rows_of bytes.now)) }
 {
     let mut rdr = ReaderBuilder::new()
-        .has_headers(false)
         .flexible(true)
         .from_reader(alloc, bytes);
+    rdr.set_byte_headers(ByteRecord::new(alloc))?;
     let mut draft = Draft::new(alloc);
     let mut row = ByteRecord::new(alloc);
     let mut taken = 0;
