@@ -46,13 +46,13 @@ fn falls(cuts: &[u32]) -> bool
     true
 }
 
-fn total(seats: &[u32]) -> u64
+fn total(seats: &[u16]) -> u32
     requires { length seats.now ≤ 65536 }
     ensures { result ≡ sum seats.now }
 {
     let mut total = 0;
     for seats in seats {
-        total += u64::from(*seats);
+        total += u32::from(*seats);
     }
     total
 }
@@ -74,17 +74,6 @@ fn differ(names: &[Name]) -> bool
         }
     }
     true
-}
-
-// Writes the seats of each period.
-fn put(places: &mut [u16], seats: &[u32])
-    requires same { length places.old ≡ length seats.now }
-    requires small { All (λ number. number ≤ 999) seats.now }
-    ensures { places.new ≡ seats.now }
-{
-    for i in 0..seats.len() {
-        places[i] = seats[i] as u16;
-    }
 }
 
 impl Draft {
@@ -194,14 +183,13 @@ impl Draft {
         Ok(())
     }
 
-    fn set_demand(&mut self, cell: usize, seats: &[u32])
+    fn set_demand(&mut self, cell: usize, seats: &[u16])
         requires given { cell < length self.old.given.items }
         requires room { cell * self.old.periods + length seats.now ≤ length self.old.demand.items }
-        requires small { All (λ number. number ≤ 999) seats.now }
         ensures { SetsDemand self.old self.new cell seats.now }
     {
         let at = cell * self.periods as usize;
-        put(&mut self.demand[at..at + seats.len()], seats);
+        self.demand[at..at + seats.len()].copy_from_slice(seats);
         self.given[cell] = true;
     }
 
@@ -214,7 +202,7 @@ impl Draft {
         product * self.histories as usize + (history - 1) as usize
     }
 
-    fn take_demand(&mut self, demand: &DemandEntry) -> Result<(), RowFault>
+    fn take_demand(&mut self, demand: &DemandEntry<'_>) -> Result<(), RowFault>
         requires { Awaits self.old (says.Demand demand.now) }
         ensures { TakesSaid (says.Demand demand.now) self.old self.new result }
     {
@@ -225,10 +213,10 @@ impl Draft {
         if self.given[cell] {
             return Err(RowFault::Refused(Why::Twice));
         }
-        if total(&demand.seats) > 999 {
+        if total(demand.seats) > 999 {
             return Err(RowFault::Refused(Why::Sum));
         }
-        self.set_demand(cell, &demand.seats);
+        self.set_demand(cell, demand.seats);
         Ok(())
     }
 
@@ -240,7 +228,8 @@ impl Draft {
         requires { (taken : List (List (List ℕ))) × Stands self.old taken }
         ensures { Takes self.old self.new (fields_of row.now) result }
     {
-        match read_row(alloc, self.counts(), row)? {
+        let mut places = [0; 16];
+        match read_row(alloc, self.counts(), row, &mut places)? {
             Entry::Periods { histories, periods } => {
                 self.take_periods(histories, periods);
                 Ok(())
