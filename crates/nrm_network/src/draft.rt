@@ -1,7 +1,7 @@
 //! A network as it is read, row by row: legs and products with tables of their names, and the demand of each product
 //! in each history and period, 0 until a row gives it. Nothing else of a row is kept.
 ghost use Rattle.std.specs.Prelude.{◌≡◌, ◌<◌, ◌≤◌, ◌+◌, ◌-◌, ◌*◌, ◌^◌, List, [], ℕ, All, IfOk, MatchOption, OnOk, bytes_eq, false, length, map, sum, true};
-ghost use Rattle.std.specs.List.{list_all, list_any};
+ghost use Rattle.std.specs.List.{list_all, list_any, position_from};
 ghost use Rattle.std.specs.Int.{IsInRange};
 ghost use Rattle.nrm_model.specs.Limits.{differ, falls};
 ghost use Rattle.csv.specs.Records.{fields_of};
@@ -32,6 +32,8 @@ pub struct Draft {
     product_names: NameTable,
     demand: Vec<u16>,
     given: Vec<bool>,
+    // The number of the product whose demand was given last: rows of one product mostly follow one another.
+    recent: usize,
 }
 
 // Whether each threshold is below the one before it.
@@ -90,6 +92,7 @@ impl Draft {
             product_names: NameTable::new(alloc),
             demand: Vec::new(alloc),
             given: Vec::new(alloc),
+            recent: 0,
         }
     }
 
@@ -101,6 +104,14 @@ impl Draft {
             periods: self.periods,
             legs: self.legs.len(),
             products: self.products.len(),
+        }
+    }
+
+    // The name of the product whose demand was given last.
+    fn recent_name(&self) -> Option<&Name> {
+        match self.products.get(self.recent) {
+            Some(product) => Some(&product.name),
+            None => None,
         }
     }
 
@@ -183,7 +194,7 @@ impl Draft {
         Ok(())
     }
 
-    fn set_demand(&mut self, cell: usize, seats: &[u16])
+    fn set_demand(&mut self, product: usize, cell: usize, seats: &[u16])
         requires given { cell < length self.old.given.items }
         requires room { cell * self.old.periods + length seats.now ≤ length self.old.demand.items }
         ensures { SetsDemand self.old self.new cell seats.now }
@@ -191,6 +202,17 @@ impl Draft {
         let at = cell * self.periods as usize;
         self.demand[at..at + seats.len()].copy_from_slice(seats);
         self.given[cell] = true;
+        self.recent = product;
+    }
+
+    // The number of the product of this name, if it is there.
+    fn number_of_product(&self, name: &Name) -> Option<usize>
+        ensures { (taken : List (List (List ℕ))) → Stands self.now taken → result ≡ position_from (λ other. bytes_eq other name.now) 0 self.now.product_names }
+    {
+        match self.products.get(self.recent) {
+            Some(product) if product.name == *name => Some(self.recent),
+            _ => self.product_names.number_of(name),
+        }
     }
 
     // The place of a product's demand in a history, which counts from 1, among those of all products and histories.
@@ -206,7 +228,7 @@ impl Draft {
         requires { Awaits self.old (says.Demand demand.now) }
         ensures { TakesSaid (says.Demand demand.now) self.old self.new result }
     {
-        let Some(product) = self.product_names.number_of(&demand.product) else {
+        let Some(product) = self.number_of_product(&demand.product) else {
             return Err(RowFault::Refused(Why::Missing));
         };
         let cell = self.cell_of(product, demand.history);
@@ -216,7 +238,7 @@ impl Draft {
         if total(demand.seats) > 999 {
             return Err(RowFault::Refused(Why::Sum));
         }
-        self.set_demand(cell, demand.seats);
+        self.set_demand(product, cell, demand.seats);
         Ok(())
     }
 
@@ -229,7 +251,7 @@ impl Draft {
         ensures { Takes self.old self.new (fields_of row.now) result }
     {
         let mut places = [0; 16];
-        match read_row(alloc, self.counts(), row, &mut places)? {
+        match read_row(alloc, self.counts(), self.recent_name(), row, &mut places)? {
             Entry::Periods { histories, periods } => {
                 self.take_periods(histories, periods);
                 Ok(())

@@ -6,7 +6,7 @@ ghost use Rattle.nrm_network.specs.Rows.{kind_of, periods_kind, leg_kind, produc
 ghost use Rattle.nrm_network.specs.Inner.Entries.{Counted, ReadsAs, ReadsRow, first_refusal, kind_by, kind_seen};
 
 use crate::fault::{RowFault, Why};
-use crate::row::{field, name_in, names_in, number_in, numbers_in, seats_in};
+use crate::row::{field, name_again, name_in, names_in, number_in, numbers_in, seats_in};
 use csv::ByteRecord;
 use nrm_model::{Leg, Thresholds};
 use nrm_text::Name;
@@ -150,6 +150,7 @@ fn read_product<'a>(alloc: Global, counts: Counts, row: &ByteRecord) -> Result<E
 
 fn read_demand<'a>(
     counts: Counts,
+    recent: Option<&Name>,
     row: &ByteRecord,
     places: &'a mut [u16; 16],
 ) -> Result<Entry<'a>, RowFault>
@@ -158,7 +159,7 @@ fn read_demand<'a>(
 {
     let periods = counts.periods as usize;
     admit(counts.histories == 0, row.len() != 3 + periods, false)?;
-    let product = name_in(field(row, 1))?;
+    let product = name_again(field(row, 1), recent)?;
     let history = number_in(field(row, 2), 1, u32::from(counts.histories))?;
     let seats = &mut places[..periods];
     let within = seats_in(row, seats)?;
@@ -173,13 +174,15 @@ fn read_demand<'a>(
     }))
 }
 
-/// What a row says that passes the checks that need no look-up. The seats of a demand are written at these places.
+/// What a row says that passes the checks that need no look-up. The seats of a demand are written at these places. The
+/// recent name is that of the product whose demand was given last.
 ///
 /// # Errors
 /// The first check that it fails, or want of memory.
 pub fn read_row<'a>(
     alloc: Global,
     counts: Counts,
+    recent: Option<&Name>,
     row: &ByteRecord,
     places: &'a mut [u16; 16],
 ) -> Result<Entry<'a>, RowFault>
@@ -190,7 +193,7 @@ pub fn read_row<'a>(
         RowKind::Periods => read_periods(counts, row),
         RowKind::Leg => read_leg(alloc, counts, row),
         RowKind::Product => read_product(alloc, counts, row),
-        RowKind::Demand => read_demand(counts, row, places),
+        RowKind::Demand => read_demand(counts, recent, row, places),
         RowKind::Unknown => Err(RowFault::Refused(Why::Kind)),
     }
 }

@@ -15,8 +15,8 @@ use std::alloc::Global;
 // How many bytes a file may have.
 const MOST_BYTES: usize = 4_194_304;
 
-// The network that the rows of a file give. One record is read into again for each row. The reader keeps the first row
-// twice over unless it has been given headers and is to have them: no row is one.
+// The network that the rows of a file give. One record is read into again for each row. The reader has an empty row of
+// headers set, for it would keep two copies of the first row as headers else: every row of the file is a record.
 fn read_rows(alloc: Global, bytes: &[u8]) -> Result<Network, NetFault>
     requires { length bytes.now ≤ 4194304 }
     ensures { AnswersFile result (network_or_refusal why_refused why.Empty (rows_of bytes.now)) }

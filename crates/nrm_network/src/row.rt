@@ -26,6 +26,16 @@ pub fn name_in(text: &[u8]) -> Result<Name, Why>
     name_of(text).ok_or(Why::Name)
 }
 
+/// The name that a field is. Most often it is the recent one, which needs no check.
+pub fn name_again(text: &[u8], recent: Option<&Name>) -> Result<Name, Why>
+    ensures { NameIn text.now result }
+{
+    match recent {
+        Some(name) if name.bytes() == text => Ok(*name),
+        _ => name_in(text),
+    }
+}
+
 /// The names that the fields from the fourth on are.
 pub fn names_in(alloc: Global, row: &ByteRecord) -> Result<Vec<Name>, RowFault>
     ensures { NamesIn (fields_of row.now) result }
@@ -68,7 +78,7 @@ pub fn numbers_in(
     Ok(within.then_some(numbers))
 }
 
-// The number of seats that a field writes, if it is one: 0 to 999. Most have a digit or two.
+// The number of seats that a field writes, if it is one: 0 to 999. Most have a digit or two, which are read at once.
 #[inline(always)]
 fn seat_count_in(text: &[u8]) -> Result<Option<u16>, Why>
     ensures { NumberIn (text.now, 0, 999) result }

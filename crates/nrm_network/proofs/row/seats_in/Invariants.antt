@@ -1,4 +1,4 @@
-use Rattle.std.proofs.Common.{ℕ, ◌≡◌, ◌+◌, length, take}
+use Rattle.std.proofs.Common.{◌≡◌, ◌+◌, length, take}
 use Rattle.csv.specs.Records.{fields_of}
 use Rattle.nrm_network.proofs.RowFields.{ReadTo}
 use Rattle.nrm_network.proofs.row.seats_in.Given as goal

@@ -1,4 +1,4 @@
-use Rattle.std.proofs.Common.{ℕ, List, [], ◌∷◌, ◌≤◌, arith}
+use Rattle.std.proofs.Common.{List, [], ◌∷◌, ◌≤◌, arith}
 use Rattle.std.proofs.lemmas.Result.{err_from_is_err_and}
 use Rattle.csv.specs.Records.{fields_of}
 use Rattle.nrm_network.specs.Rows.{Row, periods_in}

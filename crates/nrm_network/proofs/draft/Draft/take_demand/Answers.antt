@@ -12,11 +12,11 @@ use Rattle.nrm_network.proofs.draft.Draft.take_demand.Goals as goal
 use Rattle.nrm_network.proofs.draft.Draft.take_demand.Goals.{In-Some}
 
 place-of : (c : In-Some) (taken : List (List (List ℕ))) (row : List (List ℕ)) → Stands c.args.self.now taken → IsRead taken row (says.Demand c.args.demand.now) → Placed c.args.self.now taken row c.in-Some.product
-place-of c taken row is read = placed c.args.self.now taken row c.in-Some.product c.args.demand.now.product is read.shape c.in-Some.ensures read.says.0
+place-of c taken row is read = placed c.args.self.now taken row c.in-Some.product c.args.demand.now.product is read.shape (c.in-Some.ensures taken is) read.says.0
 
 pub returns-in_default : goal.returns-in_default
 returns-in_default c = λ taken row is read.
-    let none : is_named (product_rows taken) (field row 1) ≡ false = look-up None c.args.self.now.product_names (product_rows taken) c.args.demand.now.product (field row 1) c.in_default.ensures is.product_names read.says.0 in
+    let none : is_named (product_rows taken) (field row 1) ≡ false = look-up None c.args.self.now.product_names (product_rows taken) c.args.demand.now.product (field row 1) (c.in_default.ensures taken is) is.product_names read.says.0 in
     let given = gives-none (demand_rows taken) (field row 1) (value_of (field row 2)) (fresh-of (product_rows taken) (demand_rows taken) (field row 1) none is.named) in
     demand-missing taken row read.shape given none
 
