@@ -24,3 +24,4 @@ pub mod Growth
 pub mod Cells
 pub mod DemandGrowth
 pub mod RowTexts
+pub mod Recent

@@ -78,6 +78,10 @@ module _ (least greatest : ℕ) (fields : List (List ℕ)) (i : ℕ) (short : i 
       let other : is_whole (field fields i) ≡ false = subst (λ (t : List ℕ). is_whole t ≡ false) is off in
       so_far.whole ∙ whole-step ∙ rw other refl
 
+-- once a number was outside its bounds, what was read is free
+pub read-freely : (least greatest : ℕ) (fields : List (List ℕ)) (i : ℕ) (numbers others : List ℕ) → ReadTo least greatest fields i numbers false → ReadTo least greatest fields i others false
+read-freely least greatest fields i numbers others so_far = record { whole = so_far.whole; within = so_far.within; read = λ all. absurd (true≢false (sym all)) }
+
 -- number fields are whole where their texts are
 pub whole_fields : (least greatest : ℕ) (fields : List (List ℕ)) → list_all (λ (number : NumberField). is_whole number.0) (map (λ text. (text, least, greatest)) fields) ≡ list_all is_whole fields
 whole_fields least greatest fields = list_all-map (λ (number : NumberField). is_whole number.0) (λ text. (text, least, greatest)) fields

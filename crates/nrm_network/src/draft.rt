@@ -1,7 +1,7 @@
 //! A network as it is read, row by row: legs and products with tables of their names, and the demand of each product
 //! in each history and period, 0 until a row gives it. Nothing else of a row is kept.
 ghost use Rattle.std.specs.Prelude.{◌≡◌, ◌<◌, ◌≤◌, ◌+◌, ◌-◌, ◌*◌, ◌^◌, List, [], ℕ, All, IfOk, MatchOption, OnOk, bytes_eq, false, length, map, sum, true};
-ghost use Rattle.std.specs.List.{list_all, list_any};
+ghost use Rattle.std.specs.List.{list_all, list_any, position_from};
 ghost use Rattle.std.specs.Int.{IsInRange};
 ghost use Rattle.nrm_model.specs.Limits.{differ, falls};
 ghost use Rattle.nrm_model.specs.declared.limits.TheConstants.{MOST_DEMAND, MOST_PRODUCTS};
@@ -33,6 +33,8 @@ pub struct Draft {
     product_names: NameTable,
     demand: Vec<u16>,
     given: Vec<bool>,
+    // The number of the product whose demand was given last: rows of one product mostly follow one another.
+    recent: usize,
 }
 
 // Whether each threshold is below the one before it.
@@ -47,13 +49,13 @@ fn falls(cuts: &[u32]) -> bool
     true
 }
 
-fn total(seats: &[u32]) -> u64
+fn total(seats: &[u16]) -> u32
     requires { length seats.now ≤ 65536 }
     ensures { result ≡ sum seats.now }
 {
     let mut total = 0;
     for seats in seats {
-        total += u64::from(*seats);
+        total += u32::from(*seats);
     }
     total
 }
@@ -77,17 +79,6 @@ fn differ(names: &[Name]) -> bool
     true
 }
 
-// Writes the seats of each period.
-fn put(places: &mut [u16], seats: &[u32])
-    requires same { length places.old ≡ length seats.now }
-    requires small { All (λ number. number ≤ MOST_DEMAND) seats.now }
-    ensures { places.new ≡ seats.now }
-{
-    for i in 0..seats.len() {
-        places[i] = seats[i] as u16;
-    }
-}
-
 impl Draft {
     /// Before the first row.
     pub fn new(alloc: Global) -> Draft
@@ -102,6 +93,7 @@ impl Draft {
             product_names: NameTable::new(alloc),
             demand: Vec::new(alloc),
             given: Vec::new(alloc),
+            recent: 0,
         }
     }
 
@@ -113,6 +105,14 @@ impl Draft {
             periods: self.periods,
             legs: self.legs.len(),
             products: self.products.len(),
+        }
+    }
+
+    // The name of the product whose demand was given last.
+    fn recent_name(&self) -> Option<&Name> {
+        match self.products.get(self.recent) {
+            Some(product) => Some(&product.name),
+            None => None,
         }
     }
 
@@ -195,15 +195,25 @@ impl Draft {
         Ok(())
     }
 
-    fn set_demand(&mut self, cell: usize, seats: &[u32])
+    fn set_demand(&mut self, product: usize, cell: usize, seats: &[u16])
         requires given { cell < length self.old.given.items }
         requires room { cell * self.old.periods + length seats.now ≤ length self.old.demand.items }
-        requires small { All (λ number. number ≤ MOST_DEMAND) seats.now }
         ensures { SetsDemand self.old self.new cell seats.now }
     {
         let at = cell * self.periods as usize;
-        put(&mut self.demand[at..at + seats.len()], seats);
+        self.demand[at..at + seats.len()].copy_from_slice(seats);
         self.given[cell] = true;
+        self.recent = product;
+    }
+
+    // The number of the product of this name, if it is there.
+    fn number_of_product(&self, name: &Name) -> Option<usize>
+        ensures { (taken : List (List (List ℕ))) → Stands self.now taken → result ≡ position_from (λ other. bytes_eq other name.now) 0 self.now.product_names }
+    {
+        match self.products.get(self.recent) {
+            Some(product) if product.name == *name => Some(self.recent),
+            _ => self.product_names.number_of(name),
+        }
     }
 
     // The place of a product's demand in a history, which counts from 1, among those of all products and histories.
@@ -215,21 +225,21 @@ impl Draft {
         product * self.histories as usize + (history - 1) as usize
     }
 
-    fn take_demand(&mut self, demand: &DemandEntry) -> Result<(), RowFault>
+    fn take_demand(&mut self, demand: &DemandEntry<'_>) -> Result<(), RowFault>
         requires { Awaits self.old (says.Demand demand.now) }
         ensures { TakesSaid (says.Demand demand.now) self.old self.new result }
     {
-        let Some(product) = self.product_names.number_of(&demand.product) else {
+        let Some(product) = self.number_of_product(&demand.product) else {
             return Err(RowFault::Refused(Why::Missing));
         };
         let cell = self.cell_of(product, demand.history);
         if self.given[cell] {
             return Err(RowFault::Refused(Why::Twice));
         }
-        if total(&demand.seats) > u64::from(MOST_DEMAND) {
+        if total(demand.seats) > u64::from(MOST_DEMAND) {
             return Err(RowFault::Refused(Why::Sum));
         }
-        self.set_demand(cell, &demand.seats);
+        self.set_demand(product, cell, demand.seats);
         Ok(())
     }
 
@@ -241,7 +251,8 @@ impl Draft {
         requires { (taken : List (List (List ℕ))) × Stands self.old taken }
         ensures { Takes self.old self.new (fields_of row.now) result }
     {
-        match read_row(alloc, self.counts(), row)? {
+        let mut places = [0; 16];
+        match read_row(alloc, self.counts(), self.recent_name(), row, &mut places)? {
             Entry::Periods { histories, periods } => {
                 self.take_periods(histories, periods);
                 Ok(())

@@ -1,12 +1,12 @@
 //! A row as it is read: its fields by their meaning, each read once. What is asked of a row before any look-up stands
 //! here, kind by kind: its place, how many fields it has, that there is room for it, and what its fields are.
-ghost use Rattle.std.specs.Prelude.{◌≡◌, List, ℕ, MatchResult, false};
+ghost use Rattle.std.specs.Prelude.{◌≡◌, ◌≤◌, List, ℕ, MatchResult, false};
 ghost use Rattle.csv.specs.Records.{fields_of};
 ghost use Rattle.nrm_network.specs.Rows.{kind_of, periods_kind, leg_kind, product_kind, demand_kind};
 ghost use Rattle.nrm_network.specs.Inner.Entries.{Counted, ReadsAs, ReadsRow, first_refusal, kind_by, kind_seen};
 
 use crate::fault::{RowFault, Why};
-use crate::row::{field, name_in, names_in, number_in, numbers_in};
+use crate::row::{field, name_again, name_in, names_in, number_in, numbers_in, seats_in};
 use csv::ByteRecord;
 use nrm_model::{
     Leg, MOST_DEMAND, MOST_FARE, MOST_HISTORIES, MOST_LEGS, MOST_LEGS_OF_A_PRODUCT, MOST_PERIODS,
@@ -17,11 +17,11 @@ use std::alloc::Global;
 
 /// What a row says.
 #[derive(Drop)]
-pub enum Entry {
+pub enum Entry<'a> {
     Periods { histories: u8, periods: u8 },
     Leg(Leg),
     Product(ProductEntry),
-    Demand(DemandEntry),
+    Demand(DemandEntry<'a>),
 }
 
 /// What a row of a product says: its legs are named.
@@ -32,12 +32,12 @@ pub struct ProductEntry {
     pub legs: Vec<Name>,
 }
 
-/// What a row of demand says: the seats of each period.
-#[derive(Drop)]
-pub struct DemandEntry {
+/// What a row of demand says: the seats of each period, which are lent.
+#[derive(Clone, Copy)]
+pub struct DemandEntry<'a> {
     pub product: Name,
     pub history: u8,
-    pub seats: Vec<u32>,
+    pub seats: &'a [u16],
 }
 
 /// What was read before a row: how many histories and periods there are, both 0 before the first row, and how many
@@ -100,7 +100,7 @@ fn admit(out_of_order: bool, miscounted: bool, too_many: bool) -> Result<(), Why
     Ok(())
 }
 
-fn read_periods(counts: Counts, row: &ByteRecord) -> Result<Entry, RowFault>
+fn read_periods<'a>(counts: Counts, row: &ByteRecord) -> Result<Entry<'a>, RowFault>
     ensures { ReadsAs periods_kind counts (fields_of row.now) result }
 {
     let first = counts.histories == 0;
@@ -113,7 +113,7 @@ fn read_periods(counts: Counts, row: &ByteRecord) -> Result<Entry, RowFault>
     })
 }
 
-fn read_leg(alloc: Global, counts: Counts, row: &ByteRecord) -> Result<Entry, RowFault>
+fn read_leg<'a>(alloc: Global, counts: Counts, row: &ByteRecord) -> Result<Entry<'a>, RowFault>
     ensures { ReadsAs leg_kind counts (fields_of row.now) result }
 {
     let count = row.len();
@@ -132,7 +132,7 @@ fn read_leg(alloc: Global, counts: Counts, row: &ByteRecord) -> Result<Entry, Ro
     }))
 }
 
-fn read_product(alloc: Global, counts: Counts, row: &ByteRecord) -> Result<Entry, RowFault>
+fn read_product<'a>(alloc: Global, counts: Counts, row: &ByteRecord) -> Result<Entry<'a>, RowFault>
     ensures { ReadsAs product_kind counts (fields_of row.now) result }
 {
     let count = row.len();
@@ -151,36 +151,52 @@ fn read_product(alloc: Global, counts: Counts, row: &ByteRecord) -> Result<Entry
     }))
 }
 
-fn read_demand(alloc: Global, counts: Counts, row: &ByteRecord) -> Result<Entry, RowFault>
+fn read_demand<'a>(
+    counts: Counts,
+    recent: Option<&Name>,
+    row: &ByteRecord,
+    places: &'a mut [u16; 16],
+) -> Result<Entry<'a>, RowFault>
+    requires { counts.periods ≤ 16 }
     ensures { ReadsAs demand_kind counts (fields_of row.now) result }
 {
-    admit(
-        counts.histories == 0,
-        row.len() != 3 + counts.periods as usize,
-        false,
-    )?;
-    let product = name_in(field(row, 1))?;
+    let periods = counts.periods as usize;
+    admit(counts.histories == 0, row.len() != 3 + periods, false)?;
+    let product = name_again(field(row, 1), recent)?;
     let history = number_in(field(row, 2), 1, u32::from(counts.histories))?;
-    let seats = numbers_in(alloc, row, 0, MOST_DEMAND)?;
+    let seats = &mut places[..periods];
+    let within = seats_in(row, seats)?;
+    let history = history.ok_or(Why::Range)? as u8;
+    if !within {
+        return Err(RowFault::Refused(Why::Range));
+    }
     Ok(Entry::Demand(DemandEntry {
         product,
-        history: history.ok_or(Why::Range)? as u8,
-        seats: seats.ok_or(Why::Range)?,
+        history,
+        seats,
     }))
 }
 
-/// What a row says that passes the checks that need no look-up.
+/// What a row says that passes the checks that need no look-up. The seats of a demand are written at these places. The
+/// recent name is that of the product whose demand was given last.
 ///
 /// # Errors
 /// The first check that it fails, or want of memory.
-pub fn read_row(alloc: Global, counts: Counts, row: &ByteRecord) -> Result<Entry, RowFault>
+pub fn read_row<'a>(
+    alloc: Global,
+    counts: Counts,
+    recent: Option<&Name>,
+    row: &ByteRecord,
+    places: &'a mut [u16; 16],
+) -> Result<Entry<'a>, RowFault>
+    requires { counts.periods ≤ 16 }
     ensures { ReadsRow counts (fields_of row.now) result }
 {
     match kind_of(row) {
         RowKind::Periods => read_periods(counts, row),
         RowKind::Leg => read_leg(alloc, counts, row),
         RowKind::Product => read_product(alloc, counts, row),
-        RowKind::Demand => read_demand(alloc, counts, row),
+        RowKind::Demand => read_demand(counts, recent, row, places),
         RowKind::Unknown => Err(RowFault::Refused(Why::Kind)),
     }
 }

@@ -13,15 +13,16 @@ use csv::{ByteRecord, ReaderBuilder};
 use nrm_model::{MOST_NETWORK_BYTES, Network};
 use std::alloc::Global;
 
-// The network that the rows of a file give. One record is read into again for each row.
+// The network that the rows of a file give. One record is read into again for each row. The reader has an empty row of
+// headers set, for it would keep two copies of the first row as headers else: every row of the file is a record.
 fn read_rows(alloc: Global, bytes: &[u8]) -> Result<Network, NetFault>
     requires { length bytes.now ≤ MOST_NETWORK_BYTES }
     ensures { AnswersFile result (network_or_refusal why_refused why.Empty (rows_of bytes.now)) }
 {
     let mut rdr = ReaderBuilder::new()
-        .has_headers(false)
         .flexible(true)
         .from_reader(alloc, bytes);
+    rdr.set_byte_headers(ByteRecord::new(alloc))?;
     let mut draft = Draft::new(alloc);
     let mut row = ByteRecord::new(alloc);
     let mut taken = 0;

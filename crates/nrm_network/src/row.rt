@@ -1,8 +1,8 @@
 //! The fields of a row, each read once.
-ghost use Rattle.std.specs.Prelude.{◌≡◌};
+ghost use Rattle.std.specs.Prelude.{◌≡◌, ◌+◌, length};
 ghost use Rattle.csv.specs.Records.{fields_of};
 ghost use Rattle.nrm_network.specs.Rows.{field};
-ghost use Rattle.nrm_network.specs.Inner.Fields.{NameIn, NamesIn, NumberIn, NumbersIn};
+ghost use Rattle.nrm_network.specs.Inner.Fields.{NameIn, NamesIn, NumberIn, NumbersIn, SeatsIn};
 
 use crate::fault::{RowFault, Why};
 use csv::ByteRecord;
@@ -24,6 +24,16 @@ pub fn name_in(text: &[u8]) -> Result<Name, Why>
     ensures { NameIn text.now result }
 {
     name_of(text).ok_or(Why::Name)
+}
+
+/// The name that a field is. Most often it is the recent one, which needs no check.
+pub fn name_again(text: &[u8], recent: Option<&Name>) -> Result<Name, Why>
+    ensures { NameIn text.now result }
+{
+    match recent {
+        Some(name) if name.bytes() == text => Ok(*name),
+        _ => name_in(text),
+    }
 }
 
 /// The names that the fields from the fourth on are.
@@ -66,4 +76,36 @@ pub fn numbers_in(
         }
     }
     Ok(within.then_some(numbers))
+}
+
+// The number of seats that a field writes, if it is one: 0 to 999. Most have a digit or two, which are read at once.
+#[inline(always)]
+fn seat_count_in(text: &[u8]) -> Result<Option<u16>, Why>
+    ensures { NumberIn (text.now, 0, 999) result }
+{
+    match text {
+        [ones @ b'0'..=b'9'] => Ok(Some(u16::from(*ones - b'0'))),
+        [tens @ b'1'..=b'9', ones @ b'0'..=b'9'] => {
+            Ok(Some(u16::from(*tens - b'0') * 10 + u16::from(*ones - b'0')))
+        }
+        _ => match number_in(text, 0, 999)? {
+            Some(number) => Ok(Some(number as u16)),
+            None => Ok(None),
+        },
+    }
+}
+
+/// Writes the seats that the fields from the fourth on write, and says whether each number is one of seats: 0 to 999.
+pub fn seats_in(row: &ByteRecord, seats: &mut [u16]) -> Result<bool, Why>
+    requires { length (fields_of row.now) ≡ 3 + length seats.old }
+    ensures { SeatsIn (fields_of row.now) seats.new result }
+{
+    let mut within = true;
+    for i in 0..seats.len() {
+        match seat_count_in(field(row, i + 3))? {
+            Some(count) => seats[i] = count,
+            None => within = false,
+        }
+    }
+    Ok(within)
 }

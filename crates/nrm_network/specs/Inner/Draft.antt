@@ -83,4 +83,4 @@ abbrev pub SetsDemand : Draft → Draft → ℕ → List ℕ → Type 0
 SetsDemand before after cell seats =
     (after.demand.items ≡ take (cell * before.periods) before.demand.items ++ (seats ++ drop (cell * before.periods + length seats) before.demand.items))
     × (after.given.items ≡ slice_set before.given.items cell true)
-    × (after ≡ record before { demand = after.demand; given = after.given })
+    × (after ≡ record before { demand = after.demand; given = after.given; recent = after.recent })

@@ -69,7 +69,7 @@ abbrev pub Says : Entry → List (List ℕ) → Type 0
 Says (is.Periods histories periods) row = (histories ≡ value_of (field row 1)) × (periods ≡ value_of (field row 2))
 Says (is.Leg leg) row = leg ≡ leg_in row
 Says (is.Product product) row = (product.name ≡ field row 1) × (product.fare ≡ value_of (field row 2)) × (product.legs.items ≡ further row)
-Says (is.Demand demand) row = (demand.product ≡ field row 1) × (demand.history ≡ value_of (field row 2)) × (demand.seats.items ≡ further_numbers row)
+Says (is.Demand demand) row = (demand.product ≡ field row 1) × (demand.history ≡ value_of (field row 2)) × (demand.seats.now ≡ further_numbers row)
 
 -- a row passes the checks that need no look-up, and says this
 pub record IsRead (before : List (List (List ℕ))) (row : List (List ℕ)) (entry : Entry) : Type 0 where

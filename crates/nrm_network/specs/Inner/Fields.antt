@@ -42,3 +42,9 @@ NumbersIn least greatest row (Ok (Some numbers)) =
 NumbersIn least greatest row (Ok None) = (are_whole (bounded least greatest (further row)) ≡ true) × (list_all is_within (bounded least greatest (further row)) ≡ false)
 NumbersIn least greatest row (Err (fault.Refused cause)) = (are_whole (bounded least greatest (further row)) ≡ false) × (cause ≡ why.Number)
 NumbersIn least greatest row (Err fault.NoMemory) = ⊤
+
+-- the fields from the fourth on write these seats, or one writes a number above 999, or one writes none
+abbrev pub SeatsIn : List (List ℕ) → List ℕ → Result Bool Why → Type 0
+SeatsIn row seats (Ok true) = (are_whole (bounded 0 999 (further row)) ≡ true) × (list_all is_within (bounded 0 999 (further row)) ≡ true) × (seats ≡ further_numbers row)
+SeatsIn row seats (Ok false) = (are_whole (bounded 0 999 (further row)) ≡ true) × (list_all is_within (bounded 0 999 (further row)) ≡ false)
+SeatsIn row seats (Err cause) = (are_whole (bounded 0 999 (further row)) ≡ false) × (cause ≡ why.Number)

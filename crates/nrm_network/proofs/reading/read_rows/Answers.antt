@@ -46,14 +46,16 @@ pub loop-row-init : goal.loop-row-init
 unfolding Reached
 loop-row-init c =
     let fr = c.from_reader-rdr.ensures in
-    let e = rw c.has_headers.ensures at c.flexible.ensures in (
-      rw (e) at fr.trim ∙ c.new.ensures.trim,
-      inr (inr (rw e at fr.has_headers, fr.headers)),
-      rw e at fr.config ∙ c.new.ensures.config,
+    let set = c.flexible.ensures in
+    let named = c.in_ok-set_byte_headers.ensures in
+    let same = named.same in (
+      rw same (rw set at fr.trim ∙ c.new.ensures.trim),
+      inr (inl (rw same (rw set at fr.has_headers ∙ c.new.ensures.has_headers), named.set)),
+      rw same (rw set at fr.config ∙ c.new.ensures.config),
       strip_bom c.args.bytes.now,
       [],
-      fr.source,
-      (sym fr.state, refl),
+      rw same fr.source,
+      (rw same (sym fr.state), refl),
       c.new-draft.ensures,
       refl,
     )

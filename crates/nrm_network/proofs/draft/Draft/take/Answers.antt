@@ -1,6 +1,22 @@
+use Rattle.std.proofs.Common.{List, [], ◌∷◌, ◌≤◌, arith}
 use Rattle.std.proofs.lemmas.Result.{err_from_is_err_and}
 use Rattle.csv.specs.Records.{fields_of}
+use Rattle.nrm_network.specs.Rows.{Row, periods_in}
+use Rattle.nrm_network.specs.Checks.{why_refused}
+use Rattle.nrm_network.specs.Inner.Draft.{Accepts}
+use Rattle.nrm_network.proofs.Checked.{first-checked}
 use Rattle.nrm_network.proofs.draft.Draft.take.Goals as goal
+
+few-periods : (taken : List Row) → Accepts why_refused [] taken → periods_in taken ≤ 16
+few-periods [] accepted = omega arith
+few-periods (first ∷ more) accepted = (first-checked first accepted.0).periods.1
+
+pub read_row-requires : goal.read_row-requires
+read_row-requires c =
+    let (taken, is) = c.requires in
+    let few = few-periods taken is.accepted in
+    let counted = c.counts.ensures taken is in
+    omega (arith, few, counted.periods)
 
 pub take_product-requires : goal.take_product-requires
 take_product-requires c =

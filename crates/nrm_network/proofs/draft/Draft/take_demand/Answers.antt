@@ -12,11 +12,11 @@ use Rattle.nrm_network.proofs.draft.Draft.take_demand.Goals as goal
 use Rattle.nrm_network.proofs.draft.Draft.take_demand.Goals.{In-Some}
 
 place-of : (c : In-Some) (taken : List (List (List ℕ))) (row : List (List ℕ)) → Stands c.args.self.now taken → IsRead taken row (says.Demand c.args.demand.now) → Placed c.args.self.now taken row c.in-Some.product
-place-of c taken row is read = placed c.args.self.now taken row c.in-Some.product c.args.demand.now.product is read.shape c.in-Some.ensures read.says.0
+place-of c taken row is read = placed c.args.self.now taken row c.in-Some.product c.args.demand.now.product is read.shape (c.in-Some.ensures taken is) read.says.0
 
 pub returns-in_default : goal.returns-in_default
 returns-in_default c = λ taken row is read.
-    let none : is_named (product_rows taken) (field row 1) ≡ false = look-up None c.args.self.now.product_names (product_rows taken) c.args.demand.now.product (field row 1) c.in_default.ensures is.product_names read.says.0 in
+    let none : is_named (product_rows taken) (field row 1) ≡ false = look-up None c.args.self.now.product_names (product_rows taken) c.args.demand.now.product (field row 1) (c.in_default.ensures taken is) is.product_names read.says.0 in
     let given = gives-none (demand_rows taken) (field row 1) (value_of (field row 2)) (fresh-of (product_rows taken) (demand_rows taken) (field row 1) none is.named) in
     demand-missing taken row read.shape given none
 
@@ -44,14 +44,14 @@ pub total-requires : goal.total-requires
 total-requires c =
     let (taken, row, is, read) = c.requires in
     let few = few-seats taken row is.accepted read.shape in
-    omega (arith, few, ap length (c.deref.ensures.value ∙ read.says.2))
+    omega (arith, few, ap length (read.says.2))
 
 pub returns-then-total-from : goal.returns-then-total-from
 returns-then-total-from c = λ taken row is read.
     let place = place-of (goal.at.returns-then-total-from c).In-Some taken row is read in
     let cell = cell-is c.cell_of-cell.result c.in-Some.product c.args.self.now.histories c.args.demand.now.history (value_of (field row 2)) c.cell_of-cell.ensures read.says.1 in
     let flag = flag-read c.args.self.now taken row c.in-Some.product c.cell_of-cell.result c.index.result.now place cell c.index.ensures in
-    let sum_is : c.total.result ≡ sum (further_numbers row) = c.total.ensures ∙ ap sum (c.deref.ensures.value ∙ read.says.2) in
+    let sum_is : c.total.result ≡ sum (further_numbers row) = c.total.ensures ∙ ap sum (read.says.2) in
     let there : is_named (product_rows taken) (field row 1) ≡ true = is-there (product_rows taken) c.in-Some.product (field row 1) place.found in
     demand-over taken row read.shape (sym flag ∙ c.if-index.false) there (lt-ltb 999 (sum (further_numbers row)) (omega (arith, sum_is, c.if-total-from.true)))
 
@@ -68,8 +68,8 @@ set_demand-requires-clause-room c =
     let (taken, row, is, read) = c.requires in
     let place = place-of (goal.at.set_demand-requires-clause-room c).In-Some taken row is read in
     let cell = cell-is c.cell_of-cell.result c.in-Some.product c.args.self.now.histories c.args.demand.now.history (value_of (field row 2)) c.cell_of-cell.ensures read.says.1 in
-    let seats : c.deref-2.result.now ≡ further_numbers row = c.deref-2.ensures.value ∙ read.says.2 in
-    subst (λ (n : ℕ). n * c.args.self.now.periods + length c.deref-2.result.now ≤ length c.args.self.now.demand.items) (sym cell)
+    let seats : c.args.demand.now.seats.now ≡ further_numbers row = read.says.2 in
+    subst (λ (n : ℕ). n * c.args.self.now.periods + length c.args.demand.now.seats.now ≤ length c.args.self.now.demand.items) (sym cell)
     (subst (λ (xs : List ℕ). (c.in-Some.product * c.args.self.now.histories + (value_of (field row 2) - 1)) * c.args.self.now.periods + length xs ≤ length c.args.self.now.demand.items) (sym seats) place.room)
 
 pub returns : goal.returns
@@ -77,10 +77,10 @@ returns c = λ taken row is read.
     let place = place-of (goal.at.returns c).In-Some taken row is read in
     let cell = cell-is c.cell_of-cell.result c.in-Some.product c.args.self.now.histories c.args.demand.now.history (value_of (field row 2)) c.cell_of-cell.ensures read.says.1 in
     let flag = flag-read c.args.self.now taken row c.in-Some.product c.cell_of-cell.result c.index.result.now place cell c.index.ensures in
-    let sum_is : c.total.result ≡ sum (further_numbers row) = c.total.ensures ∙ ap sum (c.deref.ensures.value ∙ read.says.2) in
+    let sum_is : c.total.result ≡ sum (further_numbers row) = c.total.ensures ∙ ap sum (read.says.2) in
     let there : is_named (product_rows taken) (field row 1) ≡ true = is-there (product_rows taken) c.in-Some.product (field row 1) place.found in
     let none = sym flag ∙ c.if-index.false in
-    let free = demand-free taken row read.shape none there (le-ltb 999 (sum (further_numbers row)) (omega (arith, sum_is, c.if-total-from.false))) in
-    let seats : c.deref-2.result.now ≡ further_numbers row = c.deref-2.ensures.value ∙ read.says.2 in
+    let free = demand-free taken row read.shape none there (le-ltb 999 (sum (further_numbers row)) (omega (arith, sum_is, c.if-total-gt999.false))) in
+    let seats : c.args.demand.now.seats.now ≡ further_numbers row = read.says.2 in
     let sets = subst (λ (n : ℕ). SetsDemand c.args.self.now c.set_demand.new.self n (further_numbers row)) cell (subst (λ (xs : List ℕ). SetsDemand c.args.self.now c.set_demand.new.self c.cell_of-cell.result xs) seats c.set_demand.ensures) in
     (free, demand-grows c.args.self.now c.set_demand.new.self taken row c.in-Some.product is read.shape free place none there sets)
