@@ -18,8 +18,9 @@ use Rattle.nrm_dual.specs.Refusals.{too_long, bad_line, large_line, no_value, no
 use Rattle.nrm_dual.specs.declared.verdict.Verdict.TheVariants as verdict
 use Rattle.nrm_opening.specs.Outside.{Outside, FilesFailed, SourceFailed, SinkFailed}
 use Rattle.nrm_cli.specs.Certificates.{lacking_line, no_certificate, refused_for, verdict_line}
-use Rattle.nrm_cli.specs.Ends.{Completes, CompletesJob, Failures, OrRanOut, RunWrites, status_of, stream_limit}
+use Rattle.nrm_cli.specs.Ends.{Completes, CompletesJob, Ends, Failures, OrRanOut, RunWrites, status_of, stream_limit}
 use Rattle.nrm_cli.specs.Jobs.{job_of, run_file, plan_file, check_file, print_file, run_made, usage_line, overflow_line, told_pivots}
+use Rattle.nrm_cli.specs.Tells.{Tells, usage, refused, lacking, optimal, wrong, planned, overflow as overflows, summed, printed as prints, file_fault}
 use Rattle.nrm_cli.specs.Made.{counts_from, hindsight_word, last_of, nothing_counted, summary_words}
 use Rattle.nrm_cli.specs.declared.counts.Counts.{Counts}
 use Rattle.nrm_cli.specs.Numbers.{number_of}
@@ -44,7 +45,7 @@ abbrev first : PlanValue
 first = record { mode = mode.FirstCome; period = 1; left = 3 ∷ 2 ∷ []; certificate = None; nests = None }
 
 first_planned : IsOpeningPlan two_legs mode.FirstCome first
-first_planned = record { mode_is = refl; left_is = refl; period_is = refl; planned = record { left = record { legs = refl; seats = λ i short. within i short }; certificate = refl; nests = refl } }
+first_planned = record { mode_is = refl; left_is = refl; period_is = refl; planned = record { left = record { legs = refl; seats = λ i short. within i short }; period = (omega arith, omega arith); certificate = refl; nests = refl } }
   where
     within : (i : ℕ) → i < 2 → get_or (3 ∷ 2 ∷ []) i 0 ≤ (leg_of two_legs i).seats
     within zero short = omega arith
@@ -261,3 +262,23 @@ cut_usage_after_a_fetch (source, inr (rose, inr whole)) = omega (arith, ap (λ (
 
 failed_twice : Failures status.FileFault (nowhere 0) (record (nowhere 0) { source_faults = 1 }) → ⊥
 failed_twice (source, sink) = omega (arith, source)
+
+-- ---- what each status says, once: a usage line only for words that ask for nothing, and no status but 0 for a plan
+usage_for_a_job : (before after : Outside) → Ends (Some (print_file (codes "F"))) before after status.Usage → ⊥
+usage_for_a_job before after ends = by ends.tells refl
+  where
+    by : {s : Status} {text : List ℕ} → Tells (Some (print_file (codes "F"))) before after s text → s ≡ status.Usage → ⊥
+    by (usage none) is = cc none
+    by (refused refusal why) is = cc
+    by (lacking net reason why) is = cc
+    by (optimal net given gives found shows) is = cc
+    by (wrong net given found gives told other shaped) is = cc
+    by (planned m file net plan opens for) is = cc
+    by (overflows job m net n number has opens large) is = cc
+    by (summed m number plan text asks for runs) is = cc
+    by (prints file net opens) is = cc
+    by (file_fault job asks names rose) is = cc
+
+-- running out of memory wrote nothing and took nothing
+wrote_though_out_of_memory : Ends (Some (print_file (codes "F"))) (nowhere 0) (record (nowhere 0) { held = Some (codes "x") }) status.NoMemory → ⊥
+wrote_though_out_of_memory (kept, left) = let no : codes "x" ≡ [] = kept in cc no

@@ -1,6 +1,8 @@
 -- Networks and commands of the numbers 0 and 1. What is wanted comes from an account of the words alone, not from the definitions.
 use Rattle.std.specs.Prelude.{◌≡◌, [], ◌∷◌, codes, length, map, Some, None, refl, slice_get, slice_index, take, drop}
+use Rattle.std.proofs.Common.{arith}
 use Rattle.std.specs.List.{range_with_len}
+use Rattle.nrm_gen.specs.Laws.{UsesOneLegEachWay}
 use Rattle.nrm_stream.specs.declared.command.Command.TheVariants as command
 use Rattle.nrm_gen.specs.Draws.{draw_of, state_after}
 use Rattle.nrm_gen.specs.MadeNetwork.{leg_name, made_demand, made_leg, made_network, made_product, product_name}
@@ -94,3 +96,13 @@ at_the_last = (refl, refl)
 
 after_the_last : (next_of (record { state = 441979785; given = 10000 }) ≡ None) × (after_next (record { state = 441979785; given = 10000 }) ≡ record { state = 441979785; given = 10000 })
 after_the_last = (refl, refl)
+
+-- ---- a product on two inbound legs, or on two outbound ones, doesn't use one leg each way; the last inbound leg is the sixth
+two_inbound : UsesOneLegEachWay (record { name = codes "X"; fare = 1; legs = 0 ∷ 5 ∷ [] }) → ⊥
+two_inbound uses = omega (arith, uses.inbound)
+
+two_outbound : UsesOneLegEachWay (record { name = codes "X"; fare = 1; legs = 6 ∷ 11 ∷ [] }) → ⊥
+two_outbound uses = omega (arith, uses.outbound)
+
+one_each_way : UsesOneLegEachWay (record { name = codes "X"; fare = 1; legs = 5 ∷ 6 ∷ [] })
+one_each_way = record { inbound = omega arith; outbound = omega arith }

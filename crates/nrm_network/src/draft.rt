@@ -236,7 +236,7 @@ impl Draft {
         if self.given[cell] {
             return Err(RowFault::Refused(Why::Twice));
         }
-        if total(demand.seats) > u64::from(MOST_DEMAND) {
+        if total(demand.seats) > MOST_DEMAND {
             return Err(RowFault::Refused(Why::Sum));
         }
         self.set_demand(product, cell, demand.seats);

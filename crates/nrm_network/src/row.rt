@@ -1,11 +1,13 @@
 //! The fields of a row, each read once.
 ghost use Rattle.std.specs.Prelude.{◌≡◌, ◌+◌, length};
 ghost use Rattle.csv.specs.Records.{fields_of};
+ghost use Rattle.nrm_model.specs.declared.limits.TheConstants.{MOST_DEMAND};
 ghost use Rattle.nrm_network.specs.Rows.{field};
 ghost use Rattle.nrm_network.specs.Inner.Fields.{NameIn, NamesIn, NumberIn, NumbersIn, SeatsIn};
 
 use crate::fault::{RowFault, Why};
 use csv::ByteRecord;
+use nrm_model::MOST_DEMAND;
 use nrm_text::{Name, NumberFault, name_of, read_whole};
 use std::alloc::Global;
 
@@ -78,24 +80,24 @@ pub fn numbers_in(
     Ok(within.then_some(numbers))
 }
 
-// The number of seats that a field writes, if it is one: 0 to 999. Most have a digit or two, which are read at once.
+// The number of seats that a field writes, if it is one: 0 to [`nrm_model::MOST_DEMAND`]. Most have a digit or two, which are read at once.
 #[inline(always)]
 fn seat_count_in(text: &[u8]) -> Result<Option<u16>, Why>
-    ensures { NumberIn (text.now, 0, 999) result }
+    ensures { NumberIn (text.now, 0, MOST_DEMAND) result }
 {
     match text {
         [ones @ b'0'..=b'9'] => Ok(Some(u16::from(*ones - b'0'))),
         [tens @ b'1'..=b'9', ones @ b'0'..=b'9'] => {
             Ok(Some(u16::from(*tens - b'0') * 10 + u16::from(*ones - b'0')))
         }
-        _ => match number_in(text, 0, 999)? {
+        _ => match number_in(text, 0, MOST_DEMAND)? {
             Some(number) => Ok(Some(number as u16)),
             None => Ok(None),
         },
     }
 }
 
-/// Writes the seats that the fields from the fourth on write, and says whether each number is one of seats: 0 to 999.
+/// Writes the seats that the fields from the fourth on write, and says whether each number is one of seats: 0 to [`nrm_model::MOST_DEMAND`].
 pub fn seats_in(row: &ByteRecord, seats: &mut [u16]) -> Result<bool, Why>
     requires { length (fields_of row.now) ≡ 3 + length seats.old }
     ensures { SeatsIn (fields_of row.now) seats.new result }

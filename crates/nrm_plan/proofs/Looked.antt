@@ -12,6 +12,10 @@ use Rattle.nrm_lp.specs.declared.certificate.Certificate.{Certificate}
 use Rattle.nrm_virtual.specs.Adjusted.{adjusted_fare}
 use Rattle.nrm_virtual.specs.Buckets.{bucket_count, bucket_of}
 use Rattle.nrm_emsr.specs.Protections.{protection_of, protections_of}
+use Rattle.std.specs.Prelude.{IsSome}
+use Rattle.nrm_virtual.specs.Table.{HasPair, IsTableOf, TableValue, bucket_in}
+use Rattle.nrm_virtual.proofs.Tables.{bucket-is}
+use Rattle.nrm_plan.specs.Laws.{AreThoseDefined, NestsAreThoseDefined}
 use Rattle.nrm_plan.specs.Nesting.{AreNestsOf, NestsValue, level_at}
 use Rattle.nrm_plan.specs.Plans.{HasNests, IsPlanOf, PlanValue, kept_from, seats_kept}
 
@@ -70,3 +74,29 @@ no-nests net plan of has i j = by plan.mode plan.certificate (subst (λ (n : Opt
 -- one leg's protections more
 pub levels-more : (f : ℕ → List ℕ) (i : ℕ) (levels : List (List ℕ)) (next : List ℕ) → levels ≡ map f (range_with_len 0 i) → next ≡ f i → levels ++ next ∷ [] ≡ map f (range_with_len 0 (i + 1))
 levels-more f i levels next made worked = (λ n. made n ++ worked n ∷ []) ∙ sym (map-range_with_len_more f 0 i i (omega arith))
+
+-- what a table has for a pair is the product's bucket
+bucket-there : (net : NetworkValue) (cert : Certificate) (table : TableValue) (i j : ℕ) → IsTableOf net cert table → HasPair table i j → bucket_in table i j ≡ Some (bucket_of net cert i j)
+bucket-there net cert table i j of pair = by (bucket_in table i j) refl pair
+  where
+    by : (o : Option ℕ) → bucket_in table i j ≡ o → IsSome o → bucket_in table i j ≡ Some (bucket_of net cert i j)
+    by None is some = absurd some
+    by (Some b) is some = is ∙ ap Some (bucket-is net cert table i j b of (sym is))
+
+-- the nests of a plan are those that the definitions give
+pub nests-defined : NestsAreThoseDefined
+nests-defined net plan nests of has = by plan.mode plan.certificate refl (subst (λ (n : Option NestsValue). HasNests net plan.period plan.mode plan.certificate n) has of.nests)
+  where
+    none-held : Some nests ≡ None → ⊥
+    none-held e = cc
+
+    by : (m : Mode) (cert : Option Certificate) → plan.certificate ≡ cert → HasNests net plan.period m cert (Some nests) → AreThoseDefined net plan nests
+    by mode.FirstCome cert is nested = absurd (none-held nested)
+    by mode.Bid cert is nested = absurd (none-held nested)
+    by mode.Davn None is nested = absurd nested
+    by mode.Davn (Some prices) is nested = record {
+      prices = prices;
+      in_force = is;
+      buckets = λ i j pair. bucket-there net prices nests.buckets i j nested.buckets pair;
+      levels = λ i b leg below. ap (λ (levels : List ℕ). level_at levels b) (own-levels net plan.period prices nests nested i 0 leg) ∙ level-is net prices i plan.period b below;
+    }

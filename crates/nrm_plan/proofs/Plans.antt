@@ -1,5 +1,6 @@
 -- Plans: that there is one, and only one, and that its bid prices are optimal.
 use Rattle.std.proofs.Common.{map, ◌*◌, length, ℕ, ◌≡◌, ◌≢◌, ◌⊎◌, ◌∙◌, ℤ, List, Option, Some, None, arith, inl, inr, refl, sym, ap, subst}
+use Rattle.std.specs.Int.{IsInRange}
 use Rattle.std.specs.List.{range_with_len}
 use Rattle.std.proofs.lemmas.List.{length-map}
 use Rattle.std.proofs.lemmas.List.FromFn.{length-map-range_with_len}
@@ -144,17 +145,17 @@ nests-once net k mode.Bid cert nests other has has' = has' ∙ sym has
 nests-once net k mode.Davn cert nests other has has' = solved-nests-once net k cert nests other has has'
 
 -- a plan of these parts
-pub plan-for : (net : NetworkValue) (m : Mode) (left : List ℕ) (k : ℕ) (cert : Option Certificate) (nests : Option NestsValue) → AreSeatsLeft net left → HasCertificate net left k m cert → HasNests net k m cert nests
-    → IsPlanFor net m left k (record { mode = m; period = k; left = left; certificate = cert; nests = nests })
-plan-for net m left k cert nests are has nested = record { mode_is = refl; left_is = refl; period_is = refl; planned = record { left = are; certificate = has; nests = nested } }
+pub plan-for : (net : NetworkValue) (m : Mode) (left : List ℕ) (k : ℕ) (cert : Option Certificate) (nests : Option NestsValue) → AreSeatsLeft net left → IsInRange 1 net.periods k
+    → HasCertificate net left k m cert → HasNests net k m cert nests → IsPlanFor net m left k (record { mode = m; period = k; left = left; certificate = cert; nests = nests })
+plan-for net m left k cert nests are within has nested = record { mode_is = refl; left_is = refl; period_is = refl; planned = record { left = are; period = within; certificate = has; nests = nested } }
 
 pub has-a-plan : EachHasAPlan
-has-a-plan net m left k are = by (certificate-or net left k m)
+has-a-plan net m left k are within = by (certificate-or net left k m)
   where
     by : HasOr net left k m → ((plan : PlanValue) × IsPlanFor net m left k plan) ⊎ ((n : ℕ) × (number : ℤ) × PlanOverflows net m left k n number)
     by (inl (cert, has)) =
         let (nests, nested) = has-nests net left k m cert has in
-        inl (record { mode = m; period = k; left = left; certificate = cert; nests = nests }, plan-for net m left k cert nests are has nested)
+        inl (record { mode = m; period = k; left = left; certificate = cert; nests = nests }, plan-for net m left k cert nests are within has nested)
     by (inr large) = inr large
 
 -- the certificate of a plan for such seats left and such a period

@@ -1,6 +1,7 @@
 -- Plans: what the last optimisation was of, and what it gave.
 use Rattle.std.specs.Prelude.{ℕ, ◌≡◌, ◌≢◌, ◌<◌, ◌≤◌, ◌*◌, ◌-◌, ◌^◌, ℤ, min, nat_abs, nat_lt, Bool, false, List, length, Option, Some, None}
 use Rattle.std.specs.Prelude.{option_map, slice_index}
+use Rattle.std.specs.Int.{IsInRange}
 use Rattle.nrm_fraction.specs.Fraction.{Fraction}
 use Rattle.nrm_fraction.specs.Large.{size_limit}
 use Rattle.nrm_model.specs.Inventory.{inventory_of}
@@ -56,10 +57,11 @@ HasNests net k mode.FirstCome cert nests = nests ≡ None
 HasNests net k mode.Bid cert nests = nests ≡ None
 HasNests net k mode.Davn cert nests = AreNests net k cert nests
 
--- A plan of a network: its certificate is that of its own seats left and period, and its nests are those at the certificate's bid prices
--- from that period on.
+-- A plan of a network: it is for seats left and from a period of the network, its certificate is that of these, and its nests are those at the
+-- certificate's bid prices from that period on.
 pub record IsPlanOf (net : NetworkValue) (plan : PlanValue) : Type 0 where
   pub left : AreSeatsLeft net plan.left
+  pub period : IsInRange 1 net.periods plan.period
   pub certificate : HasCertificate net plan.left plan.period plan.mode plan.certificate
   pub nests : HasNests net plan.period plan.mode plan.certificate plan.nests
 

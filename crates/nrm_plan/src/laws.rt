@@ -1,5 +1,5 @@
 //! Laws of plans. Each is the contract of a function that does nothing.
-ghost use Rattle.nrm_plan.specs.Laws.{EachHasAPlan, PlansAreDetermined, PlansAreOptimal};
+ghost use Rattle.nrm_plan.specs.Laws.{EachHasAPlan, NestsAreThoseDefined, PlansAreDetermined, PlansAreOptimal};
 
 /// Each plan that solves a program has an optimal allocation and optimal bid prices.
 pub fn plans_are_optimal()
@@ -14,4 +14,10 @@ pub fn each_has_a_plan()
 /// It is one plan, or Large in one place; never both.
 pub fn plans_are_determined()
     ensures { PlansAreDetermined }
+{}
+
+/// What `Plan::bucket` and `Plan::protection` look up of a plan of a network are the bucket and the protection that the
+/// definitions give at the plan's bid prices.
+pub fn nests_are_those_defined()
+    ensures { NestsAreThoseDefined }
 {}

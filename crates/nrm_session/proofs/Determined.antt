@@ -1,5 +1,5 @@
 -- The commands of a session determine its replies and its states, where memory suffices; with the replies they always do.
-use Rattle.std.proofs.Common.{ℕ, ◌≡◌, ◌≢◌, ◌⊎◌, ◌∙◌, Bool, true, false, nat_lt, [], ◌∷◌, Option, Some, None, MatchOption, inl, inr, refl, sym, ap, subst}
+use Rattle.std.proofs.Common.{ℕ, ◌≡◌, ◌≢◌, ◌⊎◌, ◌∙◌, Bool, true, false, [], ◌∷◌, Option, Some, None, MatchOption, inl, inr, refl, sym, ap, subst}
 use Rattle.std.specs.Bool.{MatchBool}
 use Rattle.std.proofs.lemmas.List.Elements.{All-head, All-tail}
 use Rattle.nrm_fraction.specs.Fraction.{Fraction}
@@ -16,7 +16,7 @@ use Rattle.nrm_control.specs.State.{SeatState, seats_left, with_plan}
 use Rattle.nrm_stream.specs.declared.command.Command.{Command}
 use Rattle.nrm_stream.specs.declared.command.Command.TheVariants as command
 use Rattle.nrm_session.specs.Replies.{Reply, hindsight_told, memory, optimised_at, overflow, unknown}
-use Rattle.nrm_session.specs.Step.{Gives, LooksBack, Reoptimises, Step, is_large, lacks_memory, optimises, overflows, tells, wants_memory}
+use Rattle.nrm_session.specs.Step.{Gives, LooksBack, Reoptimises, Step, is_large, lacks_memory, optimises, overflows, tells, wants_memory, lacks_period}
 use Rattle.nrm_session.specs.Run.{Run}
 use Rattle.nrm_session.specs.Laws.{RepliesAreDetermined, StatesAreDetermined}
 
@@ -90,7 +90,7 @@ looks-same net s reply other first second agree = by reply other first second ag
 step-same : (net : NetworkValue) (s : SeatState) (c : Command) (reply other : Reply) (s' s'' : SeatState) → Step net s c reply s' → Step net s c other s'' → Agree reply other → (other ≡ reply) × (s'' ≡ s')
 step-same net s (command.Book name party) reply other s' s'' first second agree = same-option (product_named net name) reply other _ _ s' s'' s _ first second
 step-same net s (command.Cancel number) reply other s' s'' first second agree = same-option (booking_numbered s.bookings number) reply other _ _ s' s'' s _ first second
-step-same net s (command.Reoptimise k) reply other s' s'' first second agree = period-same net s k (nat_lt net.periods k) reply other s' s'' first second agree
+step-same net s (command.Reoptimise k) reply other s' s'' first second agree = period-same net s k (lacks_period net k) reply other s' s'' first second agree
 step-same net s (command.Leg name) reply other s' s'' first second agree = same-option (leg_named net name) reply other _ _ s' s'' s _ first second
 step-same net s command.Hindsight reply other s' s'' first second agree = (looks-same net s reply other first.0 second.0 agree, second.1 ∙ sym first.1)
 step-same net s command.Plan reply other s' s'' first second agree = same-pair reply other _ s' s'' s first second

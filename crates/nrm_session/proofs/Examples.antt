@@ -1,6 +1,6 @@
 -- Sessions and replies by hand, on a network of two legs with a seat each: BACK takes BC and then AB.
 use Rattle.std.proofs.Common.{lit<, arith, zero, suc}
-use Rattle.std.specs.Prelude.{◌≡◌, ◌<◌, ◌≤◌, ℕ, pos, List, [], ◌∷◌, codes, get_or, Option, Some, None, option_map, refl}
+use Rattle.std.specs.Prelude.{◌≡◌, ◌<◌, ◌≤◌, ℕ, pos, List, [], ◌∷◌, ◌++◌, codes, length, take, get_or, Option, Some, None, option_map, refl}
 use Rattle.std.specs.Fmt.{digits}
 use Rattle.nrm_fraction.specs.Fraction.{Fraction}
 use Rattle.nrm_lp.specs.Means.{mean_value}
@@ -15,7 +15,11 @@ use Rattle.nrm_control.specs.Standing.{ControlValue}
 use Rattle.nrm_stream.specs.declared.command.Command.TheVariants as command
 use Rattle.nrm_session.specs.Answering.{IsTellable, reply_in}
 use Rattle.nrm_session.specs.Hindsight.{requests_in}
-use Rattle.nrm_session.specs.Laws.{NoLegOversold}
+use Rattle.nrm_session.specs.Laws.{NoLegOversold, Solves}
+use Rattle.nrm_session.specs.Serving.{SentOn, ServesBy, Streams, WritesCut}
+use Rattle.nrm_session.specs.declared.serving.End.TheVariants as end
+use Rattle.nrm_stream.specs.Commands.{whole_commands}
+use Rattle.nrm_stream.specs.declared.command.Command.{Command}
 use Rattle.nrm_session.specs.Replies.{Reply, bad, unknown, sold, no_leg, no_fare, cancelled, hindsight_told, memory, optimised, optimised_at, optimised_none, overflow, plan_told, text_of}
 use Rattle.nrm_session.specs.Run.{Run}
 use Rattle.nrm_session.specs.Step.{LooksBack, Reoptimises, Step, is_large, lacks_memory, optimises, overflows, tells, wants_memory}
@@ -56,7 +60,7 @@ a_plan = (refl, refl)
 
 -- a new plan is for the seats left now, and nothing else changes; there is no second period
 plans_again : Step there_and_back (sold_once first) (command.Reoptimise 1) optimised_none (sold_once (first_for 1 (0 ∷ 0 ∷ [])))
-plans_again = optimises (first_for 1 (0 ∷ 0 ∷ [])) (record { mode_is = refl; left_is = refl; period_is = refl; planned = record { left = record { legs = refl; seats = λ i short. within i short }; certificate = refl; nests = refl } })
+plans_again = optimises (first_for 1 (0 ∷ 0 ∷ [])) (record { mode_is = refl; left_is = refl; period_is = refl; planned = record { left = record { legs = refl; seats = λ i short. within i short }; period = (omega arith, omega arith); certificate = refl; nests = refl } })
   where
     within : (i : ℕ) → i < 2 → get_or (0 ∷ 0 ∷ []) i 0 ≤ (leg_of there_and_back i).seats
     within zero short = omega arith
@@ -159,3 +163,45 @@ text_of_hindsight value num den = rw (num, den) refl
 
 text_of_memory : text_of memory ≡ codes "memory\n"
 text_of_memory = refl
+
+-- ---- memory may run out where a program is solved, and nowhere else
+no_program_for_a_leg : Solves there_and_back (sold_once first) (command.Leg (codes "AB")) → ⊥
+no_program_for_a_leg solves = solves
+
+no_program_by_first_come : Solves there_and_back (sold_once first) (command.Reoptimise 1) → ⊥
+no_program_by_first_come solves = solves.0 refl
+
+no_program_past_the_last_period : (plan : PlanValue) → Solves there_and_back (sold_once plan) (command.Reoptimise 2) → ⊥
+no_program_past_the_last_period plan solves = omega (arith, solves.1.1)
+
+-- ---- a put failed within `bad`, of the second line of `x`, `y` and `z`: three bytes and not four went out of it
+cut_within : WritesCut there_and_back (opening first) (command.Bad ∷ command.Bad ∷ command.Bad ∷ []) (codes "bad\nbad") (opening first)
+cut_within = record {
+  before = command.Bad ∷ [];
+  cut = command.Bad;
+  after = command.Bad ∷ [];
+  commands_are = refl;
+  replies = bad ∷ [];
+  mid = opening first;
+  run = (opening first, (refl, refl), refl);
+  reply = bad;
+  step = (refl, refl);
+  count = 3;
+  short = omega arith;
+  output = refl;
+}
+
+-- ---- a session ends done only at the end of the input, and within its limit; a byte too many is told with the lines before it
+abbrev at_bytes : List ℕ → List ℕ → Streams
+at_bytes coming held = record { coming = Some coming; held = Some held; source_faults = 0; sink_faults = 0 }
+
+not_done_before_the_end : {whole cut : List Command → List ℕ → Type 0} → ServesBy whole cut (at_bytes (codes "xy") []) (at_bytes (codes "y") []) 9 end.Done → ⊥
+not_done_before_the_end (taken, output, took, ended, means) = let no : codes "y" ≡ [] = ended in cc no
+
+one_byte_too_many : {whole cut : List Command → List ℕ → Type 0} → ServesBy whole cut (at_bytes (codes "x\ny") []) (at_bytes [] (codes "bad\n")) 2 end.TooLong
+    → (taken : List ℕ) × (output : List ℕ) × (codes "x\ny" ≡ taken ++ []) × (length taken ≡ 3) × (codes "bad\n" ≡ [] ++ output) × whole (whole_commands (take 2 taken)) output
+one_byte_too_many served = served
+
+-- ---- with a failed put nothing is said of what was kept back, and else it is nothing
+kept_back_at_the_end : SentOn [] (codes "ok 1\n") end.Done → ⊥
+kept_back_at_the_end sent = let no : codes "ok 1\n" ≡ [] = sent refl in cc no

@@ -1,5 +1,5 @@
 -- At each line of hindsight, the value bounds every selection of the requests so far, and the bookings that stand are one.
-use Rattle.std.proofs.Common.{ℕ, ◌≡◌, ◌∙◌, ◌<◌, ◌≤◌, All, Bool, true, false, nat_lt, not, ◌==◌, List, [], ◌∷◌, ◌++◌, length, Option, Some, None, MatchOption, append_assoc, refl, sym, ap, subst, arith}
+use Rattle.std.proofs.Common.{ℕ, ◌≡◌, ◌∙◌, ◌<◌, ◌≤◌, All, Bool, true, false, not, ◌==◌, List, [], ◌∷◌, ◌++◌, length, Option, Some, None, MatchOption, append_assoc, refl, sym, ap, subst, arith}
 use Rattle.std.specs.Bool.{MatchBool}
 use Rattle.std.specs.Option.{option_map_or}
 use Rattle.std.proofs.lemmas.List.{append-nil, length-map, map-append}
@@ -30,7 +30,7 @@ use Rattle.nrm_stream.specs.declared.command.Command.TheVariants as command
 use Rattle.nrm_session.specs.Hindsight.{BoundsFrom, HindsightBounds, HindsightBoundsOn, request_in, requests_in}
 use Rattle.nrm_session.specs.Laws.{IsKept}
 use Rattle.nrm_session.specs.Replies.{Reply, cancelled, hindsight_told, leg_told, reply_to, unknown}
-use Rattle.nrm_session.specs.Step.{LooksBack, Reoptimises, Step, is_large, lacks_memory, optimises, overflows, tells, wants_memory}
+use Rattle.nrm_session.specs.Step.{LooksBack, Reoptimises, Step, is_large, lacks_memory, optimises, overflows, tells, wants_memory, lacks_period}
 use Rattle.nrm_session.specs.Run.{Run}
 use Rattle.nrm_session.proofs.Seats.{kept}
 
@@ -71,7 +71,7 @@ after-step net s (command.Cancel number) reply s' step = by (booking_numbered s.
     by (Some b) told =
         subst (Remembers s []) (sym told.1)
         (record { requests = sym (append-nil s.requests); choice = λ choice. kept-chosen (λ booking. not (booking.number == number)) s.bookings choice })
-after-step net s (command.Reoptimise k) reply s' step = by (nat_lt net.periods k) step
+after-step net s (command.Reoptimise k) reply s' step = by (lacks_period net k) step
   where
     again : (told : Reply) (after : SeatState) → Reoptimises net s k told after → Remembers s [] after
     again told after (optimises plan for) = record { requests = sym (append-nil s.requests); choice = λ choice. choice }

@@ -1,5 +1,5 @@
 -- The plan in force is one of the network, in every state of a run.
-use Rattle.std.proofs.Common.{ℕ, ◌≡◌, ◌∙◌, Bool, true, false, nat_lt, List, [], ◌∷◌, Option, Some, None, MatchOption, ap, refl, sym, subst}
+use Rattle.std.proofs.Common.{ℕ, ◌≡◌, ◌∙◌, Bool, true, false, List, [], ◌∷◌, Option, Some, None, MatchOption, ap, refl, sym, subst}
 use Rattle.std.specs.Bool.{MatchBool}
 use Rattle.nrm_model.specs.Limits.{IsNetwork}
 use Rattle.nrm_model.specs.Network.{NetworkValue, leg_named, product_named}
@@ -13,7 +13,7 @@ use Rattle.nrm_control.specs.declared.answer.Answer.TheVariants as answer
 use Rattle.nrm_stream.specs.declared.command.Command.{Command}
 use Rattle.nrm_stream.specs.declared.command.Command.TheVariants as command
 use Rattle.nrm_session.specs.Replies.{Reply, unknown}
-use Rattle.nrm_session.specs.Step.{Gives, Reoptimises, Step, optimises, overflows, wants_memory}
+use Rattle.nrm_session.specs.Step.{Gives, Reoptimises, Step, optimises, overflows, wants_memory, lacks_period}
 use Rattle.nrm_session.specs.Run.{Run}
 use Rattle.nrm_session.specs.Laws.{IsPlanned, PlansAreKept}
 
@@ -52,7 +52,7 @@ module _ (net : NetworkValue) (is : IsNetwork net) (m : Mode) where
   step-keeps : (s : SeatState) (c : Command) (reply : Reply) (s' : SeatState) → IsPlanned net m s → Step net s c reply s' → IsPlanned net m s'
   step-keeps s (command.Book name party) reply s' planned told = by-option (product_named net name) s s' reply _ _ _ planned (λ j. answered-plan s j party (answer_in net s j party)) told
   step-keeps s (command.Cancel number) reply s' planned told = by-option (booking_numbered s.bookings number) s s' reply _ _ (λ booking. after_cancellation s number) planned (λ booking. refl) told
-  step-keeps s (command.Reoptimise k) reply s' planned told = period-keeps (nat_lt net.periods k) s k reply s' planned told
+  step-keeps s (command.Reoptimise k) reply s' planned told = period-keeps (lacks_period net k) s k reply s' planned told
   step-keeps s (command.Leg name) reply s' planned told = by-option (leg_named net name) s s' reply _ _ (λ i. s) planned (λ i. refl) told
   step-keeps s command.Hindsight reply s' planned told = stays s s' planned told.1
   step-keeps s command.Plan reply s' planned told = stays s s' planned told.1

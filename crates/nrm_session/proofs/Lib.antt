@@ -6,6 +6,7 @@ pub mod FirstParts
 pub mod Hindsights
 pub mod InForce
 pub mod OtherLines
+pub mod Periods
 pub mod Pieces
 pub mod PrintedPlans
 pub mod Runs

@@ -1,5 +1,5 @@
 -- Memory is wanting at lines for which a program may be solved alone.
-use Rattle.std.proofs.Common.{ℕ, ◌≡◌, ◌≢◌, ◌≤◌, Bool, true, false, nat_lt, Option, Some, None, MatchOption, refl, sym}
+use Rattle.std.proofs.Common.{ℕ, ◌≡◌, ◌≢◌, ◌≤◌, Bool, true, false, Option, Some, None, MatchOption, refl, sym}
 use Rattle.std.specs.Bool.{MatchBool}
 use Rattle.std.proofs.lemmas.Bool.{ltb-false}
 use Rattle.nrm_model.specs.declared.mode.Mode.TheVariants as mode
@@ -12,7 +12,9 @@ use Rattle.nrm_control.specs.declared.answer.Answer.TheVariants as answer
 use Rattle.nrm_stream.specs.declared.command.Command.TheVariants as command
 use Rattle.nrm_session.specs.Laws.{OtherLinesNeedNoMemory}
 use Rattle.nrm_session.specs.Replies.{Reply, memory, plan_told, bad, reply_to, unknown}
-use Rattle.nrm_session.specs.Step.{Gives, Reoptimises, optimises, overflows, wants_memory}
+use Rattle.nrm_session.specs.Step.{Gives, Reoptimises, lacks_period, optimises, overflows, wants_memory}
+use Rattle.std.specs.Int.{IsInRange}
+use Rattle.nrm_session.proofs.Periods.{had}
 use Rattle.nrm_session.proofs.Determined.{some-plan}
 
 -- no answer to a request is want of memory
@@ -33,15 +35,15 @@ again net s k reply s' is (optimises plan for) = absurd (some-plan (value_of net
 again net s k reply s' is (overflows n number large) = cc
 again net s k reply s' is (wants_memory solves) = (solves, refl)
 
-period : (net : NetworkValue) (s s' : SeatState) (k : ℕ) (beyond : Bool) → nat_lt net.periods k ≡ beyond → MatchBool beyond (Gives unknown memory s s') (Reoptimises net s k memory s')
-    → ((s.plan.mode ≢ mode.FirstCome) × (k ≤ net.periods)) × (s' ≡ s)
+period : (net : NetworkValue) (s s' : SeatState) (k : ℕ) (beyond : Bool) → lacks_period net k ≡ beyond → MatchBool beyond (Gives unknown memory s s') (Reoptimises net s k memory s')
+    → ((s.plan.mode ≢ mode.FirstCome) × IsInRange 1 net.periods k) × (s' ≡ s)
 period net s s' k true is given = let no : memory ≡ unknown = given.0 in cc
-period net s s' k false is given = let (solves, same) = again net s k memory s' refl given in ((solves, ltb-false net.periods k is), same)
+period net s s' k false is given = let (solves, same) = again net s k memory s' refl given in ((solves, had net k is), same)
 
 pub other-lines : OtherLinesNeedNoMemory
 other-lines net s s' (command.Book name party) step = absurd (neither (product_named net name) unknown _ s' s _ (λ e. cc) (λ j. answered net (answer_in net s j party)) step)
 other-lines net s s' (command.Cancel number) step = absurd (neither (booking_numbered s.bookings number) unknown _ s' s _ (λ e. cc) (λ b e. cc) step)
-other-lines net s s' (command.Reoptimise k) step = period net s s' k (nat_lt net.periods k) refl step
+other-lines net s s' (command.Reoptimise k) step = period net s s' k (lacks_period net k) refl step
 other-lines net s s' (command.Leg name) step = absurd (neither (leg_named net name) unknown _ s' s _ (λ e. cc) (λ i e. cc) step)
 other-lines net s s' command.Hindsight step = (tt, step.1)
 other-lines net s s' command.Plan step = let no : memory ≡ plan_told _ = step.0 in cc

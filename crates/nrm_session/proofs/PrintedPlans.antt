@@ -1,5 +1,5 @@
 -- What a `plan` line prints: the plan in force is that of the last line that was answered `optimised`, and its certificate is optimal.
-use Rattle.std.proofs.Common.{ℕ, ◌≡◌, ◌⊎◌, ◌∙◌, Bool, true, false, nat_lt, List, [], ◌∷◌, ◌++◌, All, Option, Some, None, MatchOption, option_map, inl, inr, ap, refl, sym, subst}
+use Rattle.std.proofs.Common.{ℕ, ◌≡◌, ◌⊎◌, ◌∙◌, Bool, true, false, List, [], ◌∷◌, ◌++◌, All, Option, Some, None, MatchOption, option_map, inl, inr, ap, refl, sym, subst}
 use Rattle.std.specs.Bool.{MatchBool}
 use Rattle.std.proofs.lemmas.List.Elements.{All-cons, All-nil}
 use Rattle.nrm_fraction.specs.Fraction.{Fraction}
@@ -20,7 +20,7 @@ use Rattle.nrm_control.specs.declared.answer.Answer.TheVariants as answer
 use Rattle.nrm_stream.specs.declared.command.Command.{Command}
 use Rattle.nrm_stream.specs.declared.command.Command.TheVariants as command
 use Rattle.nrm_session.specs.Replies.{Reply, bad, memory, optimised, optimised_at, optimised_none, overflow, plan_told, reply_to, unknown}
-use Rattle.nrm_session.specs.Step.{Gives, LooksBack, Reoptimises, Step, is_large, lacks_memory, optimises, overflows, tells, wants_memory}
+use Rattle.nrm_session.specs.Step.{Gives, LooksBack, Reoptimises, Step, is_large, lacks_memory, optimises, overflows, tells, wants_memory, lacks_period}
 use Rattle.nrm_session.specs.Run.{Run}
 use Rattle.nrm_session.specs.LastPlan.{at_line, at_opening, IsPlannedFor, LastOptimised, NoneTellsOfPlan, PrintedPricesAreOptimal, PrintsOptimalPrices, TellsOfPlan}
 use Rattle.nrm_session.proofs.InForce.{plans-kept}
@@ -85,7 +85,7 @@ step-plans net s (command.Book name party) reply s' told =
     inl (by-option (product_named net name) s s' reply unknown _ _ no-unknown (λ j. answered net (answer_in net s j party)) (λ j. answered-plan s j party (answer_in net s j party)) told)
 step-plans net s (command.Cancel number) reply s' told =
     inl (by-option (booking_numbered s.bookings number) s s' reply unknown _ (λ booking. after_cancellation s number) no-unknown (λ b. not-told _ (λ v e. cc) (λ e. cc)) (λ b. refl) told)
-step-plans net s (command.Reoptimise k) reply s' told = in-period net (nat_lt net.periods k) s k reply s' told
+step-plans net s (command.Reoptimise k) reply s' told = in-period net (lacks_period net k) s k reply s' told
 step-plans net s (command.Leg name) reply s' told =
     inl (by-option (leg_named net name) s s' reply unknown _ (λ i. s) no-unknown (λ i. not-told _ (λ v e. cc) (λ e. cc)) (λ i. refl) told)
 step-plans net s command.Hindsight reply s' told = inl (record { plan = same-state s s' told.1; none = looks net s reply told.0 })

@@ -1,5 +1,5 @@
 -- Each list of commands has a run in which memory suffices.
-use Rattle.std.proofs.Common.{ℕ, ℤ, ◌≡◌, ◌≢◌, ◌⊎◌, Bool, true, false, nat_lt, [], ◌∷◌, Option, Some, None, MatchOption, inl, inr, refl}
+use Rattle.std.proofs.Common.{ℕ, ℤ, ◌≡◌, ◌≢◌, ◌⊎◌, Bool, true, false, [], ◌∷◌, Option, Some, None, MatchOption, inl, inr, refl}
 use Rattle.std.specs.Bool.{MatchBool}
 use Rattle.std.proofs.lemmas.List.Elements.{All-cons, All-nil}
 use Rattle.nrm_fraction.specs.Fraction.{Fraction}
@@ -18,7 +18,9 @@ use Rattle.nrm_control.proofs.Inventories.{are-seats-left}
 use Rattle.nrm_stream.specs.declared.command.Command.{Command}
 use Rattle.nrm_stream.specs.declared.command.Command.TheVariants as command
 use Rattle.nrm_session.specs.Replies.{Reply, bad, hindsight_told, memory, optimised_at, overflow, reply_to, unknown}
-use Rattle.nrm_session.specs.Step.{Gives, LooksBack, Reoptimises, Step, is_large, optimises, overflows, tells}
+use Rattle.nrm_session.specs.Step.{Gives, LooksBack, Reoptimises, Step, is_large, lacks_period, optimises, overflows, tells}
+use Rattle.std.specs.Int.{IsInRange}
+use Rattle.nrm_session.proofs.Periods.{had}
 use Rattle.nrm_session.specs.Laws.{EachListHasARun}
 
 -- there is a reply and a state for each case of an option
@@ -38,17 +40,17 @@ planned None = λ e. cc
 planned (Some value) = λ e. cc
 
 module _ (net : NetworkValue) (s : SeatState) (k : ℕ) where
-  again : (reply : Reply) × (s' : SeatState) × Reoptimises net s k reply s' × (reply ≢ memory)
-  again = by (has-a-plan net s.plan.mode (seats_left net s.bookings) k (are-seats-left net s.bookings))
+  again : IsInRange 1 net.periods k → (reply : Reply) × (s' : SeatState) × Reoptimises net s k reply s' × (reply ≢ memory)
+  again within = by (has-a-plan net s.plan.mode (seats_left net s.bookings) k (are-seats-left net s.bookings) within)
     where
       by : ((plan : PlanValue) × IsPlanFor net s.plan.mode (seats_left net s.bookings) k plan) ⊎ ((n : ℕ) × (number : ℤ) × PlanOverflows net s.plan.mode (seats_left net s.bookings) k n number)
           → (reply : Reply) × (s' : SeatState) × Reoptimises net s k reply s' × (reply ≢ memory)
       by (inl (plan, for)) = (optimised_at (value_of net plan), with_plan s plan, optimises plan for, planned (value_of net plan))
       by (inr (n, number, large)) = (overflow, s, overflows n number large, λ e. cc)
 
-  in-period : (beyond : Bool) → (reply : Reply) × (s' : SeatState) × MatchBool beyond (Gives unknown reply s s') (Reoptimises net s k reply s') × (reply ≢ memory)
-  in-period true = (unknown, s, (refl, refl), λ e. cc)
-  in-period false = again
+  in-period : (beyond : Bool) → lacks_period net k ≡ beyond → (reply : Reply) × (s' : SeatState) × MatchBool beyond (Gives unknown reply s s') (Reoptimises net s k reply s') × (reply ≢ memory)
+  in-period true is = (unknown, s, (refl, refl), λ e. cc)
+  in-period false is = again (had net k is)
 
 look-back : (net : NetworkValue) (s : SeatState) → (reply : Reply) × LooksBack net s reply × (reply ≢ memory)
 look-back net s = by (has-a-hindsight net (tallies_of net s.requests))
@@ -60,7 +62,7 @@ look-back net s = by (has-a-hindsight net (tallies_of net s.requests))
 step : (net : NetworkValue) (s : SeatState) (c : Command) → (reply : Reply) × (s' : SeatState) × Step net s c reply s' × (reply ≢ memory)
 step net s (command.Book name party) = for-option (product_named net name) _ _ _ _ (λ e. cc) (λ j. answered net (answer_in net s j party))
 step net s (command.Cancel number) = for-option (booking_numbered s.bookings number) _ _ _ _ (λ e. cc) (λ booking e. cc)
-step net s (command.Reoptimise k) = in-period net s k (nat_lt net.periods k)
+step net s (command.Reoptimise k) = in-period net s k (lacks_period net k) refl
 step net s (command.Leg name) = for-option (leg_named net name) _ _ _ _ (λ e. cc) (λ i e. cc)
 step net s command.Hindsight = let (reply, looks, suffices) = look-back net s in (reply, s, (looks, refl), suffices)
 step net s command.Plan = (_, s, (refl, refl), λ e. cc)

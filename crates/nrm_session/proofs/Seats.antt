@@ -1,5 +1,5 @@
 -- No step oversells a leg.
-use Rattle.std.proofs.Common.{Bool, true, false, nat_lt, if◌then◌else◌, ℕ, ◌≡◌, ◌∙◌, ◌<◌, ◌≤◌, All, not, ◌==◌, List, [], ◌∷◌, length, map, find, option_map, Option, Some, None, MatchOption, refl, sym, ap, subst, arith, bytes_eq, slice_get, unwrap_or}
+use Rattle.std.proofs.Common.{Bool, true, false, if◌then◌else◌, ℕ, ◌≡◌, ◌∙◌, ◌<◌, ◌≤◌, All, not, ◌==◌, List, [], ◌∷◌, length, map, find, option_map, Option, Some, None, MatchOption, refl, sym, ap, subst, arith, bytes_eq, slice_get, unwrap_or}
 use Rattle.std.specs.Bool.{MatchBool}
 use Rattle.std.specs.Option.{option_map_or}
 use Rattle.std.proofs.lemmas.Option.{slice_get-map}
@@ -22,7 +22,7 @@ use Rattle.nrm_stream.specs.declared.command.Command.{Command}
 use Rattle.nrm_stream.specs.declared.command.Command.TheVariants as command
 use Rattle.nrm_report.specs.Texts.{leg_text}
 use Rattle.nrm_session.specs.Replies.{Reply, unknown, cancelled, leg_told, reply_to}
-use Rattle.nrm_session.specs.Step.{Reoptimises, Step, optimises, overflows, wants_memory}
+use Rattle.nrm_session.specs.Step.{Reoptimises, Step, optimises, overflows, wants_memory, lacks_period}
 use Rattle.nrm_session.specs.Run.{Run}
 use Rattle.nrm_session.specs.Laws.{IsKept, NoLegOversold, SeatsAreKept}
 
@@ -88,7 +88,7 @@ step-keeps net s (command.Cancel number) reply s' kept step = by (booking_number
     by : (o : Option Booking) → MatchOption o ((reply ≡ unknown) × (s' ≡ s)) (λ b. (reply ≡ cancelled number (worth_of (inventory_of net) b)) × (s' ≡ after_cancellation s number)) → Kept net s'
     by None told = stays net s s' kept told.1
     by (Some b) told = subst (Kept net) (sym told.1) (kept-cancelled net s number kept)
-step-keeps net s (command.Reoptimise k) reply s' kept step = by (nat_lt net.periods k) step
+step-keeps net s (command.Reoptimise k) reply s' kept step = by (lacks_period net k) step
   where
     again : (told : Reply) (after : SeatState) → Reoptimises net s k told after → Kept net after
     again told after (optimises plan for) = record { products = kept.products; seats = kept.seats }

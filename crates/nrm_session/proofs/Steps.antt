@@ -1,5 +1,5 @@
 -- The steps that a controller makes, and their replies.
-use Rattle.std.proofs.Common.{ℕ, ℤ, ◌≡◌, ◌≤◌, ◌≢◌, ◌∙◌, Bool, false, nat_lt, List, Option, Some, None, MatchOption, option_map, refl, sym, ap, subst, arith}
+use Rattle.std.proofs.Common.{ℕ, ℤ, ◌≡◌, ◌≤◌, ◌≢◌, ◌∙◌, Bool, false, List, Option, Some, None, MatchOption, option_map, refl, sym, ap, subst, arith}
 use Rattle.std.specs.Bool.{MatchBool}
 use Rattle.std.proofs.lemmas.Bool.{le-ltb}
 use Rattle.nrm_fraction.specs.Fraction.{Fraction}
@@ -20,7 +20,9 @@ use Rattle.nrm_control.proofs.States.{answer-same}
 use Rattle.nrm_report.specs.Texts.{leg_text}
 use Rattle.nrm_stream.specs.declared.command.Command.TheVariants as command
 use Rattle.nrm_session.specs.Replies.{Reply, unknown, no_leg, no_fare, cancelled, overflow, memory, hindsight_told, leg_told, optimised_at, reply_to}
-use Rattle.nrm_session.specs.Step.{Gives, LooksBack, Reoptimises, Step, is_large, lacks_memory, optimises, overflows, tells, wants_memory}
+use Rattle.nrm_session.specs.Step.{Gives, LooksBack, Reoptimises, Step, is_large, lacks_memory, lacks_period, optimises, overflows, tells, wants_memory}
+use Rattle.std.specs.Int.{IsInRange}
+use Rattle.nrm_session.proofs.Periods.{has-not}
 use Rattle.nrm_session.specs.Answering.{Steps}
 
 -- a request that was refused leaves the network and the next number
@@ -101,12 +103,12 @@ module _ (control : ControlValue) where
   hindsight-lacks-memory = looks memory (λ s stands. lacks_memory)
 
 -- ---- an optimisation at a period that the network has
-module _ (old new : ControlValue) (k : ℕ) (within : k ≤ old.net.periods) where
+module _ (old new : ControlValue) (k : ℕ) (within : IsInRange 1 old.net.periods k) where
   abbrev mode-now : SeatState → Mode
   mode-now s = s.plan.mode
 
-  period : nat_lt old.net.periods k ≡ false
-  period = le-ltb old.net.periods k within
+  period : lacks_period old.net k ≡ false
+  period = has-not old.net k within
 
   in-period : (s s' : SeatState) (reply : Reply) → Reoptimises old.net s k reply s' → Step old.net s (command.Reoptimise k) reply s'
   in-period s s' reply made = subst (λ (beyond : Bool). MatchBool beyond (Gives unknown reply s s') (Reoptimises old.net s k reply s')) (sym period) made

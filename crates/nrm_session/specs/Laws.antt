@@ -1,5 +1,6 @@
 -- Laws of whole sessions.
 use Rattle.std.specs.Prelude.{ℕ, ◌≡◌, ◌≢◌, ◌<◌, ◌≤◌, List, ◌++◌, length, All, ⊤}
+use Rattle.std.specs.Int.{IsInRange}
 use Rattle.nrm_model.specs.Inventory.{inventory_of, seats_of}
 use Rattle.nrm_model.specs.Network.{NetworkValue}
 use Rattle.nrm_model.specs.Limits.{IsNetwork}
@@ -42,7 +43,7 @@ RepliesAreDetermined = (net : NetworkValue) (s : SeatState) (commands : List Com
 -- a line for which a program is solved: one of hindsight, and one that optimises again from a period of the network, where the mode solves
 -- programs
 abbrev pub Solves : NetworkValue → SeatState → Command → Type 0
-Solves net s (command.Reoptimise k) = (s.plan.mode ≢ mode.FirstCome) × (k ≤ net.periods)
+Solves net s (command.Reoptimise k) = (s.plan.mode ≢ mode.FirstCome) × IsInRange 1 net.periods k
 Solves net s command.Hindsight = ⊤
 Solves net s (command.Book name party) = ⊥
 Solves net s (command.Cancel number) = ⊥

@@ -1,5 +1,6 @@
 -- One line of a session: the reply, and what is remembered after it.
-use Rattle.std.specs.Prelude.{ℕ, ℤ, ◌≡◌, ◌≢◌, MatchOption, nat_lt}
+use Rattle.std.specs.Prelude.{ℕ, ℤ, ◌≡◌, ◌≢◌, Bool, MatchOption, not}
+use Rattle.std.specs.Int.{is_in_range}
 use Rattle.std.specs.Bool.{MatchBool}
 use Rattle.nrm_fraction.specs.Fraction.{Fraction}
 use Rattle.nrm_model.specs.Inventory.{inventory_of}
@@ -34,6 +35,10 @@ pub data LooksBack (net : NetworkValue) (s : SeatState) : Reply → Type 0 where
   is_large : (n : ℕ) (number : ℤ) → HindsightOverflows net (tallies_of net s.requests) n number → LooksBack net s overflow
   lacks_memory : LooksBack net s memory
 
+-- a period that the network doesn't have
+abbrev pub lacks_period : NetworkValue → ℕ → Bool
+lacks_period net k = not (is_in_range 1 net.periods k)
+
 -- From s, the controller may give this reply to the command and go on to s'.
 abbrev pub Step : NetworkValue → SeatState → Command → Reply → SeatState → Type 0
 Step net s (command.Book name party) reply s' =
@@ -42,7 +47,7 @@ Step net s (command.Book name party) reply s' =
 Step net s (command.Cancel number) reply s' =
     MatchOption (booking_numbered s.bookings number) (Gives unknown reply s s')
     (λ booking. (reply ≡ cancelled number (worth_of (inventory_of net) booking)) × (s' ≡ after_cancellation s number))
-Step net s (command.Reoptimise k) reply s' = MatchBool (nat_lt net.periods k) (Gives unknown reply s s') (Reoptimises net s k reply s')
+Step net s (command.Reoptimise k) reply s' = MatchBool (lacks_period net k) (Gives unknown reply s s') (Reoptimises net s k reply s')
 Step net s (command.Leg name) reply s' =
     MatchOption (leg_named net name) (Gives unknown reply s s') (λ i. Gives (leg_told (leg_text net s.bookings i)) reply s s')
 Step net s command.Hindsight reply s' = LooksBack net s reply × (s' ≡ s)

@@ -132,3 +132,6 @@ one_byte_left = refl
 
 left_without_a_line_feed : finished (codes "leg AB") ≡ Some (command.Leg (codes "AB"))
 left_without_a_line_feed = refl
+
+blank_behind_a_word : (command_of (codes "plan ") ≡ command.Bad) × (command_of (codes "hindsight ") ≡ command.Bad)
+blank_behind_a_word = (refl, refl)

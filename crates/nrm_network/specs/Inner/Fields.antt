@@ -4,6 +4,7 @@ use Rattle.std.specs.declared.alloc.Global.{Global}
 use Rattle.std.specs.List.{list_all}
 use Rattle.nrm_text.specs.Names.{is_name}
 use Rattle.nrm_text.specs.Numbers.{is_whole, value_of}
+use Rattle.nrm_model.specs.declared.limits.TheConstants.{MOST_DEMAND}
 use Rattle.nrm_network.specs.Rows.{further, further_numbers}
 use Rattle.nrm_network.specs.Checks.{NumberField, is_within}
 use Rattle.nrm_network.specs.declared.fault.RowFault.{RowFault}
@@ -43,8 +44,8 @@ NumbersIn least greatest row (Ok None) = (are_whole (bounded least greatest (fur
 NumbersIn least greatest row (Err (fault.Refused cause)) = (are_whole (bounded least greatest (further row)) ≡ false) × (cause ≡ why.Number)
 NumbersIn least greatest row (Err fault.NoMemory) = ⊤
 
--- the fields from the fourth on write these seats, or one writes a number above 999, or one writes none
+-- the fields from the fourth on write these seats, or one writes a number above the most demand, or one writes none
 abbrev pub SeatsIn : List (List ℕ) → List ℕ → Result Bool Why → Type 0
-SeatsIn row seats (Ok true) = (are_whole (bounded 0 999 (further row)) ≡ true) × (list_all is_within (bounded 0 999 (further row)) ≡ true) × (seats ≡ further_numbers row)
-SeatsIn row seats (Ok false) = (are_whole (bounded 0 999 (further row)) ≡ true) × (list_all is_within (bounded 0 999 (further row)) ≡ false)
-SeatsIn row seats (Err cause) = (are_whole (bounded 0 999 (further row)) ≡ false) × (cause ≡ why.Number)
+SeatsIn row seats (Ok true) = (are_whole (bounded 0 MOST_DEMAND (further row)) ≡ true) × (list_all is_within (bounded 0 MOST_DEMAND (further row)) ≡ true) × (seats ≡ further_numbers row)
+SeatsIn row seats (Ok false) = (are_whole (bounded 0 MOST_DEMAND (further row)) ≡ true) × (list_all is_within (bounded 0 MOST_DEMAND (further row)) ≡ false)
+SeatsIn row seats (Err cause) = (are_whole (bounded 0 MOST_DEMAND (further row)) ≡ false) × (cause ≡ why.Number)
