@@ -17,11 +17,14 @@ fn files_are_read(rt: HostRuntime) -> Result<(), Fail> {
     let net = two_legs_five_products(rt.alloc())?;
     let files = [
         b"value 4130/1\nproduct ABH 3/1\nproduct ABL 3/1\nproduct ACH 4/1\nproduct BCL 6/1\nproduct ACL 0/1\n\
-          leg AB 150/1\nleg BC 80/1\n".as_slice(),
+          leg AB 150/1\nleg BC 80/1\n"
+            .as_slice(),
         b"leg BC 80/1\r\nleg AB 150/1\r\nproduct ACL 0/1\r\nproduct BCL 6/1\r\nproduct ACH 4/1\r\nproduct ABL 3/1\r\n\
-          product ABH 3/1\r\nvalue 4130/1\r".as_slice(),
+          product ABH 3/1\r\nvalue 4130/1\r"
+            .as_slice(),
         b"value 8260/2\nproduct ABH 6/2\nproduct ABL 3/1\nproduct ACH 4/1\nproduct BCL 6/1\n\
-          product ACL 0/9223372036854775807\nleg AB 300/2\nleg BC 80/1\n".as_slice(),
+          product ACL 0/9223372036854775807\nleg AB 300/2\nleg BC 80/1\n"
+            .as_slice(),
     ];
     for file in files {
         let read = read_certificate(rt.alloc(), &net, file).expect(&rt, "a certificate");
@@ -105,7 +108,8 @@ fn lines_are_refused(rt: HostRuntime) -> Result<(), Fail> {
         ),
         (
             b"value 4130/1\nproduct ABH 3/1\nproduct ABL 3/1\nproduct ACH 4/1\nproduct BCL 6/1\nproduct ACL 0/1\n\
-              leg AB 150/1\nleg BC 80/1\nleg AB 150/1\n".as_slice(),
+              leg AB 150/1\nleg BC 80/1\nleg AB 150/1\n"
+                .as_slice(),
             CertFault::Line(9),
         ),
     ];
@@ -134,12 +138,14 @@ fn files_are_refused(rt: HostRuntime) -> Result<(), Fail> {
         ),
         (
             b"value 4130/1\nproduct ABH 3/1\nproduct ABL 3/1\nproduct ACH 4/1\nproduct BCL 6/1\nproduct ACL 0/1\n\
-              leg AB 150/1\nleg BC 1/281474976710656\n".as_slice(),
+              leg AB 150/1\nleg BC 1/281474976710656\n"
+                .as_slice(),
             CertFault::TooFine,
         ),
         (
             b"value 4130/1\nproduct ABH 70368744177664/1\nproduct ABL 3/1\nproduct ACH 4/1\nproduct BCL 6/1\n\
-              product ACL 0/1\nleg AB 150/1\nleg BC 80/1\n".as_slice(),
+              product ACL 0/1\nleg AB 150/1\nleg BC 80/1\n"
+                .as_slice(),
             CertFault::TooFine,
         ),
     ];

@@ -1,9 +1,9 @@
-pub mod Nests -- sums over a leg's products, one product at a time
-pub mod Sides -- how large a side of the comparison gets
-pub mod Places -- counts over falling numbers, and the greatest count that passes a test
-pub mod Least -- the first number that passes a test
-pub mod Signs -- which fares aren't negative: those of the buckets above the last
-pub mod Crossing -- the comparison of two fractions is that of their parts, multiplied across
-pub mod Whole -- the whole demand of the buckets suffices: no history is over it, and the next bucket's fare isn't negative
-pub mod Examples -- bucket fares and protections that a reader can check by hand
-pub mod Hub -- the protections of a small hub over two periods, at opening and in the second period
+pub mod Nests  -- sums over a leg's products, one product at a time
+pub mod Sides  -- how large a side of the comparison gets
+pub mod Places  -- counts over falling numbers, and the greatest count that passes a test
+pub mod Least  -- the first number that passes a test
+pub mod Signs  -- which fares aren't negative: those of the buckets above the last
+pub mod Crossing  -- the comparison of two fractions is that of their parts, multiplied across
+pub mod Whole  -- the whole demand of the buckets suffices: no history is over it, and the next bucket's fare isn't negative
+pub mod Examples  -- bucket fares and protections that a reader can check by hand
+pub mod Hub  -- the protections of a small hub over two periods, at opening and in the second period

@@ -39,4 +39,4 @@ bucket_fare net cert i k b =
     if nat_lt b (bucket_count net i)
     then (if weight_of net cert i k b b == 0 then whole (pos (slice_index (leg_of net i).cuts (b - 1))) else mean_fare net cert i k b b)
     else (if (weight_of net cert i k b b == 0) || int_lt (weighted_fares net cert i k b b) (pos 0)
-        then whole (pos 0) else mean_fare net cert i k b b)
+    then whole (pos 0) else mean_fare net cert i k b b)

@@ -20,7 +20,7 @@ use std::alloc::Global;
 pub fn over_common(alloc: Global, fractions: &[Fraction]) -> Result<(i64, Vec<i64>), RowFault>
     ensures { MatchResult result
         (λ made. (made.0 ≡ pos (common fractions.now)) × (made.1.items ≡ numerators_over (common fractions.now) fractions.now)
-            × (first_too_large size_limit fractions.now ≡ None))
+        × (first_too_large size_limit fractions.now ≡ None))
         (λ f. IsFault f (first_too_large size_limit fractions.now)) }
 {
     let den = common_denominator(fractions)?;
@@ -52,7 +52,7 @@ fn numerators(alloc: Global, den: u64, fractions: &[Fraction]) -> Result<Vec<i64
     requires { den < size_limit }
     ensures { let numbers = numerators_over den fractions.now in
         MatchResult result (λ made. (made.items ≡ numbers) × (first_reaching size_limit numbers ≡ None))
-            (λ f. IsFault f (first_reaching size_limit numbers)) }
+        (λ f. IsFault f (first_reaching size_limit numbers)) }
 {
     let mut made = Vec::new(alloc);
     for fraction in fractions {

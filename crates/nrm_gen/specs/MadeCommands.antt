@@ -48,4 +48,4 @@ next_of making = if nat_lt making.given command_count then Some (command_at (suc
 abbrev pub after_next : Making → Making
 after_next making =
     if nat_lt making.given command_count
-        then record { state = (command_at (suc making.given) making.state).1; given = suc making.given } else making
+    then record { state = (command_at (suc making.given) making.state).1; given = suc making.given } else making

@@ -37,7 +37,7 @@ TalliesAreCapped = (net : NetworkValue) (requests : List Request) → AreTallies
 abbrev pub TalliesGrow : Type 0
 TalliesGrow = (net : NetworkValue) (requests : List Request) (request : Request) (j : ℕ)
     → tally_of net (requests ++ request ∷ []) j ≡ min (tally_of net requests j + (if request.product == j then request.party else 0))
-        (least_seats_of net j)
+    (least_seats_of net j)
 
 -- tallies that are at least what is booked of each product, and at most the least seats, are those of some requests, of which the
 -- bookings are a choice

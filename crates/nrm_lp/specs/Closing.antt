@@ -31,8 +31,12 @@ pub record Closing : Type 0 where
   pub p : List ℕ
 
 abbrev pub closing : ProgramValue → Tableau → Closing
-closing a t = record { q = common (product_values a t); x = over_common (product_values a t); den = common (leg_prices a t);
-    p = over_common (leg_prices a t) }
+closing a t = record {
+  q = common (product_values a t);
+  x = over_common (product_values a t);
+  den = common (leg_prices a t);
+  p = over_common (leg_prices a t);
+}
 
 -- the value over the denominator d of the bid prices: the size of the value row's right side times d. Where the path
 -- ends that is the number itself

@@ -21,8 +21,12 @@ impl Model for Program {
 
     ghost Value = { ProgramValue };
 
-    ghost view =
-        { λ p. record { caps = p.caps.items; bounds = p.bounds.items; fares = p.fares.items; legs = map (λ v. v.items) p.legs.items } };
+    ghost view = { λ p. record {
+      caps = p.caps.items;
+      bounds = p.bounds.items;
+      fares = p.fares.items;
+      legs = map (λ v. v.items) p.legs.items;
+    } };
 
     ghost invariant = { λ p. IsLimited
         (record { caps = p.caps.items; bounds = p.bounds.items; fares = p.fares.items; legs = map (λ v. v.items) p.legs.items }) };

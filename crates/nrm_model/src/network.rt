@@ -29,12 +29,22 @@ impl Model for Network {
 
     ghost Value = { NetworkValue };
 
-    ghost view = { λ n. record { histories = n.histories; periods = n.periods; legs = n.legs.items; products = n.products.items;
-        demand = n.demand.items } };
+    ghost view = { λ n. record {
+      histories = n.histories;
+      periods = n.periods;
+      legs = n.legs.items;
+      products = n.products.items;
+      demand = n.demand.items;
+    } };
 
     ghost invariant = { λ n. NamesInOrder
-        (record { histories = n.histories; periods = n.periods; legs = n.legs.items; products = n.products.items;
-        demand = n.demand.items }) n.leg_names n.product_names };
+        (record {
+          histories = n.histories;
+          periods = n.periods;
+          legs = n.legs.items;
+          products = n.products.items;
+          demand = n.demand.items;
+        }) n.leg_names n.product_names };
 }
 
 impl Network {

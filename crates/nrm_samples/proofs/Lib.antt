@@ -1,1 +1,1 @@
-pub mod Within -- the sample networks are within the limits
+pub mod Within  -- the sample networks are within the limits

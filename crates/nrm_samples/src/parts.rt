@@ -18,7 +18,12 @@ pub(crate) fn name(text: &[u8]) -> Name
 ///
 /// # Errors
 /// Want of memory.
-pub(crate) fn leg(alloc: Global, text: &[u8], seats: u16, thresholds: &[u32]) -> Result<Leg, AllocError>
+pub(crate) fn leg(
+    alloc: Global,
+    text: &[u8],
+    seats: u16,
+    thresholds: &[u32],
+) -> Result<Leg, AllocError>
     requires { IsTrue (is_name text.now) }
     ensures { IfOk result (λ leg. leg ≡ record { name = text.now; seats = seats; cuts = thresholds.now }) }
 {
@@ -33,7 +38,12 @@ pub(crate) fn leg(alloc: Global, text: &[u8], seats: u16, thresholds: &[u32]) ->
 ///
 /// # Errors
 /// Want of memory.
-pub(crate) fn product(alloc: Global, text: &[u8], fare: u32, legs: &[u8]) -> Result<Product, AllocError>
+pub(crate) fn product(
+    alloc: Global,
+    text: &[u8],
+    fare: u32,
+    legs: &[u8],
+) -> Result<Product, AllocError>
     requires { IsTrue (is_name text.now) }
     ensures { IfOk result (λ product. product ≡ record { name = text.now; fare = fare; legs = legs.now }) }
 {

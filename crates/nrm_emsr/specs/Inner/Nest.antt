@@ -40,7 +40,7 @@ nest_fare nest cuts den b =
     if nat_lt b (length cuts + 1)
     then (if nest_weight nest b b == 0 then (pos (slice_index cuts (b - 1) * den), 1) else (nest_fares nest b b, nest_weight nest b b))
     else (if (nest_weight nest b b == 0) || int_lt (nest_fares nest b b) (pos 0)
-        then (pos 0, 1) else (nest_fares nest b b, nest_weight nest b b))
+    then (pos 0, 1) else (nest_fares nest b b, nest_weight nest b b))
 
 -- a count times one fare is at most n times another, multiplied across
 abbrev pub crosses : ℕ → ℤ → ℕ → ℕ → ℤ → ℕ → Bool
