@@ -37,7 +37,9 @@ def source_of(crate, path):
 
 
 def function_at(lines, number):
-    """The function that a line, counted from 1, stands in or above which its contract or comment stands."""
+    """The function that a line, counted from 1, stands in, or above which its contract, comment or attribute stands."""
+    while number < len(lines) and lines[number - 1].lstrip().startswith("#["):
+        number += 1
     for line in reversed(lines[:number]):
         found = FUNCTION.match(line)
         if found:
