@@ -269,7 +269,8 @@ def completed(path, demand, names):
     there = {row[1] for row in rows if row[0] == "product" and row[1:]}
     missing = [f"{names[it]}, which stands for {it!r}" for it in demand.products if names[it] not in there]
     if missing:
-        raise Stop("\n    ".join([f"{path} has no row for these products of the log; add them, or take their rows out of the log", *missing]))
+        raise Stop("\n    ".join([f"{path} has no row for these products of the log; add one for each, or take them out of the log",
+                                 *missing]))
     if idle := sorted(there - {names[it] for it in demand.products}):
         tell(f"no request of the log is for {', '.join(idle)}")
     return [["periods", len(demand.departures), demand.periods], *[it for it in rows if it[0] not in ("periods", "demand")]]
