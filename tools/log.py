@@ -25,8 +25,8 @@ in it stay, and new ones are added.
 
 What is written is the demand, as rows `demand`, with the row of periods above them. With --network FILE, which has rows of legs
 and products, it is the whole network file: the demand and the periods of FILE are replaced. What is still to be done, such as
-the products to which FILE has no row, is told on standard error. A log that has a row that can't be read is refused, and
-all such rows are told.
+the products to which FILE has no row, is told on standard error. A log that has a row that can't be read is refused: the first
+20 such rows are told, and how many more there are.
 """
 import csv
 import datetime
@@ -280,13 +280,16 @@ def tell(text):
     print(f"log.py: {text}", file=sys.stderr)
 
 
-def tell_what_is_made(demand, names, requests):
+def tell_what_is_made(demand, names, requests, path):
     days = demand.departures
     left_out = len({it.departs for it in requests}) - len(days)
     tell(f"seasons {len(days)}, from {days[0]} to {days[-1]}{f', others left out {left_out}' if left_out else ''}; "
          f"periods {demand.periods}; products {len(demand.products)}; seats {sum(demand.seats.values())}")
-    for text in demand.products:
-        if names[text] != text:
+    made = [text for text in demand.products if names[text] != text]
+    if path:
+        tell(f"names made {len(made)}; {path} lists what they stand for")
+    else:
+        for text in made:
             tell(f"{names[text]} stands for {text!r}")
 
 
@@ -322,7 +325,7 @@ def main():
     if given.network:
         above = completed(given.network, demand, names)
     rows = [*above, *demand.rows(names)]
-    tell_what_is_made(demand, names, requests)
+    tell_what_is_made(demand, names, requests, given.names)
     if not given.network:
         tell_what_is_to_do(demand, names)
     print(text_of(rows), end="")
