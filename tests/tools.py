@@ -42,6 +42,15 @@ SECONDS = 60
 LOG_COLUMNS = ["--departs", "Departure", "--booked", "Booked on", "--product", "Fare product", "--seats", "Seats"]
 
 
+TESTS = []
+
+
+def test(function):
+    """Makes a function one of the tests."""
+    TESTS.append(function)
+    return function
+
+
 class Wrong(Exception):
     """What should have come, and what came."""
 
@@ -133,6 +142,7 @@ def explained(case, run):
         return out.getvalue(), status
 
 
+@test
 def explain_tells_first_what_the_program_tells(tools):
     run, refused, taken = cases_module(), 0, 0
     for case in run.cases_of(""):
@@ -179,6 +189,7 @@ FAULTS_OF_MANY = [  # the row, the cause, the line of the editor, the field, and
     (13, "1 kind", 15, "field 1, the kind: ''", "the row is empty"), (14, "6 number", 16, "field 3, the fare: 07", "write 7")]
 
 
+@test
 def explain_tells_every_row_with_its_line_and_how_to_mend_it(tools):
     out, _, status = tools.ran("explain.py", tools.file("many.csv", MANY_FAULTS))
     entries = re.split(r"^(?=refused )", out, flags=re.M)[1:]
@@ -197,6 +208,7 @@ def spoilt(fields, draw):
     return draw.choice(ways)
 
 
+@test
 def explain_tells_the_spoilt_rows_and_no_others(tools):
     rows = [it.fields for it in rows_of((EXAMPLES / "season" / "network.csv").read_bytes())]
     for seed in range(40):
@@ -220,6 +232,7 @@ def spoilt_anywhere(data, draw):
     return data
 
 
+@test
 def explain_and_the_reader_agree_with_the_reference_on_any_bytes(tools):
     files = [(EXAMPLES / it / "network.csv").read_bytes() for it in ("two-legs", "hub", "log", "certificate")]
     refused, draw = Counter(), random.Random(9)
@@ -239,6 +252,7 @@ def explain_and_the_reader_agree_with_the_reference_on_any_bytes(tools):
         raise Wrong(f"too few causes came: {refused}")
 
 
+@test
 def explain_tells_every_line_of_a_certificate(tools):
     lines = (EXAMPLES / "certificate" / "certificate.txt").read_text().splitlines()
     value, first, *rest = lines
@@ -252,6 +266,7 @@ def explain_tells_every_line_of_a_certificate(tools):
 # log.py
 
 
+@test
 def log_makes_the_network_of_the_example(tools):
     log = EXAMPLES / "log"
     made = tools.told("log.py", log / "requests.csv", *LOG_COLUMNS, "--cuts", "30,7", "--network", log / "rows.csv", "--names", "names.csv")
@@ -294,6 +309,7 @@ class MadeLog:
         return seats
 
 
+@test
 def log_reads_every_form_to_the_same_rows(tools):
     log, cuts = MadeLog(7), [60, 30, 7]
     forms = {"iso": log.text("%Y-%m-%d"), "basic": log.text("%Y%m%d"), "with a time": log.text("%Y-%m-%dT%H:%M:%S"),
@@ -315,6 +331,7 @@ def log_reads_every_form_to_the_same_rows(tools):
     want((first.splitlines()[0], +found), ("periods,5,4", +log.demand(cuts)))
 
 
+@test
 def log_goes_on_to_a_session(tools):
     """From the rows that it makes, with legs and fares put between, to a network that the program takes."""
     rows = tools.told("log.py", tools.file("log.csv", MadeLog(3).text("%Y-%m-%d")), *LOG_COLUMNS, "--cuts", "14").splitlines()
@@ -327,6 +344,15 @@ def log_goes_on_to_a_session(tools):
     want((completed.splitlines()[0], completed.count("\nleg,")), ("periods,5,3", 1))
 
 
+@test
+def log_joins_columns_to_a_product(tools):
+    log = tools.file("log.csv", "Day,Made,Flight,Class\n2025-03-07,2025-03-01,LH 454,Y\n2025-03-07,2025-03-02,LH 454,\n"
+                                "2025-03-07,2025-03-06,LH 454,Y\n")
+    made = tools.told("log.py", log, "--departs", "day", "--booked", "made", "--product", "flight", "class", "--cuts", "3")
+    want(made, "periods,1,2\ndemand,LH-454,1,1,0\ndemand,LH-454-Y,1,1,1\n")
+
+
+@test
 def log_takes_the_latest_seasons(tools):
     log = MadeLog(5, seasons=40)
     path = tools.file("log.csv", log.text("%Y-%m-%d"))
@@ -337,6 +363,7 @@ def log_takes_the_latest_seasons(tools):
     want(tools.told("log.py", path, *LOG_COLUMNS, "--cuts", "7", "--last", "6"), few)
 
 
+@test
 def log_takes_the_seasons_of_a_weekday(tools):
     log = MadeLog(8, seasons=21)
     log.departures = [log.departures[0] + datetime.timedelta(it) for it in range(21)]
@@ -368,6 +395,7 @@ REFUSED_LOGS = [  # the log's rows, more words, and a part of the sentence
     ("".join(f"2025-03-01,2025-03-07,P{it},1\n" for it in range(257)), [], "257 products, and a network file takes 256")]
 
 
+@test
 def log_refuses_with_a_sentence(tools):
     for rows, words, sentence in REFUSED_LOGS:
         path = tools.file("log.csv", "Booked on,Departure,Fare product,Seats\n" + rows)
@@ -375,8 +403,12 @@ def log_refuses_with_a_sentence(tools):
     path = tools.file("rows.csv", "periods,1,1\nleg,A,1\nproduct,P,5,A\n")
     log = tools.file("log.csv", "Booked on,Departure,Fare product,Seats\n2025-03-01,2025-03-07,new_one,1\n")
     want_in(tools.stopped("log.py", log, *LOG_COLUMNS, "--cuts", "7", "--network", path), "NEW-ONE, which stands for 'new_one'")
+    for names, sentence in (("A,a\n", "is no list of names"), ("name,stands for\nA,a\nA,b\n", "is no list of names"),
+                            (b"name,stands for\nA,\xff\n", "has other bytes")):
+        want_in(tools.stopped("log.py", log, *LOG_COLUMNS, "--cuts", "7", "--names", tools.file("names.csv", names)), sentence)
 
 
+@test
 def names_fit_and_are_names_of_their_own(tools):
     draw = random.Random(1)
     texts = ["", "ß", "-", "ABCDEFGHIJKL", *["".join(draw.choices("aB9_- é.東", k=draw.randint(1, 30))) for _ in range(3000)]]
@@ -411,6 +443,7 @@ def value_of(tools, path):
     return Fraction(tools.nrm("plan", "bid", path).split()[1])
 
 
+@test
 def split_cuts_where_no_product_joins(tools):
     rows, legs = made_timetable(random.Random(2), [30, 64, 1, 25])
     out = tools.told("split.py", tools.file("timetable.csv", text_of([*rows, ["leg", "IDLE", 7]])), "parts")
@@ -427,6 +460,7 @@ def split_cuts_where_no_product_joins(tools):
         tools.nrm("print", it)
 
 
+@test
 def split_parts_are_worth_the_whole(tools):
     rows, _ = made_timetable(random.Random(4), [5, 9, 1, 7])
     path = tools.file("timetable.csv", text_of(rows))
@@ -434,6 +468,7 @@ def split_parts_are_worth_the_whole(tools):
     want(sum(value_of(tools, it) for it in (tools.folder / "parts").glob("part-*.csv")), value_of(tools, path))
 
 
+@test
 def split_names_what_is_too_large(tools):
     rows, legs = made_timetable(random.Random(6), [65, 3])
     out, _, status = tools.ran("split.py", tools.file("timetable.csv", text_of(rows)), "parts")
@@ -477,6 +512,7 @@ e o f
 """
 
 
+@test
 def lp_makes_a_certificate_of_a_solution(tools):
     network, solution = tools.file("thirds.csv", WITH_THIRDS), tools.file("solution", WRITTEN_BY_GLPSOL)
     made = tools.told("lp.py", network, "--solution", solution)
@@ -492,6 +528,7 @@ def lp_makes_a_certificate_of_a_solution(tools):
     want_in(tools.stopped("lp.py", network, "--solution", tools.file("wrong", WRITTEN_BY_GLPSOL.replace("0.6", "many"))), "doesn't write")
 
 
+@test
 def lp_makes_certificates_of_what_glpsol_finds(tools):
     if not shutil.which("glpsol"):
         print("glpsol isn't installed: no certificate made of what it finds")
@@ -511,6 +548,7 @@ def lp_makes_certificates_of_what_glpsol_finds(tools):
 # season.py, replay.py, resume.py
 
 
+@test
 def season_tells_what_the_documents_show(tools):
     words = [EXAMPLES / "log" / "network.csv", EXAMPLES / "log" / "commands.txt", "--out", "pictures", "--program", *tools.program]
     out = tools.told("season.py", *words, env=os.environ)  # with pictures, where there is matplotlib
@@ -521,6 +559,7 @@ def season_tells_what_the_documents_show(tools):
     want("/" in decimal.replace("pictures/", ""), False, "fractions in decimals")
 
 
+@test
 def season_deals_replies_to_their_lines(tools):
     """A stream that asks for plans and legs itself, and has lines that are bad."""
     lines = (EXAMPLES / "log" / "commands.txt").read_text().splitlines()
@@ -531,6 +570,7 @@ def season_deals_replies_to_their_lines(tools):
     want(plain.partition("Revenue")[2], more.partition("Revenue")[2])
 
 
+@test
 def replies_are_dealt_one_to_a_line(tools):
     lines = [b"plan", b"leg VIE-BUD", b"book VB-Q 2", b"leg VIE-BUD", b"plan", b"plan", b"hindsight", b"bad"]
     for mode, lines_of_a_plan in (("first", 1), ("bid", 9), ("davn", 19)):
@@ -539,6 +579,7 @@ def replies_are_dealt_one_to_a_line(tools):
         want(dealt, [lines_of_a_plan, 1, 1, 2 if b"ok 1\n" in out else 1, lines_of_a_plan, lines_of_a_plan, 1, 1], mode)
 
 
+@test
 def replay_tells_each_history(tools):
     out = tools.told("replay.py", EXAMPLES / "log" / "network.csv", "--program", *tools.program)
     want(out.splitlines()[-1].split(), ["all", "7,760", "4,410", "57", "%", "5,600", "72", "%", "6,600", "85", "%"])
@@ -546,6 +587,7 @@ def replay_tells_each_history(tools):
     want_in(tools.stopped("replay.py", one, "--program", *tools.program), "two histories")
 
 
+@test
 def resume_goes_on_with_a_live_sender(tools):
     """The commands of `docs/operating.md`, after a cut at each of some bytes of the replies."""
     hub = EXAMPLES / "hub"
@@ -582,6 +624,7 @@ def words_of_tools(tools):
             "resume.py": [network, "bid", stream, kept, *program]}
 
 
+@test
 def tools_name_themselves_and_give_no_traceback(tools):
     refused, of_nrm = tools.file("refused.csv", "leg,AB\n\xff"), {"none": 3, "folder": 9, "refused": 3}
     statuses = {"audit.py": of_nrm, "explain.py": of_nrm}
@@ -597,6 +640,7 @@ def tools_name_themselves_and_give_no_traceback(tools):
                 raise Wrong(f"{name} doesn't name itself: {err}")
 
 
+@test
 def tools_end_quietly_where_nobody_reads(tools):
     for name, words in words_of_tools(tools).items():
         reading, writing = os.pipe()
@@ -614,6 +658,7 @@ def tools_end_quietly_where_nobody_reads(tools):
         want(found, (5 if name == "audit.py" else 1, False, True), name)
 
 
+@test
 def tools_end_at_ctrl_c(tools):
     for name in ("season.py", "replay.py"):
         begun = tools.folder / f"{name}-begun"
@@ -628,6 +673,7 @@ def tools_end_at_ctrl_c(tools):
         want((process.returncode, err), (-signal.SIGINT, b""), name)
 
 
+@test
 def tools_find_the_program_on_the_path(tools):
     shutil.copytree(TOOLS, tools.folder / "elsewhere" / "tools")
     (tools.folder / "bin").mkdir()
@@ -643,6 +689,7 @@ def tools_find_the_program_on_the_path(tools):
         want((done.returncode, wanted in done.stdout + done.stderr), (status, True), done.stdout + done.stderr)
 
 
+@test
 def release_has_what_an_operator_needs(tools):
     """From a clone whose built program is one that runs the program of the tests."""
     clone, made = tools.folder / "clone", tools.folder / "out" / f"nrm-{(TOP / 'VERSION').read_text().strip()}"
@@ -668,10 +715,6 @@ def release_has_what_an_operator_needs(tools):
         want((done.returncode, wanted in done.stderr), (1, True), done.stderr)
         (clone / "LICENSE").write_text("other")
         shutil.rmtree(made, ignore_errors=True)
-
-
-TESTS = [it for it in list(globals().values()) if callable(it) and getattr(it, "__code__", None) and it.__module__ == __name__
-         and it.__code__.co_varnames[:1] == ("tools",) and it.__code__.co_argcount == 1 and it.__name__ != "words_of_tools"]
 
 
 def main():
