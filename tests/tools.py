@@ -534,7 +534,7 @@ def lp_makes_certificates_of_what_glpsol_finds(tools):
         print("glpsol isn't installed: no certificate made of what it finds")
         return
     paths = [*sorted(EXAMPLES.glob("*/network.csv")), tools.file("thirds.csv", WITH_THIRDS),
-             *[tools.file(f"made-{it}.csv", text_of(made_timetable(random.Random(it), [6, 9])[0])) for it in range(10)]]
+             *[tools.file(f"made-{it}.csv", text_of(made_timetable(random.Random(it), [6, 9])[0])) for it in range(4)]]
     for path in paths:
         tools.file("program.lp", tools.told("lp.py", path))
         done = subprocess.run(["glpsol", "--exact", "--lp", "program.lp", "-w", "solution"], cwd=tools.folder, capture_output=True)
@@ -692,7 +692,10 @@ def tools_find_the_program_on_the_path(tools):
 @test
 def release_has_what_an_operator_needs(tools):
     """From a clone whose built program is one that runs the program of the tests."""
-    clone, made = tools.folder / "clone", tools.folder / "out" / f"nrm-{(TOP / 'VERSION').read_text().strip()}"
+    version = (TOP / "VERSION").read_text().strip()
+    want_in((TOP / "docs" / "nrm.1").read_text(), f'"nrm {version}"')
+    want_in((TOP / "CHANGELOG.md").read_text(), f"\n## {version}\n")
+    clone, made = tools.folder / "clone", tools.folder / "out" / f"nrm-{version}"
     if not (TOP / ".git").exists() or subprocess.run(["git", "clone", "-q", TOP, clone], stderr=subprocess.DEVNULL).returncode:
         print("this is no git repository: no release made")
         return
