@@ -34,6 +34,7 @@ TOP, TOOLS, EXAMPLES = HERE.parent, HERE.parent / "tools", HERE.parent / "exampl
 sys.dont_write_bytecode = True
 sys.path.insert(0, str(TOOLS))
 import explain
+import lp
 import reference
 from nrm_tools import NAME, Network, Stop, fitting, named, replies_of, rows_of, text_of
 
@@ -198,6 +199,9 @@ def explain_tells_every_row_with_its_line_and_how_to_mend_it(tools):
         want_in(entry, f"refused row {row} why {why}\n    line {line}{f', {field}' if field else ''}\n")
         want_in(entry, advice)
     want_in(entries[6], "    line 8, field 5, leg 2: ZRH-VIE\n        the product has this leg already")
+    out = tools.ran("explain.py", tools.file("few.csv", "periods,33,17\nleg,AB,3,9,9\nproduct,P,5,AB\ndemand,P,1,1000\n"))[0]
+    for wanted in ("field 2, the histories: 33", "field 3, the periods: 17", "field 5, threshold 2: 9", "field 4, period 1: 1000"):
+        want_in(out, f", {wanted}\n")
 
 
 def spoilt(fields, draw):
@@ -526,6 +530,13 @@ def lp_makes_a_certificate_of_a_solution(tools):
     for wrong in (WRITTEN_BY_GLPSOL.replace("f f", "i i"), WRITTEN_BY_GLPSOL.replace("bas 4", "bas 5"), "", "s\n"):
         want_in(tools.stopped("lp.py", network, "--solution", tools.file("wrong", wrong)), "isn't an optimal one")
     want_in(tools.stopped("lp.py", network, "--solution", tools.file("wrong", WRITTEN_BY_GLPSOL.replace("0.6", "many"))), "doesn't write")
+
+
+@test
+def lp_takes_decimals_for_the_fractions_that_they_stand_for(tools):
+    for numerator, denominator in [(2, 3), (1, 7), (299_998, 3), (99_999_998, 7), (31_968, 1), (5, 4096), (0, 1), (1234, 997)]:
+        want(lp.fraction(f"{numerator / denominator:.15g}"), Fraction(numerator, denominator))
+    want(lp.fraction("-1e-17"), 0)
 
 
 @test
