@@ -34,12 +34,22 @@ TOP, TOOLS, EXAMPLES = HERE.parent, HERE.parent / "tools", HERE.parent / "exampl
 sys.dont_write_bytecode = True
 sys.path.insert(0, str(TOOLS))
 import explain
+import lp
 import reference
 from nrm_tools import NAME, Network, Stop, fitting, named, replies_of, rows_of, text_of
 
 NOT_BUILT = 70  # what the script `nrm` ends with where there is no program to run
 SECONDS = 60
 LOG_COLUMNS = ["--departs", "Departure", "--booked", "Booked on", "--product", "Fare product", "--seats", "Seats"]
+
+
+TESTS = []
+
+
+def test(function):
+    """Makes a function one of the tests."""
+    TESTS.append(function)
+    return function
 
 
 class Wrong(Exception):
@@ -133,6 +143,7 @@ def explained(case, run):
         return out.getvalue(), status
 
 
+@test
 def explain_tells_first_what_the_program_tells(tools):
     run, refused, taken = cases_module(), 0, 0
     for case in run.cases_of(""):
@@ -179,6 +190,7 @@ FAULTS_OF_MANY = [  # the row, the cause, the line of the editor, the field, and
     (13, "1 kind", 15, "field 1, the kind: ''", "the row is empty"), (14, "6 number", 16, "field 3, the fare: 07", "write 7")]
 
 
+@test
 def explain_tells_every_row_with_its_line_and_how_to_mend_it(tools):
     out, _, status = tools.ran("explain.py", tools.file("many.csv", MANY_FAULTS))
     entries = re.split(r"^(?=refused )", out, flags=re.M)[1:]
@@ -187,16 +199,20 @@ def explain_tells_every_row_with_its_line_and_how_to_mend_it(tools):
         want_in(entry, f"refused row {row} why {why}\n    line {line}{f', {field}' if field else ''}\n")
         want_in(entry, advice)
     want_in(entries[6], "    line 8, field 5, leg 2: ZRH-VIE\n        the product has this leg already")
+    out = tools.ran("explain.py", tools.file("few.csv", "periods,33,17\nleg,AB,3,9,9\nproduct,P,5,AB\ndemand,P,1,1000\n"))[0]
+    for wanted in ("field 2, the histories: 33", "field 3, the periods: 17", "field 5, threshold 2: 9", "field 4, period 1: 1000"):
+        want_in(out, f", {wanted}\n")
 
 
 def spoilt(fields, draw):
     """A row with one fault."""
     kind, *rest = fields
-    ways = [["X" + kind, *rest], [kind, *rest, *["1"] * 20], [kind, rest[0].lower() + "_", *rest[1:]], [kind, rest[0], "0" + rest[1], *rest[2:]],
-            [kind, rest[0], "100000000", *rest[2:]]]
+    ways = [["X" + kind, *rest], [kind, *rest, *["1"] * 20], [kind, rest[0].lower() + "_", *rest[1:]],
+            [kind, rest[0], "0" + rest[1], *rest[2:]], [kind, rest[0], "100000000", *rest[2:]]]
     return draw.choice(ways)
 
 
+@test
 def explain_tells_the_spoilt_rows_and_no_others(tools):
     rows = [it.fields for it in rows_of((EXAMPLES / "season" / "network.csv").read_bytes())]
     for seed in range(40):
@@ -214,15 +230,17 @@ def spoilt_anywhere(data, draw):
     """The bytes of a file with some of them changed, left out or put in."""
     for _ in range(draw.randint(1, 4)):
         at = draw.randrange(len(data) + 1)
-        put = draw.choice([b"", b"", b",", b'"', b"\n", b"\r\n", b"\r", b"0", b"9", b"999", b"a", b"A", b" ", b"\xef\xbb\xbf", b"\xff", b"\nleg,", b"\nproduct,"])
+        put = draw.choice([b"", b"", b",", b'"', b"\n", b"\r\n", b"\r", b"0", b"9", b"999", b"a", b"A", b" ", b"\xef\xbb\xbf", b"\xff",
+                           b"\nleg,", b"\nproduct,"])
         data = data[:at] + put + data[at + draw.choice([0, 0, 1, 1, 2, 9]):]
     return data
 
 
+@test
 def explain_and_the_reader_agree_with_the_reference_on_any_bytes(tools):
     files = [(EXAMPLES / it / "network.csv").read_bytes() for it in ("two-legs", "hub", "log", "certificate")]
     refused, draw = Counter(), random.Random(9)
-    for _ in range(1500):
+    for _ in range(1000):
         data = spoilt_anywhere(draw.choice(files), draw)
         want([row.fields for row in rows_of(data)],
              [[it.decode("utf-8", "backslashreplace") for it in row] for row in reference.rows_of(data)], repr(data))
@@ -234,10 +252,11 @@ def explain_and_the_reader_agree_with_the_reference_on_any_bytes(tools):
         refusals = explain.refusals_of(data)
         want(next(refusals[0].lines()) if refusals else None, wanted, repr(data))
         refused[wanted and wanted.split()[-1]] += 1
-    if len(refused) < 9 or refused[None] < 20:
+    if len(refused) < 8 or refused[None] < 20:
         raise Wrong(f"too few causes came: {refused}")
 
 
+@test
 def explain_tells_every_line_of_a_certificate(tools):
     lines = (EXAMPLES / "certificate" / "certificate.txt").read_text().splitlines()
     value, first, *rest = lines
@@ -251,10 +270,11 @@ def explain_tells_every_line_of_a_certificate(tools):
 # log.py
 
 
+@test
 def log_makes_the_network_of_the_example(tools):
-    made = tools.told("log.py", EXAMPLES / "log" / "requests.csv", *LOG_COLUMNS, "--cuts", "30,7", "--network", EXAMPLES / "log" / "rows.csv",
-                      "--names", "names.csv")
-    want(made, (EXAMPLES / "log" / "network.csv").read_text())
+    log = EXAMPLES / "log"
+    made = tools.told("log.py", log / "requests.csv", *LOG_COLUMNS, "--cuts", "30,7", "--network", log / "rows.csv", "--names", "names.csv")
+    want(made, (log / "network.csv").read_text())
     want(tools.nrm("print", tools.file("made.csv", made))[:12], "periods,3,3\n")
     want_in((tools.folder / "names.csv").read_text(), "ZV-Q,ZV_Q\n")
 
@@ -262,13 +282,14 @@ def log_makes_the_network_of_the_example(tools):
 class MadeLog:
     """Requests that are made of a seed: the day of departure and of booking, the product and the seats of each."""
 
-    def __init__(self, seed, seasons=5, requests=400, products=("lh454_27Nov", "LH454 Économie Flex", "LH454 Économie Saver", "ZV-Q", "a;b,c")):
+    PRODUCTS = ["lh454_27Nov", "LH454 Économie Flex", "LH454 Économie Saver", "ZV-Q", "a;b,c"]
+
+    def __init__(self, seed, seasons=5, requests=400):
         draw = random.Random(seed)
         first = datetime.date(2024, 12, draw.randint(1, 28))
         self.departures = [first + datetime.timedelta(7 * it) for it in range(seasons)]
-        self.requests = [(day, day - datetime.timedelta(draw.randint(0, 90)), draw.choice(products), draw.randint(1, 4))
+        self.requests = [(day, day - datetime.timedelta(draw.randint(0, 90)), draw.choice(self.PRODUCTS), draw.randint(1, 4))
                          for day in draw.choices(self.departures, k=requests) + self.departures]
-        self.draw = draw
 
     def text(self, form, separator=",", end="\n", above=""):
         """The log, with dates in a form of `strftime`."""
@@ -292,11 +313,13 @@ class MadeLog:
         return seats
 
 
+@test
 def log_reads_every_form_to_the_same_rows(tools):
     log, cuts = MadeLog(7), [60, 30, 7]
     forms = {"iso": log.text("%Y-%m-%d"), "basic": log.text("%Y%m%d"), "with a time": log.text("%Y-%m-%dT%H:%M:%S"),
-             "points": log.text("%d.%m.%Y", ";", "\r\n"), "slashes": log.text("%d/%m/%Y %H:%M", "\t"), "month first": log.text("%m/%d/%Y", "|"),
-             "airline": log.text("%d%b%y"), "month": log.text("%d-%b-%Y"), "title": log.text("%Y-%m-%d", above="Export of today\n\n,,,\n"),
+             "points": log.text("%d.%m.%Y", ";", "\r\n"), "slashes": log.text("%d/%m/%Y %H:%M", "\t"),
+             "month first": log.text("%m/%d/%Y", "|"), "airline": log.text("%d%b%y"), "month": log.text("%d-%b-%Y"),
+             "title": log.text("%Y-%m-%d", above="Export of today\n\n,,,\n"),
              "mark": b"\xef\xbb\xbf" + log.text("%d.%m.%Y", ";").encode(), "UTF-16": log.text("%d.%m.%Y", ";").encode("utf-16"),
              "Windows": log.text("%Y-%m-%d").encode("cp1252")}
     made = {name: tools.told("log.py", tools.file("log.csv", text), *LOG_COLUMNS, "--cuts", "60,30,7", "--names", f"{name}.names")
@@ -312,6 +335,7 @@ def log_reads_every_form_to_the_same_rows(tools):
     want((first.splitlines()[0], +found), ("periods,5,4", +log.demand(cuts)))
 
 
+@test
 def log_goes_on_to_a_session(tools):
     """From the rows that it makes, with legs and fares put between, to a network that the program takes."""
     rows = tools.told("log.py", tools.file("log.csv", MadeLog(3).text("%Y-%m-%d")), *LOG_COLUMNS, "--cuts", "14").splitlines()
@@ -324,15 +348,26 @@ def log_goes_on_to_a_session(tools):
     want((completed.splitlines()[0], completed.count("\nleg,")), ("periods,5,3", 1))
 
 
+@test
+def log_joins_columns_to_a_product(tools):
+    log = tools.file("log.csv", "Day,Made,Flight,Class\n2025-03-07,2025-03-01,LH 454,Y\n2025-03-07,2025-03-02,LH 454,\n"
+                                "2025-03-07,2025-03-06,LH 454,Y\n")
+    made = tools.told("log.py", log, "--departs", "day", "--booked", "made", "--product", "flight", "class", "--cuts", "3")
+    want(made, "periods,1,2\ndemand,LH-454,1,1,0\ndemand,LH-454-Y,1,1,1\n")
+
+
+@test
 def log_takes_the_latest_seasons(tools):
     log = MadeLog(5, seasons=40)
     path = tools.file("log.csv", log.text("%Y-%m-%d"))
-    want_in(tools.stopped("log.py", path, *LOG_COLUMNS, "--cuts", "7"), "40 days of departure, and a network file takes 32 histories: say --last 32")
+    want_in(tools.stopped("log.py", path, *LOG_COLUMNS, "--cuts", "7"),
+            "40 days of departure, and a network file takes 32 histories: say --last 32")
     log.requests = [it for it in log.requests if it[0] in log.departures[-6:]]
     few = tools.told("log.py", tools.file("few.csv", log.text("%Y-%m-%d")), *LOG_COLUMNS, "--cuts", "7")
     want(tools.told("log.py", path, *LOG_COLUMNS, "--cuts", "7", "--last", "6"), few)
 
 
+@test
 def log_takes_the_seasons_of_a_weekday(tools):
     log = MadeLog(8, seasons=21)
     log.departures = [log.departures[0] + datetime.timedelta(it) for it in range(21)]
@@ -364,6 +399,7 @@ REFUSED_LOGS = [  # the log's rows, more words, and a part of the sentence
     ("".join(f"2025-03-01,2025-03-07,P{it},1\n" for it in range(257)), [], "257 products, and a network file takes 256")]
 
 
+@test
 def log_refuses_with_a_sentence(tools):
     for rows, words, sentence in REFUSED_LOGS:
         path = tools.file("log.csv", "Booked on,Departure,Fare product,Seats\n" + rows)
@@ -371,8 +407,12 @@ def log_refuses_with_a_sentence(tools):
     path = tools.file("rows.csv", "periods,1,1\nleg,A,1\nproduct,P,5,A\n")
     log = tools.file("log.csv", "Booked on,Departure,Fare product,Seats\n2025-03-01,2025-03-07,new_one,1\n")
     want_in(tools.stopped("log.py", log, *LOG_COLUMNS, "--cuts", "7", "--network", path), "NEW-ONE, which stands for 'new_one'")
+    for names, sentence in (("A,a\n", "is no list of names"), ("name,stands for\nA,a\nA,b\n", "is no list of names"),
+                            (b"name,stands for\nA,\xff\n", "has other bytes")):
+        want_in(tools.stopped("log.py", log, *LOG_COLUMNS, "--cuts", "7", "--names", tools.file("names.csv", names)), sentence)
 
 
+@test
 def names_fit_and_are_names_of_their_own(tools):
     draw = random.Random(1)
     texts = ["", "ß", "-", "ABCDEFGHIJKL", *["".join(draw.choices("aB9_- é.東", k=draw.randint(1, 30))) for _ in range(3000)]]
@@ -407,6 +447,7 @@ def value_of(tools, path):
     return Fraction(tools.nrm("plan", "bid", path).split()[1])
 
 
+@test
 def split_cuts_where_no_product_joins(tools):
     rows, legs = made_timetable(random.Random(2), [30, 64, 1, 25])
     out = tools.told("split.py", tools.file("timetable.csv", text_of([*rows, ["leg", "IDLE", 7]])), "parts")
@@ -423,6 +464,7 @@ def split_cuts_where_no_product_joins(tools):
         tools.nrm("print", it)
 
 
+@test
 def split_parts_are_worth_the_whole(tools):
     rows, _ = made_timetable(random.Random(4), [5, 9, 1, 7])
     path = tools.file("timetable.csv", text_of(rows))
@@ -430,6 +472,7 @@ def split_parts_are_worth_the_whole(tools):
     want(sum(value_of(tools, it) for it in (tools.folder / "parts").glob("part-*.csv")), value_of(tools, path))
 
 
+@test
 def split_names_what_is_too_large(tools):
     rows, legs = made_timetable(random.Random(6), [65, 3])
     out, _, status = tools.ran("split.py", tools.file("timetable.csv", text_of(rows)), "parts")
@@ -473,6 +516,7 @@ e o f
 """
 
 
+@test
 def lp_makes_a_certificate_of_a_solution(tools):
     network, solution = tools.file("thirds.csv", WITH_THIRDS), tools.file("solution", WRITTEN_BY_GLPSOL)
     made = tools.told("lp.py", network, "--solution", solution)
@@ -488,12 +532,20 @@ def lp_makes_a_certificate_of_a_solution(tools):
     want_in(tools.stopped("lp.py", network, "--solution", tools.file("wrong", WRITTEN_BY_GLPSOL.replace("0.6", "many"))), "doesn't write")
 
 
+@test
+def lp_takes_decimals_for_the_fractions_that_they_stand_for(tools):
+    for numerator, denominator in [(2, 3), (1, 7), (299_998, 3), (99_999_998, 7), (31_968, 1), (5, 4096), (0, 1), (1234, 997)]:
+        want(lp.fraction(f"{numerator / denominator:.15g}"), Fraction(numerator, denominator))
+    want(lp.fraction("-1e-17"), 0)
+
+
+@test
 def lp_makes_certificates_of_what_glpsol_finds(tools):
     if not shutil.which("glpsol"):
         print("glpsol isn't installed: no certificate made of what it finds")
         return
     paths = [*sorted(EXAMPLES.glob("*/network.csv")), tools.file("thirds.csv", WITH_THIRDS),
-             *[tools.file(f"made-{it}.csv", text_of(made_timetable(random.Random(it), [6, 9])[0])) for it in range(10)]]
+             *[tools.file(f"made-{it}.csv", text_of(made_timetable(random.Random(it), [6, 9])[0])) for it in range(4)]]
     for path in paths:
         tools.file("program.lp", tools.told("lp.py", path))
         done = subprocess.run(["glpsol", "--exact", "--lp", "program.lp", "-w", "solution"], cwd=tools.folder, capture_output=True)
@@ -507,6 +559,7 @@ def lp_makes_certificates_of_what_glpsol_finds(tools):
 # season.py, replay.py, resume.py
 
 
+@test
 def season_tells_what_the_documents_show(tools):
     words = [EXAMPLES / "log" / "network.csv", EXAMPLES / "log" / "commands.txt", "--out", "pictures", "--program", *tools.program]
     out = tools.told("season.py", *words, env=os.environ)  # with pictures, where there is matplotlib
@@ -517,6 +570,7 @@ def season_tells_what_the_documents_show(tools):
     want("/" in decimal.replace("pictures/", ""), False, "fractions in decimals")
 
 
+@test
 def season_deals_replies_to_their_lines(tools):
     """A stream that asks for plans and legs itself, and has lines that are bad."""
     lines = (EXAMPLES / "log" / "commands.txt").read_text().splitlines()
@@ -527,6 +581,7 @@ def season_deals_replies_to_their_lines(tools):
     want(plain.partition("Revenue")[2], more.partition("Revenue")[2])
 
 
+@test
 def replies_are_dealt_one_to_a_line(tools):
     lines = [b"plan", b"leg VIE-BUD", b"book VB-Q 2", b"leg VIE-BUD", b"plan", b"plan", b"hindsight", b"bad"]
     for mode, lines_of_a_plan in (("first", 1), ("bid", 9), ("davn", 19)):
@@ -535,6 +590,7 @@ def replies_are_dealt_one_to_a_line(tools):
         want(dealt, [lines_of_a_plan, 1, 1, 2 if b"ok 1\n" in out else 1, lines_of_a_plan, lines_of_a_plan, 1, 1], mode)
 
 
+@test
 def replay_tells_each_history(tools):
     out = tools.told("replay.py", EXAMPLES / "log" / "network.csv", "--program", *tools.program)
     want(out.splitlines()[-1].split(), ["all", "7,760", "4,410", "57", "%", "5,600", "72", "%", "6,600", "85", "%"])
@@ -542,6 +598,7 @@ def replay_tells_each_history(tools):
     want_in(tools.stopped("replay.py", one, "--program", *tools.program), "two histories")
 
 
+@test
 def resume_goes_on_with_a_live_sender(tools):
     """The commands of `docs/operating.md`, after a cut at each of some bytes of the replies."""
     hub = EXAMPLES / "hub"
@@ -558,9 +615,10 @@ def resume_goes_on_with_a_live_sender(tools):
         tools.file("later", b"".join(lines[-5:]))
         tools.file("replies", replies[:at])
         names = {"PYTHON": sys.executable, "TOOLS": str(TOOLS), "HUB": str(hub / "network.csv")}
-        done = subprocess.run(["bash", "-c", script, "bash", *tools.program], cwd=tools.folder, env={**os.environ, **names}, timeout=SECONDS)
-        want((done.returncode, (tools.folder / "whole").read_bytes(), (tools.folder / "stream").read_bytes()), (0, replies, b"".join(lines)),
-             f"cut at {at}")
+        done = subprocess.run(["bash", "-c", script, "bash", *tools.program], cwd=tools.folder, env={**os.environ, **names},
+                              timeout=SECONDS)
+        found = [(tools.folder / it).read_bytes() for it in ("whole", "stream")]
+        want((done.returncode, *found), (0, replies, b"".join(lines)), f"cut at {at}")
 
 
 # How every tool begins and ends
@@ -577,20 +635,23 @@ def words_of_tools(tools):
             "resume.py": [network, "bid", stream, kept, *program]}
 
 
+@test
 def tools_name_themselves_and_give_no_traceback(tools):
-    refused, statuses = tools.file("refused.csv", "leg,AB\n\xff"), {"audit.py": {"none": 3, "folder": 9}, "explain.py": {"none": 3, "folder": 9}}
+    refused, of_nrm = tools.file("refused.csv", "leg,AB\n\xff"), {"none": 3, "folder": 9, "refused": 3}
+    statuses = {"audit.py": of_nrm, "explain.py": of_nrm}
     for name, words in words_of_tools(tools).items():
         want_in(tools.told(name, "--help"), "usage: tools/" + name)
         want_in(tools.stopped(name, status=2), "usage: ")
         want_in(tools.stopped(name, *words, "--no-such-option", status=2), "usage: ")
         for what, path in (("none", "there/is-none"), ("folder", str(tools.folder)), ("refused", refused)):
             out, err, status = tools.ran(name, path, *words[1:])
-            wanted = {"refused": 3 if name in statuses else 1}.get(what) or statuses.get(name, {}).get(what, 1)
+            wanted = statuses.get(name, {}).get(what, 1)
             want((status, "Traceback" in err, bool(err) or name in statuses), (wanted, False, True), f"{name} {what}: {err}")
             if err and not err.startswith(name + ": "):
                 raise Wrong(f"{name} doesn't name itself: {err}")
 
 
+@test
 def tools_end_quietly_where_nobody_reads(tools):
     for name, words in words_of_tools(tools).items():
         reading, writing = os.pipe()
@@ -604,15 +665,18 @@ def tools_end_quietly_where_nobody_reads(tools):
         with open("/dev/full", "wb") as full:
             done = subprocess.run([sys.executable, "-B", TOOLS / name, *words], cwd=tools.folder, stdout=full, stderr=subprocess.PIPE,
                                   env=tools.blind())
-        want((done.returncode, b"Traceback" in done.stderr, b"No space left" in done.stderr), (5 if name == "audit.py" else 1, False, True), name)
+        found = done.returncode, b"Traceback" in done.stderr, b"No space left" in done.stderr
+        want(found, (5 if name == "audit.py" else 1, False, True), name)
 
 
+@test
 def tools_end_at_ctrl_c(tools):
     for name in ("season.py", "replay.py"):
         begun = tools.folder / f"{name}-begun"
         program = tools.file("slow", f"touch '{begun}'\nexec sleep 60\n")
         words = [*words_of_tools(tools)[name][:2 if name == "season.py" else 1], "--program", "sh", program]
-        process = subprocess.Popen([sys.executable, "-B", TOOLS / name, *words], cwd=tools.folder, stdout=subprocess.PIPE, stderr=subprocess.PIPE)
+        process = subprocess.Popen([sys.executable, "-B", TOOLS / name, *words], cwd=tools.folder, stdout=subprocess.PIPE,
+                                   stderr=subprocess.PIPE)
         while not begun.exists() and process.poll() is None:
             time.sleep(0.01)
         process.send_signal(signal.SIGINT)
@@ -620,23 +684,29 @@ def tools_end_at_ctrl_c(tools):
         want((process.returncode, err), (-signal.SIGINT, b""), name)
 
 
+@test
 def tools_find_the_program_on_the_path(tools):
     shutil.copytree(TOOLS, tools.folder / "elsewhere" / "tools")
     (tools.folder / "bin").mkdir()
     (tools.folder / "bin" / "nrm").write_text('#!/bin/sh\nexec %s "$@"\n' % " ".join(f"'{it}'" for it in tools.program))
     (tools.folder / "bin" / "nrm").chmod(0o755)
     words = [sys.executable, "-B", "elsewhere/tools/replay.py", EXAMPLES / "log" / "network.csv"]
-    for path, status, wanted in ((f"{tools.folder}/bin:{os.environ['PATH']}", 0, "7,760"), ("/nowhere", 1, "neither in")):
+    on_path = f"{tools.folder}/bin:{os.environ['PATH']}"
+    places = [(on_path, False, 0, "7,760"), ("/nowhere", False, 1, "neither in"), ("/usr/bin:/bin", True, 0, "7,760")]
+    for path, is_above, status, wanted in places:
+        if is_above:
+            (tools.folder / "elsewhere" / "nrm").symlink_to(tools.folder / "bin" / "nrm")
         done = subprocess.run(words, cwd=tools.folder, env={**os.environ, "PATH": path}, capture_output=True, text=True, timeout=SECONDS)
         want((done.returncode, wanted in done.stdout + done.stderr), (status, True), done.stdout + done.stderr)
-    (tools.folder / "elsewhere" / "nrm").symlink_to(tools.folder / "bin" / "nrm")
-    done = subprocess.run(words, cwd=tools.folder, env={**os.environ, "PATH": "/usr/bin:/bin"}, capture_output=True, text=True, timeout=SECONDS)
-    want((done.returncode, "7,760" in done.stdout), (0, True), done.stderr)
 
 
+@test
 def release_has_what_an_operator_needs(tools):
     """From a clone whose built program is one that runs the program of the tests."""
-    clone, made = tools.folder / "clone", tools.folder / "out" / f"nrm-{(TOP / 'VERSION').read_text().strip()}"
+    version = (TOP / "VERSION").read_text().strip()
+    want_in((TOP / "docs" / "nrm.1").read_text(), f'"nrm {version}"')
+    want_in((TOP / "CHANGELOG.md").read_text(), f"\n## {version}\n")
+    clone, made = tools.folder / "clone", tools.folder / "out" / f"nrm-{version}"
     if not (TOP / ".git").exists() or subprocess.run(["git", "clone", "-q", TOP, clone], stderr=subprocess.DEVNULL).returncode:
         print("this is no git repository: no release made")
         return
@@ -659,10 +729,6 @@ def release_has_what_an_operator_needs(tools):
         want((done.returncode, wanted in done.stderr), (1, True), done.stderr)
         (clone / "LICENSE").write_text("other")
         shutil.rmtree(made, ignore_errors=True)
-
-
-TESTS = [it for it in list(globals().values()) if callable(it) and getattr(it, "__code__", None) and it.__module__ == __name__
-         and it.__code__.co_varnames[:1] == ("tools",) and it.__code__.co_argcount == 1 and it.__name__ != "words_of_tools"]
 
 
 def main():

@@ -190,7 +190,8 @@ class Reading:
                 if leg in row.fields[3:at]:
                     yield Fault(8, at, "the product has this leg already: name each leg once")
         if kind == "demand" and (name, rest[0]) in self.demands:
-            yield Fault(8, 2, f"line {self.demands[name, rest[0]]} has the demand of {shown(name)} in this history: add the two up in one row")
+            line = self.demands[name, rest[0]]
+            yield Fault(8, 2, f"line {line} has the demand of {shown(name)} in this history: add the two up in one row")
 
     def missing_names(self, row):
         kind, name, *rest = row.fields
@@ -335,7 +336,8 @@ def how_to_mend_a_line(what, last, wanted, given):
         return "it was given above: delete one of the two"
     if what not in wanted:
         close = difflib.get_close_matches(what, wanted, 1)
-        return "it is none of `value`, `product NAME` and `leg NAME`, one blank and a fraction" + (f"; is it `{close[0]}`?" if close else "")
+        guess = f"; is it `{close[0]}`?" if close else ""
+        return f"it is none of `value`, `product NAME` and `leg NAME`, one blank and a fraction{guess}"
     return f"a fraction is wanted, as 3/2{f': write {last}/1' if WHOLE.fullmatch(last) else ' or 0/1'}"
 
 

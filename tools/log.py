@@ -1,12 +1,13 @@
 #!/usr/bin/env python3
 """From a log of requests, as a reservation system exports it, to the demand rows of a network file.
 
-    tools/log.py LOG --departs COLUMN --booked COLUMN --product COLUMN [--seats COLUMN] --cuts DAYS,DAYS..
+    tools/log.py LOG --departs COLUMN --booked COLUMN --product COLUMN.. [--seats COLUMN] --cuts DAYS,DAYS..
                  [--network FILE] [--names FILE] [--weekday DAY] [--last N] [--dates dmy|mdy] > NEW
 
 LOG has a row of headings and below it a row for each request: the day of departure, the day on which it was made, what was
-asked for, and how many seats, 1 where no column says so. COLUMN is a heading, in capitals or not; rows above the headings are
-passed over, and so are other columns and empty rows. Fields are kept apart by commas, semicolons, tabs or bars, and may stand
+asked for, and how many seats, 1 where no column says so. COLUMN is a heading, in capitals or not; what was asked for may stand in
+several, such as the flight and the class, which are then joined. Rows above the headings are passed over, and so are other
+columns and empty rows. Fields are kept apart by commas, semicolons, tabs or bars, and may stand
 in quotes. The file may be in UTF-8, in UTF-16 with its mark, or else in Windows-1252.
 
 SEASONS. Each day of departure is a season, and so a history: they are numbered from the earliest. With --weekday fri they are the
@@ -25,8 +26,8 @@ in it stay, and new ones are added.
 
 What is written is the demand, as rows `demand`, with the row of periods above them. With --network FILE, which has rows of legs
 and products, it is the whole network file: the demand and the periods of FILE are replaced. What is still to be done, such as
-the products to which FILE has no row, is told on standard error. A log that has a row that can't be read is refused, and
-all such rows are told.
+the products to which FILE has no row, is told on standard error. A log that has a row that can't be read is refused: the first
+20 such rows are told, and how many more there are.
 """
 import csv
 import datetime
@@ -72,12 +73,13 @@ class Log:
 
     def __init__(self, path, columns):
         text = text_in(path)
-        for separator in SEPARATORS:
-            found = self.rows_below_headings(text, separator, columns)
-            if found is not None:
-                self.rows = found
-                return
-        raise Stop(f"{path} {what_is_there(text, columns)}")
+        try:
+            tried = (self.rows_below_headings(text, it, columns) for it in SEPARATORS)
+            self.rows = next((it for it in tried if it is not None), None)
+        except csv.Error as fault:
+            raise Stop(f"{path} can't be read as fields with separators between them: {fault}")
+        if self.rows is None:
+            raise Stop(f"{path} {what_is_there(text, columns)}")
 
     @staticmethod
     def rows_below_headings(text, separator, columns):
@@ -171,13 +173,14 @@ def day_of(dates, text):
 
 
 def requests_in(path, departs, booked, product, seats=None, order=None):
-    """The requests of the log at a path, whose columns have these headings."""
-    rows = Log(path, [departs, booked, product, *([seats] if seats else [])]).rows
+    """The requests of the log at a path, whose columns have these headings; those of the product are a list."""
+    rows = Log(path, [departs, booked, *product, *([seats] if seats else [])]).rows
     dates = Dates((text for _, fields in rows for text in fields[:2]), order)
     requests, wrong = [], []
     for line, fields in rows:
         try:
-            requests.append(Request(dates, *fields[:3], fields[3] if seats else "1"))
+            asked_for = " ".join(filter(None, fields[2:2 + len(product)]))
+            requests.append(Request(dates, *fields[:2], asked_for, fields[-1] if seats else "1"))
         except ValueError as why:
             wrong.append(f"line {line}: {why}")
     if wrong:
@@ -269,7 +272,8 @@ def completed(path, demand, names):
     there = {row[1] for row in rows if row[0] == "product" and row[1:]}
     missing = [f"{names[it]}, which stands for {it!r}" for it in demand.products if names[it] not in there]
     if missing:
-        raise Stop("\n    ".join([f"{path} has no row for these products of the log; add them, or take their rows out of the log", *missing]))
+        raise Stop("\n    ".join([f"{path} has no row for these products of the log; add one for each, or take them out of the log",
+                                 *missing]))
     if idle := sorted(there - {names[it] for it in demand.products}):
         tell(f"no request of the log is for {', '.join(idle)}")
     return [["periods", len(demand.departures), demand.periods], *[it for it in rows if it[0] not in ("periods", "demand")]]
@@ -279,13 +283,16 @@ def tell(text):
     print(f"log.py: {text}", file=sys.stderr)
 
 
-def tell_what_is_made(demand, names, requests):
+def tell_what_is_made(demand, names, requests, path):
     days = demand.departures
     left_out = len({it.departs for it in requests}) - len(days)
     tell(f"seasons {len(days)}, from {days[0]} to {days[-1]}{f', others left out {left_out}' if left_out else ''}; "
          f"periods {demand.periods}; products {len(demand.products)}; seats {sum(demand.seats.values())}")
-    for text in demand.products:
-        if names[text] != text:
+    made = [text for text in demand.products if names[text] != text]
+    if path:
+        tell(f"names made {len(made)}; {path} lists what they stand for")
+    else:
+        for text in made:
             tell(f"{names[text]} stands for {text!r}")
 
 
@@ -299,8 +306,9 @@ def tell_what_is_to_do(demand, names):
 def main():
     words = parser(__doc__)
     words.add_argument("log")
-    for option in ("--departs", "--booked", "--product"):
-        words.add_argument(option, metavar="COLUMN", required=True)
+    words.add_argument("--departs", metavar="COLUMN", required=True)
+    words.add_argument("--booked", metavar="COLUMN", required=True)
+    words.add_argument("--product", metavar="COLUMN", required=True, nargs="+")
     words.add_argument("--seats", metavar="COLUMN")
     words.add_argument("--cuts", metavar="DAYS", required=True)
     words.add_argument("--network", metavar="FILE")
@@ -321,7 +329,7 @@ def main():
     if given.network:
         above = completed(given.network, demand, names)
     rows = [*above, *demand.rows(names)]
-    tell_what_is_made(demand, names, requests)
+    tell_what_is_made(demand, names, requests, given.names)
     if not given.network:
         tell_what_is_to_do(demand, names)
     print(text_of(rows), end="")

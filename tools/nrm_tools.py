@@ -80,6 +80,8 @@ def end(main):
     except BrokenPipeError:
         forget_output()
         status = 128 + signal.SIGPIPE
+    except UnicodeDecodeError as fault:
+        print(f"{name}: a file that is to be text in {fault.encoding} has other bytes at place {fault.start}", file=sys.stderr)
     except OSError as fault:
         print(f"{name}: {f'{fault.filename}: ' if fault.filename else ''}{fault.strerror or fault}", file=sys.stderr)
         forget_output()

@@ -132,8 +132,9 @@ def main():
     add_program(words)
     given = words.parse_args()
     given.program = program(given.program)
-    for path in (given.network, given.stream, given.replies):
-        open(path, "rb").close()  # one that can't be read is told before anything is run
+    os.stat(given.network)  # what isn't there is told before anything is run
+    for path in (given.stream, given.replies):
+        open(path, "rb").close()
     number, size = line_to_go_on_at(given)
     print(f"go on at line {number}; {size} bytes of whole replies stand before it", file=sys.stderr if given.go_on else sys.stdout)
     return go_on(given, number) if given.go_on else 0
