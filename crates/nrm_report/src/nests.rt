@@ -176,7 +176,7 @@ fn line_for_protections(net: &Network, plan: &Plan, leg: u8) -> Text<ROOM>
     let row = net.leg_at(leg);
     let mut line = Text::new();
     line.push_bytes(b"protect ");
-    line.push_name(&row.name);
+    line.push_bytes(row.name.bytes());
     push_protections(&mut line, plan, leg, row.cuts.as_slice().len() as u8);
     line.push_bytes(b"\n");
     line

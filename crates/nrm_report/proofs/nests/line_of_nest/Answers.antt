@@ -19,6 +19,6 @@ returns c =
     let first = c.push_bytes.ensures.text ∙ ap (λ (line : List ℕ). line ++ codes " ") c.names_of_nest-line.ensures.text in
     let second = c.push_fraction.ensures.text ∙ (λ n. first n ++ fraction_text (fare n over c.args.den)) in
     let third = c.push_bytes-2.ensures.text ∙ ap (λ (line : List ℕ). line ++ codes " ") second in
-    let fourth = c.push_whole.ensures.text ∙ (λ n. third n ++ decimal (c.from.ensures n)) in
+    let fourth = c.push_u64.ensures.text ∙ (λ n. third n ++ decimal (c.from.ensures n)) in
     c.push_bytes-3.ensures.text ∙ ap (λ (line : List ℕ). line ++ 10 ∷ []) fourth
     ∙ line-is c.args.leg.now c.args.product.now (fraction_text (c.args.fare over c.args.den)) (decimal c.args.bucket)
