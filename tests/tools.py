@@ -10,6 +10,7 @@ What needs a program that isn't installed, `glpsol` or a kit that builds, is tol
 `N passed, M failed`.
 """
 import argparse
+import concurrent.futures
 import contextlib
 import csv
 import datetime
@@ -676,10 +677,10 @@ def tools_end_at_ctrl_c(tools):
         program = tools.file("slow", f"touch '{begun}'\nexec sleep 60\n")
         words = [*words_of_tools(tools)[name][:2 if name == "season.py" else 1], "--program", "sh", program]
         process = subprocess.Popen([sys.executable, "-B", TOOLS / name, *words], cwd=tools.folder, stdout=subprocess.PIPE,
-                                   stderr=subprocess.PIPE)
+                                   stderr=subprocess.PIPE, start_new_session=True)
         while not begun.exists() and process.poll() is None:
             time.sleep(0.01)
-        process.send_signal(signal.SIGINT)
+        os.killpg(process.pid, signal.SIGINT)  # as a terminal does, to the tool and to what it runs
         out, err = process.communicate(timeout=SECONDS)
         want((process.returncode, err), (-signal.SIGINT, b""), name)
 
@@ -731,6 +732,27 @@ def release_has_what_an_operator_needs(tools):
         shutil.rmtree(made, ignore_errors=True)
 
 
+def tried(name, program):
+    """What a test prints, and what is wrong if anything; in a process of its own, beside the others."""
+    test = next(it for it in TESTS if it.__name__ == name)
+    with tempfile.TemporaryDirectory() as folder, contextlib.redirect_stdout(io.StringIO()) as out:
+        try:
+            test(Tools(program, folder))
+            wrong = None
+        except (Wrong, Stop, OSError, subprocess.TimeoutExpired) as why:
+            wrong = f"{name}: {why}"
+    return out.getvalue(), wrong
+
+
+def told(end):
+    """Prints the end of a test, and gives whether it failed."""
+    out, wrong = end
+    print(out, end="")
+    if wrong:
+        print(wrong)
+    return wrong is not None
+
+
 def main():
     parser = argparse.ArgumentParser(usage=__doc__)
     parser.add_argument("pattern", nargs="?", default="")
@@ -742,15 +764,11 @@ def main():
     if subprocess.run(program, stdin=subprocess.DEVNULL, stdout=subprocess.DEVNULL).returncode == NOT_BUILT:
         print(f"0 passed, {len(tests)} failed")
         return NOT_BUILT
-    passed = 0
-    for test in tests:
-        with tempfile.TemporaryDirectory() as folder:
-            try:
-                test(Tools(program, folder))
-                passed += 1
-            except (Wrong, Stop, OSError, subprocess.TimeoutExpired) as wrong:
-                print(f"{test.__name__}: {wrong}")
-    print(f"{passed} passed, {len(tests) - passed} failed")
+    with concurrent.futures.ProcessPoolExecutor(4) as pool:
+        ends = [pool.submit(tried, it.__name__, program) for it in tests]
+        failed = sum(told(end.result()) for end in ends)
+    passed = len(tests) - failed
+    print(f"{passed} passed, {failed} failed")
     return 0 if 0 < passed == len(tests) else 1
 
 

@@ -335,7 +335,7 @@ def how_to_mend_a_line(what, last, wanted, given):
     if what in given:
         return "it was given above: delete one of the two"
     if what not in wanted:
-        close = difflib.get_close_matches(what, wanted, 1)
+        close = difflib.get_close_matches(what, wanted, 1) if what.startswith(("value", "product", "leg")) else []
         guess = f"; is it `{close[0]}`?" if close else ""
         return f"it is none of `value`, `product NAME` and `leg NAME`, one blank and a fraction{guess}"
     return f"a fraction is wanted, as 3/2{f': write {last}/1' if WHOLE.fullmatch(last) else ' or 0/1'}"
