@@ -3,7 +3,7 @@
 
     tests/tools.py [PATTERN] [--program WORD...]
 
-`tools/explain.py` is given the files of the cases of `tests/run`: where one is refused, the first line that it tells and its
+`tools/explain.py` is given the files of the cases of `tests/run.py`: where one is refused, the first line that it tells and its
 status must be those that the case wants, and where one is printed it must refuse nothing. The other tests are the functions below
 it, of which PATTERN picks those with it in their name. With no --program it is the script `nrm` at the top of the repository.
 What needs a program that isn't installed, `glpsol` or a kit that builds, is told and left out. What fails is told; the last line is
@@ -14,8 +14,6 @@ import concurrent.futures
 import contextlib
 import csv
 import datetime
-import importlib.machinery
-import importlib.util
 import io
 import os
 import random
@@ -37,6 +35,7 @@ sys.path.insert(0, str(TOOLS))
 import explain
 import lp
 import reference
+import run
 from nrm_tools import NAME, Network, Stop, fitting, named, replies_of, rows_of, text_of
 
 NOT_BUILT = 70  # what the script `nrm` ends with where there is no program to run
@@ -112,15 +111,6 @@ class Tools:
 # explain.py
 
 
-def cases_module():
-    """The script of the cases, which may have no .py in its name."""
-    path = next(it for it in (HERE / "run.py", HERE / "run") if it.exists())
-    loader = importlib.machinery.SourceFileLoader("run", str(path))
-    run = importlib.util.module_from_spec(importlib.util.spec_from_loader("run", loader))
-    loader.exec_module(run)
-    return run
-
-
 def files_of(case):
     """The words of a case that name files."""
     words = [it.decode("utf-8", "surrogateescape") for it in case.words]
@@ -146,7 +136,7 @@ def explained(case, run):
 
 @test
 def explain_tells_first_what_the_program_tells(tools):
-    run, refused, taken = cases_module(), 0, 0
+    refused, taken = 0, 0
     for case in run.cases_of(""):
         is_output_gone = case.stdout_full or case.stdout_closed or case.stdout_missing or case.disk is not None
         if case.status in (3, 9) and not is_output_gone:
