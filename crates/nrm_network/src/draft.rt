@@ -208,7 +208,8 @@ impl Draft {
 
     // The number of the product of this name, if it is there.
     fn number_of_product(&self, name: &Name) -> Option<usize>
-        ensures { (taken : List (List (List ℕ))) → Stands self.now taken → result ≡ position_from (λ other. bytes_eq other name.now) 0 self.now.product_names }
+        ensures { (taken : List (List (List ℕ))) → Stands self.now taken
+            → result ≡ position_from (λ other. bytes_eq other name.now) 0 self.now.product_names }
     {
         match self.products.get(self.recent) {
             Some(product) if product.name == *name => Some(self.recent),
