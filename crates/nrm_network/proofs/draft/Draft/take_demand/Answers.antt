@@ -46,14 +46,14 @@ total-requires c =
     let few = few-seats taken row is.accepted read.shape in
     omega (arith, few, ap length (read.says.2))
 
-pub returns-then-total-from : goal.returns-then-total-from
-returns-then-total-from c = λ taken row is read.
-    let place = place-of (goal.at.returns-then-total-from c).In-Some taken row is read in
+pub returns-then-total-gt-MOST_DEMAND : goal.returns-then-total-gt-MOST_DEMAND
+returns-then-total-gt-MOST_DEMAND c = λ taken row is read.
+    let place = place-of (goal.at.returns-then-total-gt-MOST_DEMAND c).In-Some taken row is read in
     let cell = cell-is c.cell_of-cell.result c.in-Some.product c.args.self.now.histories c.args.demand.now.history (value_of (field row 2)) c.cell_of-cell.ensures read.says.1 in
     let flag = flag-read c.args.self.now taken row c.in-Some.product c.cell_of-cell.result c.index.result.now place cell c.index.ensures in
     let sum_is : c.total.result ≡ sum (further_numbers row) = c.total.ensures ∙ ap sum (read.says.2) in
     let there : is_named (product_rows taken) (field row 1) ≡ true = is-there (product_rows taken) c.in-Some.product (field row 1) place.found in
-    demand-over taken row read.shape (sym flag ∙ c.if-index.false) there (lt-ltb 999 (sum (further_numbers row)) (omega (arith, sum_is, c.if-total-from.true)))
+    demand-over taken row read.shape (sym flag ∙ c.if-index.false) there (lt-ltb 999 (sum (further_numbers row)) (omega (arith, sum_is, c.if-total-gt-MOST_DEMAND.true)))
 
 pub set_demand-requires-clause-given : goal.set_demand-requires-clause-given
 set_demand-requires-clause-given c =
@@ -80,7 +80,7 @@ returns c = λ taken row is read.
     let sum_is : c.total.result ≡ sum (further_numbers row) = c.total.ensures ∙ ap sum (read.says.2) in
     let there : is_named (product_rows taken) (field row 1) ≡ true = is-there (product_rows taken) c.in-Some.product (field row 1) place.found in
     let none = sym flag ∙ c.if-index.false in
-    let free = demand-free taken row read.shape none there (le-ltb 999 (sum (further_numbers row)) (omega (arith, sum_is, c.if-total-gt999.false))) in
+    let free = demand-free taken row read.shape none there (le-ltb 999 (sum (further_numbers row)) (omega (arith, sum_is, c.if-total-gt-MOST_DEMAND.false))) in
     let seats : c.args.demand.now.seats.now ≡ further_numbers row = read.says.2 in
     let sets = subst (λ (n : ℕ). SetsDemand c.args.self.now c.set_demand.new.self n (further_numbers row)) cell (subst (λ (xs : List ℕ). SetsDemand c.args.self.now c.set_demand.new.self c.cell_of-cell.result xs) seats c.set_demand.ensures) in
     (free, demand-grows c.args.self.now c.set_demand.new.self taken row c.in-Some.product is read.shape free place none there sets)
