@@ -80,7 +80,7 @@ bucket-there : (net : NetworkValue) (cert : Certificate) (table : TableValue) (i
 bucket-there net cert table i j of pair = by (bucket_in table i j) refl pair
   where
     by : (o : Option ℕ) → bucket_in table i j ≡ o → IsSome o → bucket_in table i j ≡ Some (bucket_of net cert i j)
-    by None is some = absurd some
+    by None is some = absurd (cc some)
     by (Some b) is some = is ∙ ap Some (bucket-is net cert table i j b of (sym is))
 
 -- the nests of a plan are those that the definitions give
