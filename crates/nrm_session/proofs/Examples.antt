@@ -195,12 +195,12 @@ cut_within = record {
 abbrev at_bytes : List ℕ → List ℕ → Streams
 at_bytes coming held = record { coming = Some coming; held = Some held; source_faults = 0; sink_faults = 0 }
 
-not_done_before_the_end : {whole cut : List Command → List ℕ → Type 0} → ServesBy whole cut (at_bytes (codes "xy") []) (at_bytes (codes "y") []) 9 end.Done → ⊥
-not_done_before_the_end (taken, output, took, ended, means) = let no : codes "y" ≡ [] = ended in cc no
+not_done_before_the_end : (whole cut : List Command → List ℕ → Type 0) → ServesBy whole cut (at_bytes (codes "xy") []) (at_bytes (codes "y") []) 9 end.Done → ⊥
+not_done_before_the_end whole cut (taken, output, took, ended, means) = let no : codes "y" ≡ [] = ended in cc no
 
-one_byte_too_many : {whole cut : List Command → List ℕ → Type 0} → ServesBy whole cut (at_bytes (codes "x\ny") []) (at_bytes [] (codes "bad\n")) 2 end.TooLong
+one_byte_too_many : (whole cut : List Command → List ℕ → Type 0) → ServesBy whole cut (at_bytes (codes "x\ny") []) (at_bytes [] (codes "bad\n")) 2 end.TooLong
     → (taken : List ℕ) × (output : List ℕ) × (codes "x\ny" ≡ taken ++ []) × (length taken ≡ 3) × (codes "bad\n" ≡ [] ++ output) × whole (whole_commands (take 2 taken)) output
-one_byte_too_many served = served
+one_byte_too_many whole cut served = served
 
 -- ---- with a failed put nothing is said of what was kept back, and else it is nothing
 kept_back_at_the_end : SentOn [] (codes "ok 1\n") end.Done → ⊥
