@@ -20,7 +20,7 @@ use Rattle.nrm_opening.specs.Outside.{Outside, FilesFailed, SourceFailed, SinkFa
 use Rattle.nrm_cli.specs.Certificates.{lacking_line, no_certificate, refused_for, verdict_line}
 use Rattle.nrm_cli.specs.Ends.{Completes, CompletesJob, Ends, Failures, OrRanOut, RunWrites, status_of, stream_limit}
 use Rattle.nrm_cli.specs.Jobs.{job_of, run_file, plan_file, check_file, print_file, run_made, usage_line, overflow_line, told_pivots}
-use Rattle.nrm_cli.specs.Tells.{Tells, usage, refused, lacking, optimal, wrong, planned, overflow as overflows, summed, printed as prints, file_fault}
+use Rattle.nrm_cli.specs.Tells.{Tells, usage as tells_usage, refused as tells_refused, lacking as tells_lacking, optimal as tells_optimal, wrong as tells_wrong, planned as tells_planned, overflow as tells_overflow, summed as tells_summed, printed as tells_printed, file_fault as tells_file_fault}
 use Rattle.nrm_cli.specs.Made.{counts_from, hindsight_word, last_of, nothing_counted, summary_words}
 use Rattle.nrm_cli.specs.declared.counts.Counts.{Counts}
 use Rattle.nrm_cli.specs.Numbers.{number_of}
@@ -268,16 +268,16 @@ usage_for_a_job : (before after : Outside) → Ends (Some (print_file (codes "F"
 usage_for_a_job before after ends = by ends.tells refl
   where
     by : {s : Status} {text : List ℕ} → Tells (Some (print_file (codes "F"))) before after s text → s ≡ status.Usage → ⊥
-    by (usage none) is = cc none
-    by (refused refusal why) is = cc
-    by (lacking net reason why) is = cc
-    by (optimal net given gives found shows) is = cc
-    by (wrong net given found gives told other shaped) is = cc
-    by (planned m file net plan opens for) is = cc
-    by (overflows job m net n number has opens large) is = cc
-    by (summed m number plan text asks for runs) is = cc
-    by (prints file net opens) is = cc
-    by (file_fault job asks names rose) is = cc
+    by (tells_usage none) is = cc none
+    by (tells_refused refusal why) is = cc
+    by (tells_lacking net reason why) is = cc
+    by (tells_optimal net given gives found shows) is = cc
+    by (tells_wrong net given found gives told other shaped) is = cc
+    by (tells_planned m file net plan opens for) is = cc
+    by (tells_overflow job m net n number has opens large) is = cc
+    by (tells_summed m number plan text asks for runs) is = cc
+    by (tells_printed file net opens) is = cc
+    by (tells_file_fault job asks names rose) is = cc
 
 -- running out of memory wrote nothing and took nothing
 wrote_though_out_of_memory : Ends (Some (print_file (codes "F"))) (nowhere 0) (record (nowhere 0) { held = Some (codes "x") }) status.NoMemory → ⊥

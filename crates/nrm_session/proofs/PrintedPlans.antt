@@ -149,7 +149,6 @@ last-line net s s' (c ∷ commands) (reply ∷ replies) (mid, step, run) = by (s
       last = found.last;
     })
 
-
 -- from an opening on, as it is printed
 module _ (net : NetworkValue) (m : Mode) (plan : PlanValue) (commands : List Command) (replies : List Reply) (mid : SeatState) (reply : Reply) (prices : Certificate)
     (opens : IsOpeningPlan net m plan) (has : mid.plan.certificate ≡ Some prices) (certifies : Certifies size_limit (program_at net mid.plan.left mid.plan.period) prices)

@@ -160,7 +160,14 @@ pub fn serve_by<C: Clerk<B>, B, S: Source, K: Sink>(
             return end_input::<C, B, K>(alloc, controller, beside, splitter.finish(), sink);
         }
         taken += count as u64;
-        match answer_piece::<C, B, K>(alloc, controller, beside, &mut splitter, &buffer[..count], sink) {
+        match answer_piece::<C, B, K>(
+            alloc,
+            controller,
+            beside,
+            &mut splitter,
+            &buffer[..count],
+            sink,
+        ) {
             Ok(()) => {}
             Err(_) => return End::WriteFault,
         }

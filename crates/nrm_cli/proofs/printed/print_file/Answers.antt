@@ -20,7 +20,7 @@ returns-in-Ok-print-clause-does g c coming faults =
     let held = g.K.Sink.held in
     let count = g.K.Sink.faults in
     let puts = subst (λ (text : List ℕ). PutsLine text status.Done (held c.args.sink.now) (held c.put_line.new.sink) (count c.args.sink.now) (count c.put_line.new.sink) c.put_line.result)
-        (c.deref.ensures.value ∙ c.in-Ok-print.ensures.file) c.put_line.ensures.puts in
+    (c.deref.ensures.value ∙ c.in-Ok-print.ensures.file) c.put_line.ensures.puts in
     record {
       ends = told-ends (Some (print_job c.args.name.now)) _ _ status.Done c.put_line.result (canonical_file c.in-Ok.net) (printed c.args.name.now c.in-Ok.net (refl, c.in-Ok.ensures.opens)) puts refl;
       failures = told-done _ _ c.put_line.result (canonical_file c.in-Ok.net) c.in-Ok.ensures.counts refl puts;
