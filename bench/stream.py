@@ -3,7 +3,7 @@
 
     bench/stream.py [PROGRAM] [--limit]
 
-The stream has a million lines on a hub of 20 legs and 120 products: 70 % book, 25 % cancel, 4 % leg, and 1 % that are bad or name
+The stream has a million lines on a hub of 20 legs and 120 products: 70 in 100 book, 25 cancel, 4 leg, and 1 is bad or names
 what isn't there; at each quarter the plan is made anew. It comes as a file, and through a pipe in pieces of 1, 64 and 4,096 bytes,
 of which each is read apart; in pieces of 1 it is 20,000 lines. Each mode runs beside an `awk` that writes a line for each line, in
 turn: of each the least of five runs, and how many times as long as `awk` the program takes. Then, where there is `strace`, how often
