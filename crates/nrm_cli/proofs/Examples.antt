@@ -1,5 +1,5 @@
 -- Sessions and refusals written down, from the bytes of the file and of the stream to the bytes that are written.
-use Rattle.std.specs.Prelude.{◌≡◌, ◌<◌, ◌≤◌, ℕ, zero, suc, pos, negsuc, get_or, List, [], ◌∷◌, map, codes, refl, Option, Some, None, Ok, Err}
+use Rattle.std.specs.Prelude.{◌≡◌, ◌≢◌, ◌<◌, ◌≤◌, ℕ, zero, suc, pos, negsuc, get_or, List, [], ◌∷◌, map, codes, refl, Option, Some, None, Ok, Err}
 use Rattle.std.proofs.Common.{ap, arith, inl, inr, take}
 use Rattle.nrm_gen.specs.MadeNetwork.{made_network}
 use Rattle.std.specs.Fmt.{digits}
@@ -247,18 +247,25 @@ made_of_nothing : (s : Status) → Completes (Some (run_made mode.FirstCome 7)) 
 made_of_nothing s completes =
     completes (run_made mode.FirstCome 7) (made_network 7) refl refl (record { files = λ names. absurd names; stream = λ takes. absurd takes; output = λ rose. omega (arith, rose) })
 
--- ---- a file that failed is told, and nothing else: a usage line that was cut leaves the files' count
+-- ---- a file that failed is told, and nothing else: where another text was cut, a usage line or a printed file, the files' count is as it was, so no file
+-- may be fetched after a put that failed
 abbrev wrote_some : ℕ → List ℕ → Outside
 wrote_some files held = record { files = None; coming = None; held = Some held; file_faults = files; source_faults = 0; sink_faults = 1 }
 
-cut_usage_after_a_fetch : Failures status.WriteFault (nowhere 0) (wrote_some 1 (codes "usage")) → ⊥
-cut_usage_after_a_fetch (source, inl same) = omega (arith, same)
-cut_usage_after_a_fetch (source, inr (rose, inl front)) = by front.count front.short front.grown
+cut_after_a_fetch : (first : ℕ) (rest : List ℕ) → first ≢ 102 → Failures status.WriteFault (nowhere 0) (wrote_some 1 (first ∷ rest)) → ⊥
+cut_after_a_fetch first rest other (source, inl same) = omega (arith, same)
+cut_after_a_fetch first rest other (source, inr (rose, inl front)) = by front.count front.short front.grown
   where
-    by : (n : ℕ) → n < 11 → codes "usage" ≡ take n file_fault_line → ⊥
-    by zero few same = omega (arith, ap (λ (bytes : List ℕ). get_or bytes 0 0) same)
-    by (suc n) few same = omega (arith, ap (λ (bytes : List ℕ). get_or bytes 0 0) same)
-cut_usage_after_a_fetch (source, inr (rose, inr whole)) = omega (arith, ap (λ (bytes : List ℕ). get_or bytes 0 0) whole)
+    by : (n : ℕ) → n < 11 → first ∷ rest ≡ take n file_fault_line → ⊥
+    by zero few same = cc same
+    by (suc n) few same = other (ap (λ (bytes : List ℕ). get_or bytes 0 0) same)
+cut_after_a_fetch first rest other (source, inr (rose, inr whole)) = other (ap (λ (bytes : List ℕ). get_or bytes 0 0) whole)
+
+cut_usage_after_a_fetch : Failures status.WriteFault (nowhere 0) (wrote_some 1 (codes "usage")) → ⊥
+cut_usage_after_a_fetch = cut_after_a_fetch 117 (codes "sage") (λ same. omega (arith, same))
+
+cut_file_after_a_fetch : Failures status.WriteFault (nowhere 0) (wrote_some 1 (codes "periods,1")) → ⊥
+cut_file_after_a_fetch = cut_after_a_fetch 112 (codes "eriods,1") (λ same. omega (arith, same))
 
 failed_twice : Failures status.FileFault (nowhere 0) (record (nowhere 0) { source_faults = 1 }) → ⊥
 failed_twice (source, sink) = omega (arith, source)
