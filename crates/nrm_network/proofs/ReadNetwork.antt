@@ -81,11 +81,11 @@ names-apart (name ∷ names) apart =
     (names-apart names others)
 
 -- the names of the legs and of the products are those of their rows
-leg-names : (rows : List Row) → map (λ (leg : Leg). leg.name) (map leg_in rows) ≡ names_of rows
+pub leg-names : (rows : List Row) → map (λ (leg : Leg). leg.name) (map leg_in rows) ≡ names_of rows
 leg-names [] = refl
 leg-names (row ∷ rows) = ap (λ (n : List (List ℕ)). field row 1 ∷ n) (leg-names rows)
 
-product-names : (legs rows : List Row) → map (λ (product : Product). product.name) (map (product_in legs) rows) ≡ names_of rows
+pub product-names : (legs rows : List Row) → map (λ (product : Product). product.name) (map (product_in legs) rows) ≡ names_of rows
 product-names legs [] = refl
 product-names legs (row ∷ rows) = ap (λ (n : List (List ℕ)). field row 1 ∷ n) (product-names legs rows)
 

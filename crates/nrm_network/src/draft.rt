@@ -271,11 +271,11 @@ impl Draft {
         self.legs.is_empty() || self.products.is_empty()
     }
 
-    /// The network of the rows, of which there were so many.
+    /// The network of the rows, of which there were so many. It has the draft's tables of names, and takes no memory.
     ///
     /// # Errors
-    /// There is no leg or no product: the place after the last row. Or want of memory.
-    pub fn finish(self, alloc: Global, rows: u32) -> Result<Network, NetFault>
+    /// There is no leg or no product: the place after the last row.
+    pub fn finish(self, rows: u32) -> Result<Network, NetFault>
         requires stands { (taken : List (List (List ℕ))) × Stands self taken }
         requires few { rows < 2 ^ 32 - 1 }
         ensures { (taken : List (List (List ℕ))) → Stands self taken → rows ≡ length taken → AnswersFile result (network_or_refusal why_refused why.Empty taken) }
@@ -286,13 +286,14 @@ impl Draft {
                 why: Why::Empty,
             });
         }
-        Ok(Network::new(
-            alloc,
+        Ok(Network::with_tables(
             self.histories,
             self.periods,
             self.legs,
             self.products,
             self.demand,
-        )?)
+            self.leg_names,
+            self.product_names,
+        ))
     }
 }
