@@ -25,3 +25,4 @@ pub mod Cells
 pub mod DemandGrowth
 pub mod RowTexts
 pub mod Recent
+pub mod BackwardNumbers
