@@ -9,7 +9,8 @@ pub three-digits : (n : ℕ) → n < 1000 → length (decimal n) ≤ 3
 three-digits n few = length-decimal-le 3 n (omega arith) few (omega arith)
 
 -- a comma before what is written
-pub comma-before : (row written : List ℕ) (start : ℕ) → 0 < start → start ≤ length row → drop start row ≡ written → drop (start - 1) (slice_set row (start - 1) 44) ≡ 44 ∷ written
+pub comma-before : (row written : List ℕ) (start : ℕ) → 0 < start → start ≤ length row → drop start row ≡ written
+    → drop (start - 1) (slice_set row (start - 1) 44) ≡ 44 ∷ written
 comma-before row written start some within is =
     let next : (start - 1) + 1 ≡ start = omega arith in
     drop-set row (start - 1) 44 (omega arith) ∙ ap (λ (i : ℕ). 44 ∷ drop i row) next ∙ ap (λ (xs : List ℕ). 44 ∷ xs) is

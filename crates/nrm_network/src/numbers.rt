@@ -3,12 +3,13 @@ ghost use Rattle.std.specs.Prelude.{◌≡◌, ◌<◌, ◌≤◌, ◌+◌, ◌*
 ghost use Rattle.nrm_model.specs.Demand.{demand_row};
 ghost use Rattle.nrm_model.specs.Limits.{IsNetwork};
 ghost use Rattle.nrm_network.specs.Inner.RowText.{after_commas};
+ghost use Rattle.nrm_network.specs.declared.numbers.TheConstants.{NUMBERS_ROOM};
 
 use itoa::write_digits;
 use nrm_model::{MOST_PERIODS, Network};
 
 /// The most bytes that they take: a comma and three digits each, and the end of the line.
-pub const NUMBERS_ROOM: usize = 4 * (MOST_PERIODS as usize + 1) + 1;
+pub(crate) const NUMBERS_ROOM: usize = 4 * (MOST_PERIODS as usize + 1) + 1;
 
 // Writes a comma and a number before a place, and gives where they start.
 #[inline(always)]
@@ -44,11 +45,11 @@ fn write_seats(row: &mut [u8], end: usize, net: &Network, j: u16, h: u8) -> usiz
 }
 
 /// Writes the number of a history, the demand of a product in it and the end of the line, and gives where they start.
-pub fn write_numbers(row: &mut [u8; NUMBERS_ROOM], net: &Network, j: u16, h: u8) -> usize
+pub(crate) fn write_numbers(row: &mut [u8; NUMBERS_ROOM], net: &Network, j: u16, h: u8) -> usize
     requires limits { IsNetwork net.now }
     requires product { j < length net.now.products }
     requires history { h < net.now.histories }
-    ensures within { result ≤ 69 }
+    ensures within { result ≤ NUMBERS_ROOM }
     ensures written { drop result row.new ≡ 44 ∷ (decimal (h + 1) ++ (after_commas (map decimal (demand_row net.now j h)) ++ 10 ∷ [])) }
 {
     let end = NUMBERS_ROOM - 1;

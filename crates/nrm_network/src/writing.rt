@@ -126,7 +126,8 @@ fn push_legs(text: &mut Vec<u8>, net: &Network) -> Result<(), AllocError>
 }
 
 fn push_products(text: &mut Vec<u8>, net: &Network) -> Result<(), AllocError>
-    ensures { OnOk result (text.new.items ≡ text.old.items ++ flat_map (λ product. row_text (product_fields net.now product)) net.now.products) }
+    ensures { OnOk result (text.new.items
+        ≡ text.old.items ++ flat_map (λ product. row_text (product_fields net.now product)) net.now.products) }
 {
     for j in 0..net.product_count() {
         push_product(text, net, net.product_at(j as u16))?;
@@ -135,7 +136,10 @@ fn push_products(text: &mut Vec<u8>, net: &Network) -> Result<(), AllocError>
 }
 
 fn push_demands(text: &mut Vec<u8>, net: &Network) -> Result<(), AllocError>
-    ensures { OnOk result (text.new.items ≡ text.old.items ++ flat_map (λ j. flat_map (history_text net.now j) (range_with_len 0 net.now.histories)) (range_with_len 0 (length net.now.products))) }
+    ensures { OnOk result (text.new.items
+        ≡ text.old.items
+        ++ flat_map (λ j. flat_map (history_text net.now j) (range_with_len 0 net.now.histories))
+        (range_with_len 0 (length net.now.products))) }
 {
     let products = net.product_count();
     for j in 0..products {

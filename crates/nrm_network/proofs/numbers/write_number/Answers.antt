@@ -1,3 +1,4 @@
+-- A number has three digits at most, and a comma is put before them.
 use Rattle.std.proofs.Common.{◌∙◌, ◌≤◌, ◌++◌, length, drop, ap, arith}
 use Rattle.std.specs.Prelude.{decimal}
 use Rattle.nrm_network.proofs.BackwardNumbers.{comma-before, three-digits}
@@ -19,5 +20,6 @@ returns-clause-few c = let short = few (goal.at.returns-clause-few c).After-from
 pub returns-clause-written : goal.returns-clause-written
 returns-clause-written c =
     let short = few (goal.at.returns-clause-written c).After-from in
-    comma-before c.write_digits-start.new.buf (decimal c.args.number ++ drop c.args.end c.args.row.now) c.write_digits-start.result (omega arith) (omega arith)
+    comma-before c.write_digits-start.new.buf (decimal c.args.number ++ drop c.args.end c.args.row.now) c.write_digits-start.result
+    (omega arith) (omega arith)
     (c.write_digits-start.ensures.written ∙ ap (λ n. decimal n ++ drop c.args.end c.args.row.now) c.from.ensures)
