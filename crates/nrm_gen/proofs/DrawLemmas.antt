@@ -13,11 +13,13 @@ state_after_more number k = rw (add-one k)
 pub next-state : (number k before after : ℕ) → before ≡ state_after number k → after ≡ stirred before → after ≡ state_after number (k + 1)
 next-state number k before after begun stirs = stirs ∙ ap stirred begun ∙ sym (state_after_more number k)
 
-pub next-number : (number k m before after given : ℕ) → before ≡ state_after number k → after ≡ stirred before → given ≡ drawn m after → given ≡ draw_of number k m
+pub next-number : (number k m before after given : ℕ) → before ≡ state_after number k → after ≡ stirred before → given ≡ drawn m after
+    → given ≡ draw_of number k m
 unfolding state_after
 next-number number k m before after given begun stirs gives = gives ∙ ap (drawn m) (stirs ∙ ap stirred begun)
 
 -- all of the demand
-pub whole-demand : (number n : ℕ) (demand : List ℕ) → n ≡ 1920 → demand ≡ map (λ k. draw_of number (72 + k) 6) (range_with_len 0 n) → demand ≡ made_demand number
+pub whole-demand : (number n : ℕ) (demand : List ℕ) → n ≡ 1920 → demand ≡ map (λ k. draw_of number (72 + k) 6) (range_with_len 0 n)
+    → demand ≡ made_demand number
 unfolding made_demand
 whole-demand number n demand all made = made ∙ ap (λ (n : ℕ). map (λ k. draw_of number (72 + k) 6) (range_with_len 0 n)) all

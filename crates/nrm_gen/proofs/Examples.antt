@@ -28,11 +28,13 @@ after_the_network = refl
 
 -- ---- names
 leg_names : map leg_name (range_with_len 0 12)
-    ≡ codes "I1" ∷ codes "I2" ∷ codes "I3" ∷ codes "I4" ∷ codes "I5" ∷ codes "I6" ∷ codes "O1" ∷ codes "O2" ∷ codes "O3" ∷ codes "O4" ∷ codes "O5" ∷ codes "O6" ∷ []
+    ≡ codes "I1" ∷ codes "I2" ∷ codes "I3" ∷ codes "I4" ∷ codes "I5" ∷ codes "I6" ∷ codes "O1" ∷ codes "O2" ∷ codes "O3" ∷ codes "O4"
+    ∷ codes "O5" ∷ codes "O6" ∷ []
 leg_names = refl
 
 product_names : map product_name (0 ∷ 1 ∷ 2 ∷ 22 ∷ 23 ∷ 24 ∷ 25 ∷ 30 ∷ 59 ∷ [])
-    ≡ codes "I1-H" ∷ codes "I1-L" ∷ codes "I2-H" ∷ codes "O6-H" ∷ codes "O6-L" ∷ codes "T1-1" ∷ codes "T1-2" ∷ codes "T2-1" ∷ codes "T6-6" ∷ []
+    ≡ codes "I1-H" ∷ codes "I1-L" ∷ codes "I2-H" ∷ codes "O6-H" ∷ codes "O6-L" ∷ codes "T1-1" ∷ codes "T1-2" ∷ codes "T2-1" ∷ codes "T6-6"
+    ∷ []
 product_names = refl
 
 -- ---- networks
@@ -40,22 +42,29 @@ first_leg : made_leg 0 0 ≡ record { name = codes "I1"; seats = 40; cuts = 400 
 unfolding state_after
 first_leg = refl
 
-some_legs : (made_leg 1 0 ≡ record { name = codes "I1"; seats = 78; cuts = 400 ∷ 200 ∷ 100 ∷ [] }) × (made_leg 1 5 ≡ record { name = codes "I6"; seats = 67; cuts = 400 ∷ 200 ∷ 100 ∷ [] })
-    × (made_leg 1 6 ≡ record { name = codes "O1"; seats = 50; cuts = 400 ∷ 200 ∷ 100 ∷ [] }) × (made_leg 1 11 ≡ record { name = codes "O6"; seats = 47; cuts = 400 ∷ 200 ∷ 100 ∷ [] })
+some_legs : (made_leg 1 0 ≡ record { name = codes "I1"; seats = 78; cuts = 400 ∷ 200 ∷ 100 ∷ [] })
+    × (made_leg 1 5 ≡ record { name = codes "I6"; seats = 67; cuts = 400 ∷ 200 ∷ 100 ∷ [] })
+    × (made_leg 1 6 ≡ record { name = codes "O1"; seats = 50; cuts = 400 ∷ 200 ∷ 100 ∷ [] })
+    × (made_leg 1 11 ≡ record { name = codes "O6"; seats = 47; cuts = 400 ∷ 200 ∷ 100 ∷ [] })
 unfolding state_after
 some_legs = (refl, refl, refl, refl)
 
-local_products : (made_product 1 0 ≡ record { name = codes "I1-H"; fare = 384; legs = 0 ∷ [] }) × (made_product 1 1 ≡ record { name = codes "I1-L"; fare = 160; legs = 0 ∷ [] })
-    × (made_product 1 22 ≡ record { name = codes "O6-H"; fare = 351; legs = 11 ∷ [] }) × (made_product 1 23 ≡ record { name = codes "O6-L"; fare = 167; legs = 11 ∷ [] })
+local_products : (made_product 1 0 ≡ record { name = codes "I1-H"; fare = 384; legs = 0 ∷ [] })
+    × (made_product 1 1 ≡ record { name = codes "I1-L"; fare = 160; legs = 0 ∷ [] })
+    × (made_product 1 22 ≡ record { name = codes "O6-H"; fare = 351; legs = 11 ∷ [] })
+    × (made_product 1 23 ≡ record { name = codes "O6-L"; fare = 167; legs = 11 ∷ [] })
 unfolding state_after
 local_products = (refl, refl, refl, refl)
 
-through_products : (made_product 1 24 ≡ record { name = codes "T1-1"; fare = 504; legs = 0 ∷ 6 ∷ [] }) × (made_product 1 25 ≡ record { name = codes "T1-2"; fare = 603; legs = 0 ∷ 7 ∷ [] })
-    × (made_product 1 30 ≡ record { name = codes "T2-1"; fare = 635; legs = 1 ∷ 6 ∷ [] }) × (made_product 1 59 ≡ record { name = codes "T6-6"; fare = 540; legs = 5 ∷ 11 ∷ [] })
+through_products : (made_product 1 24 ≡ record { name = codes "T1-1"; fare = 504; legs = 0 ∷ 6 ∷ [] })
+    × (made_product 1 25 ≡ record { name = codes "T1-2"; fare = 603; legs = 0 ∷ 7 ∷ [] })
+    × (made_product 1 30 ≡ record { name = codes "T2-1"; fare = 635; legs = 1 ∷ 6 ∷ [] })
+    × (made_product 1 59 ≡ record { name = codes "T6-6"; fare = 540; legs = 5 ∷ 11 ∷ [] })
 unfolding state_after
 through_products = (refl, refl, refl, refl)
 
-some_demand : (take 8 (made_demand 1) ≡ 2 ∷ 0 ∷ 4 ∷ 0 ∷ 4 ∷ 1 ∷ 1 ∷ 0 ∷ []) × (slice_index (made_demand 1) 1000 ≡ 5) × (drop 1912 (made_demand 1) ≡ 1 ∷ 3 ∷ 4 ∷ 3 ∷ 5 ∷ 0 ∷ 3 ∷ 4 ∷ [])
+some_demand : (take 8 (made_demand 1) ≡ 2 ∷ 0 ∷ 4 ∷ 0 ∷ 4 ∷ 1 ∷ 1 ∷ 0 ∷ []) × (slice_index (made_demand 1) 1000 ≡ 5)
+    × (drop 1912 (made_demand 1) ≡ 1 ∷ 3 ∷ 4 ∷ 3 ∷ 5 ∷ 0 ∷ 3 ∷ 4 ∷ [])
 unfolding state_after made_demand
 some_demand = (refl, refl, refl)
 
@@ -73,12 +82,14 @@ first_leg_text : take 2 (drop 11 (made_commands 1)) ≡ command.Leg (codes "I6")
 unfolding state_after commands_from
 first_leg_text = refl
 
-first_cancellation : take 3 (drop 14 (made_commands 1)) ≡ command.Book (codes "T2-2") 3 ∷ command.Cancel 325 ∷ command.Book (codes "O5-L") 1 ∷ []
+first_cancellation : take 3 (drop 14 (made_commands 1))
+    ≡ command.Book (codes "T2-2") 3 ∷ command.Cancel 325 ∷ command.Book (codes "O5-L") 1 ∷ []
 unfolding state_after commands_from
 first_cancellation = refl
 
 -- an optimisation draws nothing
-optimisations : (take 3 (drop 2498 (made_commands 1)) ≡ command.Cancel 262 ∷ command.Reoptimise 2 ∷ command.Book (codes "O1-H") 3 ∷ []) × (slice_get (made_commands 1) 4999 ≡ Some (command.Reoptimise 3))
+optimisations : (take 3 (drop 2498 (made_commands 1)) ≡ command.Cancel 262 ∷ command.Reoptimise 2 ∷ command.Book (codes "O1-H") 3 ∷ [])
+    × (slice_get (made_commands 1) 4999 ≡ Some (command.Reoptimise 3))
     × (slice_get (made_commands 1) 7499 ≡ Some (command.Reoptimise 4)) × (command_at 2500 410375136 ≡ (command.Reoptimise 2, 410375136))
 unfolding state_after commands_from
 optimisations = (refl, refl, refl, refl)
@@ -91,10 +102,12 @@ last_commands = refl
 begun : next_of (record { state = 1549932665; given = 0 }) ≡ Some (command.Book (codes "T3-3") 2)
 begun = refl
 
-at_the_last : (next_of (record { state = 441979785; given = 9999 }) ≡ Some command.Hindsight) × (after_next (record { state = 441979785; given = 9999 }) ≡ record { state = 441979785; given = 10000 })
+at_the_last : (next_of (record { state = 441979785; given = 9999 }) ≡ Some command.Hindsight)
+    × (after_next (record { state = 441979785; given = 9999 }) ≡ record { state = 441979785; given = 10000 })
 at_the_last = (refl, refl)
 
-after_the_last : (next_of (record { state = 441979785; given = 10000 }) ≡ None) × (after_next (record { state = 441979785; given = 10000 }) ≡ record { state = 441979785; given = 10000 })
+after_the_last : (next_of (record { state = 441979785; given = 10000 }) ≡ None)
+    × (after_next (record { state = 441979785; given = 10000 }) ≡ record { state = 441979785; given = 10000 })
 after_the_last = (refl, refl)
 
 -- ---- a product on two inbound legs, or on two outbound ones, doesn't use one leg each way; the last inbound leg is the sixth

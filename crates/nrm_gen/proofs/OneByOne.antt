@@ -1,5 +1,6 @@
 -- The commands that a maker gives, one after another, are the made commands.
-use Rattle.std.proofs.Common.{ℕ, suc, ◌≡◌, ◌-◌, ◌<◌, ◌≤◌, List, [], ◌∷◌, Some, None, Bool, refl, sym, ap, ◌∙◌, arith, inl, inr, if◌then◌else◌}
+use Rattle.std.proofs.Common.{ℕ, suc, ◌≡◌, ◌-◌, ◌<◌, ◌≤◌, List, [], ◌∷◌, Some, None, Bool, refl, sym, ap, ◌∙◌, arith, inl, inr}
+use Rattle.std.proofs.Common.{if◌then◌else◌}
 use Rattle.std.proofs.lemmas.Bool.{cases_lt, lt-ltb, le-ltb}
 use Rattle.nrm_stream.specs.declared.command.Command.{Command}
 use Rattle.nrm_gen.specs.Draws.{state_after}
@@ -44,7 +45,8 @@ none-left making all =
     )
 
 -- a command that is given is the first of them, and the others are left
-pub given-first : (making : Making) (command : Command) → Some command ≡ next_of making → commands_left making ≡ command ∷ commands_left (after_next making)
+pub given-first : (making : Making) (command : Command) → Some command ≡ next_of making
+    → commands_left making ≡ command ∷ commands_left (after_next making)
 given-first making command given = elim (cases_lt making.given 10000) [
   | inl few ↦
       let (next, left) = left-next making few in

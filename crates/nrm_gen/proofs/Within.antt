@@ -1,5 +1,6 @@
 -- Every made network is within the limits.
-use Rattle.std.proofs.Common.{ℕ, suc, ◌≡◌, ◌+◌, ◌*◌, ◌/◌, ◌%◌, ◌==◌, if◌then◌else◌, ◌<◌, ◌≤◌, Bool, true, false, List, [], ◌∷◌, length, map, take, drop, sum, filter, refl, replicate, nat_le, nat_lt, arith, sym, subst, All}
+use Rattle.std.proofs.Common.{ℕ, suc, ◌≡◌, ◌+◌, ◌*◌, ◌/◌, ◌%◌, ◌==◌, if◌then◌else◌, ◌<◌, ◌≤◌, Bool, true, false, List, [], ◌∷◌, length, map}
+use Rattle.std.proofs.Common.{take, drop, sum, filter, refl, replicate, nat_le, nat_lt, arith, sym, subst, All}
 use Rattle.std.specs.Int.{IsInRange}
 use Rattle.std.specs.List.{range_with_len}
 use Rattle.std.proofs.lemmas.Bool.{leb-true}
@@ -46,7 +47,9 @@ is-product number j few =
     let z = state_after number (suc (12 + j)) in
     record {
       name = shape.name;
-      fare = one-of-two (nat_lt j 24) _ _ (one-of-two (j % 2 == 0) _ _ (a-fare 300 200 z (omega arith) (omega arith) (omega arith) (omega arith)) (a-fare 100 100 z (omega arith) (omega arith) (omega arith) (omega arith)))
+      fare = one-of-two (nat_lt j 24) _ _
+          (one-of-two (j % 2 == 0) _ _ (a-fare 300 200 z (omega arith) (omega arith) (omega arith) (omega arith))
+          (a-fare 100 100 z (omega arith) (omega arith) (omega arith) (omega arith)))
           (a-fare 350 300 z (omega arith) (omega arith) (omega arith) (omega arith));
       leg_count = shape.leg_count;
       legs = shape.legs;
@@ -66,7 +69,8 @@ all-names = IsNetwork-from_test _ refl
 -- ---- demand
 few-each : (number : ℕ) → All (λ x. x ≤ 5) (made_demand number)
 unfolding made_demand
-few-each number = each-made (λ k. draw_of number (72 + k) 6) (λ x. x ≤ 5) 1920 (λ k few. let below = mod_below (state_after number (suc (72 + k)) / 65536) 6 (omega arith) in omega arith)
+few-each number = each-made (λ k. draw_of number (72 + k) 6) (λ x. x ≤ 5) 1920
+    (λ k few. let below = mod_below (state_after number (suc (72 + k)) / 65536) 6 (omega arith) in omega arith)
 
 demand-count : (number : ℕ) → length (made_demand number) ≡ 1920
 unfolding made_demand
@@ -107,13 +111,16 @@ one-leg-each-way number = each-made (made_product number) UsesOneLegEachWay 60 (
 
 -- the network of its parts
 pub of-parts : (number : ℕ) (legs : List Leg) (products : List Product) (demand : List ℕ)
-    → legs ≡ map (made_leg number) (range_with_len 0 12) → products ≡ map (made_product number) (range_with_len 0 60) → demand ≡ made_demand number
+    → legs ≡ map (made_leg number) (range_with_len 0 12) → products ≡ map (made_product number) (range_with_len 0 60)
+    → demand ≡ made_demand number
     → record { histories = 8; periods = 4; legs = legs; products = products; demand = demand } ≡ made_network number
 unfolding made_network
-of-parts number legs products demand legs_are products_are demand_is = λ i. record { histories = 8; periods = 4; legs = legs_are i; products = products_are i; demand = demand_is i }
+of-parts number legs products demand legs_are products_are demand_is = λ i.
+    record { histories = 8; periods = 4; legs = legs_are i; products = products_are i; demand = demand_is i }
 
 pub parts-limited : (number : ℕ) (legs : List Leg) (products : List Product) (demand : List ℕ)
-    → legs ≡ map (made_leg number) (range_with_len 0 12) → products ≡ map (made_product number) (range_with_len 0 60) → demand ≡ made_demand number
+    → legs ≡ map (made_leg number) (range_with_len 0 12) → products ≡ map (made_product number) (range_with_len 0 60)
+    → demand ≡ made_demand number
     → IsNetwork (record { histories = 8; periods = 4; legs = legs; products = products; demand = demand })
 parts-limited number legs products demand legs_are products_are demand_is =
     subst IsNetwork (sym (of-parts number legs products demand legs_are products_are demand_is)) (limited number)

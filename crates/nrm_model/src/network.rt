@@ -53,6 +53,7 @@ impl Network {
     ghost use Rattle.nrm_model.specs.Network.{leg_named, least_seats_of, product_named};
     ghost use Rattle.nrm_model.specs.Inventory.{inventory_of, uses_leg};
     ghost use Rattle.nrm_model.specs.Demand.{demand_in, demand_row, demand_to_come, total_to_come};
+    ghost use Rattle.nrm_model.specs.Tables.{NamesInOrder};
 
     /// The network of these parts. `demand` is in seats, product by product, history by history, period by period.
     ///
@@ -74,7 +75,7 @@ impl Network {
     {
         let leg_names = names_of_legs(alloc, &legs)?;
         let product_names = names_of_products(alloc, &products)?;
-        Ok(Network {
+        Ok(Network::with_tables(
             histories,
             periods,
             legs,
@@ -82,7 +83,34 @@ impl Network {
             demand,
             leg_names,
             product_names,
-        })
+        ))
+    }
+
+    /// The same, with the tables of the names, for a caller that has them. It takes no memory.
+    pub fn with_tables(
+        histories: u8,
+        periods: u8,
+        legs: Vec<Leg>,
+        products: Vec<Product>,
+        demand: Vec<u16>,
+        leg_names: NameTable,
+        product_names: NameTable,
+    ) -> Network
+        requires { NamesInOrder
+            (record { histories = histories; periods = periods; legs = legs.items; products = products.items; demand = demand.items })
+            leg_names product_names }
+        ensures { result
+            ≡ record { histories = histories; periods = periods; legs = legs.items; products = products.items; demand = demand.items } }
+    {
+        Network {
+            histories,
+            periods,
+            legs,
+            products,
+            demand,
+            leg_names,
+            product_names,
+        }
     }
 
     /// How many demand histories there are, N in the formulas: at least one.

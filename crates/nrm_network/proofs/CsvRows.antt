@@ -1,7 +1,9 @@
 -- The rows that a reader took one after another are the records of the text.
-use Rattle.std.proofs.Common.{◌≡◌, ◌∙◌, ◌+◌, ◌<◌, ◌≤◌, ℕ, zero, suc, Bool, true, false, cond, ◌==◌, ◌&&◌, List, [], ◌∷◌, ◌++◌, length, Some, None, refl, sym, arith, inl, inr, subst}
+use Rattle.std.proofs.Common.{◌≡◌, ◌∙◌, ◌+◌, ◌<◌, ◌≤◌, ℕ, zero, suc, Bool, true, false, cond, ◌==◌, ◌&&◌, List, [], ◌∷◌, ◌++◌, length, Some}
+use Rattle.std.proofs.Common.{None, refl, sym, arith, inl, inr, subst}
 use Rattle.std.proofs.lemmas.Bool.{cases_Bool}
-use Rattle.csv.specs.Machine.{Read, step, in_field, start_field, start_record, after_end, ends_with, is_byte, ends_at_end, is_end, fields_after, field_after, next_record}
+use Rattle.csv.specs.Machine.{Read, step, in_field, start_field, start_record, after_end, ends_with, is_byte, ends_at_end, is_end}
+use Rattle.csv.specs.Machine.{fields_after, field_after, next_record}
 use Rattle.csv.specs.Reading.{AreRecords, Reached, records, records_from, default_config, is_bom, strip_bom}
 use Rattle.csv.specs.declared.parser.Config.{Config}
 use Rattle.csv.specs.declared.parser.State.{State}
@@ -10,6 +12,7 @@ use Rattle.csv.specs.declared.parser.Action.{Action}
 use Rattle.csv.specs.declared.parser.Action.TheVariants as act
 use Rattle.csv.specs.declared.parser.Terminator.{Terminator}
 use Rattle.csv.specs.declared.parser.Terminator.TheVariants as term
+use Rattle.nrm_network.specs.Rows.{Row}
 
 -- where this ends a record, the end of the text right after it ends none
 Closes : State × Action → Type 0
@@ -34,7 +37,8 @@ in_field-closes cfg c =
     (chosen-closes (ends_with cfg.terminator c) _ _ (λ _. after_end-closed cfg.terminator c) (open-closes st.InField act.Copy refl))
 
 start_field-closes : (cfg : Config) (c : ℕ) → Closes (start_field cfg c)
-start_field-closes cfg c = chosen-closes (cfg.quoting && (c == cfg.quote)) _ _ (open-closes st.InQuoted act.Skip refl) (in_field-closes cfg c)
+start_field-closes cfg c = chosen-closes (cfg.quoting && (c == cfg.quote)) _ _ (open-closes st.InQuoted act.Skip refl)
+    (in_field-closes cfg c)
 
 start_record-closes : (cfg : Config) (c : ℕ) → Closes (start_record cfg c)
 start_record-closes cfg c =
@@ -47,7 +51,8 @@ step-closes cfg st.StartField c = start_field-closes cfg c
 step-closes cfg st.InField c = in_field-closes cfg c
 step-closes cfg st.InQuoted c =
     chosen-closes (cfg.quoting && (c == cfg.quote)) _ _ (open-closes st.AfterQuote act.Skip refl)
-    (chosen-closes (cfg.quoting && is_byte cfg.escape c) _ _ (open-closes st.InEscape act.Skip refl) (open-closes st.InQuoted act.Copy refl))
+    (chosen-closes (cfg.quoting && is_byte cfg.escape c) _ _ (open-closes st.InEscape act.Skip refl)
+    (open-closes st.InQuoted act.Copy refl))
 step-closes cfg st.InEscape c = open-closes st.InQuoted act.Copy refl
 step-closes cfg st.AfterQuote c =
     chosen-closes (cfg.quoting && cfg.double_quote && (c == cfg.quote)) _ _ (open-closes st.InQuoted act.Copy refl) (in_field-closes cfg c)
@@ -73,17 +78,22 @@ next-leaves cfg s fields field [] p h =
     ]
 next-leaves cfg s fields field (c ∷ rest) p h =
     elim (cases_Bool (is_end (step cfg s c).1)) [
-      | inl e ↦ leaves-same (fields_after (step cfg s c).1 fields field, (step cfg s c).0, rest) p (length (c ∷ rest)) (rw e at h) (step-closes cfg s c e, omega arith)
-      | inr e ↦ let (closed, size) = next-leaves cfg (step cfg s c).0 (fields_after (step cfg s c).1 fields field) (field_after (step cfg s c).1 c field) rest p (rw e at h) in (closed, omega arith)
+      | inl e ↦ leaves-same (fields_after (step cfg s c).1 fields field, (step cfg s c).0, rest) p (length (c ∷ rest)) (rw e at h)
+          (step-closes cfg s c e, omega arith)
+      | inr e ↦ let (closed, size) = next-leaves cfg (step cfg s c).0 (fields_after (step cfg s c).1 fields field)
+          (field_after (step cfg s c).1 c field) rest p (rw e at h) in (closed, omega arith)
     ]
 
 -- a record takes at least one byte
-next-shortens : (cfg : Config) (s : State) (c : ℕ) (rest : List ℕ) (p : Read) → next_record cfg s [] [] (c ∷ rest) ≡ Some p → length p.2 ≤ length rest
+next-shortens : (cfg : Config) (s : State) (c : ℕ) (rest : List ℕ) (p : Read) → next_record cfg s [] [] (c ∷ rest) ≡ Some p
+    → length p.2 ≤ length rest
 unfolding next_record Leaves Closes
 next-shortens cfg s c rest p h =
     elim (cases_Bool (is_end (step cfg s c).1)) [
-      | inl e ↦ (leaves-same (fields_after (step cfg s c).1 [] [], (step cfg s c).0, rest) p (length rest) (rw e at h) (step-closes cfg s c e, omega arith)).1
-      | inr e ↦ (next-leaves cfg (step cfg s c).0 (fields_after (step cfg s c).1 [] []) (field_after (step cfg s c).1 c []) rest p (rw e at h)).1
+      | inl e ↦ (leaves-same (fields_after (step cfg s c).1 [] [], (step cfg s c).0, rest) p (length rest) (rw e at h)
+          (step-closes cfg s c e, omega arith)).1
+      | inr e ↦ (next-leaves cfg (step cfg s c).0 (fields_after (step cfg s c).1 [] []) (field_after (step cfg s c).1 c []) rest p
+          (rw e at h)).1
     ]
 
 -- where no record is open, the empty text has none
@@ -92,7 +102,7 @@ unfolding next_record
 next-empty cfg s e = rw e refl
 
 -- all the records of a text are what `records_from` gives, with enough turns
-pub records-from_reached : (cfg : Config) (n : ℕ) (s : State) (xs : List ℕ) (rows : List (List (List ℕ))) → ends_at_end s ≡ false → length xs < n
+records-from_reached : (cfg : Config) (n : ℕ) (s : State) (xs : List ℕ) (rows : List Row) → ends_at_end s ≡ false → length xs < n
     → AreRecords cfg s xs rows → rows ≡ records_from cfg n s xs
 unfolding records_from Reached Leaves
 records-from_reached cfg zero s xs rows closed short are = absurd (omega arith)
@@ -107,12 +117,13 @@ records-from_reached cfg (suc n) s (c ∷ rest) (r ∷ rs) closed short (s2, ys,
     rw next (rw (r_is, again) refl)
 
 -- the rows that were read to the end of a text are its records
-pub records-read : (xs : List ℕ) (rows : List (List (List ℕ))) → AreRecords default_config st.StartRecord xs rows → rows ≡ records default_config xs
+pub records-read : (xs : List ℕ) (rows : List Row) → AreRecords default_config st.StartRecord xs rows → rows ≡ records default_config xs
 records-read xs rows are = records-from_reached default_config (length xs + 1) st.StartRecord xs rows refl (omega arith) are
 
 -- the records that were read so far are the first of all the records, and there are no more of them than bytes
-front-from : (cfg : Config) (n : ℕ) (s s2 : State) (xs ys : List ℕ) (rows : List (List (List ℕ))) → ends_at_end s ≡ false → length xs < n → Reached cfg s xs rows s2 ys
-    → (rest : List (List (List ℕ))) × (records_from cfg n s xs ≡ rows ++ rest) × (length rows ≤ length xs)
+front-from : (cfg : Config) (n : ℕ) (s s2 : State) (xs ys : List ℕ) (rows : List Row) → ends_at_end s ≡ false → length xs < n
+    → Reached cfg s xs rows s2 ys
+    → (rest : List Row) × (records_from cfg n s xs ≡ rows ++ rest) × (length rows ≤ length xs)
 unfolding records_from Reached Leaves
 front-from cfg zero s s2 xs ys rows closed short reached = absurd (omega arith)
 front-from cfg (suc n) s s2 xs ys [] closed short reached = (records_from cfg (suc n) s xs, refl, omega arith)
@@ -124,8 +135,8 @@ front-from cfg (suc n) s s2 (c ∷ xs) ys (r ∷ rs) closed short (p, next, r_is
     let (rest, is, few) = front-from cfg n p.1 s2 p.2 ys rs leaves.0 (omega (arith, size)) reached in
     (rest, rw next (rw (r_is, is) refl), omega (arith, size, few))
 
-pub records-front : (xs ys : List ℕ) (s2 : State) (rows : List (List (List ℕ))) → Reached default_config st.StartRecord xs rows s2 ys
-    → (rest : List (List (List ℕ))) × (records default_config xs ≡ rows ++ rest) × (length rows ≤ length xs)
+pub records-front : (xs ys : List ℕ) (s2 : State) (rows : List Row) → Reached default_config st.StartRecord xs rows s2 ys
+    → (rest : List Row) × (records default_config xs ≡ rows ++ rest) × (length rows ≤ length xs)
 records-front xs ys s2 rows reached = front-from default_config (length xs + 1) st.StartRecord s2 xs ys rows refl (omega arith) reached
 
 -- no more bytes are left without the byte order mark

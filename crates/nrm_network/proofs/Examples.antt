@@ -1,5 +1,5 @@
 -- Files that are refused, and files that give a network.
-use Rattle.std.specs.Prelude.{◌≡◌, ℕ, List, [], ◌∷◌, Ok, Err, codes, refl}
+use Rattle.std.specs.Prelude.{◌≡◌, ℕ, List, [], ◌∷◌, ◌++◌, Ok, Err, codes, refl}
 use Rattle.std.specs.Fmt.{digits}
 use Rattle.csv.proofs.OnLiterals.{csv_on_literals}
 use Rattle.nrm_model.specs.Network.{NetworkValue}
@@ -7,7 +7,7 @@ use Rattle.nrm_model.proofs.Fits.{IsNetwork-from_test}
 use Rattle.nrm_network.specs.File.{file_of}
 use Rattle.nrm_network.specs.Canonical.{canonical_file}
 use Rattle.nrm_network.specs.declared.fault.Why.TheVariants as why
-use Rattle.nrm_network.proofs.Printed.{printed as the_law}
+use Rattle.nrm_network.proofs.CanonicalRead.{printed as the_law}
 
 of_no_kind : file_of (codes "periods,1,1\nfare,AB\n") ≡ Err (2, why.Kind)
 unfolding csv_on_literals
@@ -102,7 +102,8 @@ abbrev pub two_legs_five_products : NetworkValue
 two_legs_five_products = record {
   histories = 4;
   periods = 1;
-  legs = record { name = codes "AB"; seats = 10; cuts = 300 ∷ 100 ∷ [] } ∷ record { name = codes "BC"; seats = 10; cuts = 300 ∷ 100 ∷ [] } ∷ [];
+  legs = record { name = codes "AB"; seats = 10; cuts = 300 ∷ 100 ∷ [] } ∷ record { name = codes "BC"; seats = 10; cuts = 300 ∷ 100 ∷ [] }
+      ∷ [];
   products = record { name = codes "ABH"; fare = 400; legs = 0 ∷ [] } ∷ record { name = codes "ABL"; fare = 150; legs = 0 ∷ [] }
       ∷ record { name = codes "ACH"; fare = 500; legs = 0 ∷ 1 ∷ [] } ∷ record { name = codes "BCL"; fare = 80; legs = 1 ∷ [] }
       ∷ record { name = codes "ACL"; fare = 229; legs = 0 ∷ 1 ∷ [] } ∷ [];
@@ -110,7 +111,12 @@ two_legs_five_products = record {
 }
 
 abbrev pub two_legs_file : List ℕ
-two_legs_file = codes "periods,4,1\nleg,AB,10,300,100\nleg,BC,10,300,100\nproduct,ABH,400,AB\nproduct,ABL,150,AB\nproduct,ACH,500,AB,BC\nproduct,BCL,80,BC\nproduct,ACL,229,AB,BC\ndemand,ABH,1,2\ndemand,ABH,2,4\ndemand,ABH,3,3\ndemand,ABH,4,3\ndemand,ABL,1,6\ndemand,ABL,2,8\ndemand,ABL,3,5\ndemand,ABL,4,9\ndemand,ACH,1,4\ndemand,ACH,2,2\ndemand,ACH,3,6\ndemand,ACH,4,4\ndemand,BCL,1,7\ndemand,BCL,2,9\ndemand,BCL,3,8\ndemand,BCL,4,8\n"
+two_legs_file =
+    codes "periods,4,1\nleg,AB,10,300,100\nleg,BC,10,300,100\nproduct,ABH,400,AB\nproduct,ABL,150,AB\n"
+    ++ codes "product,ACH,500,AB,BC\nproduct,BCL,80,BC\nproduct,ACL,229,AB,BC\ndemand,ABH,1,2\ndemand,ABH,2,4\n"
+    ++ codes "demand,ABH,3,3\ndemand,ABH,4,3\ndemand,ABL,1,6\ndemand,ABL,2,8\ndemand,ABL,3,5\ndemand,ABL,4,9\n"
+    ++ codes "demand,ACH,1,4\ndemand,ACH,2,2\ndemand,ACH,3,6\ndemand,ACH,4,4\ndemand,BCL,1,7\ndemand,BCL,2,9\n"
+    ++ codes "demand,BCL,3,8\ndemand,BCL,4,8\n"
 
 whole_file : file_of two_legs_file ≡ Ok two_legs_five_products
 unfolding csv_on_literals

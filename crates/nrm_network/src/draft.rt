@@ -1,12 +1,13 @@
 //! A network as it is read, row by row: legs and products with tables of their names, and the demand of each product
 //! in each history and period, 0 until a row gives it. Nothing else of a row is kept.
-ghost use Rattle.std.specs.Prelude.{◌≡◌, ◌<◌, ◌≤◌, ◌+◌, ◌-◌, ◌*◌, ◌^◌, List, [], ℕ, All, IfOk, MatchOption, OnOk, bytes_eq, false, length, map, sum, true};
+ghost use Rattle.std.specs.Prelude.{◌≡◌, ◌<◌, ◌≤◌, ◌+◌, ◌-◌, ◌*◌, ◌^◌, ℕ, List, [], bytes_eq, false, length, map, sum, true};
+ghost use Rattle.std.specs.Prelude.{IfOk, MatchOption, OnOk};
 ghost use Rattle.std.specs.List.{list_all, list_any, position_from};
 ghost use Rattle.std.specs.Int.{IsInRange};
 ghost use Rattle.nrm_model.specs.Limits.{differ, falls};
 ghost use Rattle.nrm_model.specs.declared.limits.TheConstants.{MOST_DEMAND, MOST_PRODUCTS};
 ghost use Rattle.csv.specs.Records.{fields_of};
-ghost use Rattle.nrm_network.specs.Rows.{is_named};
+ghost use Rattle.nrm_network.specs.Rows.{Row, is_named};
 ghost use Rattle.nrm_network.specs.Answer.{AnswersFile};
 ghost use Rattle.nrm_network.specs.Checks.{why_refused};
 ghost use Rattle.nrm_network.specs.File.{lacks_a_kind, network_or_refusal, number_of_leg};
@@ -16,7 +17,7 @@ ghost use Rattle.nrm_network.specs.Inner.Entries.{Counted};
 ghost use Rattle.nrm_network.specs.declared.entry.Entry.TheVariants as says;
 
 use crate::entry::{Counts, DemandEntry, Entry, ProductEntry, read_row};
-use crate::fault::{NetFault, RowFault, Why};
+use crate::fault::{NetFault, RowRefusal, Why};
 use csv::ByteRecord;
 use nrm_model::{Leg, LegNumbers, MOST_DEMAND, NameTable, Network, Product};
 use nrm_text::Name;
@@ -24,7 +25,7 @@ use std::alloc::{AllocError, Global};
 
 /// What was read so far.
 #[derive(Drop)]
-pub struct Draft {
+pub(crate) struct Draft {
     histories: u8,
     periods: u8,
     legs: Vec<Leg>,
@@ -81,7 +82,7 @@ fn differ(names: &[Name]) -> bool
 
 impl Draft {
     /// Before the first row.
-    pub fn new(alloc: Global) -> Draft
+    pub(crate) fn new(alloc: Global) -> Draft
         ensures { Stands result [] }
     {
         Draft {
@@ -98,7 +99,7 @@ impl Draft {
     }
 
     fn counts(&self) -> Counts
-        ensures { (taken : List (List (List ℕ))) → Stands self.now taken → Counted result taken }
+        ensures { (taken : List Row) → Stands self.now taken → Counted result taken }
     {
         Counts {
             histories: self.histories,
@@ -133,14 +134,14 @@ impl Draft {
         Ok(())
     }
 
-    fn take_leg(&mut self, leg: Leg) -> Result<(), RowFault>
+    fn take_leg(&mut self, leg: Leg) -> Result<(), RowRefusal>
         ensures { TakesSaid (says.Leg leg) self.old self.new result }
     {
         if self.leg_names.number_of(&leg.name).is_some() {
-            return Err(RowFault::Refused(Why::Twice));
+            return Err(RowRefusal::Refused(Why::Twice));
         }
         if !falls(leg.cuts.as_slice()) {
-            return Err(RowFault::Refused(Why::Thresholds));
+            return Err(RowRefusal::Refused(Why::Thresholds));
         }
         self.add_leg(leg)?;
         Ok(())
@@ -149,7 +150,9 @@ impl Draft {
     // The numbers of the legs of these names, if each is there.
     fn leg_numbers(&self, alloc: Global, names: &[Name]) -> Result<Option<Vec<u8>>, AllocError>
         requires { length self.now.leg_names ≤ 256 }
-        ensures { (legs : List (List (List ℕ))) → self.now.leg_names ≡ names_of legs → IfOk result (λ found. MatchOption found (list_all (is_named legs) names.now ≡ false) (λ numbers. (list_all (is_named legs) names.now ≡ true) × (numbers.items ≡ map (number_of_leg legs) names.now))) }
+        ensures { (legs : List Row) → self.now.leg_names ≡ names_of legs
+            → IfOk result (λ found. MatchOption found (list_all (is_named legs) names.now ≡ false)
+            (λ numbers. (list_all (is_named legs) names.now ≡ true) × (numbers.items ≡ map (number_of_leg legs) names.now))) }
     {
         let mut numbers = Vec::new(alloc);
         for name in names {
@@ -174,18 +177,18 @@ impl Draft {
         Ok(())
     }
 
-    fn take_product(&mut self, alloc: Global, product: &ProductEntry) -> Result<(), RowFault>
+    fn take_product(&mut self, alloc: Global, product: &ProductEntry) -> Result<(), RowRefusal>
         requires { Awaits self.old (says.Product product.now) }
         ensures { TakesSaid (says.Product product.now) self.old self.new result }
     {
         if self.product_names.number_of(&product.name).is_some() {
-            return Err(RowFault::Refused(Why::Twice));
+            return Err(RowRefusal::Refused(Why::Twice));
         }
         if !differ(&product.legs) {
-            return Err(RowFault::Refused(Why::Twice));
+            return Err(RowRefusal::Refused(Why::Twice));
         }
         let Some(legs) = self.leg_numbers(alloc, &product.legs)? else {
-            return Err(RowFault::Refused(Why::Missing));
+            return Err(RowRefusal::Refused(Why::Missing));
         };
         self.add_product(Product {
             name: product.name,
@@ -208,7 +211,7 @@ impl Draft {
 
     // The number of the product of this name, if it is there.
     fn number_of_product(&self, name: &Name) -> Option<usize>
-        ensures { (taken : List (List (List ℕ))) → Stands self.now taken
+        ensures { (taken : List Row) → Stands self.now taken
             → result ≡ position_from (λ other. bytes_eq other name.now) 0 self.now.product_names }
     {
         match self.products.get(self.recent) {
@@ -226,19 +229,19 @@ impl Draft {
         product * self.histories as usize + (history - 1) as usize
     }
 
-    fn take_demand(&mut self, demand: &DemandEntry<'_>) -> Result<(), RowFault>
+    fn take_demand(&mut self, demand: &DemandEntry<'_>) -> Result<(), RowRefusal>
         requires { Awaits self.old (says.Demand demand.now) }
         ensures { TakesSaid (says.Demand demand.now) self.old self.new result }
     {
         let Some(product) = self.number_of_product(&demand.product) else {
-            return Err(RowFault::Refused(Why::Missing));
+            return Err(RowRefusal::Refused(Why::Missing));
         };
         let cell = self.cell_of(product, demand.history);
         if self.given[cell] {
-            return Err(RowFault::Refused(Why::Twice));
+            return Err(RowRefusal::Refused(Why::Twice));
         }
         if total(demand.seats) > MOST_DEMAND {
-            return Err(RowFault::Refused(Why::Sum));
+            return Err(RowRefusal::Refused(Why::Sum));
         }
         self.set_demand(product, cell, demand.seats);
         Ok(())
@@ -248,8 +251,8 @@ impl Draft {
     ///
     /// # Errors
     /// The first check that refuses the row against those before it, or want of memory.
-    pub fn take(&mut self, alloc: Global, row: &ByteRecord) -> Result<(), RowFault>
-        requires { (taken : List (List (List ℕ))) × Stands self.old taken }
+    pub(crate) fn take(&mut self, alloc: Global, row: &ByteRecord) -> Result<(), RowRefusal>
+        requires { (taken : List Row) × Stands self.old taken }
         ensures { Takes self.old self.new (fields_of row.now) result }
     {
         let mut places = [0; 16];
@@ -266,19 +269,20 @@ impl Draft {
 
     // Whether there is no leg or no product.
     fn lacks_a_kind(&self) -> bool
-        ensures { (taken : List (List (List ℕ))) → Stands self.now taken → result ≡ lacks_a_kind taken }
+        ensures { (taken : List Row) → Stands self.now taken → result ≡ lacks_a_kind taken }
     {
         self.legs.is_empty() || self.products.is_empty()
     }
 
-    /// The network of the rows, of which there were so many.
+    /// The network of the rows, of which there were so many. It has the draft's tables of names, and takes no memory.
     ///
     /// # Errors
-    /// There is no leg or no product: the place after the last row. Or want of memory.
-    pub fn finish(self, alloc: Global, rows: u32) -> Result<Network, NetFault>
-        requires stands { (taken : List (List (List ℕ))) × Stands self taken }
+    /// There is no leg or no product: the place after the last row.
+    pub(crate) fn finish(self, rows: u32) -> Result<Network, NetFault>
+        requires stands { (taken : List Row) × Stands self taken }
         requires few { rows < 2 ^ 32 - 1 }
-        ensures { (taken : List (List (List ℕ))) → Stands self taken → rows ≡ length taken → AnswersFile result (network_or_refusal why_refused why.Empty taken) }
+        ensures { (taken : List Row) → Stands self taken → rows ≡ length taken
+            → AnswersFile result (network_or_refusal why_refused why.Empty taken) }
     {
         if self.lacks_a_kind() {
             return Err(NetFault::Refused {
@@ -286,13 +290,14 @@ impl Draft {
                 why: Why::Empty,
             });
         }
-        Ok(Network::new(
-            alloc,
+        Ok(Network::with_tables(
             self.histories,
             self.periods,
             self.legs,
             self.products,
             self.demand,
-        )?)
+            self.leg_names,
+            self.product_names,
+        ))
     }
 }

@@ -5,7 +5,7 @@ ghost use Rattle.csv.specs.Records.{fields_of};
 ghost use Rattle.nrm_network.specs.Rows.{kind_of, periods_kind, leg_kind, product_kind, demand_kind};
 ghost use Rattle.nrm_network.specs.Inner.Entries.{Counted, ReadsAs, ReadsRow, first_refusal, kind_by, kind_seen};
 
-use crate::fault::{RowFault, Why};
+use crate::fault::{RowRefusal, Why};
 use crate::row::{field, name_again, name_in, names_in, number_in, numbers_in, seats_in};
 use csv::ByteRecord;
 use nrm_model::{
@@ -17,7 +17,7 @@ use std::alloc::Global;
 
 /// What a row says.
 #[derive(Drop)]
-pub enum Entry<'a> {
+pub(crate) enum Entry<'a> {
     Periods { histories: u8, periods: u8 },
     Leg(Leg),
     Product(ProductEntry),
@@ -26,33 +26,33 @@ pub enum Entry<'a> {
 
 /// What a row of a product says: its legs are named.
 #[derive(Drop)]
-pub struct ProductEntry {
-    pub name: Name,
-    pub fare: u32,
-    pub legs: Vec<Name>,
+pub(crate) struct ProductEntry {
+    pub(crate) name: Name,
+    pub(crate) fare: u32,
+    pub(crate) legs: Vec<Name>,
 }
 
 /// What a row of demand says: the seats of each period, which are lent.
 #[derive(Clone, Copy)]
-pub struct DemandEntry<'a> {
-    pub product: Name,
-    pub history: u8,
-    pub seats: &'a [u16],
+pub(crate) struct DemandEntry<'a> {
+    pub(crate) product: Name,
+    pub(crate) history: u8,
+    pub(crate) seats: &'a [u16],
 }
 
 /// What was read before a row: how many histories and periods there are, both 0 before the first row, and how many
 /// legs and products were read.
 #[derive(Clone, Copy)]
-pub struct Counts {
-    pub histories: u8,
-    pub periods: u8,
-    pub legs: usize,
-    pub products: usize,
+pub(crate) struct Counts {
+    pub(crate) histories: u8,
+    pub(crate) periods: u8,
+    pub(crate) legs: usize,
+    pub(crate) products: usize,
 }
 
 /// The kind of a row, by its first field.
 #[derive(Clone, Copy)]
-pub enum RowKind {
+enum RowKind {
     Periods,
     Leg,
     Product,
@@ -86,7 +86,8 @@ fn kind_of(row: &ByteRecord) -> RowKind
 // The first of these checks that refuses a row: it is out of order, its fields are too few or too many, or there is no
 // room for it.
 fn admit(out_of_order: bool, miscounted: bool, too_many: bool) -> Result<(), Why>
-    ensures { MatchResult result (λ done. (out_of_order ≡ false) × (miscounted ≡ false) × (too_many ≡ false)) (λ cause. first_refusal out_of_order miscounted too_many ≡ Some cause) }
+    ensures { MatchResult result (λ done. (out_of_order ≡ false) × (miscounted ≡ false) × (too_many ≡ false))
+        (λ cause. first_refusal out_of_order miscounted too_many ≡ Some cause) }
 {
     if out_of_order {
         return Err(Why::Order);
@@ -100,7 +101,7 @@ fn admit(out_of_order: bool, miscounted: bool, too_many: bool) -> Result<(), Why
     Ok(())
 }
 
-fn read_periods<'a>(counts: Counts, row: &ByteRecord) -> Result<Entry<'a>, RowFault>
+fn read_periods<'a>(counts: Counts, row: &ByteRecord) -> Result<Entry<'a>, RowRefusal>
     ensures { ReadsAs periods_kind counts (fields_of row.now) result }
 {
     let first = counts.histories == 0;
@@ -113,7 +114,7 @@ fn read_periods<'a>(counts: Counts, row: &ByteRecord) -> Result<Entry<'a>, RowFa
     })
 }
 
-fn read_leg<'a>(alloc: Global, counts: Counts, row: &ByteRecord) -> Result<Entry<'a>, RowFault>
+fn read_leg<'a>(alloc: Global, counts: Counts, row: &ByteRecord) -> Result<Entry<'a>, RowRefusal>
     ensures { ReadsAs leg_kind counts (fields_of row.now) result }
 {
     let count = row.len();
@@ -132,7 +133,11 @@ fn read_leg<'a>(alloc: Global, counts: Counts, row: &ByteRecord) -> Result<Entry
     }))
 }
 
-fn read_product<'a>(alloc: Global, counts: Counts, row: &ByteRecord) -> Result<Entry<'a>, RowFault>
+fn read_product<'a>(
+    alloc: Global,
+    counts: Counts,
+    row: &ByteRecord,
+) -> Result<Entry<'a>, RowRefusal>
     ensures { ReadsAs product_kind counts (fields_of row.now) result }
 {
     let count = row.len();
@@ -156,7 +161,7 @@ fn read_demand<'a>(
     recent: Option<&Name>,
     row: &ByteRecord,
     places: &'a mut [u16; 16],
-) -> Result<Entry<'a>, RowFault>
+) -> Result<Entry<'a>, RowRefusal>
     requires { counts.periods ≤ 16 }
     ensures { ReadsAs demand_kind counts (fields_of row.now) result }
 {
@@ -168,7 +173,7 @@ fn read_demand<'a>(
     let within = seats_in(row, seats)?;
     let history = history.ok_or(Why::Range)? as u8;
     if !within {
-        return Err(RowFault::Refused(Why::Range));
+        return Err(RowRefusal::Refused(Why::Range));
     }
     Ok(Entry::Demand(DemandEntry {
         product,
@@ -182,13 +187,13 @@ fn read_demand<'a>(
 ///
 /// # Errors
 /// The first check that it fails, or want of memory.
-pub fn read_row<'a>(
+pub(crate) fn read_row<'a>(
     alloc: Global,
     counts: Counts,
     recent: Option<&Name>,
     row: &ByteRecord,
     places: &'a mut [u16; 16],
-) -> Result<Entry<'a>, RowFault>
+) -> Result<Entry<'a>, RowRefusal>
     requires { counts.periods ≤ 16 }
     ensures { ReadsRow counts (fields_of row.now) result }
 {
@@ -197,6 +202,6 @@ pub fn read_row<'a>(
         RowKind::Leg => read_leg(alloc, counts, row),
         RowKind::Product => read_product(alloc, counts, row),
         RowKind::Demand => read_demand(counts, recent, row, places),
-        RowKind::Unknown => Err(RowFault::Refused(Why::Kind)),
+        RowKind::Unknown => Err(RowRefusal::Refused(Why::Kind)),
     }
 }

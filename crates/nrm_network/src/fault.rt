@@ -71,22 +71,22 @@ pub enum NetFault {
 
 /// A row that isn't taken: it is refused, or memory ran out.
 #[derive(Debug, Drop)]
-pub enum RowFault {
+pub(crate) enum RowRefusal {
     Refused(Why),
     NoMemory,
 }
 
-impl RowFault {
+impl RowRefusal {
     ghost use Rattle.std.specs.Prelude.{◌≡◌};
     ghost use Rattle.nrm_network.specs.Inner.Faults.{fault_at};
 
     /// The fault of a file whose row of this number isn't taken.
-    pub fn at(self, row: u32) -> NetFault
+    pub(crate) fn at(self, row: u32) -> NetFault
         ensures { result ≡ fault_at row self }
     {
         match self {
-            RowFault::Refused(why) => NetFault::Refused { row, why },
-            RowFault::NoMemory => NetFault::NoMemory,
+            RowRefusal::Refused(why) => NetFault::Refused { row, why },
+            RowRefusal::NoMemory => NetFault::NoMemory,
         }
     }
 }
@@ -114,35 +114,35 @@ impl From<csv::Error> for NetFault {
     }
 }
 
-impl From<AllocError> for RowFault {
+impl From<AllocError> for RowRefusal {
     ghost use Rattle.std.specs.Prelude.{◌≡◌};
-    ghost use Rattle.nrm_network.specs.declared.fault.RowFault.TheVariants.{NoMemory};
+    ghost use Rattle.nrm_network.specs.declared.fault.RowRefusal.TheVariants.{NoMemory};
 
     ghost from_gives = { λ _ e. e ≡ NoMemory };
 
-    fn from(_: AllocError) -> RowFault {
-        RowFault::NoMemory
+    fn from(_: AllocError) -> RowRefusal {
+        RowRefusal::NoMemory
     }
 }
 
-impl From<Why> for RowFault {
+impl From<Why> for RowRefusal {
     ghost use Rattle.std.specs.Prelude.{◌≡◌};
-    ghost use Rattle.nrm_network.specs.declared.fault.RowFault.TheVariants.{Refused};
+    ghost use Rattle.nrm_network.specs.declared.fault.RowRefusal.TheVariants.{Refused};
 
     ghost from_gives = { λ why fault. fault ≡ Refused why };
 
-    fn from(why: Why) -> RowFault {
-        RowFault::Refused(why)
+    fn from(why: Why) -> RowRefusal {
+        RowRefusal::Refused(why)
     }
 }
 
-impl<T: Drop> From<AllocFailed<T>> for RowFault {
+impl<T: Drop> From<AllocFailed<T>> for RowRefusal {
     ghost use Rattle.std.specs.Prelude.{◌≡◌};
-    ghost use Rattle.nrm_network.specs.declared.fault.RowFault.TheVariants.{NoMemory};
+    ghost use Rattle.nrm_network.specs.declared.fault.RowRefusal.TheVariants.{NoMemory};
 
     ghost from_gives = { λ _ fault. fault ≡ NoMemory };
 
-    fn from(_failed: AllocFailed<T>) -> RowFault {
-        RowFault::NoMemory
+    fn from(_failed: AllocFailed<T>) -> RowRefusal {
+        RowRefusal::NoMemory
     }
 }

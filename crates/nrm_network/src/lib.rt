@@ -5,6 +5,7 @@ mod draft;
 mod entry;
 mod fault;
 mod laws;
+mod numbers;
 mod reading;
 mod row;
 #[cfg(test)]

@@ -32,7 +32,7 @@ fn read_rows(alloc: Global, bytes: &[u8]) -> Result<Network, NetFault>
             return Err(fault.at(taken));
         }
     }
-    draft.finish(alloc, taken)
+    draft.finish(taken)
 }
 
 /// The network that a file gives. Rows count from 1.

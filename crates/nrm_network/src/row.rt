@@ -5,14 +5,14 @@ ghost use Rattle.nrm_model.specs.declared.limits.TheConstants.{MOST_DEMAND};
 ghost use Rattle.nrm_network.specs.Rows.{field};
 ghost use Rattle.nrm_network.specs.Inner.Fields.{NameIn, NamesIn, NumberIn, NumbersIn, SeatsIn};
 
-use crate::fault::{RowFault, Why};
+use crate::fault::{RowRefusal, Why};
 use csv::ByteRecord;
 use nrm_model::MOST_DEMAND;
 use nrm_text::{Name, NumberFault, name_of, read_whole};
 use std::alloc::Global;
 
 /// The field at a place, counted from 0; past the last one it is empty.
-pub fn field(row: &ByteRecord, i: usize) -> &[u8]
+pub(crate) fn field(row: &ByteRecord, i: usize) -> &[u8]
     ensures { result.now ≡ field (fields_of row.now) i }
 {
     match row.get(i) {
@@ -22,14 +22,14 @@ pub fn field(row: &ByteRecord, i: usize) -> &[u8]
 }
 
 /// The name that a field is.
-pub fn name_in(text: &[u8]) -> Result<Name, Why>
+pub(crate) fn name_in(text: &[u8]) -> Result<Name, Why>
     ensures { NameIn text.now result }
 {
     name_of(text).ok_or(Why::Name)
 }
 
 /// The name that a field is. Most often it is the recent one, which needs no check.
-pub fn name_again(text: &[u8], recent: Option<&Name>) -> Result<Name, Why>
+pub(crate) fn name_again(text: &[u8], recent: Option<&Name>) -> Result<Name, Why>
     ensures { NameIn text.now result }
 {
     match recent {
@@ -39,7 +39,7 @@ pub fn name_again(text: &[u8], recent: Option<&Name>) -> Result<Name, Why>
 }
 
 /// The names that the fields from the fourth on are.
-pub fn names_in(alloc: Global, row: &ByteRecord) -> Result<Vec<Name>, RowFault>
+pub(crate) fn names_in(alloc: Global, row: &ByteRecord) -> Result<Vec<Name>, RowRefusal>
     ensures { NamesIn (fields_of row.now) result }
 {
     let mut names = Vec::new(alloc);
@@ -50,7 +50,7 @@ pub fn names_in(alloc: Global, row: &ByteRecord) -> Result<Vec<Name>, RowFault>
 }
 
 /// The number that a field writes, if it lies within these bounds.
-pub fn number_in(text: &[u8], least: u32, greatest: u32) -> Result<Option<u32>, Why>
+pub(crate) fn number_in(text: &[u8], least: u32, greatest: u32) -> Result<Option<u32>, Why>
     ensures { NumberIn (text.now, least, greatest) result }
 {
     match read_whole(text, u64::from(greatest)) {
@@ -61,12 +61,12 @@ pub fn number_in(text: &[u8], least: u32, greatest: u32) -> Result<Option<u32>, 
 }
 
 /// The numbers that the fields from the fourth on write, if each lies within these bounds.
-pub fn numbers_in(
+pub(crate) fn numbers_in(
     alloc: Global,
     row: &ByteRecord,
     least: u32,
     greatest: u32,
-) -> Result<Option<Vec<u32>>, RowFault>
+) -> Result<Option<Vec<u32>>, RowRefusal>
     ensures { NumbersIn least greatest (fields_of row.now) result }
 {
     let mut numbers = Vec::with_capacity(alloc, row.len())?;
@@ -80,7 +80,8 @@ pub fn numbers_in(
     Ok(within.then_some(numbers))
 }
 
-// The number of seats that a field writes, if it is one: 0 to [`nrm_model::MOST_DEMAND`]. Most have a digit or two, which are read at once.
+// The number of seats that a field writes, if it is one: 0 to [`nrm_model::MOST_DEMAND`]. Most have a digit or two, which are
+// read at once.
 #[inline(always)]
 fn seat_count_in(text: &[u8]) -> Result<Option<u16>, Why>
     ensures { NumberIn (text.now, 0, MOST_DEMAND) result }
@@ -97,8 +98,9 @@ fn seat_count_in(text: &[u8]) -> Result<Option<u16>, Why>
     }
 }
 
-/// Writes the seats that the fields from the fourth on write, and says whether each number is one of seats: 0 to [`nrm_model::MOST_DEMAND`].
-pub fn seats_in(row: &ByteRecord, seats: &mut [u16]) -> Result<bool, Why>
+/// Writes the seats that the fields from the fourth on write, and says whether each number is one of seats: 0 to
+/// [`nrm_model::MOST_DEMAND`].
+pub(crate) fn seats_in(row: &ByteRecord, seats: &mut [u16]) -> Result<bool, Why>
     requires { length (fields_of row.now) ≡ 3 + length seats.old }
     ensures { SeatsIn (fields_of row.now) seats.new result }
 {

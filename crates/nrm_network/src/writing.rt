@@ -2,13 +2,13 @@
 //! after each row.
 ghost use Rattle.std.specs.Prelude.{◌≡◌, ◌<◌, ◌∷◌, ◌++◌, All, IfOk, OnOk, decimal, flat_map, length, map};
 ghost use Rattle.std.specs.List.{range_with_len};
-ghost use Rattle.nrm_model.specs.Demand.{demand_row};
 ghost use Rattle.nrm_model.specs.Limits.{IsNetwork};
 ghost use Rattle.nrm_model.specs.Network.{leg_of};
 ghost use Rattle.nrm_network.specs.Canonical.{canonical_file, leg_fields, periods_fields, product_fields};
 ghost use Rattle.nrm_network.specs.File.{file_of};
 ghost use Rattle.nrm_network.specs.Inner.RowText.{after_commas, history_fields, history_text, row_text};
 
+use crate::numbers::{NUMBERS_ROOM, write_numbers};
 use itoa::Buffer;
 use nrm_model::{Leg, Network, Product};
 use std::alloc::{AllocError, Global};
@@ -79,29 +79,17 @@ fn push_product(text: &mut Vec<u8>, net: &Network, product: &Product) -> Result<
     Ok(())
 }
 
-fn push_seats(text: &mut Vec<u8>, net: &Network, j: u16, h: u8) -> Result<(), AllocError>
-    requires limits { IsNetwork net.now }
-    requires product { j < length net.now.products }
-    requires history { h < net.now.histories }
-    ensures { OnOk result (text.new.items ≡ text.old.items ++ after_commas (map decimal (demand_row net.now j h))) }
-{
-    for t in 0..net.t() {
-        push_number(text, u32::from(net.demand(j, h, t + 1)))?;
-    }
-    Ok(())
-}
-
 fn push_demand(text: &mut Vec<u8>, net: &Network, j: u16, h: u8) -> Result<(), AllocError>
     requires limits { IsNetwork net.now }
     requires product { j < length net.now.products }
     requires history { h < net.now.histories }
     ensures { OnOk result (text.new.items ≡ text.old.items ++ row_text (history_fields net.now j h)) }
 {
+    let mut numbers = [0; NUMBERS_ROOM];
+    let from = write_numbers(&mut numbers, net, j, h);
     text.extend_from_slice(b"demand")?;
     push_field(text, net.product_at(j).name.bytes())?;
-    push_number(text, u32::from(h) + 1)?;
-    push_seats(text, net, j, h)?;
-    text.push(b'\n')?;
+    text.extend_from_slice(&numbers[from..])?;
     Ok(())
 }
 
@@ -138,7 +126,8 @@ fn push_legs(text: &mut Vec<u8>, net: &Network) -> Result<(), AllocError>
 }
 
 fn push_products(text: &mut Vec<u8>, net: &Network) -> Result<(), AllocError>
-    ensures { OnOk result (text.new.items ≡ text.old.items ++ flat_map (λ product. row_text (product_fields net.now product)) net.now.products) }
+    ensures { OnOk result (text.new.items
+        ≡ text.old.items ++ flat_map (λ product. row_text (product_fields net.now product)) net.now.products) }
 {
     for j in 0..net.product_count() {
         push_product(text, net, net.product_at(j as u16))?;
@@ -147,7 +136,10 @@ fn push_products(text: &mut Vec<u8>, net: &Network) -> Result<(), AllocError>
 }
 
 fn push_demands(text: &mut Vec<u8>, net: &Network) -> Result<(), AllocError>
-    ensures { OnOk result (text.new.items ≡ text.old.items ++ flat_map (λ j. flat_map (history_text net.now j) (range_with_len 0 net.now.histories)) (range_with_len 0 (length net.now.products))) }
+    ensures { OnOk result (text.new.items
+        ≡ text.old.items
+        ++ flat_map (λ j. flat_map (history_text net.now j) (range_with_len 0 net.now.histories))
+        (range_with_len 0 (length net.now.products))) }
 {
     let products = net.product_count();
     for j in 0..products {

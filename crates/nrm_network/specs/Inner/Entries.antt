@@ -1,13 +1,16 @@
 -- A row as the code reads it, and what the checks before the look-ups say of it.
-use Rattle.std.specs.Prelude.{ℕ, ◌≡◌, ◌==◌, Bool, true, false, List, length, bytes_eq, codes, Option, Some, None, Result, Ok, Err, if◌then◌else◌}
+use Rattle.std.specs.Prelude.{ℕ, ◌≡◌, ◌==◌, Bool, true, false, if◌then◌else◌, List, length, bytes_eq, codes}
+use Rattle.std.specs.Prelude.{Option, Some, None, Result, Ok, Err}
 use Rattle.std.specs.List.{list_all}
 use Rattle.nrm_text.specs.Names.{is_name}
 use Rattle.nrm_text.specs.Numbers.{is_whole, value_of}
-use Rattle.nrm_network.specs.Rows.{Kind, periods_kind, leg_kind, product_kind, demand_kind, no_kind, kind_of, field, further, further_numbers, leg_rows, product_rows, histories_in, periods_in}
-use Rattle.nrm_network.specs.Checks.{NumberField, is_within, no_such_kind, out_of_order, miscounted, too_many, name_fields, number_fields}
+use Rattle.nrm_network.specs.Rows.{Row, Kind, periods_kind, leg_kind, product_kind, demand_kind, no_kind, kind_of, field}
+use Rattle.nrm_network.specs.Rows.{further, further_numbers, leg_rows, product_rows, histories_in, periods_in}
+use Rattle.nrm_network.specs.Checks.{NumberField, is_within, no_such_kind, out_of_order, miscounted, too_many}
+use Rattle.nrm_network.specs.Checks.{name_fields, number_fields}
 use Rattle.nrm_network.specs.Inner.Faults.{Refuses}
 use Rattle.nrm_network.specs.File.{leg_in}
-use Rattle.nrm_network.specs.declared.fault.RowFault.{RowFault}
+use Rattle.nrm_network.specs.declared.fault.RowRefusal.{RowRefusal}
 use Rattle.nrm_network.specs.declared.fault.Why.{Why}
 use Rattle.nrm_network.specs.declared.fault.Why.TheVariants as why
 use Rattle.nrm_network.specs.declared.entry.RowKind.{RowKind}
@@ -34,7 +37,7 @@ kind_by word =
     else no_kind
 
 -- a row of this kind passes the checks that need no look-up
-pub record HasShape (before : List (List (List ℕ))) (row : List (List ℕ)) (kind : Kind) : Type 0 where
+pub record HasShape (before : List Row) (row : Row) (kind : Kind) : Type 0 where
   pub is_kind : kind_of row ≡ kind
   pub known : no_such_kind kind ≡ false
   pub order : out_of_order before kind ≡ false
@@ -45,7 +48,7 @@ pub record HasShape (before : List (List (List ℕ))) (row : List (List ℕ)) (k
   pub range : list_all is_within (number_fields (histories_in before) kind row) ≡ true
 
 -- the counts are those of the rows before
-pub record Counted (counts : Counts) (before : List (List (List ℕ))) : Type 0 where
+pub record Counted (counts : Counts) (before : List Row) : Type 0 where
   pub first : (counts.histories == 0) ≡ (length before == 0)
   pub histories : counts.histories ≡ histories_in before
   pub periods : counts.periods ≡ periods_in before
@@ -65,26 +68,28 @@ kind_said (is.Product product) = product_kind
 kind_said (is.Demand demand) = demand_kind
 
 -- the fields of a row say this
-abbrev pub Says : Entry → List (List ℕ) → Type 0
+abbrev pub Says : Entry → Row → Type 0
 Says (is.Periods histories periods) row = (histories ≡ value_of (field row 1)) × (periods ≡ value_of (field row 2))
 Says (is.Leg leg) row = leg ≡ leg_in row
-Says (is.Product product) row = (product.name ≡ field row 1) × (product.fare ≡ value_of (field row 2)) × (product.legs.items ≡ further row)
-Says (is.Demand demand) row = (demand.product ≡ field row 1) × (demand.history ≡ value_of (field row 2)) × (demand.seats.now ≡ further_numbers row)
+Says (is.Product product) row =
+    (product.name ≡ field row 1) × (product.fare ≡ value_of (field row 2)) × (product.legs.items ≡ further row)
+Says (is.Demand demand) row =
+    (demand.product ≡ field row 1) × (demand.history ≡ value_of (field row 2)) × (demand.seats.now ≡ further_numbers row)
 
 -- a row passes the checks that need no look-up, and says this
-pub record IsRead (before : List (List (List ℕ))) (row : List (List ℕ)) (entry : Entry) : Type 0 where
+pub record IsRead (before : List Row) (row : Row) (entry : Entry) : Type 0 where
   pub shape : HasShape before row (kind_said entry)
   pub says : Says entry row
 
 -- what reading a row after those before it gives
-abbrev pub Reads : List (List (List ℕ)) → List (List ℕ) → Result Entry RowFault → Type 0
+abbrev pub Reads : List Row → Row → Result Entry RowRefusal → Type 0
 Reads before row (Ok entry) = IsRead before row entry
 Reads before row (Err fault) = Refuses before row fault
 
 -- whatever rows the counts are of
-abbrev pub ReadsRow : Counts → List (List ℕ) → Result Entry RowFault → Type 0
-ReadsRow counts row result = (before : List (List (List ℕ))) → Counted counts before → Reads before row result
+abbrev pub ReadsRow : Counts → Row → Result Entry RowRefusal → Type 0
+ReadsRow counts row result = (before : List Row) → Counted counts before → Reads before row result
 
 -- and where the row is of this kind
-abbrev pub ReadsAs : Kind → Counts → List (List ℕ) → Result Entry RowFault → Type 0
+abbrev pub ReadsAs : Kind → Counts → Row → Result Entry RowRefusal → Type 0
 ReadsAs kind counts row result = kind_of row ≡ kind → ReadsRow counts row result

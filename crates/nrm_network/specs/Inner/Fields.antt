@@ -5,10 +5,10 @@ use Rattle.std.specs.List.{list_all}
 use Rattle.nrm_text.specs.Names.{is_name}
 use Rattle.nrm_text.specs.Numbers.{is_whole, value_of}
 use Rattle.nrm_model.specs.declared.limits.TheConstants.{MOST_DEMAND}
-use Rattle.nrm_network.specs.Rows.{further, further_numbers}
+use Rattle.nrm_network.specs.Rows.{Row, further, further_numbers}
 use Rattle.nrm_network.specs.Checks.{NumberField, is_within}
-use Rattle.nrm_network.specs.declared.fault.RowFault.{RowFault}
-use Rattle.nrm_network.specs.declared.fault.RowFault.TheVariants as fault
+use Rattle.nrm_network.specs.declared.fault.RowRefusal.{RowRefusal}
+use Rattle.nrm_network.specs.declared.fault.RowRefusal.TheVariants as fault
 use Rattle.nrm_network.specs.declared.fault.Why.{Why}
 use Rattle.nrm_network.specs.declared.fault.Why.TheVariants as why
 
@@ -18,7 +18,7 @@ NameIn text (Ok name) = (is_name text ≡ true) × (name ≡ text)
 NameIn text (Err cause) = (is_name text ≡ false) × (cause ≡ why.Name)
 
 -- the fields from the fourth on are names, or one is none; want of memory is free
-abbrev pub NamesIn : List (List ℕ) → Result (Vec (List ℕ) Global) RowFault → Type 0
+abbrev pub NamesIn : Row → Result (Vec (List ℕ) Global) RowRefusal → Type 0
 NamesIn row (Ok names) = (list_all is_name (further row) ≡ true) × (names.items ≡ further row)
 NamesIn row (Err (fault.Refused cause)) = (list_all is_name (further row) ≡ false) × (cause ≡ why.Name)
 NamesIn row (Err fault.NoMemory) = ⊤
@@ -30,22 +30,27 @@ NumberIn number (Ok None) = (is_whole number.0 ≡ true) × (is_within number �
 NumberIn number (Err cause) = (is_whole number.0 ≡ false) × (cause ≡ why.Number)
 
 -- texts with the same bounds
-abbrev pub bounded : ℕ → ℕ → List (List ℕ) → List (List ℕ × ℕ × ℕ)
+abbrev pub bounded : ℕ → ℕ → List (List ℕ) → List NumberField
 bounded least greatest texts = map (λ text. (text, least, greatest)) texts
 
-abbrev pub are_whole : List (List ℕ × ℕ × ℕ) → Bool
+abbrev pub are_whole : List NumberField → Bool
 are_whole numbers = list_all (λ (number : NumberField). is_whole number.0) numbers
 
 -- the fields from the fourth on write numbers within these bounds, or one is outside them, or one is none; want of memory is free
-abbrev pub NumbersIn : ℕ → ℕ → List (List ℕ) → Result (Option (Vec ℕ Global)) RowFault → Type 0
+abbrev pub NumbersIn : ℕ → ℕ → Row → Result (Option (Vec ℕ Global)) RowRefusal → Type 0
 NumbersIn least greatest row (Ok (Some numbers)) =
-    (are_whole (bounded least greatest (further row)) ≡ true) × (list_all is_within (bounded least greatest (further row)) ≡ true) × (numbers.items ≡ further_numbers row)
-NumbersIn least greatest row (Ok None) = (are_whole (bounded least greatest (further row)) ≡ true) × (list_all is_within (bounded least greatest (further row)) ≡ false)
+    (are_whole (bounded least greatest (further row)) ≡ true) × (list_all is_within (bounded least greatest (further row)) ≡ true)
+    × (numbers.items ≡ further_numbers row)
+NumbersIn least greatest row (Ok None) =
+    (are_whole (bounded least greatest (further row)) ≡ true) × (list_all is_within (bounded least greatest (further row)) ≡ false)
 NumbersIn least greatest row (Err (fault.Refused cause)) = (are_whole (bounded least greatest (further row)) ≡ false) × (cause ≡ why.Number)
 NumbersIn least greatest row (Err fault.NoMemory) = ⊤
 
 -- the fields from the fourth on write these seats, or one writes a number above the most demand, or one writes none
-abbrev pub SeatsIn : List (List ℕ) → List ℕ → Result Bool Why → Type 0
-SeatsIn row seats (Ok true) = (are_whole (bounded 0 MOST_DEMAND (further row)) ≡ true) × (list_all is_within (bounded 0 MOST_DEMAND (further row)) ≡ true) × (seats ≡ further_numbers row)
-SeatsIn row seats (Ok false) = (are_whole (bounded 0 MOST_DEMAND (further row)) ≡ true) × (list_all is_within (bounded 0 MOST_DEMAND (further row)) ≡ false)
+abbrev pub SeatsIn : Row → List ℕ → Result Bool Why → Type 0
+SeatsIn row seats (Ok true) =
+    (are_whole (bounded 0 MOST_DEMAND (further row)) ≡ true) × (list_all is_within (bounded 0 MOST_DEMAND (further row)) ≡ true)
+    × (seats ≡ further_numbers row)
+SeatsIn row seats (Ok false) =
+    (are_whole (bounded 0 MOST_DEMAND (further row)) ≡ true) × (list_all is_within (bounded 0 MOST_DEMAND (further row)) ≡ false)
 SeatsIn row seats (Err cause) = (are_whole (bounded 0 MOST_DEMAND (further row)) ≡ false) × (cause ≡ why.Number)

@@ -3,17 +3,18 @@ use Rattle.std.specs.Prelude.{ℕ, ◌==◌, List, [], ◌∷◌, ◌++◌, map,
 use Rattle.std.specs.List.{join_with_byte}
 use Rattle.nrm_model.specs.Network.{NetworkValue, product_of}
 use Rattle.nrm_model.specs.Demand.{demand_row}
+use Rattle.nrm_network.specs.Rows.{Row}
 
 -- fields that follow another: a comma before each
 abbrev pub after_commas : List (List ℕ) → List ℕ
 after_commas fields = flat_map (λ field. 44 ∷ field) fields
 
 -- a row: its fields with commas between them, and the end of the line
-abbrev pub row_text : List (List ℕ) → List ℕ
+abbrev pub row_text : Row → List ℕ
 row_text fields = join_with_byte 44 fields ++ 10 ∷ []
 
 -- the row of a product in a history, which counts from 0
-abbrev pub history_fields : NetworkValue → ℕ → ℕ → List (List ℕ)
+abbrev pub history_fields : NetworkValue → ℕ → ℕ → Row
 history_fields net j h = codes "demand" ∷ (product_of net j).name ∷ decimal (h + 1) ∷ map decimal (demand_row net j h)
 
 -- its text, and none where the demand is 0 in every period

@@ -11,8 +11,10 @@ loop-place-preserved c =
     let one_more : 72 + (place + 1) ≡ 72 + place + 1 = omega arith in
     record {
       demand = λ number begun. row-more (λ k. draw_of number (72 + k) 6) place _ _ _ (c.loop-place.invariant.demand number begun)
-          (next-number number (72 + place) 6 _ _ _ (c.loop-place.invariant.state number begun) c.draw.ensures.state c.draw.ensures.number) c.in_ok-push.ensures.items;
-      state = λ number begun. rw one_more (next-state number (72 + place) _ _ (c.loop-place.invariant.state number begun) c.draw.ensures.state);
+          (next-number number (72 + place) 6 _ _ _ (c.loop-place.invariant.state number begun) c.draw.ensures.state c.draw.ensures.number)
+          c.in_ok-push.ensures.items;
+      state = λ number begun. rw one_more
+          (next-state number (72 + place) _ _ (c.loop-place.invariant.state number begun) c.draw.ensures.state);
     }
 
 pub returns-clause-demand : goal.returns-clause-demand

@@ -1,3 +1,4 @@
+-- One leg more, and one draw.
 use Rattle.nrm_gen.specs.MadeNetwork.{made_leg}
 use Rattle.nrm_gen.proofs.Rows.{row-more}
 use Rattle.nrm_gen.proofs.network.made_legs.Goals as goal

@@ -1,3 +1,4 @@
+-- The test of the numbers from a place on.
 use Rattle.std.proofs.Common.{ℕ, ◌≡◌, ◌∙◌, ◌-◌, ◌≤◌, List, [], ◌∷◌, length, drop, true, sym, refl, arith}
 use Rattle.std.proofs.lemmas.List.{length-drop}
 use Rattle.nrm_model.specs.Limits.{falls}

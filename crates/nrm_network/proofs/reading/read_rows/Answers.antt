@@ -1,4 +1,6 @@
-use Rattle.std.proofs.Common.{Bor, List, ℕ, ◌≡◌, ◌∙◌, ◌+◌, ◌++◌, ◌∷◌, [], ◌≤◌, sym, refl, ap, subst, arith, inl, inr, Some, Err, length, append_assoc, length-append}
+-- The rows that were read so far are the first of the file, and the draft stands for them.
+use Rattle.std.proofs.Common.{Bor, List, ℕ, ◌≡◌, ◌∙◌, ◌+◌, ◌++◌, ◌∷◌, [], ◌≤◌, sym, refl, ap, subst, arith, inl, inr, Some, Err, length}
+use Rattle.std.proofs.Common.{append_assoc, length-append}
 use Rattle.std.specs.Prelude.{Option, Ok}
 use Rattle.std.specs.Option.{option_map_or}
 use Rattle.csv.specs.Reading.{Reached, default_config, strip_bom}
@@ -11,33 +13,38 @@ use Rattle.nrm_network.specs.Checks.{why_refused}
 use Rattle.nrm_network.specs.Inner.Draft.{Accepts, TakesRow}
 use Rattle.nrm_network.specs.Inner.Faults.{fault_at}
 use Rattle.nrm_network.specs.File.{Refusal, network_of, network_or_refusal}
-use Rattle.nrm_network.specs.Rows.{rows_of}
+use Rattle.nrm_network.specs.Rows.{Row, rows_of}
 use Rattle.nrm_network.specs.declared.draft.Draft.{Draft}
-use Rattle.nrm_network.specs.declared.fault.RowFault.{RowFault}
-use Rattle.nrm_network.specs.declared.fault.RowFault.TheVariants as fault
+use Rattle.nrm_network.specs.declared.fault.RowRefusal.{RowRefusal}
+use Rattle.nrm_network.specs.declared.fault.RowRefusal.TheVariants as fault
 use Rattle.nrm_network.specs.declared.fault.Why.TheVariants as why
 use Rattle.nrm_network.proofs.CsvRows.{records-front, records-read, strip-shortens}
-use Rattle.nrm_network.proofs.Taken.{refusal_after-row}
+use Rattle.nrm_network.proofs.RefusalPlace.{refusal_after-row}
 use Rattle.nrm_network.proofs.reading.read_rows.Goals as goal
 use Rattle.nrm_network.proofs.reading.read_rows.Goals.{At-loop-row, In_ok-read_byte_record}
 
 -- a row that isn't taken decides the file
-refused : (after : Draft) (bytes : List ℕ) (taken rest : List (List (List ℕ))) (row : List (List ℕ)) (n : ℕ) (f : RowFault) → Accepts why_refused [] taken → rows_of bytes ≡ taken ++ row ∷ rest → n ≡ length taken → TakesRow after taken row (Err f)
+refused : (after : Draft) (bytes : List ℕ) (taken rest : List Row) (row : Row) (n : ℕ) (f : RowRefusal) → Accepts why_refused [] taken
+    → rows_of bytes ≡ taken ++ row ∷ rest → n ≡ length taken → TakesRow after taken row (Err f)
     → AnswersFile (Err (fault_at (n + 1) f)) (network_or_refusal why_refused why.Empty (rows_of bytes))
 refused after bytes taken rest row n (fault.Refused w) accepted are count takes =
-    ap (λ (rows : List (List (List ℕ))). network_or_refusal why_refused why.Empty rows) are
-    ∙ ap (λ (r : Option Refusal). option_map_or (λ (refusal : Refusal). Err refusal) r (Ok (network_of (taken ++ row ∷ rest)))) (refusal_after-row why_refused why.Empty w [] taken row rest accepted takes)
+    ap (λ (rows : List Row). network_or_refusal why_refused why.Empty rows) are
+    ∙ ap (λ (r : Option Refusal). option_map_or (λ (refusal : Refusal). Err refusal) r (Ok (network_of (taken ++ row ∷ rest))))
+    (refusal_after-row why_refused why.Empty w [] taken row rest accepted takes)
     ∙ ap (λ (m : ℕ). Err (m + 1, w)) (sym count)
 refused after bytes taken rest row n fault.NoMemory accepted are count takes = tt
 
 -- how many rows were read
-few-rows : (bytes y : List ℕ) (taken : ℕ) (rows : List (List (List ℕ))) (s : State) → length bytes ≤ 4194304 → Reached default_config st.StartRecord (strip_bom bytes) rows s y → taken ≡ length rows → taken ≤ 4194304
+few-rows : (bytes y : List ℕ) (taken : ℕ) (rows : List Row) (s : State) → length bytes ≤ 4194304
+    → Reached default_config st.StartRecord (strip_bom bytes) rows s y → taken ≡ length rows → taken ≤ 4194304
 few-rows bytes y taken rows s small reached is =
     let (rest, are, few) = records-front (strip_bom bytes) y s rows reached in
     omega (arith, few, strip-shortens bytes)
 
 -- the rows are those that were read, the row that was read last, and others
-rows-front : (bytes y : List ℕ) (rows : List (List (List ℕ))) (row : List (List ℕ)) (s : State) → Reached default_config st.StartRecord (strip_bom bytes) (rows ++ row ∷ []) s y → (rest : List (List (List ℕ))) × (rows_of bytes ≡ rows ++ row ∷ rest)
+rows-front : (bytes y : List ℕ) (rows : List Row) (row : Row) (s : State)
+    → Reached default_config st.StartRecord (strip_bom bytes) (rows ++ row ∷ []) s y
+    → (rest : List Row) × (rows_of bytes ≡ rows ++ row ∷ rest)
 rows-front bytes y rows row s reached =
     let (rest, are, few) = records-front (strip_bom bytes) y s (rows ++ row ∷ []) reached in
     (rest, are ∙ append_assoc rows (row ∷ []) rest)
@@ -77,23 +84,43 @@ finish-requires-clause-few c = let few = few-taken (goal.at.finish-requires-clau
 pub returns-in-Err : goal.returns-in-Err
 returns-in-Err c =
     let inv = c.loop-row.invariant in
-    let row : List (List ℕ) = fields_of c.read_byte_record.new.row in
+    let row : Row = fields_of c.read_byte_record.new.row in
     let s = rw c.if-branch.true at (c.in_ok-read_byte_record.ensures.reads inv.0 inv.1) in
-    let m = rows-more (λ (s : Bor (List ℕ)). Some s.now) c.loop-row.rdr c.read_byte_record.new.self row default_config st.StartRecord (strip_bom c.args.bytes.now) inv.3 inv.4 inv.2 inv.5 inv.6 s in
+    let m = rows-more (λ (s : Bor (List ℕ)). Some s.now) c.loop-row.rdr c.read_byte_record.new.self row default_config st.StartRecord
+    (strip_bom c.args.bytes.now) inv.3 inv.4 inv.2 inv.5 inv.6 s in
     let (rest, are) = rows-front c.args.bytes.now m.0 inv.4 row c.read_byte_record.new.self.state m.2 in
-    rw c.at.ensures (refused c.take.new.self c.args.bytes.now inv.4 rest row c.loop-row.taken c.in-Err.fault inv.7.accepted are inv.8 (c.in-Err.ensures inv.4 inv.7))
+    rw c.at.ensures (refused c.take.new.self c.args.bytes.now inv.4 rest row c.loop-row.taken c.in-Err.fault inv.7.accepted are inv.8
+    (c.in-Err.ensures inv.4 inv.7))
 
 pub loop-row-preserved : goal.loop-row-preserved
 loop-row-preserved c =
     let inv = c.loop-row.invariant in
-    let row : List (List ℕ) = fields_of c.read_byte_record.new.row in
+    let row : Row = fields_of c.read_byte_record.new.row in
     let s = rw c.if-branch.true at (c.in_ok-read_byte_record.ensures.reads inv.0 inv.1) in
-    let m = rows-more (λ (s : Bor (List ℕ)). Some s.now) c.loop-row.rdr c.read_byte_record.new.self row default_config st.StartRecord (strip_bom c.args.bytes.now) inv.3 inv.4 inv.2 inv.5 inv.6 s in
-    (s.3 ∙ inv.0, inl (c.in_ok-read_byte_record.ensures.ready inv.0), s.2 ∙ inv.2, m.0, inv.4 ++ row ∷ [], m.1, m.2, (c.in_default.ensures inv.4 inv.7).1, omega (arith, inv.8, length-append inv.4 (row ∷ [])))
+    let m = rows-more (λ (s : Bor (List ℕ)). Some s.now) c.loop-row.rdr c.read_byte_record.new.self row default_config st.StartRecord
+    (strip_bom c.args.bytes.now) inv.3 inv.4 inv.2 inv.5 inv.6 s in (
+      s.3 ∙ inv.0,
+      inl (c.in_ok-read_byte_record.ensures.ready inv.0),
+      s.2
+          ∙ inv.2,
+      m.0,
+      inv.4 ++ row ∷ [],
+      m.1,
+      m.2,
+      (c.in_default.ensures inv.4 inv.7).1,
+      omega (arith, inv.8, length-append inv.4 (row ∷ [])),
+    )
 
 pub returns : goal.returns
 returns c =
     let inv = c.loop-row.invariant in
     let s = rw c.if-branch.false at (c.in_ok-read_byte_record.ensures.reads inv.0 inv.1) in
-    let are = records-read (strip_bom c.args.bytes.now) inv.4 (c.loop-row.rdr.state, inv.3, inv.6, rows-end (λ (s : Bor (List ℕ)). Some s.now) c.loop-row.rdr c.read_byte_record.new.self (fields_of c.read_byte_record.new.row) default_config inv.3 inv.2 inv.5 s) in
-    subst (λ (rows : List (List (List ℕ))). AnswersFile c.finish.result (network_or_refusal why_refused why.Empty rows)) are (c.finish.ensures inv.4 inv.7 inv.8)
+    let are = records-read (strip_bom c.args.bytes.now) inv.4 (
+      c.loop-row.rdr.state,
+      inv.3,
+      inv.6,
+      rows-end (λ (s : Bor (List ℕ)). Some s.now) c.loop-row.rdr c.read_byte_record.new.self
+          (fields_of c.read_byte_record.new.row) default_config inv.3 inv.2 inv.5 s,
+    ) in
+    subst (λ (rows : List Row). AnswersFile c.finish.result (network_or_refusal why_refused why.Empty rows)) are
+    (c.finish.ensures inv.4 inv.7 inv.8)

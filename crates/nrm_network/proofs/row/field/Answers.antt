@@ -1,3 +1,4 @@
+-- The reader's field at a place is that of the row.
 use Rattle.std.proofs.Common.{ℕ, zero, suc, ◌≡◌, ◌∙◌, List, [], ◌∷◌, refl, ap, Option, Some, None}
 use Rattle.std.specs.Prelude.{slice_get, unwrap_or}
 use Rattle.csv.specs.Records.{fields_of, field_at}

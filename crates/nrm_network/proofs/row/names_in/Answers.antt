@@ -1,8 +1,9 @@
+-- The names that were read so far are the fields so far.
 use Rattle.std.proofs.Common.{ℕ, ◌≡◌, ◌∙◌, ◌<◌, List, true, false, length, arith, rules, refl, subst, Err}
 use Rattle.csv.specs.Records.{fields_of}
 use Rattle.nrm_text.specs.Names.{is_name}
 use Rattle.nrm_network.specs.Rows.{field, further}
-use Rattle.nrm_network.specs.declared.fault.RowFault.TheVariants as fault
+use Rattle.nrm_network.specs.declared.fault.RowRefusal.TheVariants as fault
 use Rattle.nrm_network.proofs.RowFields.{all_next, push_name}
 use Rattle.nrm_network.proofs.row.names_in.Goals as goal
 
@@ -23,5 +24,7 @@ loop-i-preserved c =
     let other : is_name (field fields c.loop-i.i) ≡ true = subst (λ (t : List ℕ). is_name t ≡ true) c.field.ensures name.0 in
     record {
       names = c.loop-i.invariant.names ∙ all_next is_name fields c.loop-i.i short ∙ rw other refl;
-      read = rw c.in_ok-push.ensures.items (push_name fields c.loop-i.i c.in_ok-name_in.field-0 c.loop-i.names.items (further fields) short (name.1 ∙ c.field.ensures) c.loop-i.invariant.read);
+      read = rw c.in_ok-push.ensures.items
+          (push_name fields c.loop-i.i c.in_ok-name_in.field-0 c.loop-i.names.items (further fields) short (name.1
+          ∙ c.field.ensures) c.loop-i.invariant.read);
     }

@@ -1,3 +1,4 @@
+-- The pieces that were put are the row of the leg.
 use Rattle.std.proofs.Common.{ℕ, ◌≡◌, ◌∙◌, ◌++◌, ◌∷◌, List, true, is_ok, map, ap, rules, codes}
 use Rattle.std.specs.Prelude.{decimal}
 use Rattle.nrm_network.specs.Inner.RowText.{after_commas}
@@ -8,7 +9,9 @@ pub returns : goal.returns
 returns c =
     let began : is_ok c.extend_from_slice.result ≡ true = search rules in
     let ended : is_ok c.push.result ≡ true = search rules in
-    row_written c.args.text.now.items c.extend_from_slice.new.self.items c.push_field.new.text.items c.push_number.new.text.items c.push_numbers.new.text.items c.push.new.self.items (codes "leg") (c.args.leg.now.name) (decimal c.args.leg.now.seats) (map decimal c.args.leg.now.cuts)
+    row_written c.args.text.now.items c.extend_from_slice.new.self.items c.push_field.new.text.items c.push_number.new.text.items
+    c.push_numbers.new.text.items c.push.new.self.items (codes "leg") (c.args.leg.now.name) (decimal c.args.leg.now.seats)
+    (map decimal c.args.leg.now.cuts)
     (rw began at c.extend_from_slice.ensures.items)
     (c.in_ok-push_field.ensures ∙ ap (λ (n : List ℕ). c.extend_from_slice.new.self.items ++ 44 ∷ n) (c.bytes.ensures.bytes))
     (c.in_ok-push_number.ensures ∙ ap (λ (n : ℕ). c.push_field.new.text.items ++ 44 ∷ decimal n) (c.from.ensures))

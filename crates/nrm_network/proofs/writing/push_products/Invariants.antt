@@ -4,4 +4,5 @@ use Rattle.nrm_network.specs.Inner.RowText.{row_text}
 use Rattle.nrm_network.proofs.writing.push_products.Given as goal
 
 abbrev pub invariant-loop-j : goal.invariant-loop-j
-invariant-loop-j l = l.text.items ≡ l.fn.text.items ++ flat_map (λ product. row_text (product_fields l.net product)) (take l.j l.net.products)
+invariant-loop-j l = l.text.items
+    ≡ l.fn.text.items ++ flat_map (λ product. row_text (product_fields l.net product)) (take l.j l.net.products)

@@ -1,10 +1,11 @@
+-- What a row says is taken by its kind, and the row is refused as it was read.
 use Rattle.std.proofs.Common.{List, [], ◌∷◌, ◌≤◌, arith}
 use Rattle.std.proofs.lemmas.Result.{err_from_is_err_and}
 use Rattle.csv.specs.Records.{fields_of}
 use Rattle.nrm_network.specs.Rows.{Row, periods_in}
 use Rattle.nrm_network.specs.Checks.{why_refused}
 use Rattle.nrm_network.specs.Inner.Draft.{Accepts}
-use Rattle.nrm_network.proofs.Checked.{first-checked}
+use Rattle.nrm_network.proofs.CheckedRows.{first-checked}
 use Rattle.nrm_network.proofs.draft.Draft.take.Goals as goal
 
 few-periods : (taken : List Row) → Accepts why_refused [] taken → periods_in taken ≤ 16
@@ -29,16 +30,23 @@ take_demand-requires c =
     (taken, fields_of c.args.row.now, is, rw c.in-Demand.is at (c.in_ok-histories.ensures taken (c.counts.ensures taken is)))
 
 pub returns-in-Periods : goal.returns-in-Periods
-returns-in-Periods c = λ taken is. c.take_periods.ensures taken (fields_of c.args.row.now) is (rw c.in-Periods.is at (c.in_ok-histories.ensures taken (c.counts.ensures taken is)))
+returns-in-Periods c = λ taken is.
+    c.take_periods.ensures taken (fields_of c.args.row.now) is
+    (rw c.in-Periods.is at (c.in_ok-histories.ensures taken (c.counts.ensures taken is)))
 
 pub returns-in-Leg : goal.returns-in-Leg
-returns-in-Leg c = λ taken is. c.take_leg.ensures taken (fields_of c.args.row.now) is (rw c.in-Leg.is at (c.in_ok-histories.ensures taken (c.counts.ensures taken is)))
+returns-in-Leg c = λ taken is. c.take_leg.ensures taken (fields_of c.args.row.now) is
+    (rw c.in-Leg.is at (c.in_ok-histories.ensures taken (c.counts.ensures taken is)))
 
 pub returns-in-Product : goal.returns-in-Product
-returns-in-Product c = λ taken is. c.take_product.ensures taken (fields_of c.args.row.now) is (rw c.in-Product.is at (c.in_ok-histories.ensures taken (c.counts.ensures taken is)))
+returns-in-Product c = λ taken is.
+    c.take_product.ensures taken (fields_of c.args.row.now) is
+    (rw c.in-Product.is at (c.in_ok-histories.ensures taken (c.counts.ensures taken is)))
 
 pub returns-in-Demand : goal.returns-in-Demand
-returns-in-Demand c = λ taken is. c.take_demand.ensures taken (fields_of c.args.row.now) is (rw c.in-Demand.is at (c.in_ok-histories.ensures taken (c.counts.ensures taken is)))
+returns-in-Demand c = λ taken is.
+    c.take_demand.ensures taken (fields_of c.args.row.now) is
+    (rw c.in-Demand.is at (c.in_ok-histories.ensures taken (c.counts.ensures taken is)))
 
 pub returns-in_err-histories : goal.returns-in_err-histories
 returns-in_err-histories c = λ taken is.

@@ -1,6 +1,7 @@
+-- The draft grows by the first row.
 use Rattle.std.proofs.Common.{refl}
-use Rattle.nrm_network.proofs.Late.{periods-free}
-use Rattle.nrm_network.proofs.Growth.{periods-grow}
+use Rattle.nrm_network.proofs.ChecksAfterShape.{periods-free}
+use Rattle.nrm_network.proofs.DraftGrowth.{periods-grow}
 use Rattle.nrm_network.proofs.draft.Draft.take_periods.Goals as goal
 
 pub returns : goal.returns

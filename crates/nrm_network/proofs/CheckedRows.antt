@@ -1,5 +1,6 @@
 -- What the checks say of a row that none of them refuses.
-use Rattle.std.proofs.Common.{ℕ, ◌≡◌, ◌∙◌, ◌⊎◌, ◌+◌, ◌<◌, ◌≤◌, true, false, not, ◌&&◌, ◌==◌, List, [], ◌∷◌, length, map, sum, bytes_eq, codes, refl, sym, ap, subst, arith, inl, inr, nat_le, None}
+use Rattle.std.proofs.Common.{ℕ, ◌≡◌, ◌∙◌, ◌⊎◌, ◌+◌, ◌<◌, ◌≤◌, true, false, not, ◌&&◌, ◌==◌, List, [], ◌∷◌, length, map, sum, bytes_eq}
+use Rattle.std.proofs.Common.{codes, refl, sym, ap, subst, arith, inl, inr, nat_le, None}
 use Rattle.std.specs.Int.{is_in_range}
 use Rattle.std.specs.List.{list_all}
 use Rattle.std.proofs.lemmas.Bool.{cases_Bool, and_parts, and_from, or_parts, not-false, leb-true, leb-false, le-leb, ltb-false, eqb-true}
@@ -10,49 +11,58 @@ use Rattle.nrm_text.specs.Names.{is_name}
 use Rattle.nrm_text.specs.Numbers.{value_of}
 use Rattle.nrm_model.specs.Limits.{falls, differ}
 use Rattle.nrm_model.proofs.Fits.{leg_fits}
-use Rattle.nrm_network.specs.Rows.{field, begins, kind_of, leg_rows, product_rows, periods_in, is_named, further, further_numbers}
+use Rattle.nrm_network.specs.Rows.{Row, field, begins, kind_of, leg_rows, product_rows, periods_in, is_named, further, further_numbers}
 use Rattle.nrm_network.specs.Checks.{NumberField, why_refused, is_within, no_such_kind, is_periods}
 use Rattle.nrm_network.specs.File.{leg_in}
 use Rattle.nrm_network.specs.Inner.Entries.{kind_by}
-use Rattle.nrm_network.proofs.Passes.{PassesAs, passes}
+use Rattle.nrm_network.proofs.ChecksByName.{PassesAs, passes}
 
-pub word-is : (word : List ℕ) (row : List (List ℕ)) → begins word row ≡ true → field row 0 ≡ word
+pub word-is : (word : List ℕ) (row : Row) → begins word row ≡ true → field row 0 ≡ word
 word-is word row e = (bytes_eq-Decides (field row 0) word).0 e
 
-pub begins-as : (word other : List ℕ) (row : List (List ℕ)) → field row 0 ≡ word → begins other row ≡ bytes_eq word other
+pub begins-as : (word other : List ℕ) (row : Row) → field row 0 ≡ word → begins other row ≡ bytes_eq word other
 begins-as word other row first = ap (λ (f : List ℕ). bytes_eq f other) first
 
-checked : (before : List (List (List ℕ))) (row : List (List ℕ)) (word : List ℕ) → field row 0 ≡ word → why_refused before row ≡ None → PassesAs before row (kind_by word)
+checked : (before : List Row) (row : Row) (word : List ℕ) → field row 0 ≡ word → why_refused before row ≡ None
+    → PassesAs before row (kind_by word)
 checked before row word first taken = subst (λ (f : List ℕ). PassesAs before row (kind_by f)) first (passes before row taken)
 
 -- the numbers of the further fields are within the bounds
-pub further-within : (low high : ℕ) (row : List (List ℕ)) → list_all is_within (map (λ text. (text, low, high)) (further row)) ≡ true → list_all (is_in_range low high) (further_numbers row) ≡ true
+pub further-within : (low high : ℕ) (row : Row) → list_all is_within (map (λ text. (text, low, high)) (further row)) ≡ true
+    → list_all (is_in_range low high) (further_numbers row) ≡ true
 further-within low high row within =
-    list_all-map (is_in_range low high) value_of (further row) ∙ sym (list_all-map is_within (λ text. (text, low, high)) (further row)) ∙ within
+    list_all-map (is_in_range low high) value_of (further row) ∙ sym (list_all-map is_within (λ text. (text, low, high)) (further row))
+    ∙ within
 
 -- a first row gives 1 to 32 histories and 1 to 16 periods
-pub record FirstChecked (row : List (List ℕ)) : Type 0 where
+pub record FirstChecked (row : Row) : Type 0 where
   pub histories : (1 ≤ value_of (field row 1)) × (value_of (field row 1) ≤ 32)
   pub periods : (1 ≤ value_of (field row 2)) × (value_of (field row 2) ≤ 16)
   pub word : field row 0 ≡ codes "periods"
 
 pub in-range : (low high n : ℕ) → is_in_range low high n ≡ true → (low ≤ n) × (n ≤ high)
-in-range low high n within = let (above, below) = and_parts (nat_le low n) (nat_le n high) within in (leb-true low n above, leb-true n high below)
+in-range low high n within = let (above, below) = and_parts (nat_le low n) (nat_le n high) within in
+    (leb-true low n above, leb-true n high below)
 
-periods-checked : (row : List (List ℕ)) → field row 0 ≡ codes "periods" → why_refused [] row ≡ None → FirstChecked row
+periods-checked : (row : Row) → field row 0 ≡ codes "periods" → why_refused [] row ≡ None → FirstChecked row
 periods-checked row first taken =
     let p = checked [] row (codes "periods") first taken in
     let (histories, more) = and_parts (is_within (field row 1, 1, 32)) (is_within (field row 2, 1, 16) && true) p.range in
     let (periods, end) = and_parts (is_within (field row 2, 1, 16)) true more in
-    record { histories = in-range 1 32 (value_of (field row 1)) histories; periods = in-range 1 16 (value_of (field row 2)) periods; word = first }
+    record {
+      histories = in-range 1 32 (value_of (field row 1)) histories;
+      periods = in-range 1 16 (value_of (field row 2)) periods;
+      word =
+          first;
+    }
 
 -- a leg that no check refuses fits
-pub record LegChecked (before : List (List (List ℕ))) (row : List (List ℕ)) : Type 0 where
+pub record LegChecked (before : List Row) (row : Row) : Type 0 where
   pub few : length (leg_rows before) < 64
   pub fits : leg_fits (leg_in row) ≡ true
   pub fresh : is_named (leg_rows before) (field row 1) ≡ false
 
-pub leg-checked : (before : List (List (List ℕ))) (row : List (List ℕ)) → field row 0 ≡ codes "leg" → why_refused before row ≡ None → LegChecked before row
+pub leg-checked : (before : List Row) (row : Row) → field row 0 ≡ codes "leg" → why_refused before row ≡ None → LegChecked before row
 leg-checked before row first taken =
     let p = checked before row (codes "leg") first taken in
     let (name, end) = and_parts (is_name (field row 1)) true p.names in
@@ -64,8 +74,10 @@ leg-checked before row first taken =
     let count : length cuts ≤ 9 = omega (arith, length-map (further row) value_of, length-drop 3 row) in
     record {
       few = leb-false 64 (length (leg_rows before)) p.few;
-      fits = and_from (is_name (field row 1) && nat_le (value_of (field row 2)) 999 && nat_le (length cuts) 9 && list_all (is_in_range 1 99999999) cuts) (falls cuts)
-          (and_from (is_name (field row 1) && nat_le (value_of (field row 2)) 999 && nat_le (length cuts) 9) (list_all (is_in_range 1 99999999) cuts)
+      fits = and_from (is_name (field row 1) && nat_le (value_of (field row 2)) 999 && nat_le (length cuts) 9 && list_all
+          (is_in_range 1 99999999) cuts) (falls cuts)
+          (and_from (is_name (field row 1) && nat_le (value_of (field row 2)) 999 && nat_le (length cuts) 9)
+          (list_all (is_in_range 1 99999999) cuts)
           (and_from (is_name (field row 1) && nat_le (value_of (field row 2)) 999) (nat_le (length cuts) 9)
           (and_from (is_name (field row 1)) (nat_le (value_of (field row 2)) 999) name (le-leb (value_of (field row 2)) 999 seats))
           (le-leb (length cuts) 9 count))
@@ -75,19 +87,20 @@ leg-checked before row first taken =
     }
 
 -- a product that no check refuses
-pub record ProductFits (row : List (List ℕ)) : Type 0 where
+pub record ProductFits (row : Row) : Type 0 where
   pub name : is_name (field row 1) ≡ true
   pub fare : (1 ≤ value_of (field row 2)) × (value_of (field row 2) ≤ 99999999)
   pub count : (1 ≤ length (further row)) × (length (further row) ≤ 4)
   pub apart : differ bytes_eq (further row) ≡ true
 
-pub record ProductChecked (before : List (List (List ℕ))) (row : List (List ℕ)) : Type 0 where
+pub record ProductChecked (before : List Row) (row : Row) : Type 0 where
   pub few : length (product_rows before) < 256
   pub fits : ProductFits row
   pub there : list_all (is_named (leg_rows before)) (further row) ≡ true
   pub fresh : is_named (product_rows before) (field row 1) ≡ false
 
-pub product-checked : (before : List (List (List ℕ))) (row : List (List ℕ)) → field row 0 ≡ codes "product" → why_refused before row ≡ None → ProductChecked before row
+pub product-checked : (before : List Row) (row : Row) → field row 0 ≡ codes "product" → why_refused before row ≡ None
+    → ProductChecked before row
 product-checked before row first taken =
     let p = checked before row (codes "product") first taken in
     let (name, end) = and_parts (is_name (field row 1)) (list_all is_name (further row)) p.names in
@@ -107,14 +120,16 @@ product-checked before row first taken =
     }
 
 -- a demand that no check refuses: a number for each period, which add up to 999 at most
-pub demand-checked : (before : List (List (List ℕ))) (row : List (List ℕ)) → field row 0 ≡ codes "demand" → why_refused before row ≡ None → (length (further row) ≡ periods_in before) × (sum (further_numbers row) ≤ 999)
+pub demand-checked : (before : List Row) (row : Row) → field row 0 ≡ codes "demand" → why_refused before row ≡ None
+    → (length (further row) ≡ periods_in before) × (sum (further_numbers row) ≤ 999)
 demand-checked before row first taken =
     let p = checked before row (codes "demand") first taken in
-    let count : length row ≡ 3 + periods_in before = eqb-true (length row) (3 + periods_in before) (not-false (length row == 3 + periods_in before) p.count) in
+    let count : length row ≡ 3 + periods_in before =
+    eqb-true (length row) (3 + periods_in before) (not-false (length row == 3 + periods_in before) p.count) in
     (omega (arith, count, length-drop 3 row), ltb-false 999 (sum (further_numbers row)) p.total)
 
 -- the kind of a row that doesn't begin with `periods` is another
-not-periods : (row : List (List ℕ)) → begins (codes "periods") row ≡ false → is_periods (kind_of row) ≡ false
+not-periods : (row : Row) → begins (codes "periods") row ≡ false → is_periods (kind_of row) ≡ false
 not-periods row other = elim (cases_Bool (begins (codes "leg") row)) [
   | inl e ↦ rw (other, e) refl
   | inr e ↦ elim (cases_Bool (begins (codes "product") row)) [
@@ -124,7 +139,7 @@ not-periods row other = elim (cases_Bool (begins (codes "leg") row)) [
 ]
 
 -- the first row is of periods
-pub first-checked : (row : List (List ℕ)) → why_refused [] row ≡ None → FirstChecked row
+pub first-checked : (row : Row) → why_refused [] row ≡ None → FirstChecked row
 first-checked row taken = elim (cases_Bool (begins (codes "periods") row)) [
   | inl e ↦ periods-checked row (word-is (codes "periods") row e) taken
   | inr e ↦
@@ -135,7 +150,8 @@ first-checked row taken = elim (cases_Bool (begins (codes "periods") row)) [
 ]
 
 -- and a later row is a leg, a product or a demand
-pub later-kinds : (first row : List (List ℕ)) (more : List (List (List ℕ))) → why_refused (first ∷ more) row ≡ None → (field row 0 ≡ codes "leg") ⊎ ((field row 0 ≡ codes "product") ⊎ (field row 0 ≡ codes "demand"))
+pub later-kinds : (first row : Row) (more : List Row) → why_refused (first ∷ more) row ≡ None
+    → (field row 0 ≡ codes "leg") ⊎ ((field row 0 ≡ codes "product") ⊎ (field row 0 ≡ codes "demand"))
 later-kinds first row more taken =
     let p = passes (first ∷ more) row taken in
     let known : no_such_kind (kind_of row) ≡ false = p.known in
