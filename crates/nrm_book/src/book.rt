@@ -51,11 +51,9 @@ impl Book {
         ensures empty { IfOk result (λ book. book ≡ record { inventory = inventory_of net.now; bookings = []; next = 1 }) }
         ensures kept { IfOk result IsBook }
     {
-        // For its clause alone: a network is within its limits.
-        let _ = net.n();
-        let seats = seats_of_legs(alloc, net)?;
-        let fares = fares_of_products(alloc, net)?;
-        let legs = legs_of_products(alloc, net)?;
+        let seats = net.seats_of_legs(alloc)?;
+        let fares = net.fares_of_products(alloc)?;
+        let legs = net.legs_of_products(alloc)?;
         let sold = SeatsSold::new(alloc, net)?;
         let bookings = Standing::with_room(alloc, seats_in_all(&seats))?;
         Ok(Book {
@@ -181,39 +179,6 @@ impl Book {
             .binary_search_by_key(&number, |booking| booking.number)
             .ok()
     }
-}
-
-// The seats of each leg.
-fn seats_of_legs(alloc: Global, net: &Network) -> Result<Vec<u16>, AllocError>
-    ensures { IfOk result (λ seats. seats.items ≡ (inventory_of net.now).seats) }
-{
-    let mut seats = Vec::new(alloc);
-    for i in 0..net.leg_count() as u8 {
-        seats.push(net.leg_at(i).seats)?;
-    }
-    Ok(seats)
-}
-
-// The fare of each product.
-fn fares_of_products(alloc: Global, net: &Network) -> Result<Vec<u32>, AllocError>
-    ensures { IfOk result (λ fares. fares.items ≡ (inventory_of net.now).fares) }
-{
-    let mut fares = Vec::new(alloc);
-    for j in 0..net.product_count() as u16 {
-        fares.push(net.product_at(j).fare)?;
-    }
-    Ok(fares)
-}
-
-// The legs of each product.
-fn legs_of_products(alloc: Global, net: &Network) -> Result<Vec<Vec<u8>>, AllocError>
-    ensures { IfOk result (λ legs. map (λ v. v.items) legs.items ≡ (inventory_of net.now).legs) }
-{
-    let mut legs = Vec::new(alloc);
-    for j in 0..net.product_count() as u16 {
-        legs.push(Vec::from_slice(alloc, net.product_at(j).legs.as_slice())?)?;
-    }
-    Ok(legs)
 }
 
 // The legs of a product.

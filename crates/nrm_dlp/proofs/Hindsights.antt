@@ -16,16 +16,14 @@ use Rattle.nrm_simplex.specs.Solving.{IsClosing}
 use Rattle.nrm_dlp.specs.Hindsight.{AreTallies, HindsightOverflows, IsHindsight}
 use Rattle.nrm_dlp.specs.Laws.{EachHasAHindsight, HindsightsAreDetermined, HindsightsAreLimited}
 use Rattle.nrm_dlp.specs.Programs.{hindsight_program}
-use Rattle.nrm_dlp.proofs.Copied.{full-count, full-within}
+use Rattle.nrm_model.proofs.Inventories.{seats-are, seats-count}
 use Rattle.nrm_dlp.proofs.Limited.{made-limited}
 
 -- ---- within the limits
 pub seats-limited : (net : NetworkValue) → IsNetwork net → All (λ cap. cap ≤ 31968) (inventory_of net).seats
 seats-limited net is = λ i none short.
-    let few : i < length net.legs = omega (arith, short, full-count net) in
-    let own = full-within net i few in
     let read : get_or (inventory_of net).seats i none ≡ get_or (inventory_of net).seats i 0 = get_or_default (inventory_of net).seats i none 0 short in
-    omega (arith, own, seats-within net is i, read)
+    omega (arith, seats-are net i, seats-within net is i, read)
 
 pub least-within : (net : NetworkValue) → IsNetwork net → (j : ℕ) → j < length net.products → least_seats_of net j ≤ 999
 least-within net is j few =
@@ -39,7 +37,7 @@ tallies-limited net tallies is are = λ j none short.
     omega (arith, are.seats j few, least-within net is j few, read)
 
 pub hindsight-limited : HindsightsAreLimited
-hindsight-limited net tallies is are = made-limited net (inventory_of net).seats tallies is (full-count net) (seats-limited net is) are.products (tallies-limited net tallies is are)
+hindsight-limited net tallies is are = made-limited net (inventory_of net).seats tallies is (seats-count net) (seats-limited net is) are.products (tallies-limited net tallies is are)
 
 -- ---- one value
 closing-once : (net : NetworkValue) (tallies : List ℕ) (c d : Certificate) → IsClosing (hindsight_program net tallies) c → IsClosing (hindsight_program net tallies) d → d ≡ c
