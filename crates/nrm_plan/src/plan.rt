@@ -215,7 +215,7 @@ impl Plan {
         ensures { result ≡ kept_from net.now self.now leg product }
     {
         match self.nests.as_ref() {
-            Some(nests) => nests.protection(leg, nests.bucket(leg, product) - 1),
+            Some(nests) => nests.kept_from(leg, product),
             None => 0,
         }
     }
