@@ -2,7 +2,8 @@
 //! beside it counters that are always what the list sums to: the seats sold and the revenue. Its room is reserved when it
 //! is made, for twice as many bookings as there are seats in all (a live booking holds one or more): no later call takes
 //! memory. A cancellation moves the bookings on its nearer side by one place.
-ghost use Rattle.std.specs.Prelude.{◌≡◌, ◌+◌, ◌*◌, ◌<◌, ◌≤◌, ◌==◌, [], All, IfNone, IfOk, IfSome, length, map, position, slice_get, slice_index, sum, true, unwrap_or};
+ghost use Rattle.std.specs.Prelude.{◌≡◌, ◌+◌, ◌*◌, ◌<◌, ◌≤◌, ◌==◌, [], All, IfNone, IfOk, IfSome, length, map, position, sum, true};
+ghost use Rattle.std.specs.Prelude.{slice_get, slice_index, unwrap_or};
 ghost use Rattle.std.specs.Int.{IsInRange};
 ghost use Rattle.nrm_model.specs.Inventory.{inventory_of, legs_of, products_on, seats_of, uses_leg};
 ghost use Rattle.nrm_model.specs.declared.limits.TheConstants.{BOOKING_LIMIT, MOST_LEGS, MOST_PARTY};
@@ -35,9 +36,18 @@ impl Model for Book {
 
     ghost Value = { BookValue };
 
-    ghost view = { λ b. record { inventory = record { seats = b.seats.items; fares = b.fares.items; legs = map (λ v. v.items) b.legs.items }; bookings = b.bookings.items; next = b.next } };
+    ghost view = { λ b. record {
+      inventory = record { seats = b.seats.items; fares = b.fares.items; legs = map (λ v. v.items) b.legs.items };
+      bookings = b.bookings.items;
+      next = b.next;
+    } };
 
-    ghost invariant = { λ b. IsStored (record { inventory = record { seats = b.seats.items; fares = b.fares.items; legs = map (λ v. v.items) b.legs.items }; bookings = b.bookings.items; next = b.next }) b.bookings b.sold b.revenue };
+    ghost invariant = { λ b. IsStored
+        (record {
+          inventory = record { seats = b.seats.items; fares = b.fares.items; legs = map (λ v. v.items) b.legs.items };
+          bookings = b.bookings.items;
+          next = b.next;
+        }) b.bookings b.sold b.revenue };
 }
 
 impl Book {

@@ -1,6 +1,6 @@
 //! Programs of a network, part by part: caps leg by leg, and bounds, fares and legs product by product. The fares and
 //! legs are the network's; what differs from program to program is the caps and the bounds.
-ghost use Rattle.std.specs.Prelude.{ℕ, ◌≡◌, ◌<◌, ◌≤◌, ◌*◌, All, IfOk, get_or, length, map};
+ghost use Rattle.std.specs.Prelude.{ℕ, ◌≡◌, ◌<◌, ◌≤◌, ◌*◌, All, IfOk, length, map, slice_index};
 ghost use Rattle.std.specs.Int.{IsInRange};
 ghost use Rattle.std.specs.List.{range_with_len};
 ghost use Rattle.nrm_model.specs.Network.{leg_of};
@@ -50,7 +50,7 @@ pub fn program_at(
     period: u8,
 ) -> Result<Program, AllocError>
     requires legs { length left.now ≡ length net.now.legs }
-    requires seats { (i : ℕ) → i < length net.now.legs → get_or left.now i 0 ≤ (leg_of net.now i).seats }
+    requires seats { (i : ℕ) → i < length net.now.legs → slice_index left.now i ≤ (leg_of net.now i).seats }
     requires period { IsInRange 1 net.now.periods period }
     ensures { IfOk result (λ program. program ≡ program_at net.now left.now period) }
 {
@@ -120,7 +120,8 @@ fn caps_of(alloc: Global, histories: u8, left: &[u16]) -> Result<Vec<u32>, Alloc
 // The demand to come of each product.
 fn bounds_of(alloc: Global, net: &Network, period: u8) -> Result<Vec<u32>, AllocError>
     requires { IsInRange 1 net.now.periods period }
-    ensures { IfOk result (λ bounds. bounds.items ≡ map (λ j. total_to_come net.now j period) (range_with_len 0 (length net.now.products))) }
+    ensures { IfOk result
+        (λ bounds. bounds.items ≡ map (λ j. total_to_come net.now j period) (range_with_len 0 (length net.now.products))) }
 {
     let mut bounds = Vec::new(alloc);
     for j in 0..net.product_count() as u16 {

@@ -1,6 +1,6 @@
 //! The nests of a network at bid prices: buckets and protections, worked out once and looked up after. Beside them stand the
 //! seats that are kept from each product on each leg, in one list, so that a request looks up one number for a leg.
-ghost use Rattle.std.specs.Prelude.{ℕ, ◌≡◌, ◌-◌, ◌<◌, ◌≤◌, IfOk, Some, [], get_or, length, map};
+ghost use Rattle.std.specs.Prelude.{ℕ, ◌≡◌, ◌-◌, ◌<◌, ◌≤◌, IfOk, Some, [], slice_index_or, length, map};
 ghost use Rattle.std.specs.Int.{IsInRange};
 ghost use Rattle.std.specs.List.{range_with_len};
 ghost use Rattle.nrm_fraction.specs.Large.{size_limit};
@@ -162,8 +162,8 @@ impl Nests {
     /// The seats of a leg that are protected for its buckets 1 to `bucket`.
     pub(crate) fn protection(&self, leg: u8, bucket: u8) -> u16
         requires leg { leg < length self.now.protections }
-        requires bucket { bucket ≤ length (get_or self.now.protections leg []) }
-        ensures { result ≡ level_at (get_or self.now.protections leg []) bucket }
+        requires bucket { bucket ≤ length (slice_index_or self.now.protections leg []) }
+        ensures { result ≡ level_at (slice_index_or self.now.protections leg []) bucket }
     {
         level_at(&self.protections[leg as usize], bucket)
     }
@@ -172,7 +172,7 @@ impl Nests {
     pub(crate) fn kept_from(&self, leg: u8, product: u16) -> u16
         requires { HasPair self.now.buckets leg product }
         ensures { (b : ℕ) → bucket_in self.now.buckets leg product ≡ Some b
-            → result ≡ level_at (get_or self.now.protections leg []) (b - 1) }
+            → result ≡ level_at (slice_index_or self.now.protections leg []) (b - 1) }
     {
         self.kept[leg as usize * self.products + product as usize]
     }

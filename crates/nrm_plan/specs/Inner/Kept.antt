@@ -1,5 +1,6 @@
 -- The seats that are kept from each product on each leg, in one list.
-use Rattle.std.specs.Prelude.{ℕ, ◌≡◌, ◌+◌, ◌-◌, ◌*◌, ◌/◌, ◌%◌, ◌<◌, List, [], Some, get_or, if◌then◌else◌, length, map, slice_index, unwrap_or}
+use Rattle.std.specs.Prelude.{ℕ, ◌≡◌, ◌+◌, ◌-◌, ◌*◌, ◌/◌, ◌%◌, ◌<◌, List, [], Some, if◌then◌else◌, length, map}
+use Rattle.std.specs.Prelude.{slice_index, slice_index_or, unwrap_or}
 use Rattle.std.specs.List.{range_with_len}
 use Rattle.nrm_model.specs.Inventory.{inventory_of, uses_leg}
 use Rattle.nrm_model.specs.Network.{NetworkValue}
@@ -9,7 +10,8 @@ use Rattle.nrm_plan.specs.Nesting.{NestsValue, level_at}
 -- those kept from a product on a leg: the seats protected for the buckets above its own; none where it doesn't use the leg
 abbrev pub kept_at : NetworkValue → NestsValue → ℕ → ℕ → ℕ
 kept_at net nests i j =
-    if uses_leg (inventory_of net) i j then level_at (get_or nests.protections i []) (unwrap_or (bucket_in nests.buckets i j) 1 - 1) else 0
+    if uses_leg (inventory_of net) i j
+    then level_at (slice_index_or nests.protections i []) (unwrap_or (bucket_in nests.buckets i j) 1 - 1) else 0
 
 -- leg by leg, and on each leg product by product
 abbrev pub kept_in_all : NetworkValue → NestsValue → List ℕ
@@ -25,4 +27,5 @@ pub record IsKeptAt (kept : List ℕ) (products i j seats : ℕ) : Type 0 where
 -- each pair of the table has its seats in the list
 abbrev pub AreKept : NestsValue → ℕ → List ℕ → Type 0
 AreKept nests products kept =
-    (i j b : ℕ) → bucket_in nests.buckets i j ≡ Some b → IsKeptAt kept products i j (level_at (get_or nests.protections i []) (b - 1))
+    (i j b : ℕ) → bucket_in nests.buckets i j ≡ Some b
+    → IsKeptAt kept products i j (level_at (slice_index_or nests.protections i []) (b - 1))

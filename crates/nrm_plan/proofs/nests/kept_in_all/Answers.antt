@@ -1,7 +1,7 @@
 -- One pair more.
 use Rattle.std.proofs.Common.{Vec, ℕ, ◌∙◌, ◌/◌, ◌%◌, length, map, ap}
 use Rattle.std.specs.declared.alloc.Global.{Global}
-use Rattle.nrm_dlp.proofs.Copied.{map-number-more}
+use Rattle.nrm_model.proofs.Lists.{map-number-more}
 use Rattle.nrm_plan.specs.Inner.Kept.{kept_at}
 use Rattle.nrm_plan.specs.Nesting.{NestsValue}
 use Rattle.nrm_plan.proofs.nests.kept_in_all.Goals as goal

@@ -1,7 +1,7 @@
 use Rattle.std.proofs.Common.{◌∙◌, length, sum, refl, ap, arith}
 use Rattle.std.proofs.lemmas.List.{length-map}
 use Rattle.nrm_model.specs.declared.leg.Leg.{Leg}
-use Rattle.nrm_book.proofs.Copied.{IsBook-of, counts-of, distinct-of, seats-within}
+use Rattle.nrm_book.proofs.EmptyBooks.{IsBook-of, counts-of, distinct-of, seats-within}
 use Rattle.nrm_book.proofs.book.Book.new.Goals as goal
 
 pub seats_in_all-requires : goal.seats_in_all-requires

@@ -1,4 +1,4 @@
--- What is copied out of a network, place by place, and the empty book of it.
+-- The inventory of a network, and the empty book of it.
 use Rattle.std.proofs.Common.{ℕ, ◌≡◌, ◌≢◌, ◌∙◌, ◌<◌, ◌≤◌, All, AllPairs, List, [], length, get_or, sum, sym, ap, subst, arith}
 use Rattle.std.proofs.lemmas.List.{length-map}
 use Rattle.std.proofs.lemmas.List.Elements.{All-map}
