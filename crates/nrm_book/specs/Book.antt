@@ -22,7 +22,8 @@ pub record IsInventory (inventory : Inventory) : Type 0 where
   pub some_leg : All (λ (legs : List ℕ). 1 ≤ length legs) inventory.legs
   pub legs : All (λ (legs : List ℕ). All (λ i. i < length inventory.seats) legs) inventory.legs
 
--- the bookings are those of a book: their numbers rise below the next one, each is a party of a product, and no leg has more seats sold than it has
+-- the bookings are those of a book: their numbers rise below the next one, each is a party of a product, and no leg has more seats sold
+-- than it has
 pub record IsBook (book : BookValue) : Type 0 where
   pub inventory : IsInventory book.inventory
   pub next : IsInRange 1 BOOKING_LIMIT book.next

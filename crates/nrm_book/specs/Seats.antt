@@ -39,7 +39,8 @@ seats_sold inventory bookings = record {
 -- with the counts of a product on a leg changed, and with those on each of these legs
 abbrev pub changed_on : (ℕ → ℕ) → SeatsValue → ℕ → ℕ → SeatsValue
 changed_on change seats i j = record {
-  by_product = set_value (nat_eq i) seats.by_product (set_value (nat_eq j) (pairs_on seats.by_product i) (change (count_in seats.by_product i j)));
+  by_product = set_value (nat_eq i) seats.by_product
+      (set_value (nat_eq j) (pairs_on seats.by_product i) (change (count_in seats.by_product i j)));
   by_leg = slice_set seats.by_leg i (change (slice_index seats.by_leg i));
 }
 

@@ -2,7 +2,8 @@
 //! beside it counters that are always what the list sums to: the seats sold and the revenue. Its room is reserved when it
 //! is made, for twice as many bookings as there are seats in all (a live booking holds one or more): no later call takes
 //! memory. A cancellation moves the bookings on its nearer side by one place.
-ghost use Rattle.std.specs.Prelude.{◌≡◌, ◌+◌, ◌*◌, ◌<◌, ◌≤◌, ◌==◌, [], All, IfNone, IfOk, IfSome, length, map, position, slice_get, slice_index, sum, true, unwrap_or};
+ghost use Rattle.std.specs.Prelude.{◌≡◌, ◌+◌, ◌*◌, ◌<◌, ◌≤◌, ◌==◌, [], All, IfNone, IfOk, IfSome, length, map, position, sum, true};
+ghost use Rattle.std.specs.Prelude.{slice_get, slice_index, unwrap_or};
 ghost use Rattle.std.specs.Int.{IsInRange};
 ghost use Rattle.nrm_model.specs.Inventory.{inventory_of, legs_of, products_on, seats_of, uses_leg};
 ghost use Rattle.nrm_model.specs.declared.limits.TheConstants.{BOOKING_LIMIT, MOST_LEGS, MOST_PARTY};
@@ -35,9 +36,18 @@ impl Model for Book {
 
     ghost Value = { BookValue };
 
-    ghost view = { λ b. record { inventory = record { seats = b.seats.items; fares = b.fares.items; legs = map (λ v. v.items) b.legs.items }; bookings = b.bookings.items; next = b.next } };
+    ghost view = { λ b. record {
+      inventory = record { seats = b.seats.items; fares = b.fares.items; legs = map (λ v. v.items) b.legs.items };
+      bookings = b.bookings.items;
+      next = b.next;
+    } };
 
-    ghost invariant = { λ b. IsStored (record { inventory = record { seats = b.seats.items; fares = b.fares.items; legs = map (λ v. v.items) b.legs.items }; bookings = b.bookings.items; next = b.next }) b.bookings b.sold b.revenue };
+    ghost invariant = { λ b. IsStored
+        (record {
+          inventory = record { seats = b.seats.items; fares = b.fares.items; legs = map (λ v. v.items) b.legs.items };
+          bookings = b.bookings.items;
+          next = b.next;
+        }) b.bookings b.sold b.revenue };
 }
 
 impl Book {
@@ -51,11 +61,9 @@ impl Book {
         ensures empty { IfOk result (λ book. book ≡ record { inventory = inventory_of net.now; bookings = []; next = 1 }) }
         ensures kept { IfOk result IsBook }
     {
-        // For its clause alone: a network is within its limits.
-        let _ = net.n();
-        let seats = seats_of_legs(alloc, net)?;
-        let fares = fares_of_products(alloc, net)?;
-        let legs = legs_of_products(alloc, net)?;
+        let seats = net.seats_of_legs(alloc)?;
+        let fares = net.fares_of_products(alloc)?;
+        let legs = net.legs_of_products(alloc)?;
         let sold = SeatsSold::new(alloc, net)?;
         let bookings = Standing::with_room(alloc, seats_in_all(&seats))?;
         Ok(Book {
@@ -181,39 +189,6 @@ impl Book {
             .binary_search_by_key(&number, |booking| booking.number)
             .ok()
     }
-}
-
-// The seats of each leg.
-fn seats_of_legs(alloc: Global, net: &Network) -> Result<Vec<u16>, AllocError>
-    ensures { IfOk result (λ seats. seats.items ≡ (inventory_of net.now).seats) }
-{
-    let mut seats = Vec::new(alloc);
-    for i in 0..net.leg_count() as u8 {
-        seats.push(net.leg_at(i).seats)?;
-    }
-    Ok(seats)
-}
-
-// The fare of each product.
-fn fares_of_products(alloc: Global, net: &Network) -> Result<Vec<u32>, AllocError>
-    ensures { IfOk result (λ fares. fares.items ≡ (inventory_of net.now).fares) }
-{
-    let mut fares = Vec::new(alloc);
-    for j in 0..net.product_count() as u16 {
-        fares.push(net.product_at(j).fare)?;
-    }
-    Ok(fares)
-}
-
-// The legs of each product.
-fn legs_of_products(alloc: Global, net: &Network) -> Result<Vec<Vec<u8>>, AllocError>
-    ensures { IfOk result (λ legs. map (λ v. v.items) legs.items ≡ (inventory_of net.now).legs) }
-{
-    let mut legs = Vec::new(alloc);
-    for j in 0..net.product_count() as u16 {
-        legs.push(Vec::from_slice(alloc, net.product_at(j).legs.as_slice())?)?;
-    }
-    Ok(legs)
 }
 
 // The legs of a product.

@@ -13,7 +13,7 @@ use std::marker::Model;
 
 /// The seats sold of a network.
 #[derive(Drop)]
-pub struct SeatsSold {
+pub(crate) struct SeatsSold {
     by_product: IndexMap<u8, IndexMap<u16, u16>>,
     by_leg: Vec<u16>,
 }
@@ -32,7 +32,7 @@ impl SeatsSold {
     ///
     /// # Errors
     /// Want of memory.
-    pub fn new(alloc: Global, net: &Network) -> Result<SeatsSold, AllocError>
+    pub(crate) fn new(alloc: Global, net: &Network) -> Result<SeatsSold, AllocError>
         ensures { IfOk result (λ sold. sold ≡ seats_sold (inventory_of net.now) []) }
     {
         let mut by_product = IndexMap::new(alloc);
@@ -45,7 +45,7 @@ impl SeatsSold {
     }
 
     /// The seats sold on a leg.
-    pub fn on(&self, leg: u8) -> u16
+    pub(crate) fn on(&self, leg: u8) -> u16
         requires { leg < length self.now.by_leg }
         ensures { result ≡ slice_index self.now.by_leg leg }
     {
@@ -53,7 +53,7 @@ impl SeatsSold {
     }
 
     /// The seats sold of a product on one of its legs.
-    pub fn of(&self, leg: u8, product: u16) -> u16
+    pub(crate) fn of(&self, leg: u8, product: u16) -> u16
         requires { HasPair self.now.by_product leg product }
         ensures { result ≡ count_in self.now.by_product leg product }
     {
@@ -61,7 +61,7 @@ impl SeatsSold {
     }
 
     /// The products of a leg in file order, each with its seats sold.
-    pub fn on_leg(&self, leg: u8) -> &IndexMap<u16, u16>
+    pub(crate) fn on_leg(&self, leg: u8) -> &IndexMap<u16, u16>
         requires { IsSome (lookup (nat_eq leg) self.now.by_product) }
         ensures { result.now.entries ≡ pairs_on self.now.by_product leg }
     {
@@ -69,7 +69,7 @@ impl SeatsSold {
     }
 
     /// Sells a party of a product on each of these legs. It takes no memory.
-    pub fn sell(&mut self, legs: &[u8], product: u16, party: u16)
+    pub(crate) fn sell(&mut self, legs: &[u8], product: u16, party: u16)
         requires distinct { AllPairs (λ a b. a ≢ b) legs.now }
         requires fits { All (λ leg. CanRise self.old leg product party) legs.now }
         ensures { self.new ≡ changed (λ sold. sold + party) self.old legs.now product }
@@ -80,7 +80,7 @@ impl SeatsSold {
     }
 
     /// Gives a party of a product back on each of these legs.
-    pub fn give_back(&mut self, legs: &[u8], product: u16, party: u16)
+    pub(crate) fn give_back(&mut self, legs: &[u8], product: u16, party: u16)
         requires distinct { AllPairs (λ a b. a ≢ b) legs.now }
         requires sold { All (λ leg. CanFall self.old leg product party) legs.now }
         ensures { self.new ≡ changed (λ sold. sold - party) self.old legs.now product }
@@ -124,7 +124,8 @@ fn unsold(alloc: Global, net: &Network, leg: u8) -> Result<IndexMap<u16, u16>, A
 fn rise(products: &mut IndexMap<u16, u16>, product: u16, party: u16)
     requires there { IsSome (lookup (nat_eq product) products.old.entries) }
     requires fits { unwrap_or (lookup (nat_eq product) products.old.entries) 0 + party < 65536 }
-    ensures { products.new.entries ≡ set_value (nat_eq product) products.old.entries (unwrap_or (lookup (nat_eq product) products.old.entries) 0 + party) }
+    ensures { products.new.entries ≡ set_value (nat_eq product) products.old.entries
+        (unwrap_or (lookup (nat_eq product) products.old.entries) 0 + party) }
 {
     let sold = products.get_mut(&product).unwrap();
     *sold += party;
@@ -134,7 +135,8 @@ fn rise(products: &mut IndexMap<u16, u16>, product: u16, party: u16)
 fn fall(products: &mut IndexMap<u16, u16>, product: u16, party: u16)
     requires there { IsSome (lookup (nat_eq product) products.old.entries) }
     requires sold { party ≤ unwrap_or (lookup (nat_eq product) products.old.entries) 0 }
-    ensures { products.new.entries ≡ set_value (nat_eq product) products.old.entries (unwrap_or (lookup (nat_eq product) products.old.entries) 0 - party) }
+    ensures { products.new.entries ≡ set_value (nat_eq product) products.old.entries
+        (unwrap_or (lookup (nat_eq product) products.old.entries) 0 - party) }
 {
     let sold = products.get_mut(&product).unwrap();
     *sold -= party;

@@ -11,7 +11,7 @@ use std::marker::Model;
 
 /// The bookings that stand, in order.
 #[derive(Drop)]
-pub struct Standing {
+pub(crate) struct Standing {
     rows: Vec<Booking>,
     gone: usize,
 }
@@ -32,7 +32,7 @@ impl Standing {
     ///
     /// # Errors
     /// Want of memory.
-    pub fn with_room(alloc: Global, room: usize) -> Result<Standing, AllocError>
+    pub(crate) fn with_room(alloc: Global, room: usize) -> Result<Standing, AllocError>
         requires { room ≤ 63936 }
         ensures items { IfOk result (λ standing. standing.items ≡ []) }
         ensures room { IfOk result (λ standing. standing.room ≡ 2 * room) }
@@ -42,14 +42,14 @@ impl Standing {
     }
 
     /// The bookings in order.
-    pub fn as_slice(&self) -> &[Booking]
+    pub(crate) fn as_slice(&self) -> &[Booking]
         ensures { result.now ≡ self.now.items }
     {
         &self.rows[self.gone..]
     }
 
     /// One booking more, behind the others. It takes no memory; where the row is at its end, those that stand move first.
-    pub fn push(&mut self, booking: Booking)
+    pub(crate) fn push(&mut self, booking: Booking)
         requires { length self.old.items < self.old.room }
         ensures items { self.new.items ≡ self.old.items ++ booking ∷ [] }
         ensures room { self.new.room ≡ self.old.room }
@@ -63,7 +63,7 @@ impl Standing {
 
     /// Takes out the booking at a place; the others keep their order. At most half of them move, and none does for the
     /// first and the last.
-    pub fn remove(&mut self, place: usize) -> Booking
+    pub(crate) fn remove(&mut self, place: usize) -> Booking
         requires { place < length self.old.items }
         ensures value { result ≡ slice_index_or self.old.items place result }
         ensures items { self.new.items ≡ remove self.old.items place }

@@ -8,7 +8,7 @@ use Rattle.nrm_book.specs.declared.booking.Booking.{Booking}
 use Rattle.nrm_book.specs.Bookings.{sold_on}
 use Rattle.nrm_hindsight.proofs.Selections.{bookings-selected, selections-bounded}
 use Rattle.nrm_control.specs.Standing.{BoundsRequests, ControlValue, IsControl, book_of}
-use Rattle.nrm_control.proofs.Kept.{fits-of}
+use Rattle.nrm_control.proofs.AfterCalls.{fits-of}
 
 pub bounds-requests : (control : ControlValue) (value : Fraction) → IsControl control → IsHindsight control.net control.tallies value → BoundsRequests control value
 bounds-requests control value is found s stands = (

@@ -1,19 +1,16 @@
 -- A network's inventory, and what is known of its legs.
-use Rattle.std.proofs.Common.{zero, suc, ◌+◌, ◌==◌, ◌||◌, eq-eqb, get_or, if◌then◌else◌, ℕ, ◌≡◌, ◌∙◌, ◌*◌, ◌<◌, ◌≤◌, List, [], ◌∷◌, length, find, slice_get, option_map, Option, Some, None, Bool, true, false, nat_lt, refl, sym, ap, subst, arith, All}
-use Rattle.std.specs.List.{list_any}
+use Rattle.std.proofs.Common.{◌+◌, get_or, if◌then◌else◌, ℕ, ◌≡◌, ◌∙◌, ◌*◌, ◌<◌, ◌≤◌, List, [], ◌∷◌, length, find, slice_get, option_map, Option, Some, None, Bool, true, false, nat_lt, refl, sym, ap, subst, arith, All}
 use Rattle.std.specs.Option.{option_map_or}
 use Rattle.std.proofs.lemmas.Bool.{ltb-false}
 use Rattle.std.proofs.lemmas.List.Elements.{All-cons, All-head, All-tail}
-use Rattle.std.proofs.lemmas.List.{length-map}
 use Rattle.std.proofs.lemmas.List.FromFn.{get_or-map-range_with_len, length-map-range_with_len}
-use Rattle.std.proofs.lemmas.Option.{slice_get-get_or}
-use Rattle.nrm_model.specs.declared.leg.Leg.{Leg}
 use Rattle.nrm_model.specs.declared.product.Product.{Product}
 use Rattle.nrm_model.specs.Inventory.{Inventory, inventory_of, legs_of, uses_leg}
 use Rattle.nrm_model.specs.Network.{NetworkValue, product_of}
-use Rattle.nrm_model.proofs.Inventories.{fare_of-product, leg_of-found, legs_of-product, product_of-found, seats_of-leg}
+use Rattle.nrm_model.proofs.Inventories.{fare_of-product, legs-count, legs_of-product, product_of-found, seats-are}
 use Rattle.nrm_book.specs.declared.booking.Booking.{Booking}
 use Rattle.nrm_book.specs.Bookings.{booking_numbered, left_on, worth_of}
+use Rattle.nrm_book.proofs.Sold.{uses-each}
 use Rattle.nrm_plan.specs.Plans.{AreSeatsLeft, PlanValue, fare_refuses, kept_from}
 use Rattle.nrm_control.specs.State.{seats_left}
 use Rattle.nrm_control.specs.Verdict.{leg_refuses, verdict_of}
@@ -31,21 +28,14 @@ none-refuses left kept party (i ∷ legs) none = by (nat_lt (left i) (party + ke
         All-cons (λ i. party ≤ left i) i legs (omega (arith, ltb-false (left i) (party + kept i) e)) (more rest)
 
 -- the legs of a product are legs of the network, and used by it
-among : (legs : List ℕ) (k d : ℕ) → k < length legs → list_any (λ leg. leg == get_or legs k d) legs ≡ true
-among [] k d short = absurd (omega (arith, short))
-among (i ∷ legs) zero d short = let same : i == i ≡ true = eq-eqb i i refl in rw same refl
-among (i ∷ legs) (suc k) d short = by (i == get_or legs k d) (among legs k d (omega (arith, short)))
-  where
-    by : (b : Bool) → list_any (λ leg. leg == get_or legs k d) legs ≡ true → (b || list_any (λ leg. leg == get_or legs k d) legs) ≡ true
-    by true more = refl
-    by false more = more
-
 pub own-legs : (net : NetworkValue) (j : ℕ) (product : Product) (legs : List ℕ) → Some product ≡ slice_get net.products j → legs ≡ product.legs → All (λ i. i < length net.legs) product.legs
     → All (λ i. (i < length net.legs) × (uses_leg (inventory_of net) i j ≡ true)) legs
 own-legs net j product legs found same within = λ k d short.
     let of_product : k < length product.legs = omega (arith, short, ap length same) in
     let own = legs_of-product net j product found in
-    (rw same (within k d of_product), rw (own, same) (among product.legs k d of_product))
+    let listed = own ∙ sym same in
+    let uses = uses-each (inventory_of net) j k d (omega (arith, short, ap length listed)) in
+    (rw same (within k d of_product), subst (λ (legs : List ℕ). uses_leg (inventory_of net) (get_or legs k d) j ≡ true) listed uses)
 
 -- so that the product's legs, if none refuses, have the seats
 pub seats-cover : (net : NetworkValue) (inventory : Inventory) (plan : PlanValue) (bookings : List Booking) (party j : ℕ) (product : Product) (legs : List ℕ)
@@ -73,7 +63,7 @@ fare-sold refuses next is = rw is refl
 -- a product of the inventory is one of the network, with its fare
 pub product-within : (net : NetworkValue) (inventory : Inventory) (j : ℕ) → inventory ≡ inventory_of net → j < length inventory.legs → j < length net.products
 product-within net inventory j is below =
-    let count : length inventory.legs ≡ length net.products = ap (λ (v : Inventory). length v.legs) is ∙ length-map net.products (λ (p : Product). p.legs) in
+    let count = ap (λ (v : Inventory). length v.legs) is ∙ legs-count net in
     omega (arith, count)
 
 -- what a booking was worth
@@ -98,8 +88,5 @@ are-seats-left net bookings = record {
   legs = length-map-range_with_len (left_on (inventory_of net) bookings) 0 (length net.legs);
   seats = λ i short.
       let left : get_or (seats_left net bookings) i 0 ≡ left_on (inventory_of net) bookings i = get_or-map-range_with_len (left_on (inventory_of net) bookings) 0 (length net.legs) i i 0 short (omega arith) in
-      let none : Leg = record { name = []; seats = 0; cuts = [] } in
-      let found = sym (slice_get-get_or net.legs i none short) in
-      let full = sym (seats_of-leg net i (get_or net.legs i none) found) ∙ ap (λ (leg : Leg). leg.seats) (sym (leg_of-found net i (get_or net.legs i none) found)) in
-      omega (arith, left, full);
+      omega (arith, left, seats-are net i);
 }

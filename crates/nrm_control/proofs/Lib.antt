@@ -1,6 +1,6 @@
-pub mod Bounds
-pub mod Examples
-pub mod Inventories
-pub mod Kept
-pub mod States
-pub mod Tallies
+pub mod AfterCalls  -- what a controller keeps through its calls
+pub mod Bounds  -- the value of hindsight bounds the requests of each state that a controller stands for
+pub mod Examples  -- what a controller stands for, and its verdicts, by hand
+pub mod Inventories  -- a network's inventory, and what is known of its legs
+pub mod States  -- the states that a controller stands for after a call
+pub mod Tallies  -- the tallies of past requests: one request more, and beside the bookings

@@ -10,7 +10,7 @@ use Rattle.nrm_model.specs.Limits.{IsNetwork}
 use Rattle.nrm_model.specs.Network.{NetworkValue, least_seats_of}
 use Rattle.nrm_book.specs.declared.booking.Booking.{Booking}
 use Rattle.nrm_book.specs.Bookings.{sold_of, sold_on, without}
-use Rattle.nrm_book.proofs.Moved.{party_of}
+use Rattle.nrm_book.proofs.BookedCounts.{party_of}
 use Rattle.nrm_dlp.specs.Hindsight.{AreTallies}
 use Rattle.nrm_dlp.proofs.Hindsights.{least-within}
 use Rattle.nrm_hindsight.specs.Requests.{Request, tallies_of, tally_of}

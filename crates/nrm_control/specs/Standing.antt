@@ -1,5 +1,5 @@
 -- What callers see of a controller, and the states that it stands for.
-use Rattle.std.specs.Prelude.{ℕ, ◌≡◌, ◌<◌, ◌≤◌, ◌+◌, List, ◌∷◌, [], ◌++◌, get_or, length, min, slice_index, slice_set, ⊤}
+use Rattle.std.specs.Prelude.{ℕ, ◌≡◌, ◌<◌, ◌≤◌, ◌+◌, List, ◌∷◌, [], ◌++◌, length, min, slice_index, slice_set, ⊤}
 use Rattle.nrm_fraction.specs.Fraction.{Fraction}
 use Rattle.nrm_model.specs.Inventory.{inventory_of}
 use Rattle.nrm_model.specs.Network.{NetworkValue, least_seats_of}
@@ -42,7 +42,7 @@ pub record StandsFor (control : ControlValue) (s : SeatState) : Type 0 where
 -- tallies of a network beside bookings: of no product more is booked than its tally
 pub record AreTalliesBeside (net : NetworkValue) (bookings : List Booking) (tallies : List ℕ) : Type 0 where
   pub capped : AreTallies net tallies
-  pub booked : (j : ℕ) → j < length net.products → sold_of bookings j ≤ get_or tallies j 0
+  pub booked : (j : ℕ) → j < length net.products → sold_of bookings j ≤ slice_index tallies j
 
 -- a network within the limits, and a plan, a book and tallies of it
 pub record IsInForce (net : NetworkValue) (plan : PlanValue) (book : BookValue) (tallies : List ℕ) : Type 0 where
@@ -77,7 +77,8 @@ with_answer control j party answer.Fare = record control { tallies = with_reques
 -- a fraction bounds what every selection of past requests earns, of each state that a controller stands for; and the bookings that stand
 -- are one of them
 abbrev pub BoundsRequests : ControlValue → Fraction → Type 0
-BoundsRequests control bound = (s : SeatState) → StandsFor control s → BoundsSelections control.net s.requests bound × IsSelection control.net s.requests (requests_of s.bookings)
+BoundsRequests control bound = (s : SeatState) → StandsFor control s
+    → BoundsSelections control.net s.requests bound × IsSelection control.net s.requests (requests_of s.bookings)
 
 -- a leg that refuses is one of the network
 abbrev pub IsOnNetwork : NetworkValue → Answer → Type 0

@@ -1,5 +1,6 @@
 //! The controller: a network, the plan in force, the book of what was sold of it, and tallies of what was asked.
-ghost use Rattle.std.specs.Prelude.{◌≡◌, ◌<◌, ◌≤◌, ◌+◌, [], All, IfErr, IfNone, IfOk, IfSome, OnErr, OnOk, find, length, min, option_map, pos, slice_index, true};
+ghost use Rattle.std.specs.Prelude.{◌≡◌, ◌<◌, ◌≤◌, ◌+◌, [], All, IfErr, IfNone, IfOk, IfSome, OnErr, OnOk, find, length};
+ghost use Rattle.std.specs.Prelude.{min, option_map, pos, slice_index, true};
 ghost use Rattle.std.specs.Int.{IsInRange};
 ghost use Rattle.nrm_number.specs.Gcd.{gcd};
 ghost use Rattle.nrm_fraction.specs.Fraction.{◌over◌};
@@ -34,7 +35,13 @@ impl Model for Controller {
 
     ghost Value = { ControlValue };
 
-    ghost view = { λ c. record { net = c.network; plan = c.plan; bookings = c.book.bookings; next = c.book.next; tallies = c.tallies.items } };
+    ghost view = { λ c. record {
+      net = c.network;
+      plan = c.plan;
+      bookings = c.book.bookings;
+      next = c.book.next;
+      tallies = c.tallies.items;
+    } };
 
     ghost invariant = { λ c. IsInForce c.network c.plan c.book c.tallies.items };
 }
@@ -140,7 +147,8 @@ impl Controller {
     /// `Overflow` exactly where the program of that plan is Large, which under first come, first served is never;
     /// `NoMemory`. The network is dropped.
     pub fn start(alloc: Global, net: Network, mode: Mode) -> Result<Controller, SolveFault>
-        ensures begins { IfOk result (λ controller. controller ≡ record { net = net; plan = controller.plan; bookings = []; next = 1; tallies = tallies_of net [] }) }
+        ensures begins { IfOk result (λ controller. controller
+            ≡ record { net = net; plan = controller.plan; bookings = []; next = 1; tallies = tallies_of net [] }) }
         ensures plan { IfOk result (λ controller. IsOpeningPlan net mode controller.plan) }
         ensures kept { IfOk result IsControl }
         ensures fault { IfErr result (IsStartFault net mode) }
@@ -208,7 +216,8 @@ impl Controller {
         period: u8,
     ) -> Result<Option<(u64, u64)>, SolveFault>
         requires period { IsInRange 1 self.old.net.periods period }
-        ensures plan { OnOk result (IsPlanFor self.old.net self.old.plan.mode (seats_left self.old.net self.old.bookings) period self.new.plan) }
+        ensures plan { OnOk result
+            (IsPlanFor self.old.net self.old.plan.mode (seats_left self.old.net self.old.bookings) period self.new.plan) }
         ensures value { IfOk result (λ told. option_map (λ value. pos value.0 over value.1) told ≡ value_of self.old.net self.new.plan) }
         ensures some { IfOk result (λ told. IfSome told (λ value. 0 < value.1)) }
         ensures lowest { IfOk result (λ told. IfSome told (λ value. gcd value.0 value.1 ≡ 1)) }

@@ -2,30 +2,24 @@
 use Rattle.std.proofs.Common.{ℕ, ◌≡◌, ◌⊎◌, ◌∙◌, ◌<◌, ◌≤◌, ℤ, All, List, length, get_or, nat_abs, arith, inl, inr, refl, sym, ap}
 use Rattle.std.proofs.lemmas.List.{get_or_default}
 use Rattle.nrm_fraction.specs.Fraction.{Fraction, ◌over◌}
-use Rattle.nrm_fraction.specs.Large.{size_limit}
 use Rattle.nrm_model.specs.Inventory.{inventory_of}
 use Rattle.nrm_model.specs.Limits.{IsNetwork}
 use Rattle.nrm_model.specs.Network.{NetworkValue, leg_of, least_seats_of, product_of}
 use Rattle.nrm_model.proofs.SeatLemmas.{least-whole, product-within, seats-within}
 use Rattle.nrm_lp.specs.declared.certificate.Certificate.{Certificate}
-use Rattle.nrm_lp.specs.Closing.{certificate}
-use Rattle.nrm_lp.specs.Overflow.{Closes, Overflows}
-use Rattle.nrm_lp.specs.Tableau.{Tableau}
-use Rattle.nrm_lp.proofs.Ends.{every_path_ends, ends_once}
 use Rattle.nrm_simplex.specs.Solving.{IsClosing}
 use Rattle.nrm_dlp.specs.Hindsight.{AreTallies, HindsightOverflows, IsHindsight}
 use Rattle.nrm_dlp.specs.Laws.{EachHasAHindsight, HindsightsAreDetermined, HindsightsAreLimited}
 use Rattle.nrm_dlp.specs.Programs.{hindsight_program}
-use Rattle.nrm_dlp.proofs.Copied.{full-count, full-within}
+use Rattle.nrm_model.proofs.Inventories.{seats-are, seats-count}
+use Rattle.nrm_dlp.proofs.Closings.{closes-or-not, closing-apart, closing-once, overflow-once}
 use Rattle.nrm_dlp.proofs.Limited.{made-limited}
 
 -- ---- within the limits
 pub seats-limited : (net : NetworkValue) → IsNetwork net → All (λ cap. cap ≤ 31968) (inventory_of net).seats
 seats-limited net is = λ i none short.
-    let few : i < length net.legs = omega (arith, short, full-count net) in
-    let own = full-within net i few in
     let read : get_or (inventory_of net).seats i none ≡ get_or (inventory_of net).seats i 0 = get_or_default (inventory_of net).seats i none 0 short in
-    omega (arith, own, seats-within net is i, read)
+    omega (arith, seats-are net i, seats-within net is i, read)
 
 pub least-within : (net : NetworkValue) → IsNetwork net → (j : ℕ) → j < length net.products → least_seats_of net j ≤ 999
 least-within net is j few =
@@ -39,34 +33,22 @@ tallies-limited net tallies is are = λ j none short.
     omega (arith, are.seats j few, least-within net is j few, read)
 
 pub hindsight-limited : HindsightsAreLimited
-hindsight-limited net tallies is are = made-limited net (inventory_of net).seats tallies is (full-count net) (seats-limited net is) are.products (tallies-limited net tallies is are)
+hindsight-limited net tallies is are = made-limited net (inventory_of net).seats tallies is (seats-count net) (seats-limited net is) are.products (tallies-limited net tallies is are)
 
 -- ---- one value
-closing-once : (net : NetworkValue) (tallies : List ℕ) (c d : Certificate) → IsClosing (hindsight_program net tallies) c → IsClosing (hindsight_program net tallies) d → d ≡ c
-closing-once net tallies c d (n, t, closes, is) (m, u, closes', is') =
-    let (same_count, same) = (ends_once size_limit (hindsight_program net tallies)).closing n m t u closes closes' in
-    is' ∙ ap (certificate (hindsight_program net tallies)) (sym same) ∙ sym is
-
-closing-apart : (net : NetworkValue) (tallies : List ℕ) (c : Certificate) (n : ℕ) (number : ℤ) → IsClosing (hindsight_program net tallies) c → HindsightOverflows net tallies n number → ⊥
-closing-apart net tallies c n number (m, t, closes, is) large = (ends_once size_limit (hindsight_program net tallies)).apart m n t number closes large
-
 pub one-hindsight : HindsightsAreDetermined
 one-hindsight net tallies = record {
   value = λ value other is is'.
-      let same = closing-once net tallies is.certificate is'.certificate is.closing is'.closing in
+      let same = closing-once (hindsight_program net tallies) is.certificate is'.certificate is.closing is'.closing in
       is'.value_is ∙ ap (λ (c : Certificate). c.value over nat_abs c.den) same ∙ sym is.value_is;
-  overflow = λ n n' number number' large large'.
-      let (a, b) = (ends_once size_limit (hindsight_program net tallies)).overflow n n' number number' large large' in
-      (sym a, sym b);
-  apart = λ value n number is large. closing-apart net tallies is.certificate n number is.closing large;
+  overflow = overflow-once (hindsight_program net tallies);
+  apart = λ value n number is large. closing-apart (hindsight_program net tallies) is.certificate n number is.closing large;
 }
 
 pub has-a-hindsight : EachHasAHindsight
-has-a-hindsight net tallies = by (every_path_ends size_limit (omega arith) (hindsight_program net tallies))
+has-a-hindsight net tallies = by (closes-or-not (hindsight_program net tallies))
   where
-    by : ((n : ℕ) × (t : Tableau) × Closes size_limit (hindsight_program net tallies) n t) ⊎ ((n : ℕ) × (number : ℤ) × Overflows size_limit (hindsight_program net tallies) n number)
+    by : ((c : Certificate) × IsClosing (hindsight_program net tallies) c) ⊎ ((n : ℕ) × (number : ℤ) × HindsightOverflows net tallies n number)
         → ((value : Fraction) × IsHindsight net tallies value) ⊎ ((n : ℕ) × (number : ℤ) × HindsightOverflows net tallies n number)
-    by (inl (n, t, closes)) =
-        let made = certificate (hindsight_program net tallies) t in
-        inl (made.value over nat_abs made.den, record { certificate = made; closing = (n, t, closes, refl); value_is = refl })
+    by (inl (made, closing)) = inl (made.value over nat_abs made.den, record { certificate = made; closing = closing; value_is = refl })
     by (inr large) = inr large

@@ -14,11 +14,11 @@ use Rattle.nrm_model.specs.Demand.{demand_row, demand_to_come, total_to_come}
 use Rattle.nrm_model.specs.Inventory.{inventory_of}
 use Rattle.nrm_model.specs.Limits.{IsNetwork, IsProduct}
 use Rattle.nrm_model.proofs.DemandLemmas.{sum-range-more}
+use Rattle.nrm_model.proofs.Inventories.{seats-are, seats-count}
 use Rattle.nrm_model.proofs.SeatLemmas.{seats-within}
 use Rattle.nrm_lp.specs.Program.{AreLegs, AreProducts, names}
 use Rattle.nrm_lp.specs.Limits.{IsLimited}
 use Rattle.nrm_dlp.specs.Laws.{OpeningsAreLimited, ProgramsAreLimited, SeatsLeftAreLimited}
-use Rattle.nrm_dlp.proofs.Copied.{full-count, full-within}
 
 -- a leg that differs from each of these is not among them
 unnamed : (i : ℕ) (ls : List ℕ) → All (λ l. i ≢ l) ls → names i ls ≡ false
@@ -115,7 +115,7 @@ limited net left k is many seats =
     (length-map-range_with_len (λ j. total_to_come net j k) 0 (length net.products)) (bounds-within net is k)
 
 pub opening-limited : OpeningsAreLimited
-opening-limited net is = limited net (inventory_of net).seats 1 is (full-count net) (full-within net)
+opening-limited net is = limited net (inventory_of net).seats 1 is (seats-count net) (λ i short. omega (arith, seats-are net i))
 
 -- and so is what was made of its parts
 pub limited-parts : (net : NetworkValue) (caps bounds fares : List ℕ) (legs : List (List ℕ)) → IsNetwork net

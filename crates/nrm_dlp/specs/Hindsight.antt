@@ -1,5 +1,5 @@
 -- Hindsight: the most that past requests could have earned, as the value of a program with a tally for each product.
-use Rattle.std.specs.Prelude.{ℕ, ℤ, ◌≡◌, ◌<◌, ◌≤◌, ◌*◌, ◌≤ℤ◌, ◌*ℤ◌, pos, List, length, get_or, nat_abs}
+use Rattle.std.specs.Prelude.{ℕ, ℤ, ◌≡◌, ◌<◌, ◌≤◌, ◌*◌, ◌≤ℤ◌, ◌*ℤ◌, pos, List, length, slice_index, nat_abs}
 use Rattle.nrm_fraction.specs.Fraction.{Fraction, ◌over◌}
 use Rattle.nrm_fraction.specs.Large.{size_limit}
 use Rattle.nrm_model.specs.Network.{NetworkValue, least_seats_of}
@@ -12,7 +12,7 @@ use Rattle.nrm_dlp.specs.Programs.{hindsight_program}
 -- a tally for each product, none above the least seats among the product's legs
 pub record AreTallies (net : NetworkValue) (tallies : List ℕ) : Type 0 where
   pub products : length tallies ≡ length net.products
-  pub seats : (j : ℕ) → j < length net.products → get_or tallies j 0 ≤ least_seats_of net j
+  pub seats : (j : ℕ) → j < length net.products → slice_index tallies j ≤ least_seats_of net j
 
 -- the value of hindsight at these tallies, in currency units: that of the closing of its program
 pub record IsHindsight (net : NetworkValue) (tallies : List ℕ) (value : Fraction) : Type 0 where

@@ -1,5 +1,5 @@
 -- The programs of a network are within the limits, and hindsight has one value that no allocation exceeds.
-use Rattle.std.specs.Prelude.{ℕ, ℤ, ◌≡◌, ◌<◌, ◌≤◌, ◌⊎◌, List, length, get_or, All}
+use Rattle.std.specs.Prelude.{ℕ, ℤ, ◌≡◌, ◌<◌, ◌≤◌, ◌⊎◌, List, length, slice_index, All}
 use Rattle.nrm_fraction.specs.Fraction.{Fraction}
 use Rattle.nrm_model.specs.Network.{NetworkValue, leg_of}
 use Rattle.nrm_model.specs.Limits.{IsNetwork}
@@ -17,7 +17,7 @@ ProgramsAreLimited = (net : NetworkValue) (caps bounds : List ℕ) → IsNetwork
 -- at seats left, on no leg more than it has, in any period
 abbrev pub SeatsLeftAreLimited : Type 0
 SeatsLeftAreLimited = (net : NetworkValue) (left : List ℕ) (k : ℕ) → IsNetwork net → length left ≡ length net.legs
-    → ((i : ℕ) → i < length net.legs → get_or left i 0 ≤ (leg_of net i).seats) → IsLimited (program_at net left k)
+    → ((i : ℕ) → i < length net.legs → slice_index left i ≤ (leg_of net i).seats) → IsLimited (program_at net left k)
 
 -- and before anything is sold
 abbrev pub OpeningsAreLimited : Type 0
@@ -25,17 +25,18 @@ OpeningsAreLimited = (net : NetworkValue) → IsNetwork net → IsLimited (openi
 
 -- and with tallies as bounds
 abbrev pub HindsightsAreLimited : Type 0
-HindsightsAreLimited = (net : NetworkValue) (tallies : List ℕ) → IsNetwork net → AreTallies net tallies → IsLimited (hindsight_program net tallies)
+HindsightsAreLimited = (net : NetworkValue) (tallies : List ℕ) → IsNetwork net → AreTallies net tallies
+    → IsLimited (hindsight_program net tallies)
 
 -- no allocation of the program of hindsight gains more than its value, as fractions
 abbrev pub HindsightsBoundAllocations : Type 0
-HindsightsBoundAllocations = (net : NetworkValue) (tallies : List ℕ) (value : Fraction) → IsNetwork net → AreTallies net tallies → IsHindsight net tallies value
-    → BoundsAllocations (hindsight_program net tallies) value
+HindsightsBoundAllocations = (net : NetworkValue) (tallies : List ℕ) (value : Fraction) → IsNetwork net → AreTallies net tallies
+    → IsHindsight net tallies value → BoundsAllocations (hindsight_program net tallies) value
 
 -- and some allocation gains it: it is the least such bound
 abbrev pub HindsightsAreAttained : Type 0
-HindsightsAreAttained = (net : NetworkValue) (tallies : List ℕ) (value : Fraction) → IsNetwork net → AreTallies net tallies → IsHindsight net tallies value
-    → IsAttained (hindsight_program net tallies) value
+HindsightsAreAttained = (net : NetworkValue) (tallies : List ℕ) (value : Fraction) → IsNetwork net → AreTallies net tallies
+    → IsHindsight net tallies value → IsAttained (hindsight_program net tallies) value
 
 -- tallies have a value of hindsight, or its program is Large
 abbrev pub EachHasAHindsight : Type 0
@@ -45,7 +46,8 @@ EachHasAHindsight = (net : NetworkValue) (tallies : List ℕ)
 -- they have one value, or their program is Large in one place, and not both
 pub record HasOneHindsight (net : NetworkValue) (tallies : List ℕ) : Type 0 where
   pub value : (value other : Fraction) → IsHindsight net tallies value → IsHindsight net tallies other → other ≡ value
-  pub overflow : (n n' : ℕ) (number number' : ℤ) → HindsightOverflows net tallies n number → HindsightOverflows net tallies n' number' → (n' ≡ n) × (number' ≡ number)
+  pub overflow : (n n' : ℕ) (number number' : ℤ) → HindsightOverflows net tallies n number → HindsightOverflows net tallies n' number'
+      → (n' ≡ n) × (number' ≡ number)
   pub apart : (value : Fraction) (n : ℕ) (number : ℤ) → IsHindsight net tallies value → HindsightOverflows net tallies n number → ⊥
 
 abbrev pub HindsightsAreDetermined : Type 0

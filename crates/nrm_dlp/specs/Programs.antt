@@ -14,7 +14,8 @@ program_of net caps bounds = record { caps = caps; bounds = bounds; fares = (inv
 -- the program at these seats left and period k: over all histories together, so that every number is whole: each leg
 -- has its seats left in each history, and a product is bounded by its demand to come in all histories
 abbrev pub program_at : NetworkValue → List ℕ → ℕ → ProgramValue
-program_at net left k = program_of net (map (λ seats. net.histories * seats) left) (map (λ j. total_to_come net j k) (range_with_len 0 (length net.products)))
+program_at net left k =
+    program_of net (map (λ seats. net.histories * seats) left) (map (λ j. total_to_come net j k) (range_with_len 0 (length net.products)))
 
 -- the program of hindsight: the past requests once and not the histories' demand, so a leg has its seats once, and a product is bounded
 -- by its tally

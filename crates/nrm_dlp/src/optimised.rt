@@ -1,5 +1,5 @@
 //! What is optimised of a network: bid prices with their allocation, and what they are worth in a history.
-ghost use Rattle.std.specs.Prelude.{ℕ, ◌≡◌, ◌<◌, ◌≤◌, IfErr, IfOk, MatchResult, get_or, length, pos};
+ghost use Rattle.std.specs.Prelude.{ℕ, ◌≡◌, ◌<◌, ◌≤◌, IfErr, IfOk, MatchResult, length, pos, slice_index};
 ghost use Rattle.std.specs.Int.{IsInRange};
 ghost use Rattle.nrm_number.specs.Gcd.{gcd};
 ghost use Rattle.nrm_fraction.specs.Fraction.{◌over◌};
@@ -32,9 +32,10 @@ pub fn prices(
     period: u8,
 ) -> Result<Certificate, SolveFault>
     requires legs { length left.now ≡ length net.now.legs }
-    requires seats { (i : ℕ) → i < length net.now.legs → get_or left.now i 0 ≤ (leg_of net.now i).seats }
+    requires seats { (i : ℕ) → i < length net.now.legs → slice_index left.now i ≤ (leg_of net.now i).seats }
     requires period { IsInRange 1 net.now.periods period }
-    ensures closing { MatchResult result (IsClosing (program_at net.now left.now period)) (IsSolveFault (program_at net.now left.now period)) }
+    ensures closing { MatchResult result
+        (IsClosing (program_at net.now left.now period)) (IsSolveFault (program_at net.now left.now period)) }
     ensures certified { IfOk result (Certifies size_limit (program_at net.now left.now period)) }
 {
     let program = program_at(alloc, net, left, period)?;

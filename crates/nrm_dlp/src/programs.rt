@@ -1,6 +1,6 @@
 //! Programs of a network, part by part: caps leg by leg, and bounds, fares and legs product by product. The fares and
 //! legs are the network's; what differs from program to program is the caps and the bounds.
-ghost use Rattle.std.specs.Prelude.{ℕ, ◌≡◌, ◌<◌, ◌≤◌, ◌*◌, All, IfOk, get_or, length, map};
+ghost use Rattle.std.specs.Prelude.{ℕ, ◌≡◌, ◌<◌, ◌≤◌, ◌*◌, All, IfOk, length, map, slice_index};
 ghost use Rattle.std.specs.Int.{IsInRange};
 ghost use Rattle.std.specs.List.{range_with_len};
 ghost use Rattle.nrm_model.specs.Network.{leg_of};
@@ -31,8 +31,8 @@ pub fn program_of(
     requires bounds { All (λ bound. bound ≤ MOST_SEATS_IN_ALL) bounds.items }
     ensures { IfOk result (λ program. program ≡ program_of net.now caps.items bounds.items) }
 {
-    let fares = fares_of(alloc, net)?;
-    let legs = legs_of(alloc, net)?;
+    let fares = net.fares_of_products(alloc)?;
+    let legs = net.legs_of_products(alloc)?;
     Ok(Program::new(caps, bounds, fares, legs))
 }
 
@@ -50,7 +50,7 @@ pub fn program_at(
     period: u8,
 ) -> Result<Program, AllocError>
     requires legs { length left.now ≡ length net.now.legs }
-    requires seats { (i : ℕ) → i < length net.now.legs → get_or left.now i 0 ≤ (leg_of net.now i).seats }
+    requires seats { (i : ℕ) → i < length net.now.legs → slice_index left.now i ≤ (leg_of net.now i).seats }
     requires period { IsInRange 1 net.now.periods period }
     ensures { IfOk result (λ program. program ≡ program_at net.now left.now period) }
 {
@@ -66,7 +66,7 @@ pub fn program_at(
 pub fn opening_program(alloc: Global, net: &Network) -> Result<Program, AllocError>
     ensures { IfOk result (λ program. program ≡ opening_program net.now) }
 {
-    let left = full_seats(alloc, net)?;
+    let left = net.seats_of_legs(alloc)?;
     program_at(alloc, net, &left, 1)
 }
 
@@ -94,7 +94,7 @@ fn caps_once(alloc: Global, net: &Network) -> Result<Vec<u32>, AllocError>
     ensures caps { IfOk result (λ caps. caps.items ≡ (inventory_of net.now).seats) }
     ensures limits { IsNetwork net.now }
 {
-    let seats = full_seats(alloc, net)?;
+    let seats = net.seats_of_legs(alloc)?;
     widened(alloc, &seats)
 }
 
@@ -106,18 +106,6 @@ fn widened(alloc: Global, numbers: &[u16]) -> Result<Vec<u32>, AllocError>
         .iter()
         .map(|number| u32::from(*number))
         .collect(alloc)
-}
-
-// The seats of each leg, in file order: what is left before anything is sold.
-fn full_seats(alloc: Global, net: &Network) -> Result<Vec<u16>, AllocError>
-    ensures seats { IfOk result (λ left. left.items ≡ (inventory_of net.now).seats) }
-    ensures limits { IsNetwork net.now }
-{
-    let mut left = Vec::new(alloc);
-    for i in 0..net.leg_count() as u8 {
-        left.push(net.leg_at(i).seats)?;
-    }
-    Ok(left)
 }
 
 // The seats left on each leg, once for each history.
@@ -132,34 +120,12 @@ fn caps_of(alloc: Global, histories: u8, left: &[u16]) -> Result<Vec<u32>, Alloc
 // The demand to come of each product.
 fn bounds_of(alloc: Global, net: &Network, period: u8) -> Result<Vec<u32>, AllocError>
     requires { IsInRange 1 net.now.periods period }
-    ensures { IfOk result (λ bounds. bounds.items ≡ map (λ j. total_to_come net.now j period) (range_with_len 0 (length net.now.products))) }
+    ensures { IfOk result
+        (λ bounds. bounds.items ≡ map (λ j. total_to_come net.now j period) (range_with_len 0 (length net.now.products))) }
 {
     let mut bounds = Vec::new(alloc);
     for j in 0..net.product_count() as u16 {
         bounds.push(net.total(j, period))?;
     }
     Ok(bounds)
-}
-
-// The fare of each product.
-fn fares_of(alloc: Global, net: &Network) -> Result<Vec<u32>, AllocError>
-    ensures fares { IfOk result (λ fares. fares.items ≡ (inventory_of net.now).fares) }
-    ensures limits { IsNetwork net.now }
-{
-    let mut fares = Vec::new(alloc);
-    for j in 0..net.product_count() as u16 {
-        fares.push(net.product_at(j).fare)?;
-    }
-    Ok(fares)
-}
-
-// The legs of each product.
-fn legs_of(alloc: Global, net: &Network) -> Result<Vec<Vec<u8>>, AllocError>
-    ensures { IfOk result (λ legs. map (λ v. v.items) legs.items ≡ (inventory_of net.now).legs) }
-{
-    let mut legs = Vec::new(alloc);
-    for j in 0..net.product_count() as u16 {
-        legs.push(Vec::from_slice(alloc, net.product_at(j).legs.as_slice())?)?;
-    }
-    Ok(legs)
 }

@@ -1,5 +1,5 @@
 pub mod Nests  -- sums over a leg's products, one product at a time
-pub mod Sides  -- how large a side of the comparison gets
+pub mod SideSizes  -- how large a side of the comparison gets
 pub mod Places  -- counts over falling numbers, and the greatest count that passes a test
 pub mod Least  -- the first number that passes a test
 pub mod Signs  -- which fares aren't negative: those of the buckets above the last

@@ -1,5 +1,5 @@
 -- The whole demand of the buckets suffices: no history is over it, and the next bucket's fare isn't negative.
-use Rattle.std.proofs.Common.{ap, subst, sym, zero-add, ◌∙◌, refl, ℕ, zero, suc, ◌≡◌, ◌≤◌, ◌+◌, ◌-◌, ◌*◌, ◌/◌, ◌==◌, ◌||◌, not, Bool, true, false, List, [], ◌∷◌, sum_by, slice_index, nat_lt, nat_abs, arith, inl, inr, ℤ, pos, ◌*ℤ◌, int_lt}
+use Rattle.std.proofs.Common.{ap, subst, sym, zero-add, ◌∙◌, refl, ℕ, zero, suc, ◌≡◌, ◌≤◌, ◌+◌, ◌-◌, ◌*◌, ◌/◌, ◌==◌, ◌||◌, not, Bool, true, false, List, [], ◌∷◌, sum_by, slice_index, nat_lt, nat_abs, arith, inl, inr, pos, ◌*ℤ◌, int_lt}
 use Rattle.std.proofs.lemmas.Bool.{cases_Bool}
 use Rattle.std.proofs.lemmas.List.Sums.{sum_by-cons, sum_by-le-sum_by}
 use Rattle.std.specs.List.{count_by, range_with_len}

@@ -14,7 +14,7 @@ ghost use Rattle.nrm_emsr.specs.Protections.{protections_of, seats_enough};
 ghost use Rattle.nrm_emsr.specs.Inner.Nest.{IsOf, IsSmall, in_buckets, nested_of};
 
 use crate::compared::{fare_of, most_that_pass};
-use crate::nest::{Nested, demand_of, mean_of, nest_of};
+use crate::nest::{Nested, demand_of, mean_of, nested_on};
 use crate::ranked::{demand_at, falling};
 use nrm_lp::Certificate;
 use nrm_model::Network;
@@ -40,7 +40,7 @@ pub fn protections(
     requires period { IsInRange 1 net.now.periods period }
     ensures { IfOk result (λ levels. levels.items ≡ protections_of net.now cert.now leg period) }
 {
-    let nest = nest_of(alloc, net, cert, table, leg, period)?;
+    let nest = nested_on(alloc, net, cert, table, leg, period)?;
     let mut levels = Vec::new(alloc);
     let mut last = 0;
     for above in 0..net.leg_at(leg).cuts.as_slice().len() as u8 {

@@ -36,7 +36,7 @@ pub(crate) struct Mean {
 ///
 /// # Errors
 /// Want of memory.
-pub(crate) fn nest_of(
+pub(crate) fn nested_on(
     alloc: Global,
     net: &Network,
     cert: &Certificate,

@@ -49,6 +49,9 @@ pub fare-past : (net : NetworkValue) (j : ℕ) → length net.products ≤ j →
 fare-past net j past = ap (λ (product : Product). product.fare) (unwrap_or-slice_get net.products j no_product ∙ get_or_past net.products j no_product past)
 
 -- there are as many
+pub seats-count : (net : NetworkValue) → length (inventory_of net).seats ≡ length net.legs
+seats-count net = length-map net.legs (λ (leg : Leg). leg.seats)
+
 pub fares-count : (net : NetworkValue) → length (inventory_of net).fares ≡ length net.products
 fares-count net = length-map net.products (λ (product : Product). product.fare)
 

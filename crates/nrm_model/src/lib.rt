@@ -1,4 +1,13 @@
 //! A network of flight legs, the products that are sold on it, and the demand that earlier seasons saw.
+//!
+//! A caller meets its calls in this order; src/tests.rt of nrm_samples, where networks are made, runs most of them.
+//! - `Network::new`, of `Leg`s and `Product`s, whose lists are `Thresholds` and `LegNumbers`; `NameTable` finds names before there
+//!   is a network;
+//! - `n`, `t`, `leg_count`, `product_count`: how much there is of each;
+//! - `find_leg`, `find_product`, then `leg_at`, `product_at`: a leg or a product by its name, and by its number;
+//! - `uses_leg`, `least_seats`: what a product takes and at most gets;
+//! - `demand`, `to_come`, `total`: what was asked for, in a period, from one on, and in all histories;
+//! - `seats_of_legs`, `fares_of_products`, `legs_of_products`: lists of the whole, for who keeps some beside the network.
 #![tactic(auto)]
 
 mod leg;

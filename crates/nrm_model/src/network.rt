@@ -242,6 +242,46 @@ impl Network {
         least
     }
 
+    /// The seats of each leg.
+    ///
+    /// # Errors
+    /// Want of memory.
+    pub fn seats_of_legs(&self, alloc: Global) -> Result<Vec<u16>, AllocError>
+        ensures seats { IfOk result (λ seats. seats.items ≡ (inventory_of self.now).seats) }
+        ensures limits { IsNetwork self.now }
+    {
+        self.legs.iter().map(|leg| leg.seats).collect(alloc)
+    }
+
+    /// The fare of each product.
+    ///
+    /// # Errors
+    /// Want of memory.
+    pub fn fares_of_products(&self, alloc: Global) -> Result<Vec<u32>, AllocError>
+        ensures fares { IfOk result (λ fares. fares.items ≡ (inventory_of self.now).fares) }
+        ensures limits { IsNetwork self.now }
+    {
+        self.products
+            .iter()
+            .map(|product| product.fare)
+            .collect(alloc)
+    }
+
+    /// The legs of each product, in its own order.
+    ///
+    /// # Errors
+    /// Want of memory.
+    pub fn legs_of_products(&self, alloc: Global) -> Result<Vec<Vec<u8>>, AllocError>
+        ensures legs { IfOk result (λ legs. map (λ v. v.items) legs.items ≡ (inventory_of self.now).legs) }
+        ensures limits { IsNetwork self.now }
+    {
+        let mut legs = Vec::new(alloc);
+        for product in &self.products {
+            legs.push(Vec::from_slice(alloc, product.legs.as_slice())?)?;
+        }
+        Ok(legs)
+    }
+
     // The demand of a product in a history, period by period.
     fn row(&self, product: u16, history: u8) -> &[u16]
         requires product { product < length self.now.products }

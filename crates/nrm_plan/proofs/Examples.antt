@@ -5,12 +5,11 @@ use Rattle.nrm_model.specs.declared.mode.Mode.{Mode}
 use Rattle.nrm_model.specs.declared.mode.Mode.TheVariants as mode
 use Rattle.nrm_lp.specs.declared.certificate.Certificate.{Certificate}
 use Rattle.nrm_samples.specs.Networks.{two_legs_five_products, two_legs_last_first}
-use Rattle.std.specs.Prelude.{ℕ, ℤ, Option}
+use Rattle.std.specs.Prelude.{ℕ, ℤ}
 use Rattle.nrm_fraction.specs.Fraction.{◌over◌}
 use Rattle.nrm_fraction.specs.Large.{size_limit}
 use Rattle.nrm_number.specs.Gcd.{gcd, in_lowest_terms}
 use Rattle.nrm_lp.specs.Certified.{Certifies}
-use Rattle.nrm_lp.specs.Means.{mean_value}
 use Rattle.nrm_lp.specs.Overflow.{Overflows}
 use Rattle.nrm_lp.specs.Program.{ProgramValue}
 use Rattle.nrm_simplex.specs.Solving.{IsClosing}

@@ -1,7 +1,6 @@
 -- The protection above a product's bucket, as it is looked up.
-use Rattle.std.proofs.Common.{◌∷◌, ◌++◌, ℕ, zero, suc, ◌≡◌, ◌∙◌, ◌+◌, ◌-◌, ◌*◌, ◌<◌, ◌≤◌, List, [], Option, Some, None, map, length, get_or, arith, refl, ap, sym, subst}
-use Rattle.std.specs.List.{range_with_len}
-use Rattle.std.proofs.lemmas.List.FromFn.{get_or-map-range_with_len, length-map-range_with_len, map-range_with_len_more}
+use Rattle.std.proofs.Common.{ℕ, zero, suc, ◌≡◌, ◌∙◌, ◌-◌, ◌*◌, ◌<◌, ◌≤◌, List, [], Option, Some, None, length, get_or, arith, refl, ap, sym, subst}
+use Rattle.std.proofs.lemmas.List.FromFn.{get_or-map-range_with_len, length-map-range_with_len}
 use Rattle.std.proofs.lemmas.List.Sums.{count_by-le-length}
 use Rattle.std.specs.Prelude.{pos, nat_abs, int_lt}
 use Rattle.std.proofs.lemmas.Option.{none-some}
@@ -70,10 +69,6 @@ no-nests net plan of has i j = by plan.mode plan.certificate (subst (λ (n : Opt
     by mode.Bid cert nested = refl
     by mode.Davn None nested = refl
     by mode.Davn (Some c) nested = absurd nested
-
--- one leg's protections more
-pub levels-more : (f : ℕ → List ℕ) (i : ℕ) (levels : List (List ℕ)) (next : List ℕ) → levels ≡ map f (range_with_len 0 i) → next ≡ f i → levels ++ next ∷ [] ≡ map f (range_with_len 0 (i + 1))
-levels-more f i levels next made worked = (λ n. made n ++ worked n ∷ []) ∙ sym (map-range_with_len_more f 0 i i (omega arith))
 
 -- what a table has for a pair is the product's bucket
 bucket-there : (net : NetworkValue) (cert : Certificate) (table : TableValue) (i j : ℕ) → IsTableOf net cert table → HasPair table i j → bucket_in table i j ≡ Some (bucket_of net cert i j)

@@ -1,5 +1,5 @@
 -- Plans: that there is one, and only one, and that its bid prices are optimal.
-use Rattle.std.proofs.Common.{map, ◌*◌, length, ℕ, ◌≡◌, ◌≢◌, ◌⊎◌, ◌∙◌, ℤ, List, Option, Some, None, arith, inl, inr, refl, sym, ap, subst}
+use Rattle.std.proofs.Common.{map, ◌*◌, length, ℕ, ◌≡◌, ◌≢◌, ◌⊎◌, ◌∙◌, ℤ, List, Option, Some, None, inl, inr, refl, sym, ap, subst}
 use Rattle.std.specs.Int.{IsInRange}
 use Rattle.std.specs.List.{range_with_len}
 use Rattle.std.proofs.lemmas.List.{length-map}
@@ -13,14 +13,12 @@ use Rattle.nrm_model.specs.declared.mode.Mode.{Mode}
 use Rattle.nrm_model.specs.declared.mode.Mode.TheVariants as mode
 use Rattle.nrm_lp.specs.declared.certificate.Certificate.{Certificate}
 use Rattle.nrm_lp.specs.Certified.{Certifies}
-use Rattle.nrm_lp.specs.Closing.{certificate}
-use Rattle.nrm_lp.specs.Overflow.{Closes, Overflows}
+use Rattle.nrm_lp.specs.Overflow.{Overflows}
 use Rattle.nrm_lp.specs.Shape.{HasShape}
-use Rattle.nrm_lp.specs.Tableau.{Tableau}
-use Rattle.nrm_lp.proofs.Ends.{every_path_ends, ends_once}
 use Rattle.nrm_simplex.specs.Solving.{IsClosing}
 use Rattle.nrm_simplex.proofs.Walk.{closing_certifies}
 use Rattle.nrm_dlp.specs.Programs.{program_at}
+use Rattle.nrm_dlp.proofs.Closings.{closes-or-not, closing-apart, closing-once, overflow-once}
 use Rattle.nrm_dlp.proofs.Limited.{limited}
 use Rattle.nrm_virtual.specs.Table.{TableValue, nest_of}
 use Rattle.nrm_emsr.specs.Protections.{protections_of}
@@ -43,15 +41,10 @@ module _ (net : NetworkValue) (left : List ℕ) (k : ℕ) where
   certificate-optimal mode.Davn cert is are has other = solved-optimal cert is are has
 
   -- one certificate closes a program
-  closing-once : (c d : Certificate) → IsClosing (program_at net left k) c → IsClosing (program_at net left k) d → d ≡ c
-  closing-once c d (n, t, closes, is) (m, u, closes', is') =
-      let (same_count, same) = (ends_once size_limit (program_at net left k)).closing n m t u closes closes' in
-      is' ∙ ap (certificate (program_at net left k)) (sym same) ∙ sym is
-
   solved-once : (c d : Option Certificate) → IsSolved net left k c → IsSolved net left k d → d ≡ c
   solved-once None d missing solved = absurd missing
   solved-once (Some c) None solved missing = absurd missing
-  solved-once (Some c) (Some d) solved solved' = ap Some (closing-once c d solved solved')
+  solved-once (Some c) (Some d) solved solved' = ap Some (closing-once (program_at net left k) c d solved solved')
 
   certificate-once : (m : Mode) (c d : Option Certificate) → HasCertificate net left k m c → HasCertificate net left k m d → d ≡ c
   certificate-once mode.FirstCome c d has has' = has' ∙ sym has
@@ -61,27 +54,28 @@ module _ (net : NetworkValue) (left : List ℕ) (k : ℕ) where
   -- and not one that is Large
   solved-apart : (c : Option Certificate) (n : ℕ) (number : ℤ) → IsSolved net left k c → Overflows size_limit (program_at net left k) n number → ⊥
   solved-apart None n number missing large = absurd missing
-  solved-apart (Some c) n number (m, t, closes, is) large = (ends_once size_limit (program_at net left k)).apart m n t number closes large
+  solved-apart (Some c) n number closes large = closing-apart (program_at net left k) c n number closes large
 
   certificate-apart : (m : Mode) (c : Option Certificate) (n : ℕ) (number : ℤ) → HasCertificate net left k m c → PlanOverflows net m left k n number → ⊥
   certificate-apart mode.FirstCome c n number has large = large
   certificate-apart mode.Bid c n number has large = solved-apart c n number has large
   certificate-apart mode.Davn c n number has large = solved-apart c n number has large
 
-  overflow-once : (m : Mode) (n n' : ℕ) (number number' : ℤ) → PlanOverflows net m left k n number → PlanOverflows net m left k n' number' → (n' ≡ n) × (number' ≡ number)
-  overflow-once mode.FirstCome n n' number number' large large' = absurd large
-  overflow-once mode.Bid n n' number number' large large' = let (a, b) = (ends_once size_limit (program_at net left k)).overflow n n' number number' large large' in (sym a, sym b)
-  overflow-once mode.Davn n n' number number' large large' = let (a, b) = (ends_once size_limit (program_at net left k)).overflow n n' number number' large large' in (sym a, sym b)
+  overflow-of : (m : Mode) (n n' : ℕ) (number number' : ℤ) → PlanOverflows net m left k n number → PlanOverflows net m left k n' number' → (n' ≡ n) × (number' ≡ number)
+  overflow-of mode.FirstCome n n' number number' large large' = absurd large
+  overflow-of mode.Bid n n' number number' large large' = overflow-once (program_at net left k) n n' number number' large large'
+  overflow-of mode.Davn n n' number number' large large' = overflow-once (program_at net left k) n n' number number' large large'
 
   -- a certificate, or none since its program is Large
   abbrev HasOr : Mode → Type 0
   HasOr m = ((c : Option Certificate) × HasCertificate net left k m c) ⊎ ((n : ℕ) × (number : ℤ) × PlanOverflows net m left k n number)
 
   solved-or : ((c : Option Certificate) × IsSolved net left k c) ⊎ ((n : ℕ) × (number : ℤ) × Overflows size_limit (program_at net left k) n number)
-  solved-or = by (every_path_ends size_limit (omega arith) (program_at net left k))
+  solved-or = by (closes-or-not (program_at net left k))
     where
-      by : ((n : ℕ) × (t : Tableau) × Closes size_limit (program_at net left k) n t) ⊎ ((n : ℕ) × (number : ℤ) × Overflows size_limit (program_at net left k) n number) → ((c : Option Certificate) × IsSolved net left k c) ⊎ ((n : ℕ) × (number : ℤ) × Overflows size_limit (program_at net left k) n number)
-      by (inl (n, t, closes)) = inl (Some (certificate (program_at net left k) t), (n, t, closes, refl))
+      by : ((c : Certificate) × IsClosing (program_at net left k) c) ⊎ ((n : ℕ) × (number : ℤ) × Overflows size_limit (program_at net left k) n number)
+          → ((c : Option Certificate) × IsSolved net left k c) ⊎ ((n : ℕ) × (number : ℤ) × Overflows size_limit (program_at net left k) n number)
+      by (inl (cert, closes)) = inl (Some cert, closes)
       by (inr large) = inr large
 
   certificate-or : (m : Mode) → HasOr m
@@ -177,6 +171,6 @@ one-plan net m left k = record {
         certificate = same i;
         nests = nests i;
       };
-  overflow = λ n n' number number' large large'. overflow-once net left k m n n' number number' large large';
+  overflow = λ n n' number number' large large'. overflow-of net left k m n n' number number' large large';
   apart = λ plan n number for large. certificate-apart net left k m plan.certificate n number (for-certificate net m left k plan for) large;
 }

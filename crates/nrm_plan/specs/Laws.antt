@@ -1,5 +1,5 @@
 -- Laws of plans.
-use Rattle.std.specs.Prelude.{ℕ, ◌≡◌, ◌≢◌, ◌⊎◌, ◌<◌, ℤ, List, [], Option, Some, length, get_or}
+use Rattle.std.specs.Prelude.{ℕ, ◌≡◌, ◌≢◌, ◌⊎◌, ◌<◌, ℤ, List, [], Some, length, slice_index_or}
 use Rattle.std.specs.Int.{IsInRange}
 use Rattle.nrm_model.specs.Limits.{IsNetwork}
 use Rattle.nrm_model.specs.Network.{NetworkValue}
@@ -32,13 +32,16 @@ pub record HasOnePlan (net : NetworkValue) (m : Mode) (left : List ℕ) (k : ℕ
 abbrev pub PlansAreDetermined : Type 0
 PlansAreDetermined = (net : NetworkValue) (m : Mode) (left : List ℕ) (k : ℕ) → HasOnePlan net m left k
 
--- where a plan has nests, a product's bucket on a leg that it uses, and the seats protected for a leg's buckets 1 to b, are those that the definitions
--- give at the plan's bid prices from its period on
+-- where a plan has nests, a product's bucket on a leg that it uses, and the seats protected for a leg's buckets 1 to b, are those that
+-- the definitions give at the plan's bid prices from its period on
 pub record AreThoseDefined (net : NetworkValue) (plan : PlanValue) (nests : NestsValue) : Type 0 where
   pub prices : Certificate
   pub in_force : plan.certificate ≡ Some prices
-  pub buckets : (leg product : ℕ) → HasPair nests.buckets leg product → bucket_in nests.buckets leg product ≡ Some (bucket_of net prices leg product)
-  pub levels : (leg b : ℕ) → leg < length net.legs → b < bucket_count net leg → level_at (get_or nests.protections leg []) b ≡ protection_of net prices leg plan.period b
+  pub buckets : (leg product : ℕ) → HasPair nests.buckets leg product
+      → bucket_in nests.buckets leg product ≡ Some (bucket_of net prices leg product)
+  pub levels : (leg b : ℕ) → leg < length net.legs → b < bucket_count net leg
+      → level_at (slice_index_or nests.protections leg []) b ≡ protection_of net prices leg plan.period b
 
 abbrev pub NestsAreThoseDefined : Type 0
-NestsAreThoseDefined = (net : NetworkValue) (plan : PlanValue) (nests : NestsValue) → IsPlanOf net plan → plan.nests ≡ Some nests → AreThoseDefined net plan nests
+NestsAreThoseDefined = (net : NetworkValue) (plan : PlanValue) (nests : NestsValue) → IsPlanOf net plan → plan.nests ≡ Some nests
+    → AreThoseDefined net plan nests

@@ -57,8 +57,8 @@ HasNests net k mode.FirstCome cert nests = nests ≡ None
 HasNests net k mode.Bid cert nests = nests ≡ None
 HasNests net k mode.Davn cert nests = AreNests net k cert nests
 
--- A plan of a network: it is for seats left and from a period of the network, its certificate is that of these, and its nests are those at the
--- certificate's bid prices from that period on.
+-- A plan of a network: it is for seats left and from a period of the network, its certificate is that of these, and its nests are those
+-- at the certificate's bid prices from that period on.
 pub record IsPlanOf (net : NetworkValue) (plan : PlanValue) : Type 0 where
   pub left : AreSeatsLeft net plan.left
   pub period : IsInRange 1 net.periods plan.period

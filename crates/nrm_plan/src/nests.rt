@@ -1,5 +1,6 @@
-//! The nests of a network at bid prices: buckets and protections, worked out once and looked up after.
-ghost use Rattle.std.specs.Prelude.{ℕ, ◌≡◌, ◌≢◌, ◌<◌, ◌≤◌, IfOk, Some, [], get_or, length, map};
+//! The nests of a network at bid prices: buckets and protections, worked out once and looked up after. Beside them stand the
+//! seats that are kept from each product on each leg, in one list, so that a request looks up one number for a leg.
+ghost use Rattle.std.specs.Prelude.{ℕ, ◌≡◌, ◌-◌, ◌<◌, ◌≤◌, IfOk, Some, [], slice_index_or, length, map};
 ghost use Rattle.std.specs.Int.{IsInRange};
 ghost use Rattle.std.specs.List.{range_with_len};
 ghost use Rattle.nrm_fraction.specs.Large.{size_limit};
@@ -10,6 +11,7 @@ ghost use Rattle.nrm_virtual.specs.Buckets.{bucket_of};
 ghost use Rattle.nrm_virtual.specs.Table.{HasPair, IsTableOf, bucket_in};
 ghost use Rattle.nrm_emsr.specs.Protections.{protections_of};
 ghost use Rattle.nrm_plan.specs.Nesting.{AreNestsOf, level_at};
+ghost use Rattle.nrm_plan.specs.Inner.Kept.{kept_at, kept_in_all};
 
 use nrm_emsr::protections;
 use nrm_lp::Certificate;
@@ -23,15 +25,22 @@ use std::marker::Model;
 pub(crate) struct Nests {
     buckets: BucketTable,
     protections: Vec<Vec<u16>>,
+    products: usize,
+    kept: Vec<u16>,
 }
 
 impl Model for Nests {
     ghost use Rattle.std.specs.Prelude.{map};
     ghost use Rattle.nrm_plan.specs.Nesting.{NestsValue};
+    ghost use Rattle.nrm_plan.specs.Inner.Kept.{AreKept};
 
     ghost Value = { NestsValue };
 
     ghost view = { λ nests. record { buckets = nests.buckets; protections = map (λ v. v.items) nests.protections.items } };
+
+    ghost invariant = { λ nests. AreKept
+        (record { buckets = nests.buckets; protections = map (λ v. v.items) nests.protections.items })
+        nests.products nests.kept.items };
 }
 
 // The protections of each leg.
@@ -56,6 +65,64 @@ fn protections_of_legs(
     Ok(levels)
 }
 
+// The seats that are protected for buckets 1 to `bucket`, among the protections of a leg.
+fn level_at(levels: &[u16], bucket: u8) -> u16
+    requires { bucket ≤ length levels.now }
+    ensures { result ≡ level_at levels.now bucket }
+{
+    if bucket == 0 {
+        return 0;
+    }
+    levels[bucket as usize - 1]
+}
+
+// The seats that are kept from a product on a leg; none where it doesn't use the leg.
+fn kept_at(
+    net: &Network,
+    buckets: &BucketTable,
+    protections: &[Vec<u16>],
+    leg: u8,
+    product: u16,
+) -> u16
+    requires nests { (cert : Cert) × (k : ℕ)
+        × AreNestsOf net.now k cert (record { buckets = buckets.now; protections = map (λ v. v.items) protections.now }) }
+    requires leg { leg < length net.now.legs }
+    requires product { product < length net.now.products }
+    ensures { result
+        ≡ kept_at net.now (record { buckets = buckets.now; protections = map (λ v. v.items) protections.now }) leg product }
+{
+    if net.uses_leg(product, leg) {
+        level_at(
+            &protections[leg as usize],
+            buckets.bucket_of(leg, product) - 1,
+        )
+    } else {
+        0
+    }
+}
+
+// The seats that are kept from each product on each leg.
+fn kept_in_all(
+    alloc: Global,
+    net: &Network,
+    buckets: &BucketTable,
+    protections: &[Vec<u16>],
+) -> Result<Vec<u16>, AllocError>
+    requires { (cert : Cert) × (k : ℕ)
+        × AreNestsOf net.now k cert (record { buckets = buckets.now; protections = map (λ v. v.items) protections.now }) }
+    ensures { IfOk result (λ kept. kept.items
+        ≡ kept_in_all net.now (record { buckets = buckets.now; protections = map (λ v. v.items) protections.now })) }
+{
+    let products = net.product_count();
+    let mut kept = Vec::new(alloc);
+    for place in 0..net.leg_count() * products {
+        let leg = (place / products) as u8;
+        let product = (place % products) as u16;
+        kept.push(kept_at(net, buckets, protections, leg, product))?;
+    }
+    Ok(kept)
+}
+
 impl Nests {
     /// The nests of a network at the bid prices of a certificate, from period `period` on.
     ///
@@ -73,9 +140,12 @@ impl Nests {
     {
         let buckets = BucketTable::build(alloc, net, certificate)?;
         let protections = protections_of_legs(alloc, net, certificate, &buckets, period)?;
+        let kept = kept_in_all(alloc, net, &buckets, &protections)?;
         Ok(Nests {
             buckets,
             protections,
+            products: net.product_count(),
+            kept,
         })
     }
 
@@ -92,12 +162,18 @@ impl Nests {
     /// The seats of a leg that are protected for its buckets 1 to `bucket`.
     pub(crate) fn protection(&self, leg: u8, bucket: u8) -> u16
         requires leg { leg < length self.now.protections }
-        requires bucket { bucket ≤ length (get_or self.now.protections leg []) }
-        ensures { result ≡ level_at (get_or self.now.protections leg []) bucket }
+        requires bucket { bucket ≤ length (slice_index_or self.now.protections leg []) }
+        ensures { result ≡ level_at (slice_index_or self.now.protections leg []) bucket }
     {
-        if bucket == 0 {
-            return 0;
-        }
-        self.protections[leg as usize][bucket as usize - 1]
+        level_at(&self.protections[leg as usize], bucket)
+    }
+
+    /// The seats that are kept from a product on one of its legs: those protected for the buckets above its own.
+    pub(crate) fn kept_from(&self, leg: u8, product: u16) -> u16
+        requires { HasPair self.now.buckets leg product }
+        ensures { (b : ℕ) → bucket_in self.now.buckets leg product ≡ Some b
+            → result ≡ level_at (slice_index_or self.now.protections leg []) (b - 1) }
+    {
+        self.kept[leg as usize * self.products + product as usize]
     }
 }

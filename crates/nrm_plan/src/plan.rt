@@ -1,5 +1,6 @@
 //! A plan: the mode, the period and the seats left of one optimisation, and its certificate. A plan holds no network.
-ghost use Rattle.std.specs.Prelude.{ℕ, ℤ, ◌≡◌, ◌≢◌, ◌<◌, ◌≤◌, IfErr, IfOk, IfSome, Option, Some, get_or, length, option_map, pos, true, []};
+ghost use Rattle.std.specs.Prelude.{ℕ, ℤ, ◌≡◌, ◌≢◌, ◌<◌, ◌≤◌, IfErr, IfOk, IfSome, Option, Some, length, option_map, pos, true, []};
+ghost use Rattle.std.specs.Prelude.{slice_index_or};
 ghost use Rattle.std.specs.Int.{IsInRange};
 ghost use Rattle.nrm_number.specs.Gcd.{gcd};
 ghost use Rattle.nrm_fraction.specs.Fraction.{◌over◌};
@@ -145,7 +146,7 @@ impl Plan {
     /// The program prints no single price; the call is there for users of the library.
     pub fn price(&self, leg: u8) -> (i64, i64)
         requires { (cert : CertificateValue) × (self.now.certificate ≡ Some cert) × (leg < length cert.p) }
-        ensures { IfSome self.now.certificate (λ cert. (result.0 ≡ get_or cert.p leg (pos 0)) × (result.1 ≡ cert.den)) }
+        ensures { IfSome self.now.certificate (λ cert. (result.0 ≡ slice_index_or cert.p leg (pos 0)) × (result.1 ≡ cert.den)) }
     {
         match self.certificate.as_ref() {
             Some(certificate) => (certificate.p.as_slice()[leg as usize], certificate.den),
@@ -167,8 +168,8 @@ impl Plan {
     /// The seats of a leg that are protected for its buckets 1 to `bucket`, under virtual nesting; none are for no bucket.
     pub fn protection(&self, leg: u8, bucket: u8) -> u16
         requires { (nests : NestsValue) × (self.now.nests ≡ Some nests) × (leg < length nests.protections)
-            × (bucket ≤ length (get_or nests.protections leg [])) }
-        ensures { (nests : NestsValue) → self.now.nests ≡ Some nests → result ≡ level_at (get_or nests.protections leg []) bucket }
+            × (bucket ≤ length (slice_index_or nests.protections leg [])) }
+        ensures { (nests : NestsValue) → self.now.nests ≡ Some nests → result ≡ level_at (slice_index_or nests.protections leg []) bucket }
     {
         match self.nests.as_ref() {
             Some(nests) => nests.protection(leg, bucket),
@@ -215,7 +216,7 @@ impl Plan {
         ensures { result ≡ kept_from net.now self.now leg product }
     {
         match self.nests.as_ref() {
-            Some(nests) => nests.protection(leg, nests.bucket(leg, product) - 1),
+            Some(nests) => nests.kept_from(leg, product),
             None => 0,
         }
     }

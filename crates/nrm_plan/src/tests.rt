@@ -1,10 +1,11 @@
-//! Plans of a network of two legs, AB with 3 seats and BC with 2: a through product for 500, a local one on AB for 200.
+//! Plans of a network of two legs, AB with 3 seats and BC with 2: a through product for 500, a local one on AB for 200. And
+//! the seats that are kept under virtual nesting, of one with five products.
 ghost use Rattle.std.specs.Prelude.{◌≡◌, length};
 ghost use Rattle.nrm_plan.specs.Plans.{IsPlanOf};
 
 use crate::{Plan, SeatsLeft};
 use nrm_model::{Mode, Network};
-use nrm_samples::two_legs;
+use nrm_samples::{two_legs, two_legs_five_products};
 use nrm_simplex::SolveFault;
 use std::alloc::Global;
 use std::process::Abort;
@@ -97,6 +98,25 @@ fn first_come_has_no_prices(rt: HostRuntime) {
         said_later(rt.alloc(), Mode::FirstCome),
         (Mode::FirstCome, 2, None, None, [false, false]),
     );
+}
+
+// The seats that are kept on AB from the first three products, which use it, and on BC from the last two.
+fn kept_at_opening(alloc: Global) -> Result<[u16; 5], SolveFault> {
+    let net = two_legs_five_products(alloc)?;
+    let plan = Plan::opening(alloc, &net, Mode::Davn)?;
+    Ok([
+        plan.kept_from(&net, 0, 0),
+        plan.kept_from(&net, 0, 1),
+        plan.kept_from(&net, 0, 2),
+        plan.kept_from(&net, 1, 3),
+        plan.kept_from(&net, 1, 4),
+    ])
+}
+
+// On AB seven seats are protected above the second bucket, on BC six above the third.
+#[test]
+fn seats_are_kept_for_higher_buckets(rt: HostRuntime) {
+    assert!(rt; kept_at_opening(rt.alloc()) == Ok([0, 7, 0, 6, 6]));
 }
 
 #[test]

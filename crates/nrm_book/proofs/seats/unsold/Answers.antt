@@ -1,7 +1,7 @@
 use Rattle.std.proofs.Common.{◌∙◌, [], refl, sym, ap}
 use Rattle.nrm_model.specs.Inventory.{inventory_of, uses_leg}
 use Rattle.nrm_book.specs.Bookings.{sold_of}
-use Rattle.nrm_book.proofs.Pairs.{kept-no, kept-yes}
+use Rattle.nrm_model.proofs.Maps.{kept-no, kept-yes}
 use Rattle.nrm_book.proofs.seats.unsold.Goals as goal
 use Rattle.nrm_book.proofs.seats.unsold.Goals.{then-uses_leg+in_ok-insert, else-uses_leg}
 

@@ -2,7 +2,7 @@ use Rattle.std.proofs.Common.{◌≡◌, [], filter}
 use Rattle.std.specs.List.{range_with_len}
 use Rattle.nrm_model.specs.Inventory.{inventory_of, uses_leg}
 use Rattle.nrm_book.specs.Bookings.{sold_of}
-use Rattle.nrm_book.proofs.Pairs.{pairs}
+use Rattle.nrm_number.proofs.Ranges.{pairs}
 use Rattle.nrm_book.proofs.seats.unsold.Given as goal
 
 abbrev pub invariant-loop-product : goal.invariant-loop-product

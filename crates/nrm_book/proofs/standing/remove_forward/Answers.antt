@@ -1,4 +1,4 @@
-use Rattle.nrm_book.proofs.Rows.{removed-forward}
+use Rattle.nrm_book.proofs.RowRemovals.{removed-forward}
 use Rattle.nrm_book.proofs.standing.remove_forward.Goals as goal
 
 pub returns-clause-items : goal.returns-clause-items

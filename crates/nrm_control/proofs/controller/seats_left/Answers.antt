@@ -1,7 +1,7 @@
 use Rattle.std.proofs.Common.{◌∙◌, ap, arith, length}
 use Rattle.std.proofs.lemmas.List.FromFn.{length-map-range_with_len}
 use Rattle.nrm_book.specs.Bookings.{left_on}
-use Rattle.nrm_dlp.proofs.Copied.{map-number-more}
+use Rattle.nrm_model.proofs.Lists.{map-number-more}
 use Rattle.nrm_control.proofs.controller.seats_left.Goals as goal
 
 pub push-requires : goal.push-requires

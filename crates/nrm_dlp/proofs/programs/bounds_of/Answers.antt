@@ -1,5 +1,5 @@
 use Rattle.nrm_model.specs.Demand.{total_to_come}
-use Rattle.nrm_dlp.proofs.Copied.{map-number-more}
+use Rattle.nrm_model.proofs.Lists.{map-number-more}
 use Rattle.nrm_dlp.proofs.programs.bounds_of.Goals as goal
 
 pub loop-j-preserved : goal.loop-j-preserved

@@ -1,8 +1,8 @@
 use Rattle.std.proofs.Common.{◌<◌, length, sym, subst, arith}
 use Rattle.nrm_book.specs.Book.{BookValue}
-use Rattle.nrm_book.proofs.Moved.{can-sell, legs-read, sold-next}
+use Rattle.nrm_book.proofs.BookedCounts.{can-sell, legs-read, sold-next}
 use Rattle.nrm_book.proofs.Kept.{IsBook-sold, room-left}
-use Rattle.nrm_book.proofs.Totals.{revenue-more, revenue-within}
+use Rattle.nrm_book.proofs.Revenues.{revenue-more, revenue-within}
 use Rattle.nrm_book.proofs.book.Book.add.Goals as goal
 
 pub push-requires : goal.push-requires

@@ -1,8 +1,8 @@
 use Rattle.std.proofs.Common.{◌≡◌, ap, subst, arith}
 use Rattle.nrm_book.specs.Book.{BookValue, IsBook}
 use Rattle.nrm_book.specs.Seats.{seats_sold}
-use Rattle.nrm_book.proofs.Moved.{counted-on}
-use Rattle.nrm_book.proofs.Totals.{number-read}
+use Rattle.nrm_book.proofs.BookedCounts.{counted-on}
+use Rattle.nrm_book.proofs.Revenues.{number-read}
 use Rattle.nrm_book.proofs.book.Book.left.Goals as goal
 
 pub on-requires : goal.on-requires

@@ -1,7 +1,7 @@
 use Rattle.std.proofs.Common.{◌≡◌, ◌∙◌, subst}
 use Rattle.nrm_book.specs.Book.{BookValue}
 use Rattle.nrm_book.specs.Seats.{seats_sold}
-use Rattle.nrm_book.proofs.Moved.{leg-counted}
+use Rattle.nrm_book.proofs.BookedCounts.{leg-counted}
 use Rattle.nrm_book.proofs.book.Book.on_leg.Goals as goal
 
 pub on_leg-requires : goal.on_leg-requires

@@ -2,7 +2,7 @@
 use Rattle.std.proofs.Common.{rules, ◌∙◌}
 use Rattle.std.proofs.lemmas.List.Sorted.{answers_always}
 use Rattle.nrm_book.specs.declared.booking.Booking.{Booking}
-use Rattle.nrm_book.proofs.Searched.{searched}
+use Rattle.nrm_book.proofs.NumberSearch.{searched}
 use Rattle.nrm_book.proofs.book.Book.place_of.Goals as goal
 
 pub returns : goal.returns

@@ -4,8 +4,8 @@ use Rattle.std.proofs.lemmas.List.Quantifiers.{position-Some}
 use Rattle.nrm_book.specs.declared.booking.Booking.{Booking}
 use Rattle.nrm_book.specs.Book.{BookValue, IsBook}
 use Rattle.nrm_book.proofs.Kept.{IsBook-removed, absent-is, found-is, removed-is}
-use Rattle.nrm_book.proofs.Moved.{can-give_back, given_back-next, legs-read}
-use Rattle.nrm_book.proofs.Totals.{revenue-less}
+use Rattle.nrm_book.proofs.BookedCounts.{can-give_back, given_back-next, legs-read}
+use Rattle.nrm_book.proofs.Revenues.{revenue-less}
 use Rattle.nrm_book.proofs.book.Book.remove.Goals as goal
 
 pub returns-in_err-place-clause-booking : goal.returns-in_err-place-clause-booking

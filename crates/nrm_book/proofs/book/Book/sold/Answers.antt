@@ -1,7 +1,7 @@
 use Rattle.std.proofs.Common.{◌≡◌, ◌∙◌, subst}
 use Rattle.nrm_book.specs.Book.{BookValue}
 use Rattle.nrm_book.specs.Seats.{seats_sold}
-use Rattle.nrm_book.proofs.Moved.{pair-counted}
+use Rattle.nrm_book.proofs.BookedCounts.{pair-counted}
 use Rattle.nrm_book.proofs.book.Book.sold.Goals as goal
 
 pub of-requires : goal.of-requires

@@ -1,6 +1,6 @@
 use Rattle.std.proofs.Common.{◌-◌, arith}
 use Rattle.nrm_book.specs.Seats.{CanFall}
-use Rattle.nrm_book.proofs.Counted.{all-done, none-yet, one_more, fall-apart}
+use Rattle.nrm_book.proofs.CountChanges.{all-done, none-yet, one_more, fall-apart}
 use Rattle.nrm_book.proofs.seats.SeatsSold.give_back.Goals as goal
 
 pub loop-leg-init : goal.loop-leg-init

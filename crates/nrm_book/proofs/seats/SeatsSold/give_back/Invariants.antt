@@ -1,6 +1,6 @@
 use Rattle.std.proofs.Common.{◌-◌}
 use Rattle.nrm_book.specs.Seats.{CanFall}
-use Rattle.nrm_book.proofs.Counted.{Changes, fall-apart}
+use Rattle.nrm_book.proofs.CountChanges.{Changes, fall-apart}
 use Rattle.nrm_book.proofs.seats.SeatsSold.give_back.Given as goal
 
 abbrev pub invariant-loop-leg : goal.invariant-loop-leg

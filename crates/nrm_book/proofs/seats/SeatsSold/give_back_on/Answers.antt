@@ -2,8 +2,8 @@ use Rattle.std.proofs.Common.{ℕ, ◌∙◌, ◌-◌, List, IsSome, nat_eq, sli
 use Rattle.std.specs.Map.{lookup, set_value}
 use Rattle.std.specs.Option.{option_copied_mut}
 use Rattle.nrm_book.specs.Seats.{SeatsValue, pairs_on}
-use Rattle.nrm_book.proofs.Pairs.{leg-held, pairs-read, product-held, some-copied, written}
-use Rattle.nrm_book.proofs.Totals.{number-read}
+use Rattle.nrm_book.proofs.NestedCounts.{leg-held, pairs-read, product-held, some-copied, written}
+use Rattle.nrm_book.proofs.Revenues.{number-read}
 use Rattle.nrm_book.proofs.seats.SeatsSold.give_back_on.Goals as goal
 
 pub unwrap-requires : goal.unwrap-requires

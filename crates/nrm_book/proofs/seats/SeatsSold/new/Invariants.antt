@@ -3,7 +3,8 @@ use Rattle.std.specs.List.{range_with_len}
 use Rattle.nrm_model.specs.Inventory.{inventory_of}
 use Rattle.nrm_book.specs.Bookings.{sold_on}
 use Rattle.nrm_book.specs.Seats.{pairs_sold}
-use Rattle.nrm_book.proofs.Pairs.{pairs, shown}
+use Rattle.nrm_number.proofs.Ranges.{pairs}
+use Rattle.nrm_model.proofs.Maps.{shown}
 use Rattle.nrm_book.proofs.seats.SeatsSold.new.Given as goal
 
 abbrev pub invariant-loop-leg : goal.invariant-loop-leg

@@ -1,6 +1,6 @@
 use Rattle.std.proofs.Common.{sym, ap}
 use Rattle.nrm_book.specs.Seats.{SeatsValue}
-use Rattle.nrm_book.proofs.Pairs.{count-read, leg-held, product-held}
+use Rattle.nrm_book.proofs.NestedCounts.{count-read, leg-held, product-held}
 use Rattle.nrm_book.proofs.seats.SeatsSold.of.Goals as goal
 
 pub index-requires : goal.index-requires

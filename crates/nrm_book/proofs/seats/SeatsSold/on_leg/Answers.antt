@@ -1,6 +1,6 @@
 use Rattle.std.proofs.Common.{sym, ap}
 use Rattle.nrm_book.specs.Seats.{SeatsValue}
-use Rattle.nrm_book.proofs.Pairs.{leg-held, pairs-read}
+use Rattle.nrm_book.proofs.NestedCounts.{leg-held, pairs-read}
 use Rattle.nrm_book.proofs.seats.SeatsSold.on_leg.Goals as goal
 
 pub index-requires : goal.index-requires

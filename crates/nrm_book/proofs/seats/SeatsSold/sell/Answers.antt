@@ -1,6 +1,6 @@
 use Rattle.std.proofs.Common.{◌+◌, arith}
 use Rattle.nrm_book.specs.Seats.{CanRise}
-use Rattle.nrm_book.proofs.Counted.{all-done, none-yet, one_more, rise-apart}
+use Rattle.nrm_book.proofs.CountChanges.{all-done, none-yet, one_more, rise-apart}
 use Rattle.nrm_book.proofs.seats.SeatsSold.sell.Goals as goal
 
 pub loop-leg-init : goal.loop-leg-init

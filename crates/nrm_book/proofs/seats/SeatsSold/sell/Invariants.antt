@@ -1,6 +1,6 @@
 use Rattle.std.proofs.Common.{◌+◌}
 use Rattle.nrm_book.specs.Seats.{CanRise}
-use Rattle.nrm_book.proofs.Counted.{Changes, rise-apart}
+use Rattle.nrm_book.proofs.CountChanges.{Changes, rise-apart}
 use Rattle.nrm_book.proofs.seats.SeatsSold.sell.Given as goal
 
 abbrev pub invariant-loop-leg : goal.invariant-loop-leg

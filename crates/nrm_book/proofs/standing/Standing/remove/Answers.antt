@@ -1,7 +1,7 @@
 use Rattle.std.proofs.Common.{◌∙◌, drop, ap}
 use Rattle.std.specs.List.{remove}
 use Rattle.nrm_book.specs.Standing.{StandingValue}
-use Rattle.nrm_book.proofs.Rows.{removed-back}
+use Rattle.nrm_book.proofs.RowRemovals.{removed-back}
 use Rattle.nrm_book.proofs.standing.Standing.remove.Goals as goal
 
 pub returns-else-place-behind-clause-items : goal.returns-else-place-behind-clause-items

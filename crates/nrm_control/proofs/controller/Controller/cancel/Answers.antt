@@ -3,7 +3,7 @@ use Rattle.nrm_model.specs.Inventory.{inventory_of}
 use Rattle.nrm_book.specs.Bookings.{booking_numbered, worth_of}
 use Rattle.nrm_control.specs.Standing.{ControlValue}
 use Rattle.nrm_control.proofs.Inventories.{product-within, refund-is}
-use Rattle.nrm_control.proofs.Kept.{control-of, kept-cancelled}
+use Rattle.nrm_control.proofs.AfterCalls.{control-of, kept-cancelled}
 use Rattle.nrm_control.proofs.States.{cancelled-stands, removed-is}
 use Rattle.nrm_control.proofs.controller.Controller.cancel.Goals as goal
 

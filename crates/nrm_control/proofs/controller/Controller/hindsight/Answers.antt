@@ -3,7 +3,7 @@ use Rattle.nrm_fraction.specs.Fraction.{◌over◌}
 use Rattle.nrm_dlp.specs.Hindsight.{IsHindsight}
 use Rattle.nrm_control.specs.Standing.{BoundsRequests, ControlValue}
 use Rattle.nrm_control.proofs.Bounds.{bounds-told}
-use Rattle.nrm_control.proofs.Kept.{control-of}
+use Rattle.nrm_control.proofs.AfterCalls.{control-of}
 use Rattle.nrm_control.proofs.controller.Controller.hindsight.Goals as goal
 
 pub returns-clause-bounds : goal.returns-clause-bounds

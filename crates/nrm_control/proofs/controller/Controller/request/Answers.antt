@@ -3,7 +3,7 @@ use Rattle.nrm_plan.specs.Plans.{fare_refuses}
 use Rattle.nrm_control.specs.Standing.{ControlValue, IsInForce}
 use Rattle.nrm_control.specs.Verdict.{leg_refuses, verdict_of}
 use Rattle.nrm_control.proofs.Inventories.{fare-refused, fare-sold, found-within, own-legs, seats-cover, verdict-is}
-use Rattle.nrm_control.proofs.Kept.{control-of, kept-sold}
+use Rattle.nrm_control.proofs.AfterCalls.{control-of, kept-sold}
 use Rattle.nrm_control.proofs.States.{request-stands-through, sold-is, tallied-is}
 use Rattle.nrm_control.proofs.Tallies.{tally-small, tally-written}
 use Rattle.nrm_control.specs.declared.answer.Answer.TheVariants as answer

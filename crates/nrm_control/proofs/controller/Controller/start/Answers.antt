@@ -1,6 +1,6 @@
 use Rattle.std.proofs.Common.{subst}
 use Rattle.nrm_model.specs.Limits.{IsNetwork}
-use Rattle.nrm_control.proofs.Kept.{control-of, kept-begun}
+use Rattle.nrm_control.proofs.AfterCalls.{control-of, kept-begun}
 use Rattle.nrm_control.proofs.controller.Controller.start.Goals as goal
 
 pub invariant_of-result : goal.invariant_of-result

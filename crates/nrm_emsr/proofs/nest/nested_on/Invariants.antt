@@ -3,7 +3,7 @@ use Rattle.std.proofs.Common.{◌≡◌, ◌≤◌, All, filter, length, map}
 use Rattle.std.specs.List.{range_with_len}
 use Rattle.nrm_model.specs.Inventory.{inventory_of, uses_leg}
 use Rattle.nrm_emsr.specs.Inner.Nest.{IsOf, IsSmall, nested_of}
-use Rattle.nrm_emsr.proofs.nest.nest_of.Given as goal
+use Rattle.nrm_emsr.proofs.nest.nested_on.Given as goal
 
 abbrev pub invariant-loop-product : goal.invariant-loop-product
 invariant-loop-product l = record {

@@ -5,8 +5,8 @@ use Rattle.nrm_model.specs.Inventory.{inventory_of, uses_leg}
 use Rattle.nrm_emsr.specs.declared.nest.Nested.{Nested}
 use Rattle.nrm_emsr.specs.Inner.Nest.{IsOf, IsSmall, nested_of}
 use Rattle.nrm_number.proofs.Ranges.{push-no, push-yes}
-use Rattle.nrm_emsr.proofs.nest.nest_of.Goals as goal
-use Rattle.nrm_emsr.proofs.nest.nest_of.Goals.{then-uses_leg+in_ok-push, else-uses_leg}
+use Rattle.nrm_emsr.proofs.nest.nested_on.Goals as goal
+use Rattle.nrm_emsr.proofs.nest.nested_on.Goals.{then-uses_leg+in_ok-push, else-uses_leg}
 
 pub loop-product-preserved : goal.loop-product-preserved
 loop-product-preserved c =

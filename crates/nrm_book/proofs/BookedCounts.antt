@@ -10,9 +10,9 @@ use Rattle.nrm_book.specs.declared.booking.Booking.{Booking}
 use Rattle.nrm_book.specs.Bookings.{sold_of, sold_on}
 use Rattle.nrm_book.specs.Book.{BookValue, IsBook, IsInventory}
 use Rattle.nrm_book.specs.Seats.{SeatsValue, CanFall, CanRise, HasPair, changed, count_in, pairs_on, pairs_sold, seats_sold}
-use Rattle.nrm_book.proofs.Counted.{changed-is}
-use Rattle.nrm_book.proofs.Pairs.{lookup-kept, lookup-range}
-use Rattle.nrm_book.proofs.Totals.{sold-within}
+use Rattle.nrm_book.proofs.CountChanges.{changed-is}
+use Rattle.nrm_number.proofs.Ranges.{lookup-kept, lookup-range}
+use Rattle.nrm_book.proofs.Revenues.{sold-within}
 use Rattle.std.specs.Map.{lookup}
 use Rattle.std.proofs.lemmas.Bool.{ne_eqb}
 use Rattle.std.proofs.lemmas.Bool.Decides.{nat_tests}

@@ -8,12 +8,14 @@ use Rattle.std.proofs.lemmas.List.Elements.{All-head, All-tail, filter_passes}
 use Rattle.std.proofs.lemmas.List.Kept.{AllPairs-filter}
 use Rattle.std.specs.Map.{lookup, set_value}
 use Rattle.std.specs.Option.{unwrap_or}
-use Rattle.std.proofs.lemmas.List.FromFn.{get_or-map-range_with_len, map-range_with_len_more}
+use Rattle.std.proofs.lemmas.List.FromFn.{get_or-map-range_with_len}
 use Rattle.std.proofs.lemmas.List.Sums.{fold_more}
 use Rattle.nrm_model.specs.Inventory.{Inventory, legs_of, products_on, uses_leg}
 use Rattle.nrm_book.specs.declared.booking.Booking.{Booking}
 use Rattle.nrm_book.specs.Bookings.{sold_of, sold_on}
-use Rattle.nrm_book.proofs.Pairs.{pairs, lookup-kept, lookup-other, lookup-range, pairs-apart, range-rises, set-pairs}
+use Rattle.nrm_number.proofs.Ranges.{lookup-kept, lookup-range, pairs, range-rises}
+use Rattle.nrm_model.proofs.Lists.{map-number-more}
+use Rattle.nrm_book.proofs.NestedCounts.{lookup-other, pairs-apart, set-pairs}
 use Rattle.nrm_book.proofs.Sums.{sum-zero}
 use Rattle.nrm_book.specs.Seats.{SeatsValue, CanFall, CanRise, changed, changed_on, count_in, pairs_on, pairs_sold, seats_sold}
 
@@ -191,5 +193,4 @@ module _ (inventory : Inventory) (before after : List Booking) (change : ℕ →
 
 -- ---- none sold
 pub none-more : (inventory : Inventory) (counts after : List ℕ) (n : ℕ) → counts ≡ map (sold_on inventory []) (range_with_len 0 n) → after ≡ counts ++ 0 ∷ [] → after ≡ map (sold_on inventory []) (range_with_len 0 (n + 1))
-none-more inventory counts after n are is =
-    is ∙ (λ k. are k ++ sym (sum-zero (products_on inventory n)) k ∷ []) ∙ sym (map-range_with_len_more (sold_on inventory []) 0 n n (omega arith))
+none-more inventory counts after n are is = map-number-more (sold_on inventory []) is are (sym (sum-zero (products_on inventory n)))

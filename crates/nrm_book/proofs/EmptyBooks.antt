@@ -1,9 +1,8 @@
--- What is copied out of a network, place by place, and the empty book of it.
-use Rattle.std.proofs.Common.{ℕ, ◌≡◌, ◌≢◌, ◌∙◌, ◌+◌, ◌<◌, ◌≤◌, All, AllPairs, List, [], ◌∷◌, ◌++◌, length, get_or, map, take, slice_get, sum, Some, sym, ap, subst, arith}
-use Rattle.std.proofs.lemmas.List.{length-map, map-append, take_more}
+-- The inventory of a network, and the empty book of it.
+use Rattle.std.proofs.Common.{ℕ, ◌≡◌, ◌≢◌, ◌∙◌, ◌<◌, ◌≤◌, All, AllPairs, List, [], length, get_or, sum, sym, ap, subst, arith}
+use Rattle.std.proofs.lemmas.List.{length-map}
 use Rattle.std.proofs.lemmas.List.Elements.{All-map}
 use Rattle.std.proofs.lemmas.List.Sums.{sum_by-le}
-use Rattle.std.proofs.lemmas.Option.{get_or_from_slice_get}
 use Rattle.nrm_model.specs.declared.leg.Leg.{Leg}
 use Rattle.nrm_model.specs.declared.product.Product.{Product}
 use Rattle.nrm_model.specs.Network.{NetworkValue}
@@ -13,13 +12,6 @@ use Rattle.nrm_book.specs.declared.booking.Booking.{Booking}
 use Rattle.nrm_book.specs.Book.{BookValue, IsBook, IsInventory}
 use Rattle.nrm_book.specs.Seats.{SeatsValue, seats_sold}
 use Rattle.nrm_book.proofs.Sold.{sold_on-by_booking}
-
--- one more element
-pub map-more : {X Y : Type 0} (f : X → Y) (xs : List X) (i : ℕ) (x : X) → i < length xs → Some x ≡ slice_get xs i → map f (take i xs) ++ f x ∷ [] ≡ map f (take (i + 1) xs)
-map-more f xs i x short read =
-    let is : get_or xs i x ≡ x = get_or_from_slice_get xs i x x (sym read) in
-    let more = take_more xs i x short in
-    sym (ap (map f) more ∙ map-append f (take i xs) (get_or xs i x ∷ []) ∙ ap (λ y. map f (take i xs) ++ f y ∷ []) is)
 
 -- the inventory of a network is within its limits
 pub IsInventory-of : (net : NetworkValue) → IsNetwork net → IsInventory (inventory_of net)

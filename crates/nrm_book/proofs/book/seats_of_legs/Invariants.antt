@@ -1,6 +1,0 @@
-use Rattle.std.proofs.Common.{◌≡◌, map, take}
-use Rattle.nrm_model.specs.declared.leg.Leg.{Leg}
-use Rattle.nrm_book.proofs.book.seats_of_legs.Given as goal
-
-abbrev pub invariant-loop-i : goal.invariant-loop-i
-invariant-loop-i l = l.seats.items ≡ map (λ (leg : Leg). leg.seats) (take l.i l.net.legs)
