@@ -1,6 +1,6 @@
 -- Numbers from which multiples are taken away at some columns, one after another, and what the list of these columns is.
 use Rattle.std.proofs.Common.{◌≡◌, ℕ, zero, suc, ◌+◌, ◌*◌, ◌<◌, ◌≤◌, ◌⊎◌, inl, inr, ℤ, pos, ◌-ℤ◌, ◌*ℤ◌, nat_abs, arith, refl, sym, ap, ap₂, ◌∙◌, subst, subst₂, ◌<ℤ◌, List, [], ◌∷◌, ◌++◌, length, get_or, set, take, drop, map, cond, None, ne_eqb, All, get_or-set_same, get_or-set_other, length-take-le, to_z, of_z, w64, FitsSigned}
-use Rattle.std.proofs.lemmas.List.{take_more, take_all, drop_more, get_or_at, get_or-take, length-set, length-map}
+use Rattle.std.proofs.lemmas.List.{get_or_default, take_more, take_all, drop_more, get_or_at, get_or-take, length-set, length-map}
 use Rattle.std.specs.List.{AllPairs}
 use Rattle.std.proofs.lemmas.Int.{ints, unsigned_abs-mul}
 use Rattle.std.proofs.Math.Nat.{mul-le-mul}
@@ -228,6 +228,13 @@ listed_within us es n l p k d h = omega (arith, p.within k d h)
 
 pub listed_sizes : (us : List ℤ) (es : List (ℕ × ℤ)) (most : ℕ) → IsBounded most us → Lists us es → All (λ (e : ℕ × ℤ). nat_abs e.1 ≤ most) es
 listed_sizes us es most b p k d h = subst (λ n. nat_abs n ≤ most) (sym (p.each k d h)) (b (get_or es k d).0 (pos 0) (p.within k d h))
+
+pub listed_smalls : (us : List ℤ) (es : List (ℕ × ℤ)) → All IsSmall us → Lists us es → All (λ (e : ℕ × ℤ). IsSmall e.1) es
+listed_smalls us es b p k d h = subst IsSmall (sym (p.each k d h)) (b (get_or es k d).0 (pos 0) (p.within k d h))
+
+-- a bound on what is listed is one on all the numbers
+pub listed_bounded : (us : List ℤ) (es : List (ℕ × ℤ)) (most : ℕ) → Lists us es → ((c : ℕ) → nat_abs (number_at es c) ≤ most) → IsBounded most us
+listed_bounded us es most p b k d l = subst (λ n. nat_abs n ≤ most) (p.same k ∙ get_or_default us k (pos 0) d l) (b k)
 
 -- the numbers x e - a u stay within the bound
 crossed_at_most : (a e : ℤ) (us xs : List ℤ) (m n : ℕ) → length us ≡ length xs → IsBounded m xs → IsBounded n us → IsBounded (m * nat_abs e + nat_abs a * n) (crossed a e us xs)

@@ -31,6 +31,19 @@ pub fn greatest(nums: &[i64]) -> u64
     most
 }
 
+// The greatest in size of the numbers that are listed.
+pub fn greatest_listed(entries: &[(u16, i64)]) -> u64
+    requires { All (λ (e : ℕ × ℤ). IsSmall e.1) entries.now }
+    ensures bound { (c : ℕ) → unsigned_abs (number_at entries.now c) ≤ result }
+    ensures small { result < size_limit }
+{
+    let mut most = 0;
+    for (_, number) in entries {
+        most = larger(most, number.unsigned_abs());
+    }
+    most
+}
+
 // The columns whose number isn't 0, with their numbers.
 pub fn listed(alloc: Global, nums: &[i64]) -> Result<Vec<(u16, i64)>, AllocError>
     requires { length nums.now ≤ 577 }

@@ -19,8 +19,13 @@ fn ratio_below(xs: &[i64], ys: &[i64], p: i64, q: i64, col: usize) -> Option<boo
     requires within { col < length xs.now }
     ensures { (cols : List ℕ) → crossed_below p q xs.now ys.now (col ∷ cols) ≡ unwrap_or result (crossed_below p q xs.now ys.now cols) }
 {
-    let left = product(xs[col], q);
-    let right = product(ys[col], p);
+    let x = xs[col];
+    let y = ys[col];
+    if x == 0 && y == 0 {
+        return None;
+    }
+    let left = product(x, q);
+    let right = product(y, p);
     if left != right {
         Some(left < right)
     } else {

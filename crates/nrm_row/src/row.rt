@@ -13,7 +13,7 @@ ghost use Rattle.nrm_row.specs.Inner.Crossed.{crossed};
 ghost use Rattle.nrm_fraction.specs.Fault.{IsFault};
 
 use crate::crossed::{crossed_divisor, crossed_numbers};
-use crate::in_place::{cross_in_place, greatest, listed};
+use crate::in_place::{cross_in_place, greatest, greatest_listed, listed};
 use crate::lowest::{divided, divisor};
 use crate::numbers::{bounds, is_large, product, quotient, shared_divisor, wide_quotient};
 use crate::ratios::ratios_below;
@@ -96,7 +96,7 @@ fn unit_of(alloc: Global, den: i64, nums: &[i64]) -> Result<Unit, AllocError>
     let entries = listed(alloc, &made)?;
     Ok(Unit {
         den: lowest,
-        most: greatest(&made),
+        most: greatest_listed(&entries),
         nums: made,
         entries,
     })
@@ -158,7 +158,7 @@ impl Row {
         let nums = filled(alloc, width, entries)?;
         Ok(Row {
             den: 1,
-            most: greatest(&nums),
+            most: greatest_listed(entries),
             nums,
         })
     }
