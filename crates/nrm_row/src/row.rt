@@ -1,7 +1,7 @@
 //! A row of fractions: whole numbers over one denominator, and a bound on their sizes. A unit row has its columns listed besides.
 #![tactic(auto)]
 
-ghost use Rattle.std.specs.Prelude.{◌≡◌, ◌+◌, ◌<◌, ◌≤◌, ◌^◌, ◌<ℤ◌, ◌*ℤ◌, pos, unsigned_abs, length, map, take, drop, All, IfOk, OnErr, MatchResult, None, List, get_or};
+ghost use Rattle.std.specs.Prelude.{◌≡◌, ◌↔◌, IsTrue, ◌+◌, ◌<◌, ◌≤◌, ◌^◌, ◌<ℤ◌, ◌*ℤ◌, ℕ, ℤ, pos, unsigned_abs, length, map, take, drop, All, IfOk, OnErr, MatchResult, None, List, get_or};
 ghost use Rattle.std.specs.Int.{IsInRange};
 ghost use Rattle.std.specs.List.{range_with_len};
 ghost use Rattle.nrm_fraction.specs.Fraction.{Fraction, ◌<ᶠ◌, less, whole};
@@ -120,6 +120,14 @@ impl Model for Unit {
 }
 
 impl Unit {
+    /// The columns whose number isn't 0, rising, with their numbers.
+    pub fn entries(&self) -> &[(u16, i64)]
+        ensures within { All (λ (e : ℕ × ℤ). e.0 < length self.now) result.now }
+        ensures noughts { (c : ℕ) → number_at result.now c ≡ pos 0 → at self.now c ≡ whole (pos 0) }
+    {
+        self.entries.as_slice()
+    }
+
     /// The row, without the list.
     pub fn into_row(self) -> Row
         ensures { result ≡ self }
@@ -163,6 +171,14 @@ impl Row {
         })
     }
 
+    /// A row is never Large. It does nothing.
+    pub fn never_large(&self)
+        ensures { large_number size_limit self.now ≡ None }
+    {
+        // For the row's invariant alone.
+        let _ = &self.den;
+    }
+
     /// The least common denominator.
     pub fn den(&self) -> i64
         ensures den { result ≡ pos (common self.now) }
@@ -202,6 +218,14 @@ impl Row {
         ensures { result ≡ less (whole (pos 0)) (at self.now col) }
     {
         self.nums[usize::from(col)] > 0
+    }
+
+    /// Whether the entry at a column is 0.
+    pub fn is_nought(&self, col: u16) -> bool
+        requires { col < length self.now }
+        ensures { IsTrue result ↔ (at self.now col ≡ whole (pos 0)) }
+    {
+        self.nums[usize::from(col)] == 0
     }
 
     /// This row divided by its entry at `col`. It is never Large.

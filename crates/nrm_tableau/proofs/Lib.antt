@@ -6,3 +6,6 @@ pub mod Paths
 pub mod LastRows
 pub mod LastValue
 pub mod Changing
+pub mod RowBits
+pub mod Sets
+pub mod Pivots

@@ -8,8 +8,10 @@ ghost use Rattle.nrm_lp.specs.Limits.{IsLimited};
 ghost use Rattle.nrm_lp.specs.Program.{names};
 ghost use Rattle.nrm_lp.specs.Tableau.{first_entry, first_tableau, first_value, product_count, right_side, row_bound, row_count};
 ghost use Rattle.nrm_tableau.specs.Inner.Entries.{IsFilled};
+ghost use Rattle.nrm_tableau.specs.Inner.RowSets.{Covers, IsNoughtBut};
 
 use crate::columns::{right_side, row_count, slack};
+use crate::row_set::RowSet;
 use nrm_lp::Program;
 use nrm_row::Row;
 use std::alloc::{AllocError, Global};
@@ -40,6 +42,32 @@ pub fn first_basis(alloc: Global, program: &Program) -> Result<Vec<u16>, AllocEr
     ensures limits { IsLimited program.now }
 {
     (program.product_count()..right_side(program)).collect(alloc)
+}
+
+/// The rows that have an entry other than 0 in each column before the right side, and maybe others.
+pub fn first_sets(alloc: Global, program: &Program) -> Result<Vec<RowSet>, AllocError>
+    ensures { IfOk result (λ sets. Covers (right_side program.now) sets.items (first_tableau program.now).rows) }
+{
+    let mut sets = Vec::new(alloc);
+    for product in 0..program.product_count() {
+        sets.push(rows_of(program, product))?;
+    }
+    for row in 0..row_count(program) {
+        sets.push(RowSet::of(row))?;
+    }
+    Ok(sets)
+}
+
+// The rows of a product's legs and of its bound.
+fn rows_of(program: &Program, product: u16) -> RowSet
+    requires { product < product_count program.now }
+    ensures { IsNoughtBut result (row_count program.now) (λ row. first_entry program.now row product) }
+{
+    let mut rows = RowSet::of(u16::from(program.leg_count()) + product);
+    for leg in program.legs_of(product) {
+        rows.insert(u16::from(*leg));
+    }
+    rows
 }
 
 fn first_row(alloc: Global, program: &Program, row: u16) -> Result<Row, AllocError>

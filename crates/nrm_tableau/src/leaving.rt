@@ -7,8 +7,10 @@ ghost use Rattle.nrm_fraction.specs.Fraction.{◌<ᶠ◌, less, whole};
 ghost use Rattle.nrm_fraction.specs.Rows.{at, ratios};
 ghost use Rattle.nrm_lp.specs.Tableau.{better, entering_from, key_columns, leaving_from, right_side, row_count};
 ghost use Rattle.nrm_tableau.specs.Inner.Best.{IsCandidate, listed, wins_over};
+ghost use Rattle.nrm_tableau.specs.Inner.RowSets.{IsNoughtBut};
 
 use crate::columns::row_count;
+use crate::row_set::RowSet;
 use nrm_lp::Program;
 use nrm_row::Row;
 
@@ -24,16 +26,20 @@ pub fn entering_column(value: &Row) -> Option<u16>
     None
 }
 
-/// The row that leaves for the column, if some row has a positive entry in it. The walk begins at the last row.
-pub fn leaving_row(program: &Program, rows: &[Row], col: u16) -> Option<u16>
+/// The row that leaves for the column, if some row has a positive entry in it; `touched` has the rows to be looked at. The walk
+/// begins at the last row.
+pub fn leaving_row(program: &Program, rows: &[Row], col: u16, touched: &RowSet) -> Option<u16>
     requires before { col < right_side program.now }
     requires count { length rows.now ≡ row_count program.now }
     requires widths { All (λ row. length row ≡ suc (right_side program.now)) rows.now }
+    requires noughts { IsNoughtBut touched.now (length rows.now) (λ row. at (get_or rows.now row []) col) }
     ensures { result ≡ option_map (λ found. found.0) (leaving_from (key_columns program.now) col 0 rows.now) }
 {
     let mut best = None;
     for row in (0..row_count(program)).rev() {
-        best = better_row(program, rows, row, best, col);
+        if touched.contains(row) {
+            best = better_row(program, rows, row, best, col);
+        }
     }
     best
 }

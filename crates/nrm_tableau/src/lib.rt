@@ -8,6 +8,7 @@ mod first;
 mod laws;
 mod leaving;
 mod pivot;
+mod row_set;
 mod tableau;
 #[cfg(test)]
 mod tests;
