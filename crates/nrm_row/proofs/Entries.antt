@@ -16,11 +16,11 @@ use Rattle.nrm_fraction.proofs.Lowest.{common_pos}
 use Rattle.nrm_fraction.proofs.Embed.{den-dvd-common}
 use native.Mathlib.Nat.{div-mul_cancel}
 use Rattle.nrm_fraction.proofs.Field.{IsValue_whole, below_to, <ᶠ_irrefl}
-use Rattle.nrm_fraction.proofs.Tests.{less_unless}
+use Rattle.nrm_fraction.proofs.Tests.{less-is, less_unless}
 use Rattle.std.proofs.lemmas.Int.{ints}
 use Rattle.nrm_row.specs.Numbers.{IsRow}
 use Rattle.nrm_row.specs.Inner.Crossed.{shrunk, crossed_below}
-use Rattle.nrm_row.proofs.RatioLaws.{less_values, unit_is, crossed_below_is, ratio_columns_within}
+use Rattle.nrm_row.proofs.RatioLaws.{unit_is, crossed_below_is, ratio_columns_within}
 use Rattle.nrm_row.proofs.LowestTerms.{row_length, lowest_same, small_is_row, row_not_large}
 use Rattle.nrm_fraction.proofs.Sizes.{positive_abs}
 
@@ -45,24 +45,24 @@ entry_value row col h = record {
 
 pub negative_is : (row : List Fraction) (col : ℕ) → col < length row → int_lt (get_or (numerators (common row) row) col (pos 0)) (pos 0) ≡ less (at row col) (whole (pos 0))
 negative_is row col h =
-    sym (less_values (at row col) (whole (pos 0)) (get_or (numerators (common row) row) col (pos 0)) (pos 0) (common row) 1 (entry_value row col h) (IsValue_whole (pos 0))
+    sym (less-is (at row col) (whole (pos 0)) (get_or (numerators (common row) row) col (pos 0)) (pos 0) (common row) 1 (entry_value row col h) (IsValue_whole (pos 0))
     ∙ ap₂ int_lt (times_one (get_or (numerators (common row) row) col (pos 0))) (nought_times (pos (common row))))
 
 pub positive_is : (row : List Fraction) (col : ℕ) → col < length row → int_lt (pos 0) (get_or (numerators (common row) row) col (pos 0)) ≡ less (whole (pos 0)) (at row col)
 positive_is row col h =
-    sym (less_values (whole (pos 0)) (at row col) (pos 0) (get_or (numerators (common row) row) col (pos 0)) 1 (common row) (IsValue_whole (pos 0)) (entry_value row col h)
+    sym (less-is (whole (pos 0)) (at row col) (pos 0) (get_or (numerators (common row) row) col (pos 0)) 1 (common row) (IsValue_whole (pos 0)) (entry_value row col h)
     ∙ ap₂ int_lt (nought_times (pos (common row))) (times_one (get_or (numerators (common row) row) col (pos 0))))
 
 -- the same of a number over any denominator
 pub negative_over : (d : ℤ) (ns : List ℤ) (row : List Fraction) (col : ℕ) → pos 0 <ℤ d → fractions (nat_abs d) ns ≡ row → col < length ns → int_lt (get_or ns col (pos 0)) (pos 0) ≡ less (at row col) (whole (pos 0))
 negative_over d ns row col h e w =
-    sym (less_values (get_or ns col (pos 0) over nat_abs d) (whole (pos 0)) (get_or ns col (pos 0)) (pos 0) (nat_abs d) 1 (IsValue_over (get_or ns col (pos 0)) (nat_abs d) (positive_abs d h).1) (IsValue_whole (pos 0))
+    sym (less-is (get_or ns col (pos 0) over nat_abs d) (whole (pos 0)) (get_or ns col (pos 0)) (pos 0) (nat_abs d) 1 (IsValue_over (get_or ns col (pos 0)) (nat_abs d) (positive_abs d h).1) (IsValue_whole (pos 0))
     ∙ ap₂ int_lt (times_one (get_or ns col (pos 0))) (nought_times (pos (nat_abs d))))
     ∙ ap (λ x. less x (whole (pos 0))) (sym (entry_is (nat_abs d) ns col w) ∙ ap (λ xs. at xs col) e)
 
 pub positive_over : (d : ℤ) (ns : List ℤ) (row : List Fraction) (col : ℕ) → pos 0 <ℤ d → fractions (nat_abs d) ns ≡ row → col < length ns → int_lt (pos 0) (get_or ns col (pos 0)) ≡ less (whole (pos 0)) (at row col)
 positive_over d ns row col h e w =
-    sym (less_values (whole (pos 0)) (get_or ns col (pos 0) over nat_abs d) (pos 0) (get_or ns col (pos 0)) 1 (nat_abs d) (IsValue_whole (pos 0)) (IsValue_over (get_or ns col (pos 0)) (nat_abs d) (positive_abs d h).1)
+    sym (less-is (whole (pos 0)) (get_or ns col (pos 0) over nat_abs d) (pos 0) (get_or ns col (pos 0)) 1 (nat_abs d) (IsValue_whole (pos 0)) (IsValue_over (get_or ns col (pos 0)) (nat_abs d) (positive_abs d h).1)
     ∙ ap₂ int_lt (nought_times (pos (nat_abs d))) (times_one (get_or ns col (pos 0))))
     ∙ ap (λ x. less (whole (pos 0)) x) (sym (entry_is (nat_abs d) ns col w) ∙ ap (λ xs. at xs col) e)
 

@@ -1,4 +1,5 @@
 -- Numbers written at their columns, one entry after another.
+use Rattle.nrm_row.specs.declared.limits.TheConstants.{MOST_COLUMNS}
 use Rattle.std.proofs.Common.{nat_abs, ◌≡◌, ℕ, suc, ◌+◌, ◌<◌, ◌≤◌, ◌⊎◌, inl, inr, ℤ, pos, arith, refl, sym, ap, ◌∙◌, List, [], ◌∷◌, ◌++◌, length, get_or, set, take, map, cond, Bool, true, false, subst, eqb, eq-eqb, ne_eqb, to_z, of_z, w64, get_or-set_same, get_or-set_other, length-take-le}
 use Rattle.std.proofs.lemmas.List.{take_more, take_all, get_or-take, length-set}
 use Rattle.std.proofs.lemmas.List.FromFn.{get_or-map-range_with_len, length-map-range_with_len}
@@ -90,7 +91,7 @@ number_in_place width es ns k d e l = ap (λ t. get_or t k d) e ∙ get_or-map-r
 pub filled_bounded : (width : ℕ) (es : List (ℕ × ℤ)) (ns : List ℤ) (most : ℕ) → ns ≡ map (λ c. number_at es c) (range_with_len 0 width) → ((c : ℕ) → nat_abs (number_at es c) ≤ most) → IsBounded most ns
 filled_bounded width es ns most e b k d l = subst (λ n. nat_abs n ≤ most) (sym (number_in_place width es ns k d e l)) (b k)
 
-pub row_of_numbers : (width : ℕ) (es : List (ℕ × ℤ)) (ns : List ℤ) → IsInRange 1 577 width → AreEntries width es → ns ≡ map (λ c. number_at es c) (range_with_len 0 width) → IsRow (pos 1) ns
+pub row_of_numbers : (width : ℕ) (es : List (ℕ × ℤ)) (ns : List ℤ) → IsInRange 1 MOST_COLUMNS width → AreEntries width es → ns ≡ map (λ c. number_at es c) (range_with_len 0 width) → IsRow (pos 1) ns
 row_of_numbers width es ns w a e = record {
   positive = omega (arith, ints);
   small = omega arith;
@@ -101,7 +102,7 @@ row_of_numbers width es ns w a e = record {
     long : length ns ≡ width
     long = ap length e ∙ length-map-range_with_len (λ c. number_at es c) 0 width
 
-    wide : IsInRange 1 577 (length ns)
+    wide : IsInRange 1 MOST_COLUMNS (length ns)
     wide = (omega (arith, w.0, long), omega (arith, w.1, long))
 
     small : (k : ℕ) (d : ℤ) → k < length ns → IsSmall (get_or ns k d)

@@ -1,7 +1,9 @@
 //! A row of fractions: whole numbers over one denominator, and a bound on their sizes. A unit row has its columns listed besides.
 #![tactic(auto)]
 
-ghost use Rattle.std.specs.Prelude.{◌≡◌, ◌↔◌, IsTrue, ◌+◌, ◌<◌, ◌≤◌, ◌^◌, ◌<ℤ◌, ◌*ℤ◌, ℕ, ℤ, pos, unsigned_abs, length, map, take, drop, All, IfOk, OnErr, MatchResult, None, List, get_or};
+ghost use Rattle.nrm_row.specs.declared.limits.TheConstants.{MOST_COLUMNS};
+ghost use Rattle.std.specs.Prelude.{◌≡◌, ◌↔◌, IsTrue, ◌+◌, ◌<◌, ◌≤◌, ◌^◌, ◌<ℤ◌, ◌*ℤ◌, ℕ, ℤ, pos};
+ghost use Rattle.std.specs.Prelude.{unsigned_abs, length, map, take, drop, All, IfOk, OnErr, MatchResult, None, List, get_or};
 ghost use Rattle.std.specs.Int.{IsInRange};
 ghost use Rattle.std.specs.List.{range_with_len};
 ghost use Rattle.nrm_fraction.specs.Fraction.{Fraction, ◌<ᶠ◌, less, whole};
@@ -38,7 +40,7 @@ fn lowest_row(alloc: Global, den: i64, nums: &[i64]) -> Result<Row, AllocError>
     requires positive { pos 0 <ℤ den }
     requires small { IsSmall den }
     requires smalls { All IsSmall nums.now }
-    requires width { IsInRange 1 577 (length nums.now) }
+    requires width { IsInRange 1 MOST_COLUMNS (length nums.now) }
     ensures { IfOk result (λ row. row ≡ fractions (unsigned_abs den) nums.now) }
 {
     let common = divisor(den, nums);
@@ -87,7 +89,7 @@ fn unit_of(alloc: Global, den: i64, nums: &[i64]) -> Result<Unit, AllocError>
     requires positive { pos 0 <ℤ den }
     requires small { IsSmall den }
     requires smalls { All IsSmall nums.now }
-    requires width { IsInRange 1 577 (length nums.now) }
+    requires width { IsInRange 1 MOST_COLUMNS (length nums.now) }
     ensures { IfOk result (λ row. row ≡ fractions (unsigned_abs den) nums.now) }
 {
     let common = divisor(den, nums);
@@ -159,7 +161,7 @@ impl Model for Row {
 impl Row {
     /// The row of this width with whole numbers at these columns, and 0 elsewhere.
     pub fn of(alloc: Global, width: u16, entries: &[(u16, i64)]) -> Result<Row, AllocError>
-        requires width { IsInRange 1 577 width }
+        requires width { IsInRange 1 MOST_COLUMNS width }
         requires entries { AreEntries width entries.now }
         ensures { IfOk result (λ row. row ≡ row_of width entries.now) }
     {
@@ -196,10 +198,10 @@ impl Row {
         quotient(self.nums[usize::from(col)], divisor(self.den, &self.nums))
     }
 
-    /// How many columns the row has, the right side counted: 1 to 577.
+    /// How many columns the row has, the right side counted: 1 to `MOST_COLUMNS`.
     pub fn width(&self) -> u16
         ensures width { result ≡ length self.now }
-        ensures within { IsInRange 1 577 result }
+        ensures within { IsInRange 1 MOST_COLUMNS result }
     {
         self.nums.len() as u16
     }
@@ -257,7 +259,8 @@ impl Row {
         requires from_within { from < length self.now }
         requires positive { whole (pos 0) <ᶠ at self.now col }
         requires other_positive { whole (pos 0) <ᶠ at other.now col }
-        ensures { result ≡ lex_below (ratios (ratio_columns from (length self.now)) col self.now) (ratios (ratio_columns from (length self.now)) col other.now) }
+        ensures { let columns = ratio_columns from (length self.now) in
+            result ≡ lex_below (ratios columns col self.now) (ratios columns col other.now) }
     {
         ratios_below(&self.nums, &other.nums, usize::from(col), usize::from(from))
     }
@@ -267,7 +270,9 @@ impl Row {
         requires widths { length unit.now ≡ length self.old }
         requires within { col < length self.old }
         ensures row { let exact = combined col unit.now self.old in
-            MatchResult result (λ _. (self.new ≡ exact) × (large_number size_limit exact ≡ None)) (λ f. IsFault f (large_number size_limit exact)) }
+            MatchResult result
+            (λ _. (self.new ≡ exact) × (large_number size_limit exact ≡ None))
+            (λ f. IsFault f (large_number size_limit exact)) }
         ensures kept { OnErr result (self.new ≡ self.old) }
     {
         // For the unit row's invariant alone.

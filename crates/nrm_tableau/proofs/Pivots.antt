@@ -15,7 +15,7 @@ use Rattle.nrm_lp.specs.Path.{after, next_at, next_of, row_number}
 use Rattle.nrm_lp.specs.Overflow.{large_at, made_large, pivot_large, rows_but}
 use Rattle.nrm_lp.proofs.Rule.{IsLeaving, leaving_exists}
 use Rattle.nrm_lp.proofs.Tables.{row_same}
-use Rattle.nrm_tableau.specs.Inner.RowSets.{Covers, IsNoughtBut, IsTableau, row_bit}
+use Rattle.nrm_tableau.specs.RowSets.{Covers, IsNoughtBut, IsTableau, row_bit}
 use Rattle.nrm_tableau.specs.Value.{TableauValue, IsOnPath}
 use Rattle.nrm_tableau.proofs.Changing.{set_again, written_whole}
 use Rattle.nrm_tableau.proofs.Faults.{but-map, but-set, fault_back, fault_front, fault_row, small_both, small_row}

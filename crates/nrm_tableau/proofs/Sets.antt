@@ -12,7 +12,7 @@ use Rattle.nrm_row.proofs.Filled.{past_last}
 use Rattle.nrm_lp.specs.Program.{ProgramValue, names}
 use Rattle.nrm_lp.specs.Tableau.{Tableau, first_entry, first_tableau, one_if, pivot, product_count, right_side, row_count, slack}
 use Rattle.nrm_lp.proofs.Tables.{at-divided, at-minus_times, bound_entry, first_at, first_rows, leg_entry, row_other, row_same, slack_entry}
-use Rattle.nrm_tableau.specs.Inner.RowSets.{Covers, IsNoughtBut, row_bit}
+use Rattle.nrm_tableau.specs.RowSets.{Covers, IsNoughtBut, row_bit}
 use Rattle.nrm_tableau.proofs.RowBits.{one_nought, same_or_not}
 
 -- ---- a row with a 0 in the column

@@ -8,7 +8,7 @@ ghost use Rattle.nrm_lp.specs.Limits.{IsLimited};
 ghost use Rattle.nrm_lp.specs.Program.{names};
 ghost use Rattle.nrm_lp.specs.Tableau.{first_entry, first_tableau, first_value, product_count, right_side, row_bound, row_count};
 ghost use Rattle.nrm_tableau.specs.Inner.Entries.{IsFilled};
-ghost use Rattle.nrm_tableau.specs.Inner.RowSets.{Covers, IsNoughtBut};
+ghost use Rattle.nrm_tableau.specs.RowSets.{Covers, IsNoughtBut};
 
 use crate::columns::{right_side, row_count, slack};
 use crate::row_set::RowSet;
@@ -17,7 +17,7 @@ use nrm_row::Row;
 use std::alloc::{AllocError, Global};
 
 /// The constraint rows: those of the legs, then those of the bounds.
-pub fn first_rows(alloc: Global, program: &Program) -> Result<Vec<Row>, AllocError>
+pub(crate) fn first_rows(alloc: Global, program: &Program) -> Result<Vec<Row>, AllocError>
     ensures { IfOk result (λ rows. rows.items ≡ (first_tableau program.now).rows) }
 {
     let mut rows = Vec::new(alloc);
@@ -29,7 +29,7 @@ pub fn first_rows(alloc: Global, program: &Program) -> Result<Vec<Row>, AllocErr
 }
 
 /// The value row: each fare with its sign turned.
-pub fn first_value(alloc: Global, program: &Program) -> Result<Row, AllocError>
+pub(crate) fn first_value(alloc: Global, program: &Program) -> Result<Row, AllocError>
     ensures { IfOk result (λ row. row ≡ (first_tableau program.now).value) }
 {
     let entries = turned_fares(alloc, program)?;
@@ -37,7 +37,7 @@ pub fn first_value(alloc: Global, program: &Program) -> Result<Row, AllocError>
 }
 
 /// The basic columns: each row's own slack.
-pub fn first_basis(alloc: Global, program: &Program) -> Result<Vec<u16>, AllocError>
+pub(crate) fn first_basis(alloc: Global, program: &Program) -> Result<Vec<u16>, AllocError>
     ensures basis { IfOk result (λ basis. basis.items ≡ (first_tableau program.now).basis) }
     ensures limits { IsLimited program.now }
 {
@@ -45,7 +45,7 @@ pub fn first_basis(alloc: Global, program: &Program) -> Result<Vec<u16>, AllocEr
 }
 
 /// The rows that have an entry other than 0 in each column before the right side, and maybe others.
-pub fn first_sets(alloc: Global, program: &Program) -> Result<Vec<RowSet>, AllocError>
+pub(crate) fn first_sets(alloc: Global, program: &Program) -> Result<Vec<RowSet>, AllocError>
     ensures { IfOk result (λ sets. Covers (right_side program.now) sets.items (first_tableau program.now).rows) }
 {
     let mut sets = Vec::new(alloc);
@@ -93,7 +93,8 @@ fn leg_row(alloc: Global, program: &Program, leg: u8) -> Result<Row, AllocError>
 
 fn bound_row(alloc: Global, program: &Program, product: u16) -> Result<Row, AllocError>
     requires { product < product_count program.now }
-    ensures { IfOk result (λ made. made ≡ map (first_entry program.now (length program.now.caps + product)) (range_with_len 0 (suc (right_side program.now)))) }
+    ensures { let columns = range_with_len 0 (suc (right_side program.now)) in
+        IfOk result (λ made. made ≡ map (first_entry program.now (length program.now.caps + product)) columns) }
 {
     let entries = vec![in alloc; (product, 1)]?;
     let bound = program.bounds()[usize::from(product)];

@@ -8,14 +8,14 @@ ghost use Rattle.nrm_fraction.specs.Large.{first_large, large_number, size_limit
 ghost use Rattle.nrm_fraction.specs.Rows.{at, combine as combined, number_at, unit_row};
 ghost use Rattle.nrm_lp.specs.Overflow.{rows_but};
 ghost use Rattle.nrm_fraction.specs.Fault.{IsFault};
-ghost use Rattle.nrm_tableau.specs.Inner.RowSets.{IsNoughtBut, row_bit};
+ghost use Rattle.nrm_tableau.specs.RowSets.{IsNoughtBut, row_bit};
 
 use crate::row_set::RowSet;
 use nrm_row::{Row, RowFault, Unit};
 use std::alloc::Global;
 
 /// The pivot row divided by its entry.
-pub fn pivot_row(alloc: Global, rows: &[Row], row: u16, col: u16) -> Result<Unit, RowFault>
+pub(crate) fn pivot_row(alloc: Global, rows: &[Row], row: u16, col: u16) -> Result<Unit, RowFault>
     requires within { row < length rows.now }
     requires before { col < length (get_or rows.now row []) }
     requires positive { whole (pos 0) <ᶠ at (get_or rows.now row []) col }
@@ -28,7 +28,7 @@ pub fn pivot_row(alloc: Global, rows: &[Row], row: u16, col: u16) -> Result<Unit
 
 /// Takes the unit row away from each constraint row but the pivot row. `touched` has every row with an entry other than 0 in
 /// the column; those that have one are put into `changed`.
-pub fn combine_others(
+pub(crate) fn combine_others(
     alloc: Global,
     rows: &mut [Row],
     row: u16,
@@ -46,7 +46,8 @@ pub fn combine_others(
         MatchResult result
         (λ _. (rows.new ≡ set (map (combined col unit.now) rows.old) row (get_or rows.old row [])) × (first_large size_limit others ≡ None))
         (λ f. IsFault f (first_large size_limit others)) }
-    ensures changed { OnOk result ((r : ℕ) → r < length rows.old → r ≢ row → row_bit changed.new r ≡ 0 → at (get_or rows.old r []) col ≡ whole (pos 0)) }
+    ensures changed { OnOk result ((r : ℕ) → r < length rows.old → r ≢ row
+        → row_bit changed.new r ≡ 0 → at (get_or rows.old r []) col ≡ whole (pos 0)) }
 {
     let at = usize::from(row);
     combine_each(alloc, &mut rows[..at], 0, unit, col, touched, changed)?;
@@ -80,7 +81,8 @@ fn combine_each(
         MatchResult result
         (λ _. (rows.new ≡ made) × (first_large size_limit made ≡ None))
         (λ f. IsFault f (first_large size_limit made)) }
-    ensures changed { OnOk result ((k : ℕ) → k < length rows.old → row_bit changed.new (first + k) ≡ 0 → at (get_or rows.old k []) col ≡ whole (pos 0)) }
+    ensures changed { OnOk result ((k : ℕ) → k < length rows.old
+        → row_bit changed.new (first + k) ≡ 0 → at (get_or rows.old k []) col ≡ whole (pos 0)) }
     ensures kept { (r : ℕ) → row_bit changed.old r ≡ 1 → row_bit changed.new r ≡ 1 }
 {
     for place in 0..rows.len() {
@@ -106,7 +108,7 @@ fn has_entry(row: &Row, col: u16, number: u16, touched: &RowSet) -> bool
 }
 
 /// Puts the rows that changed into the set of each column of the unit row.
-pub fn spread(sets: &mut [RowSet], changed: &RowSet, entries: &[(u16, i64)])
+pub(crate) fn spread(sets: &mut [RowSet], changed: &RowSet, entries: &[(u16, i64)])
     ensures length { length sets.new ≡ length sets.old }
     ensures bits { (c r : ℕ) → c < length sets.old → row_bit (get_or sets.new c []) r ≡ 0
         → (row_bit (get_or sets.old c []) r ≡ 0) × ((row_bit changed.now r ≡ 0) ⊎ (number_at entries.now c ≡ pos 0)) }

@@ -2,7 +2,7 @@
 #![tactic(auto)]
 
 ghost use Rattle.std.specs.Prelude.{◌≡◌, ◌<◌, ◌↔◌, ℕ, IsTrue};
-ghost use Rattle.nrm_tableau.specs.Inner.RowSets.{row_bit};
+ghost use Rattle.nrm_tableau.specs.RowSets.{row_bit};
 
 use std::marker::Model;
 

@@ -37,13 +37,18 @@ pub struct Tableau<'a> {
 
 impl<'a> Model for Tableau<'a> {
     ghost use Rattle.nrm_tableau.specs.Value.{TableauValue};
-    ghost use Rattle.nrm_tableau.specs.Inner.RowSets.{IsTableau};
+    ghost use Rattle.nrm_tableau.specs.RowSets.{IsTableau};
 
     ghost Value = { TableauValue };
 
-    ghost view = { λ t. record { program = t.program.now; table = record { rows = t.rows.items; value = t.value; basis = t.basis.items } } };
+    ghost view = { λ t. record {
+      program = t.program.now;
+      table = record { rows = t.rows.items; value = t.value; basis = t.basis.items };
+    } };
 
-    ghost invariant = { λ t. IsTableau (record { program = t.program.now; table = record { rows = t.rows.items; value = t.value; basis = t.basis.items } }) t.sets.items };
+    ghost invariant = { λ t. IsTableau
+        (record { program = t.program.now; table = record { rows = t.rows.items; value = t.value; basis = t.basis.items } })
+        t.sets.items };
 }
 
 impl<'a> Tableau<'a> {

@@ -1,3 +1,4 @@
+-- The numbers of the entries so far are within the greatest.
 use Rattle.std.proofs.Common.{ℕ, ◌<◌, ◌≤◌, take, nat_abs}
 use Rattle.nrm_fraction.specs.Large.{size_limit}
 use Rattle.nrm_fraction.specs.Rows.{number_at}

@@ -1,3 +1,4 @@
+-- The sets are those of the columns so far.
 use Rattle.std.proofs.Common.{◌+◌}
 use Rattle.nrm_lp.specs.Tableau.{product_count}
 use Rattle.nrm_tableau.proofs.Sets.{CoversTo}

@@ -2,7 +2,7 @@
 use Rattle.std.proofs.Common.{◌≡◌, ◌+◌, ◌∙◌, refl, ap, sym, subst, arith, length, take, get_or, []}
 use Rattle.std.proofs.lemmas.List.{take_all}
 use Rattle.std.proofs.lemmas.Option.{get_or_from_slice_get}
-use Rattle.nrm_tableau.specs.Inner.RowSets.{row_bit}
+use Rattle.nrm_tableau.specs.RowSets.{row_bit}
 use Rattle.nrm_tableau.proofs.Sets.{HasLegs, legs_more, legs_cover}
 use Rattle.nrm_tableau.proofs.first.rows_of.Goals as goal
 

@@ -1,3 +1,4 @@
+-- The set has the row of the bound, and those of the legs so far.
 use Rattle.std.proofs.Common.{◌+◌, length, take}
 use Rattle.nrm_tableau.proofs.Sets.{HasLegs}
 use Rattle.nrm_tableau.proofs.first.rows_of.Given as goal

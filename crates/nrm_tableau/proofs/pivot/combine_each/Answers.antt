@@ -9,7 +9,7 @@ use Rattle.nrm_fraction.specs.Rows.{at, combine}
 use Rattle.nrm_fraction.specs.Fault.{IsFault}
 use Rattle.nrm_tableau.proofs.Faults.{fault_at, small_more}
 use Rattle.nrm_tableau.proofs.Changing.{passed_by, still_there}
-use Rattle.nrm_tableau.specs.Inner.RowSets.{row_bit}
+use Rattle.nrm_tableau.specs.RowSets.{row_bit}
 use Rattle.nrm_tableau.proofs.RowBits.{one_nought, up_to, without}
 use Rattle.nrm_tableau.proofs.Sets.{uncombined}
 use Rattle.nrm_tableau.proofs.pivot.combine_each.Goals as goal

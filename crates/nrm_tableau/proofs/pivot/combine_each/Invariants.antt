@@ -1,8 +1,9 @@
+-- The rows so far are combined, and those of them that changed are in the set.
 use Rattle.std.proofs.Common.{◌≡◌, ◌<◌, ◌+◌, ◌++◌, ℕ, pos, [], get_or, map, take, drop, None}
 use Rattle.nrm_fraction.specs.Fraction.{whole}
 use Rattle.nrm_fraction.specs.Large.{first_large, size_limit}
 use Rattle.nrm_fraction.specs.Rows.{at, combine}
-use Rattle.nrm_tableau.specs.Inner.RowSets.{row_bit}
+use Rattle.nrm_tableau.specs.RowSets.{row_bit}
 use Rattle.nrm_tableau.proofs.pivot.combine_each.Given as goal
 
 abbrev pub invariant-loop-place : goal.invariant-loop-place

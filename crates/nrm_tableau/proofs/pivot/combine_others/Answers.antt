@@ -9,7 +9,7 @@ use Rattle.nrm_fraction.specs.Rows.{at, combine}
 use Rattle.nrm_fraction.specs.Fault.{IsFault}
 use Rattle.nrm_tableau.proofs.Changing.{slice_is, slice_widths, parts_put}
 use Rattle.nrm_tableau.proofs.Faults.{behind_is, fault_front, fault_back, small_both, others_are}
-use Rattle.nrm_tableau.specs.Inner.RowSets.{row_bit}
+use Rattle.nrm_tableau.specs.RowSets.{row_bit}
 use Rattle.nrm_tableau.proofs.RowBits.{without}
 use Rattle.nrm_tableau.proofs.pivot.combine_others.Goals as goal
 

@@ -1,7 +1,7 @@
 -- One more entry, at a column that has a set or past them.
 use Rattle.std.proofs.Common.{◌≡◌, ◌<◌, ◌≤◌, ◌+◌, ◌∙◌, ◌∷◌, ◌++◌, set, ℕ, ℤ, pos, ap, sym, subst, arith, length, take, get_or, []}
 use Rattle.std.proofs.lemmas.List.{get_or_default, take_more}
-use Rattle.nrm_tableau.specs.Inner.RowSets.{row_bit}
+use Rattle.nrm_tableau.specs.RowSets.{row_bit}
 use Rattle.nrm_tableau.proofs.Sets.{IsSpreadTo, spread_more, spread_past}
 use Rattle.nrm_tableau.proofs.pivot.spread.Goals as goal
 use Rattle.nrm_tableau.proofs.pivot.spread.Goals.{then-place-sets, else-place-sets}

@@ -1,3 +1,4 @@
+-- The sets have the rows that changed at the columns so far.
 use Rattle.std.proofs.Common.{take}
 use Rattle.nrm_tableau.proofs.Sets.{IsSpreadTo}
 use Rattle.nrm_tableau.proofs.pivot.spread.Given as goal

@@ -1,3 +1,4 @@
+-- The numbers of the entries are a row over 1, bounded as the entries are.
 use Rattle.nrm_row.proofs.Filled.{row_of_numbers, row_of_is, filled_bounded}
 use Rattle.nrm_row.proofs.row.Row.of.Goals as goal
 

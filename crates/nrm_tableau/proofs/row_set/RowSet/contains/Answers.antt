@@ -1,3 +1,4 @@
+-- The bit that is asked is that of the row.
 use Rattle.nrm_tableau.proofs.RowBits.{has_row}
 use Rattle.nrm_tableau.proofs.row_set.RowSet.contains.Goals as goal
 

@@ -1,5 +1,6 @@
+-- All words are joined.
 use Rattle.std.proofs.Common.{◌≡◌, arith, subst}
-use Rattle.nrm_tableau.specs.Inner.RowSets.{row_bit}
+use Rattle.nrm_tableau.specs.RowSets.{row_bit}
 use Rattle.nrm_tableau.proofs.RowBits.{IsJoinedTo, joined_bits}
 use Rattle.nrm_tableau.proofs.row_set.RowSet.join.Goals as goal
 

@@ -1,3 +1,4 @@
+-- The words so far are joined.
 use Rattle.nrm_tableau.proofs.RowBits.{IsJoinedTo}
 use Rattle.nrm_tableau.proofs.row_set.RowSet.join.Given as goal
 
