@@ -7,13 +7,13 @@ use Rattle.std.specs.Int.RustNames.{int_lt}
 use Rattle.nrm_number.proofs.Integers.{ring_ℤ}
 use Rattle.nrm_number.proofs.Ring.{solve, v0, v1, v2}
 use Rattle.nrm_number.proofs.Ring.Expr.{◌⊗◌, e1}
-use Rattle.nrm_fraction.specs.Fraction.{Fraction, ◌over◌, ◌*ᶠ◌, ◌/ᶠ◌, inverse, less, whole}
+use Rattle.nrm_fraction.specs.Fraction.{◌over◌, ◌*ᶠ◌, ◌/ᶠ◌, inverse, less, whole}
 use Rattle.nrm_fraction.specs.Large.{fractions}
 use Rattle.nrm_fraction.specs.Lex.{lex_below}
 use Rattle.nrm_fraction.specs.Rows.{at, unit_row, ratio_columns, ratios}
 use Rattle.nrm_row.specs.Inner.Crossed.{crossed_below}
-use Rattle.nrm_fraction.proofs.Values.{IsValue, IsValue_over, IsValue_product, same_value}
-use Rattle.nrm_fraction.proofs.Field.{ring_F, *ᶠ-inverse, below_from, below_to, positive_value, num_not_nought}
+use Rattle.nrm_fraction.proofs.Values.{IsValue_over, IsValue_product, same_value}
+use Rattle.nrm_fraction.proofs.Field.{ring_F, *ᶠ-inverse, positive_value, num_not_nought}
 use Rattle.nrm_fraction.proofs.Tests.{less-is}
 
 -- (n / d) / (m / d) is n / m

@@ -1,5 +1,5 @@
 -- How far `solve` has walked on a program's path, and what each step of it and its end say.
-use Rattle.std.proofs.Common.{◌≡◌, ℕ, suc, ◌+◌, ◌-◌, ◌^◌, ◌<◌, inl, inr, arith, refl, sym, ap, ◌∙◌, subst, List, Option, Some, None, Result, Ok, Err, MatchResult, IfOk, min}
+use Rattle.std.proofs.Common.{◌≡◌, ℕ, suc, ◌+◌, ◌-◌, ◌^◌, ◌<◌, inl, inr, arith, refl, sym, ap, ◌∙◌, subst, List, Some, None, Result, Ok, Err, MatchResult, IfOk, min}
 use Rattle.std.specs.Option.{option_map}
 use Rattle.nrm_fraction.specs.Fraction.{Fraction}
 use Rattle.nrm_lp.specs.declared.certificate.Certificate.{Certificate}

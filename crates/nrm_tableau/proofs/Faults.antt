@@ -1,7 +1,7 @@
 -- The first Large row of rows that are made in turn, and the rows after a pivot.
-use Rattle.std.proofs.Common.{◌≡◌, ℕ, zero, suc, ◌+◌, ◌-◌, ◌<◌, ◌≤◌, arith, refl, sym, ap, ◌∙◌, subst, ℤ, List, [], ◌∷◌, ◌++◌, map, set, take, drop, length, get_or, Option, Some, None}
+use Rattle.std.proofs.Common.{◌≡◌, ℕ, zero, suc, ◌+◌, ◌-◌, ◌<◌, arith, refl, sym, ap, ◌∙◌, subst, ℤ, List, [], ◌∷◌, ◌++◌, map, set, take, drop, length, get_or, Option, Some, None}
 use Rattle.std.proofs.lemmas.Option.{none-some}
-use Rattle.std.proofs.lemmas.List.{map-append, take-append-drop, drop_more, take_more, take_rest, append_assoc}
+use Rattle.std.proofs.lemmas.List.{map-append, take-append-drop, drop_more, take_more, take_rest}
 use Rattle.nrm_fraction.specs.Fraction.{Fraction}
 use Rattle.nrm_fraction.specs.Large.{first_large, first_of_two, large_number}
 use Rattle.nrm_lp.specs.Overflow.{rows_but}

@@ -1,24 +1,18 @@
 -- A table on its program's path: what is known of it, its entering column and its leaving row.
-use Rattle.std.proofs.Common.{◌≡◌, ℕ, zero, suc, ◌+◌, ◌<◌, ◌⊎◌, inl, inr, pos, arith, refl, sym, ap, ◌∙◌, subst, List, [], ◌∷◌, ◌++◌, map, set, length, get_or, All, Option, Some, None, IfSome, true}
+use Rattle.std.proofs.Common.{◌≡◌, ℕ, zero, suc, ◌+◌, ◌<◌, pos, arith, refl, sym, ap, ◌∙◌, subst, List, [], length, All, Option, Some, None, IfSome, true}
 use Rattle.std.specs.Option.{option_map, IsSome}
 use Rattle.std.proofs.lemmas.Option.{same_Some, none-some}
-use Rattle.std.proofs.lemmas.List.{get_or_default, length-map, length-set}
-use Rattle.nrm_fraction.specs.Fraction.{Fraction, ◌<ᶠ◌, ◌/ᶠ◌, less, whole}
-use Rattle.nrm_fraction.specs.Large.{first_large, large_number, size_limit}
-use Rattle.nrm_fraction.specs.Rows.{at, combine, unit_row}
+use Rattle.std.proofs.lemmas.List.{get_or_default}
+use Rattle.nrm_fraction.specs.Fraction.{Fraction, ◌<ᶠ◌, less, whole}
+use Rattle.nrm_fraction.specs.Rows.{at}
 use Rattle.nrm_fraction.proofs.Tests.{less_if}
 use Rattle.nrm_lp.specs.Program.{ProgramValue}
 use Rattle.nrm_lp.specs.Limits.{IsLimited}
-use Rattle.nrm_lp.specs.Tableau.{Tableau, entering, first_tableau, leaving, pivot, right_side}
-use Rattle.nrm_lp.specs.Path.{after, next_at, next_of, row_number}
-use Rattle.nrm_lp.specs.Overflow.{large_at, made_large, pivot_large, rows_but}
+use Rattle.nrm_lp.specs.Tableau.{Tableau, entering, first_tableau, leaving, right_side}
+use Rattle.nrm_lp.specs.Path.{row_number}
 use Rattle.nrm_lp.proofs.Path.{entering_is, path_kept}
 use Rattle.nrm_lp.proofs.Rule.{IsKept, IsLeaving, leaving_exists}
-use Rattle.nrm_lp.proofs.Tables.{row_same}
-use Rattle.nrm_fraction.specs.declared.fault.RowFault.{RowFault}
-use Rattle.nrm_fraction.specs.Fault.{IsFault}
 use Rattle.nrm_tableau.specs.Value.{TableauValue, IsOnPath}
-use Rattle.nrm_tableau.proofs.Faults.{but-map, but-set, fault_back, fault_front, fault_row, small_both, small_row}
 
 pub first_on_path : (a : ProgramValue) → IsLimited a → IsOnPath (record { program = a; table = first_tableau a })
 first_on_path a limits = record { limits = limits; pivots = zero; reached = record { path = refl; small = λ m u l e. absurd (omega (arith, l)) } }

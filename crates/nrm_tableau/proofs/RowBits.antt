@@ -1,5 +1,5 @@
 -- Sets of rows by their bits: a row put in, two sets joined, and the test of a row.
-use Rattle.std.proofs.Common.{◌≡◌, ℕ, ◌+◌, ◌-◌, ◌*◌, ◌/◌, ◌%◌, ◌^◌, ◌<◌, ◌≤◌, ◌⊎◌, ◌↔◌, inl, inr, arith, tests, refl, sym, ap, ◌∙◌, subst, List, length, get_or, set, max, Bool, true, false, not, IsTrue, nat_eq, bit_and, bit_or, w64, get_or-set_same, get_or-set_other}
+use Rattle.std.proofs.Common.{◌≡◌, ℕ, ◌+◌, ◌*◌, ◌/◌, ◌%◌, ◌^◌, ◌<◌, ◌≤◌, ◌⊎◌, ◌↔◌, inl, inr, arith, tests, refl, sym, ap, ◌∙◌, subst, List, length, get_or, set, max, Bool, false, not, IsTrue, nat_eq, bit_and, bit_or, w64, get_or-set_same, get_or-set_other}
 use Rattle.std.specs.Int.{bit_at}
 use Rattle.std.proofs.lemmas.List.{get_or_past, length-set}
 use Rattle.std.proofs.lemmas.Bool.{cases_lt}

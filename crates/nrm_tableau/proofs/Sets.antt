@@ -1,5 +1,5 @@
 -- The sets of a tableau's columns: those of the first tableau, those after a pivot, and what a row outside of one shows.
-use Rattle.std.proofs.Common.{◌≡◌, ◌≢◌, ℕ, zero, suc, ◌+◌, ◌-◌, ◌<◌, ◌≤◌, ◌⊎◌, ◌||◌, inl, inr, ℤ, pos, arith, refl, sym, ap, ap₂, ◌∙◌, subst, List, [], ◌∷◌, ◌++◌, map, set, take, drop, length, get_or, Bool, true, false, eqb, ne_eqb, get_or-set_same, get_or-set_other}
+use Rattle.std.proofs.Common.{◌≡◌, ◌≢◌, ℕ, ◌+◌, ◌-◌, ◌<◌, ◌≤◌, ◌⊎◌, ◌||◌, inl, inr, ℤ, pos, arith, refl, sym, ap, ap₂, ◌∙◌, subst, List, [], ◌∷◌, ◌++◌, map, set, take, length, get_or, Bool, true, false, eqb, ne_eqb, get_or-set_same, get_or-set_other}
 use Rattle.std.proofs.lemmas.List.{get_or_push, get_or_append_left, length-map, length-set, length-append, take_more}
 use Rattle.std.proofs.lemmas.Bool.{cases_lt, eqb-true}
 use Rattle.nrm_number.proofs.Ring.{solve, ◌⊖◌, v0, v1}

@@ -1,5 +1,5 @@
 -- Sets of rows, a bit for each, and what those of a tableau say of its columns.
-use Rattle.std.specs.Prelude.{ℕ, ◌≡◌, ◌≤◌, ◌<◌, ◌/◌, ◌%◌, pos, List, [], length, get_or, slice_index}
+use Rattle.std.specs.Prelude.{ℕ, ◌≡◌, ◌<◌, ◌/◌, ◌%◌, pos, List, [], length, get_or, slice_index}
 use Rattle.std.specs.Int.{bit_at}
 use Rattle.nrm_fraction.specs.Fraction.{Fraction, whole}
 use Rattle.nrm_fraction.specs.Rows.{at}

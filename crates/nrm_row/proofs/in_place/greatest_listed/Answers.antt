@@ -1,5 +1,5 @@
 -- The numbers of the entries so far are bounded, and those of one more.
-use Rattle.std.proofs.Common.{rules, arith, ◌≡◌, ◌<◌, ◌≤◌, ◌∙◌, ap, sym, subst, get_or, take, length, pos, ℕ, ℤ, unsigned_abs, to_z-of_z, w64}
+use Rattle.std.proofs.Common.{rules, arith, ◌≡◌, ◌<◌, ◌≤◌, ◌∙◌, ap, sym, subst, get_or, take, length, pos, unsigned_abs, to_z-of_z, w64}
 use Rattle.std.proofs.lemmas.List.{take_all, take_more}
 use mir.Val.{SFits}
 use Rattle.nrm_fraction.specs.Large.{size_limit}

@@ -1,5 +1,5 @@
 -- One more entry, at a column that has a set or past them.
-use Rattle.std.proofs.Common.{◌≡◌, ◌<◌, ◌≤◌, ◌+◌, ◌∙◌, ◌∷◌, ◌++◌, set, ℕ, ℤ, pos, ap, sym, subst, arith, length, take, get_or, []}
+use Rattle.std.proofs.Common.{◌<◌, ◌≤◌, ◌∙◌, ◌∷◌, ◌++◌, set, ℕ, pos, ap, sym, subst, arith, length, take, get_or, []}
 use Rattle.std.proofs.lemmas.List.{get_or_default, take_more}
 use Rattle.nrm_tableau.specs.RowSets.{row_bit}
 use Rattle.nrm_tableau.proofs.Sets.{IsSpreadTo, spread_more, spread_past}

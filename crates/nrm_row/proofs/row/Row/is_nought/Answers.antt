@@ -1,5 +1,5 @@
 -- An entry is 0 where its number is.
-use Rattle.std.proofs.Common.{rules, tests, arith, ◌≡◌, ◌↔◌, ◌<◌, ◌∙◌, IsTrue, nat_eq, ap, sym, ℕ, pos, length, get_or, to_z, of_z, to_z-of_z, w64}
+use Rattle.std.proofs.Common.{rules, tests, arith, ◌≡◌, ◌↔◌, ◌<◌, ◌∙◌, IsTrue, nat_eq, ap, sym, ℕ, pos, length, get_or, of_z, to_z-of_z, w64}
 use mir.Val.{SFits}
 use Rattle.nrm_row.proofs.Bits.{read_at, zero_from_bits}
 use Rattle.nrm_row.proofs.Entries.{nought_entry, nought_number}

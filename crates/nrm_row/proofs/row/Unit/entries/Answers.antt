@@ -1,5 +1,5 @@
 -- A column that is not listed has a 0.
-use Rattle.std.proofs.Common.{◌≡◌, ◌<◌, ◌∙◌, ap, sym, subst, pos, length, All, ℕ, ℤ}
+use Rattle.std.proofs.Common.{◌<◌, ◌∙◌, ap, sym, subst, length, All, ℕ, ℤ}
 use Rattle.nrm_fraction.specs.Rows.{number_at}
 use Rattle.nrm_row.proofs.Entries.{nought_entry}
 use Rattle.nrm_row.proofs.InPlace.{listed_within}

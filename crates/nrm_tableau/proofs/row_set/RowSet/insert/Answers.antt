@@ -1,5 +1,5 @@
 -- The bit of the row is set, and the others stay.
-use Rattle.std.proofs.Common.{◌≡◌, ap, sym, subst}
+use Rattle.std.proofs.Common.{◌≡◌, sym, subst}
 use Rattle.nrm_tableau.specs.RowSets.{row_bit}
 use Rattle.nrm_tableau.proofs.RowBits.{put_there, put_kept}
 use Rattle.nrm_tableau.proofs.row_set.RowSet.insert.Goals as goal

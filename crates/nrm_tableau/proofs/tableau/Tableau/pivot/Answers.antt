@@ -1,9 +1,7 @@
 -- The rows, the value row and the sets become those of the pivot, or the first number that is too large is theirs.
-use Rattle.std.proofs.Common.{◌≡◌, ◌<◌, ◌∙◌, ap, sym, subst, arith, [], set, get_or, length}
+use Rattle.std.proofs.Common.{◌≡◌, ◌<◌, ◌∙◌, ap, arith, [], set, get_or, length}
 use Rattle.std.proofs.lemmas.List.{get_or_read}
 use Rattle.std.proofs.lemmas.Result.{err_from_is_err_and}
-use Rattle.nrm_lp.specs.Tableau.{pivot}
-use Rattle.nrm_tableau.specs.Value.{TableauValue}
 use Rattle.nrm_tableau.proofs.Pivots.{basis_within, before_end, fault_others, fault_value, next_kept, next_seen, read_before, read_noughts, read_others_fault, read_others_small, read_positive, read_unit, read_unit_small, read_value_fault, read_value_small, read_widths, read_within, row_limit, rows_made, sets_made, small_all, unit_before, unit_width, value_before, value_made, within}
 use Rattle.nrm_tableau.proofs.Sets.{IsSpreadTo}
 use Rattle.nrm_tableau.proofs.tableau.Tableau.pivot.Goals as goal
