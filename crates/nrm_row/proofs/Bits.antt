@@ -1,13 +1,10 @@
 -- What the code's numbers are at 64 and at 128 bits.
-use Rattle.std.proofs.Common.{refl, sym, to_z-of_z, ◌≡◌, ℕ, zero, suc, ◌^◌, ◌<◌, ℤ, pos, negsuc, ◌-ℤ◌, ◌*ℤ◌, subst, ◌<ℤ◌, nat_abs, arith, ap, ◌∙◌, List, [], ◌∷◌, length, get_or, All}
+use Rattle.std.proofs.Common.{sym, to_z-of_z, ◌≡◌, ℕ, zero, suc, ◌^◌, ◌<◌, ℤ, pos, negsuc, ◌-ℤ◌, ◌*ℤ◌, subst, ◌<ℤ◌, nat_abs, arith, ap, ◌∙◌, List, length, get_or, All}
 use Rattle.std.proofs.lemmas.List.{get_or_default}
 use Rattle.std.proofs.lemmas.Int.{ints, to_z_pos, unsigned_abs-mul}
 use Rattle.std.proofs.lemmas.Nat.{mul-lt}
 use mir.Syntax.{w64, w128}
 use mir.Val.{to_z, of_z, SFits}
-use Rattle.nrm_number.proofs.Integers.{ring_ℤ}
-use Rattle.nrm_number.proofs.Ring.{solve, v0, v1}
-use Rattle.nrm_number.proofs.Ring.Expr.{◌⊗◌}
 use Rattle.nrm_fraction.specs.Large.{size_limit, IsSmall}
 use Rattle.nrm_fraction.proofs.Sizes.{small_same}
 

@@ -1,7 +1,6 @@
 -- A row minus a multiple of the unit row, by the numbers x e - a u over one denominator.
 use Rattle.std.proofs.Common.{◌≡◌, ℕ, zero, suc, ◌+◌, ◌*◌, ◌^◌, ◌<◌, ◌≤◌, ◌-◌, inr, ℤ, pos, negsuc, ◌-ℤ◌, ◌*ℤ◌, ◌<ℤ◌, nat_abs, arith, refl, sym, ap, ap₂, ◌∙◌, List, [], ◌∷◌, ◌++◌, length, take, drop, get_or, set, leb, true, false, Some, None, append_assoc, append-nil, to_z-of_z}
 use Rattle.std.proofs.lemmas.List.{drop_more, drop_all, take_more, take_all, get_or-map, length-map, set_at, get_or_at, length-take-le}
-use Rattle.std.proofs.lemmas.Bool.Decides.{nat_tests}
 use Rattle.std.proofs.lemmas.Int.{ints}
 use Rattle.std.proofs.lemmas.Nat.Gcd.{le_of_dvd}
 use mir.Syntax.{w64, w128}
@@ -11,13 +10,13 @@ use Rattle.nrm_number.specs.Gcd.{gcd, shrink}
 use Rattle.nrm_number.proofs.GcdLaws.{gcd-dvd_left, gcd-dvd_right, gcd_pos, reduced_pos}
 use Rattle.nrm_number.proofs.Integers.{ring_ℤ}
 use Rattle.nrm_number.proofs.Ring.{solve, ◌⊖◌, v0, v1, v2, v3, v4, v5}
-use Rattle.nrm_number.proofs.Ring.Expr.{◌⊕◌, ◌⊗◌, minus, e0, e1}
+use Rattle.nrm_number.proofs.Ring.Expr.{◌⊕◌, ◌⊗◌, minus, e0}
 use Rattle.nrm_fraction.specs.Fraction.{◌over◌, ◌*ᶠ◌, ◌-ᶠ◌, negative, whole}
 use Rattle.nrm_fraction.specs.Large.{fractions, gcd_all, first_reaching, size_limit}
 use Rattle.nrm_fraction.specs.Rows.{minus_times, combine}
 use Rattle.nrm_fraction.proofs.Values.{IsValue_over, IsValue_sum, IsValue_product, IsValue_negative, same_value}
 use Rattle.nrm_row.specs.Inner.Crossed.{crossed, shrunk}
-use Rattle.nrm_row.proofs.Divisors.{divisor_done, shrink_back, shrink_one}
+use Rattle.nrm_row.proofs.Divisors.{divisor_done, shrink_back}
 use Rattle.nrm_fraction.proofs.CommonDivisors.{gcd_all-dvd}
 use Rattle.nrm_fraction.proofs.Reaching.{reaching_yes, reaching_no}
 use Rattle.nrm_fraction.proofs.Sizes.{positive_abs}

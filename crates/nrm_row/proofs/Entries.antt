@@ -1,6 +1,7 @@
 -- What a row's numbers are of its entries, and the signs of these.
-use Rattle.std.proofs.Common.{◌≡◌, ℕ, ◌/◌, ◌<◌, ℤ, pos, ◌*ℤ◌, ◌<ℤ◌, nat_abs, arith, refl, sym, ap, ap₂, ◌∙◌, subst, List, [], ◌∷◌, length, get_or, None}
-use Rattle.std.proofs.lemmas.List.{get_or-map}
+use Rattle.std.proofs.Common.{false, ◌≡◌, ℕ, ◌/◌, ◌<◌, ◌≤◌, ◌⊎◌, inl, inr, ℤ, pos, ◌*ℤ◌, ◌<ℤ◌, nat_abs, arith, refl, sym, ap, ap₂, ◌∙◌, subst, List, [], ◌∷◌, length, get_or, None}
+use Rattle.std.proofs.lemmas.List.{get_or-map, get_or_past, length-map}
+use Rattle.std.proofs.lemmas.Bool.{cases_lt}
 use Rattle.std.specs.Int.RustNames.{int_lt}
 use Rattle.nrm_number.specs.Gcd.{shrink}
 use Rattle.nrm_number.proofs.Integers.{ring_ℤ}
@@ -10,14 +11,16 @@ use Rattle.nrm_fraction.specs.Fraction.{Fraction, ◌over◌, ◌<ᶠ◌, less, 
 use Rattle.nrm_fraction.specs.Large.{fractions, common, numerators, gcd_all, large_number, size_limit}
 use Rattle.nrm_fraction.specs.Lex.{lex_below}
 use Rattle.nrm_fraction.specs.Rows.{at, unit_row, ratio_columns, ratios}
-use Rattle.nrm_fraction.proofs.Values.{IsValue, IsValue_over}
+use Rattle.nrm_fraction.proofs.Values.{IsValue, IsValue_over, same_value}
 use Rattle.nrm_fraction.proofs.Lowest.{common_pos}
 use Rattle.nrm_fraction.proofs.Embed.{den-dvd-common}
 use native.Mathlib.Nat.{div-mul_cancel}
-use Rattle.nrm_fraction.proofs.Field.{IsValue_whole, below_to}
+use Rattle.nrm_fraction.proofs.Field.{IsValue_whole, below_to, <ᶠ_irrefl}
+use Rattle.nrm_fraction.proofs.Tests.{less-is, less_unless}
+use Rattle.std.proofs.lemmas.Int.{ints}
 use Rattle.nrm_row.specs.Numbers.{IsRow}
 use Rattle.nrm_row.specs.Inner.Crossed.{shrunk, crossed_below}
-use Rattle.nrm_row.proofs.RatioLaws.{less_values, unit_is, crossed_below_is, ratio_columns_within}
+use Rattle.nrm_row.proofs.RatioLaws.{unit_is, crossed_below_is, ratio_columns_within}
 use Rattle.nrm_row.proofs.LowestTerms.{row_length, lowest_same, small_is_row, row_not_large}
 use Rattle.nrm_fraction.proofs.Sizes.{positive_abs}
 
@@ -42,26 +45,50 @@ entry_value row col h = record {
 
 pub negative_is : (row : List Fraction) (col : ℕ) → col < length row → int_lt (get_or (numerators (common row) row) col (pos 0)) (pos 0) ≡ less (at row col) (whole (pos 0))
 negative_is row col h =
-    sym (less_values (at row col) (whole (pos 0)) (get_or (numerators (common row) row) col (pos 0)) (pos 0) (common row) 1 (entry_value row col h) (IsValue_whole (pos 0))
+    sym (less-is (at row col) (whole (pos 0)) (get_or (numerators (common row) row) col (pos 0)) (pos 0) (common row) 1 (entry_value row col h) (IsValue_whole (pos 0))
     ∙ ap₂ int_lt (times_one (get_or (numerators (common row) row) col (pos 0))) (nought_times (pos (common row))))
 
 pub positive_is : (row : List Fraction) (col : ℕ) → col < length row → int_lt (pos 0) (get_or (numerators (common row) row) col (pos 0)) ≡ less (whole (pos 0)) (at row col)
 positive_is row col h =
-    sym (less_values (whole (pos 0)) (at row col) (pos 0) (get_or (numerators (common row) row) col (pos 0)) 1 (common row) (IsValue_whole (pos 0)) (entry_value row col h)
+    sym (less-is (whole (pos 0)) (at row col) (pos 0) (get_or (numerators (common row) row) col (pos 0)) 1 (common row) (IsValue_whole (pos 0)) (entry_value row col h)
     ∙ ap₂ int_lt (nought_times (pos (common row))) (times_one (get_or (numerators (common row) row) col (pos 0))))
 
 -- the same of a number over any denominator
 pub negative_over : (d : ℤ) (ns : List ℤ) (row : List Fraction) (col : ℕ) → pos 0 <ℤ d → fractions (nat_abs d) ns ≡ row → col < length ns → int_lt (get_or ns col (pos 0)) (pos 0) ≡ less (at row col) (whole (pos 0))
 negative_over d ns row col h e w =
-    sym (less_values (get_or ns col (pos 0) over nat_abs d) (whole (pos 0)) (get_or ns col (pos 0)) (pos 0) (nat_abs d) 1 (IsValue_over (get_or ns col (pos 0)) (nat_abs d) (positive_abs d h).1) (IsValue_whole (pos 0))
+    sym (less-is (get_or ns col (pos 0) over nat_abs d) (whole (pos 0)) (get_or ns col (pos 0)) (pos 0) (nat_abs d) 1 (IsValue_over (get_or ns col (pos 0)) (nat_abs d) (positive_abs d h).1) (IsValue_whole (pos 0))
     ∙ ap₂ int_lt (times_one (get_or ns col (pos 0))) (nought_times (pos (nat_abs d))))
     ∙ ap (λ x. less x (whole (pos 0))) (sym (entry_is (nat_abs d) ns col w) ∙ ap (λ xs. at xs col) e)
 
 pub positive_over : (d : ℤ) (ns : List ℤ) (row : List Fraction) (col : ℕ) → pos 0 <ℤ d → fractions (nat_abs d) ns ≡ row → col < length ns → int_lt (pos 0) (get_or ns col (pos 0)) ≡ less (whole (pos 0)) (at row col)
 positive_over d ns row col h e w =
-    sym (less_values (whole (pos 0)) (get_or ns col (pos 0) over nat_abs d) (pos 0) (get_or ns col (pos 0)) 1 (nat_abs d) (IsValue_whole (pos 0)) (IsValue_over (get_or ns col (pos 0)) (nat_abs d) (positive_abs d h).1)
+    sym (less-is (whole (pos 0)) (get_or ns col (pos 0) over nat_abs d) (pos 0) (get_or ns col (pos 0)) 1 (nat_abs d) (IsValue_whole (pos 0)) (IsValue_over (get_or ns col (pos 0)) (nat_abs d) (positive_abs d h).1)
     ∙ ap₂ int_lt (nought_times (pos (nat_abs d))) (times_one (get_or ns col (pos 0))))
     ∙ ap (λ x. less (whole (pos 0)) x) (sym (entry_is (nat_abs d) ns col w) ∙ ap (λ xs. at xs col) e)
+
+-- where the number is 0, and past the end, the entry is 0
+pub nought_entry : (d : ℤ) (ns : List ℤ) (row : List Fraction) (col : ℕ) → pos 0 <ℤ d → fractions (nat_abs d) ns ≡ row → get_or ns col (pos 0) ≡ pos 0 → at row col ≡ whole (pos 0)
+nought_entry d ns row col h e z = ap (λ xs. at xs col) (sym e) ∙ by_place (cases_lt col (length ns))
+  where
+    by_place : (col < length ns) ⊎ (length ns ≤ col) → at (fractions (nat_abs d) ns) col ≡ whole (pos 0)
+    by_place (inl l) =
+        entry_is (nat_abs d) ns col l ∙ ap (λ n. n over nat_abs d) z
+        ∙ same_value (pos 0 over nat_abs d) (whole (pos 0)) (pos 0) (pos 0) (nat_abs d) 1 (IsValue_over (pos 0) (nat_abs d) (positive_abs d h).1) (IsValue_whole (pos 0))
+        (nought_times (pos 1) ∙ sym (nought_times (pos (nat_abs d))))
+    by_place (inr l) = get_or_past (fractions (nat_abs d) ns) col (whole (pos 0)) (omega (arith, length-map ns (λ n. n over nat_abs d), l))
+
+-- an entry is 0 only if its number is
+pub nought_number : (d : ℤ) (ns : List ℤ) (row : List Fraction) (col : ℕ) → pos 0 <ℤ d → fractions (nat_abs d) ns ≡ row → col < length ns → at row col ≡ whole (pos 0) → get_or ns col (pos 0) ≡ pos 0
+nought_number d ns row col h e w z =
+    neither (get_or ns col (pos 0))
+    (negative_over d ns row col h e w ∙ ap (λ x. less x (whole (pos 0))) z ∙ equal)
+    (positive_over d ns row col h e w ∙ ap (less (whole (pos 0))) z ∙ equal)
+  where
+    equal : less (whole (pos 0)) (whole (pos 0)) ≡ false
+    equal = less_unless (whole (pos 0)) (whole (pos 0)) (<ᶠ_irrefl (whole (pos 0)))
+
+    neither : (n : ℤ) → int_lt n (pos 0) ≡ false → int_lt (pos 0) n ≡ false → n ≡ pos 0
+    neither n below above = omega (arith, ints)
 
 -- a positive entry has a positive number
 pub positive_number : (d : ℤ) (ns : List ℤ) (row : List Fraction) (col : ℕ) → pos 0 <ℤ d → fractions (nat_abs d) ns ≡ row → col < length ns → whole (pos 0) <ᶠ at row col → pos 0 <ℤ get_or ns col (pos 0)

@@ -1,5 +1,6 @@
 -- Numbers written at their columns, one entry after another.
-use Rattle.std.proofs.Common.{◌≡◌, ℕ, suc, ◌+◌, ◌<◌, ◌≤◌, ◌⊎◌, inl, inr, ℤ, pos, arith, refl, sym, ap, ◌∙◌, List, [], ◌∷◌, ◌++◌, length, get_or, set, take, map, cond, Bool, true, false, subst, eqb, eq-eqb, ne_eqb, to_z, of_z, w64, get_or-set_same, get_or-set_other, length-take-le}
+use Rattle.nrm_row.specs.declared.limits.TheConstants.{MOST_COLUMNS}
+use Rattle.std.proofs.Common.{nat_abs, ◌≡◌, ℕ, suc, ◌+◌, ◌<◌, ◌≤◌, ◌⊎◌, inl, inr, ℤ, pos, arith, refl, sym, ap, ◌∙◌, List, [], ◌∷◌, ◌++◌, length, get_or, set, take, map, cond, Bool, true, false, subst, eqb, eq-eqb, ne_eqb, to_z, of_z, w64, get_or-set_same, get_or-set_other, length-take-le}
 use Rattle.std.proofs.lemmas.List.{take_more, take_all, get_or-take, length-set}
 use Rattle.std.proofs.lemmas.List.FromFn.{get_or-map-range_with_len, length-map-range_with_len}
 use Rattle.std.proofs.lemmas.Int.{ints}
@@ -8,7 +9,7 @@ use Rattle.std.specs.List.{range_with_len}
 use Rattle.nrm_fraction.specs.Fraction.{◌over◌, whole}
 use Rattle.nrm_fraction.specs.Large.{fractions, IsSmall}
 use Rattle.nrm_fraction.specs.Rows.{number_at, row_of}
-use Rattle.nrm_row.specs.Numbers.{AreEntries, IsRow}
+use Rattle.nrm_row.specs.Numbers.{AreEntries, IsBounded, IsRow}
 use Rattle.nrm_fraction.proofs.Sizes.{small_same}
 
 -- the last of the entries, at its column and at others
@@ -67,7 +68,30 @@ numbers_small ((col, n) ∷ es) c h = go (eqb col c) refl (h 0 (omega arith)) (n
     go true e s r = s
     go false e s r = r
 
-pub row_of_numbers : (width : ℕ) (es : List (ℕ × ℤ)) (ns : List ℤ) → IsInRange 1 577 width → AreEntries width es → ns ≡ map (λ c. number_at es c) (range_with_len 0 width) → IsRow (pos 1) ns
+-- a bound on the numbers of the entries so far, and of one more
+pub bounded_push : (es : List (ℕ × ℤ)) (col c : ℕ) (n : ℤ) (most size : ℕ) → nat_abs (number_at es c) ≤ most → most ≤ size → nat_abs n ≤ size → nat_abs (number_at (es ++ (col, n) ∷ []) c) ≤ size
+bounded_push [] col c n most size h l k = go (eqb col c)
+  where
+    go : (b : Bool) → nat_abs (cond b n (pos 0)) ≤ size
+    go true = k
+    go false = omega arith
+bounded_push ((col', n') ∷ es) col c n most size h l k = go (eqb col' c) h (λ m. bounded_push es col c n most size m l k)
+  where
+    go : (b : Bool) → nat_abs (cond b n' (number_at es c)) ≤ most → (nat_abs (number_at es c) ≤ most → nat_abs (number_at (es ++ (col, n) ∷ []) c) ≤ size) → nat_abs (cond b n' (number_at (es ++ (col, n) ∷ []) c)) ≤ size
+    go true m later = omega arith
+    go false m later = later m
+
+-- the number in each place is that of the entries
+pub number_in_place : (width : ℕ) (es : List (ℕ × ℤ)) (ns : List ℤ) (k : ℕ) (d : ℤ) → ns ≡ map (λ c. number_at es c) (range_with_len 0 width) → k < length ns → get_or ns k d ≡ number_at es k
+number_in_place width es ns k d e l = ap (λ t. get_or t k d) e ∙ get_or-map-range_with_len (λ c. number_at es c) 0 width k k d (omega (arith, long)) (omega arith)
+  where
+    long : length ns ≡ width
+    long = ap length e ∙ length-map-range_with_len (λ c. number_at es c) 0 width
+
+pub filled_bounded : (width : ℕ) (es : List (ℕ × ℤ)) (ns : List ℤ) (most : ℕ) → ns ≡ map (λ c. number_at es c) (range_with_len 0 width) → ((c : ℕ) → nat_abs (number_at es c) ≤ most) → IsBounded most ns
+filled_bounded width es ns most e b k d l = subst (λ n. nat_abs n ≤ most) (sym (number_in_place width es ns k d e l)) (b k)
+
+pub row_of_numbers : (width : ℕ) (es : List (ℕ × ℤ)) (ns : List ℤ) → IsInRange 1 MOST_COLUMNS width → AreEntries width es → ns ≡ map (λ c. number_at es c) (range_with_len 0 width) → IsRow (pos 1) ns
 row_of_numbers width es ns w a e = record {
   positive = omega (arith, ints);
   small = omega arith;
@@ -78,11 +102,11 @@ row_of_numbers width es ns w a e = record {
     long : length ns ≡ width
     long = ap length e ∙ length-map-range_with_len (λ c. number_at es c) 0 width
 
-    wide : IsInRange 1 577 (length ns)
+    wide : IsInRange 1 MOST_COLUMNS (length ns)
     wide = (omega (arith, w.0, long), omega (arith, w.1, long))
 
     small : (k : ℕ) (d : ℤ) → k < length ns → IsSmall (get_or ns k d)
-    small k d l = subst IsSmall (sym (ap (λ t. get_or t k d) e ∙ get_or-map-range_with_len (λ c. number_at es c) 0 width k k d (omega (arith, long)) (omega arith))) (numbers_small es k (λ j m. a.small j (0, pos 0) m))
+    small k d l = subst IsSmall (sym (number_in_place width es ns k d e l)) (numbers_small es k (λ j m. a.small j (0, pos 0) m))
 
 pub row_of_is : (width : ℕ) (es : List (ℕ × ℤ)) (ns : List ℤ) → ns ≡ map (λ c. number_at es c) (range_with_len 0 width) → fractions 1 ns ≡ row_of width es
 unfolding whole

@@ -1,6 +1,7 @@
 -- Numbers from which multiples are taken away at some columns, one after another, and what the list of these columns is.
+use Rattle.nrm_row.specs.declared.limits.TheConstants.{MOST_COLUMNS}
 use Rattle.std.proofs.Common.{◌≡◌, ℕ, zero, suc, ◌+◌, ◌*◌, ◌<◌, ◌≤◌, ◌⊎◌, inl, inr, ℤ, pos, ◌-ℤ◌, ◌*ℤ◌, nat_abs, arith, refl, sym, ap, ap₂, ◌∙◌, subst, subst₂, ◌<ℤ◌, List, [], ◌∷◌, ◌++◌, length, get_or, set, take, drop, map, cond, None, ne_eqb, All, get_or-set_same, get_or-set_other, length-take-le, to_z, of_z, w64, FitsSigned}
-use Rattle.std.proofs.lemmas.List.{take_more, take_all, drop_more, get_or_at, get_or-take, length-set, length-map}
+use Rattle.std.proofs.lemmas.List.{get_or_default, take_more, take_all, drop_more, get_or_at, get_or-take, length-set, length-map}
 use Rattle.std.specs.List.{AllPairs}
 use Rattle.std.proofs.lemmas.Int.{ints, unsigned_abs-mul}
 use Rattle.std.proofs.Math.Nat.{mul-le-mul}
@@ -209,14 +210,14 @@ pub within_same : (x : ℤ) (m : ℕ) → nat_abs x ≤ m → m < size_limit →
 within_same x m h l = omega (arith, ints)
 
 -- the numbers in lowest terms, with a bound, are a row
-pub lowest_bounded : (d : ℤ) (ns made : List ℤ) (den : ℤ) (most : ℕ) → pos 0 <ℤ d → IsSmall d → All IsSmall ns → IsInRange 1 577 (length ns) → den ≡ shrink d (gcd_all (nat_abs d) ns) → made ≡ shrunk (gcd_all (nat_abs d) ns) ns → IsBounded most made → most < size_limit → IsBoundedRow den most made
+pub lowest_bounded : (d : ℤ) (ns made : List ℤ) (den : ℤ) (most : ℕ) → pos 0 <ℤ d → IsSmall d → All IsSmall ns → IsInRange 1 MOST_COLUMNS (length ns) → den ≡ shrink d (gcd_all (nat_abs d) ns) → made ≡ shrunk (gcd_all (nat_abs d) ns) ns → IsBounded most made → most < size_limit → IsBoundedRow den most made
 lowest_bounded d ns made den most h small smalls w e m b l = record {
   row = subst₂ (λ z xs. IsRow z xs) (sym e) (sym m) (loosened (shrink d (gcd_all (nat_abs d) ns)) (shrunk (gcd_all (nat_abs d) ns) ns) (small_is_row d ns h small smalls w));
   bounded = b;
   room = l;
 }
 
-pub lowest_smalls : (d : ℤ) (ns made : List ℤ) → pos 0 <ℤ d → IsSmall d → All IsSmall ns → IsInRange 1 577 (length ns) → made ≡ shrunk (gcd_all (nat_abs d) ns) ns → All IsSmall made
+pub lowest_smalls : (d : ℤ) (ns made : List ℤ) → pos 0 <ℤ d → IsSmall d → All IsSmall ns → IsInRange 1 MOST_COLUMNS (length ns) → made ≡ shrunk (gcd_all (nat_abs d) ns) ns → All IsSmall made
 lowest_smalls d ns made h small smalls w m = subst (All IsSmall) (sym m) (small_is_row d ns h small smalls w).smalls
 
 pub lowest_long : (ns made : List ℤ) (g : ℕ) → made ≡ shrunk g ns → length made ≡ length ns
@@ -228,6 +229,13 @@ listed_within us es n l p k d h = omega (arith, p.within k d h)
 
 pub listed_sizes : (us : List ℤ) (es : List (ℕ × ℤ)) (most : ℕ) → IsBounded most us → Lists us es → All (λ (e : ℕ × ℤ). nat_abs e.1 ≤ most) es
 listed_sizes us es most b p k d h = subst (λ n. nat_abs n ≤ most) (sym (p.each k d h)) (b (get_or es k d).0 (pos 0) (p.within k d h))
+
+pub listed_smalls : (us : List ℤ) (es : List (ℕ × ℤ)) → All IsSmall us → Lists us es → All (λ (e : ℕ × ℤ). IsSmall e.1) es
+listed_smalls us es b p k d h = subst IsSmall (sym (p.each k d h)) (b (get_or es k d).0 (pos 0) (p.within k d h))
+
+-- a bound on what is listed is one on all the numbers
+pub listed_bounded : (us : List ℤ) (es : List (ℕ × ℤ)) (most : ℕ) → Lists us es → ((c : ℕ) → nat_abs (number_at es c) ≤ most) → IsBounded most us
+listed_bounded us es most p b k d l = subst (λ n. nat_abs n ≤ most) (p.same k ∙ get_or_default us k (pos 0) d l) (b k)
 
 -- the numbers x e - a u stay within the bound
 crossed_at_most : (a e : ℤ) (us xs : List ℤ) (m n : ℕ) → length us ≡ length xs → IsBounded m xs → IsBounded n us → IsBounded (m * nat_abs e + nat_abs a * n) (crossed a e us xs)
@@ -251,7 +259,7 @@ crossed_bounded d a e den us xs made m n most r b h l made_is den_is small most_
     positive = subst (λ z. pos 0 <ℤ z) (sym den_is) (positive_product d e r.row.positive h);
     small = small;
     smalls = λ k q j. omega (arith, bounded k q j);
-    width = subst (IsInRange 1 577) (sym (ap length made_is ∙ length-crossed a e us xs l)) r.row.width;
+    width = subst (IsInRange 1 MOST_COLUMNS) (sym (ap length made_is ∙ length-crossed a e us xs l)) r.row.width;
   };
   bounded = bounded;
   room = room;

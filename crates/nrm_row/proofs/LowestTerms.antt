@@ -1,5 +1,6 @@
 -- A row made of numbers over a denominator, in lowest terms: that it is a row, which fractions it stands for, and
 -- whether it is Large. Then what a row's parts are of its fractions.
+use Rattle.nrm_row.specs.declared.limits.TheConstants.{MOST_COLUMNS}
 use Rattle.std.proofs.Common.{◌≡◌, ℕ, zero, suc, ◌/◌, ◌<◌, ℤ, pos, negsuc, ◌<ℤ◌, nat_abs, arith, refl, sym, ap, ap₂, ◌∙◌, subst, List, [], ◌∷◌, length, take, drop, get_or, leb, cond, Bool, true, false, Some, None, leb-false, All}
 use Rattle.std.specs.Int.{IsInRange}
 use Rattle.std.proofs.lemmas.Bool.Decides.{nat_tests}
@@ -18,13 +19,13 @@ use Rattle.nrm_fraction.proofs.CommonDivisors.{gcd_all_pos, gcd_all-dvd, gcd_all
 use Rattle.nrm_fraction.proofs.Reaching.{reaching_no}
 use Rattle.nrm_fraction.proofs.Sizes.{positive_abs}
 
--- one positive denominator and 1 to 577 numbers, in lowest terms and below the limit
+-- one positive denominator and 1 to `MOST_COLUMNS` numbers, in lowest terms and below the limit
 pub record IsLowest (den : ℤ) (nums : List ℤ) : Type 0 where
   pub positive : pos 0 <ℤ den
   pub small : IsSmall den
   pub smalls : All IsSmall nums
   pub lowest : gcd_all (nat_abs den) nums ≡ 1
-  pub width : IsInRange 1 577 (length nums)
+  pub width : IsInRange 1 MOST_COLUMNS (length nums)
 
 some_not_none : (n : ℤ) → Some n ≡ None → ⊥
 some_not_none n e = cc
@@ -57,20 +58,20 @@ pub divisor_positive : (d : ℤ) (ns : List ℤ) → pos 0 <ℤ d → pos 0 <ℤ
 divisor_positive d ns h = omega (arith, ints, gcd_all_pos (nat_abs d) ns (positive_abs d h).1)
 
 -- numbers over a denominator, divided by what they have in common, are a row if they are small
-pub lowest_is_row : (d : ℤ) (ns : List ℤ) → pos 0 <ℤ d → IsSmall (shrink d (gcd_all (nat_abs d) ns)) → All IsSmall (shrunk (gcd_all (nat_abs d) ns) ns) → IsInRange 1 577 (length ns) → IsLowest (shrink d (gcd_all (nat_abs d) ns)) (shrunk (gcd_all (nat_abs d) ns) ns)
+pub lowest_is_row : (d : ℤ) (ns : List ℤ) → pos 0 <ℤ d → IsSmall (shrink d (gcd_all (nat_abs d) ns)) → All IsSmall (shrunk (gcd_all (nat_abs d) ns) ns) → IsInRange 1 MOST_COLUMNS (length ns) → IsLowest (shrink d (gcd_all (nat_abs d) ns)) (shrunk (gcd_all (nat_abs d) ns) ns)
 lowest_is_row d ns h small smalls w = record {
   positive = subst (λ z. pos 0 <ℤ z) (sym (lowest_parts d ns h).0) (omega (arith, ints, (lowest_parts d ns h).1));
   small = small;
   smalls = smalls;
   lowest = ap (λ z. gcd_all (nat_abs z) (shrunk (gcd_all (nat_abs d) ns) ns)) (lowest_parts d ns h).0 ∙ shrunk_lowest (nat_abs d) ns (positive_abs d h).1;
-  width = subst (IsInRange 1 577) (sym (length-map ns (λ n. shrink n (gcd_all (nat_abs d) ns)))) w;
+  width = subst (IsInRange 1 MOST_COLUMNS) (sym (length-map ns (λ n. shrink n (gcd_all (nat_abs d) ns)))) w;
 }
 
 pub shrink_small : (g : ℕ) (n : ℤ) → IsSmall n → IsSmall (shrink n g)
 shrink_small g n h = omega (arith, nat_abs-shrink n g, div-le_self (nat_abs n) g)
 
 -- numbers below the limit stay below it
-pub small_is_row : (d : ℤ) (ns : List ℤ) → pos 0 <ℤ d → IsSmall d → All IsSmall ns → IsInRange 1 577 (length ns) → IsLowest (shrink d (gcd_all (nat_abs d) ns)) (shrunk (gcd_all (nat_abs d) ns) ns)
+pub small_is_row : (d : ℤ) (ns : List ℤ) → pos 0 <ℤ d → IsSmall d → All IsSmall ns → IsInRange 1 MOST_COLUMNS (length ns) → IsLowest (shrink d (gcd_all (nat_abs d) ns)) (shrunk (gcd_all (nat_abs d) ns) ns)
 small_is_row d ns h small smalls w =
     lowest_is_row d ns h (shrink_small (gcd_all (nat_abs d) ns) d small)
     (All-map IsSmall (λ n. shrink n (gcd_all (nat_abs d) ns)) ns (All-weaker IsSmall (λ n. IsSmall (shrink n (gcd_all (nat_abs d) ns))) (shrink_small (gcd_all (nat_abs d) ns)) ns smalls)) w
@@ -82,7 +83,7 @@ lowest_same d ns h =
     ∙ shrunk_same (nat_abs d) (gcd_all (nat_abs d) ns) ns (positive_abs d h).1 (lowest_parts d ns h).1 (div-mul_cancel (gcd_all (nat_abs d) ns) (gcd_all-dvd (nat_abs d) ns)) (gcd_all_pos (nat_abs d) ns (positive_abs d h).1) (gcd_all-divides (nat_abs d) ns)
 
 -- a row, by the tests of its numbers
-pub made_is_row : (d : ℤ) (ns : List ℤ) → pos 0 <ℤ d → leb size_limit (nat_abs (shrink d (gcd_all (nat_abs d) ns))) ≡ false → first_reaching size_limit (shrunk (gcd_all (nat_abs d) ns) ns) ≡ None → IsInRange 1 577 (length ns) → IsLowest (shrink d (gcd_all (nat_abs d) ns)) (shrunk (gcd_all (nat_abs d) ns) ns)
+pub made_is_row : (d : ℤ) (ns : List ℤ) → pos 0 <ℤ d → leb size_limit (nat_abs (shrink d (gcd_all (nat_abs d) ns))) ≡ false → first_reaching size_limit (shrunk (gcd_all (nat_abs d) ns) ns) ≡ None → IsInRange 1 MOST_COLUMNS (length ns) → IsLowest (shrink d (gcd_all (nat_abs d) ns)) (shrunk (gcd_all (nat_abs d) ns) ns)
 made_is_row d ns h small none w = lowest_is_row d ns h (leb-false size_limit (nat_abs (shrink d (gcd_all (nat_abs d) ns))) small) (small_from_none (shrunk (gcd_all (nat_abs d) ns) ns) none) w
 
 -- the first number of the exact row that reaches a limit

@@ -7,14 +7,14 @@ use Rattle.std.specs.Int.RustNames.{int_lt}
 use Rattle.nrm_number.proofs.Integers.{ring_ℤ}
 use Rattle.nrm_number.proofs.Ring.{solve, v0, v1, v2}
 use Rattle.nrm_number.proofs.Ring.Expr.{◌⊗◌, e1}
-use Rattle.nrm_fraction.specs.Fraction.{Fraction, ◌over◌, ◌*ᶠ◌, ◌/ᶠ◌, inverse, less, whole}
+use Rattle.nrm_fraction.specs.Fraction.{◌over◌, ◌*ᶠ◌, ◌/ᶠ◌, inverse, less, whole}
 use Rattle.nrm_fraction.specs.Large.{fractions}
 use Rattle.nrm_fraction.specs.Lex.{lex_below}
 use Rattle.nrm_fraction.specs.Rows.{at, unit_row, ratio_columns, ratios}
 use Rattle.nrm_row.specs.Inner.Crossed.{crossed_below}
-use Rattle.nrm_fraction.proofs.Values.{IsValue, IsValue_over, IsValue_product, same_value}
-use Rattle.nrm_fraction.proofs.Field.{ring_F, *ᶠ-inverse, below_from, below_to, positive_value, num_not_nought}
-use Rattle.nrm_fraction.proofs.Tests.{less_if, less_unless}
+use Rattle.nrm_fraction.proofs.Values.{IsValue_over, IsValue_product, same_value}
+use Rattle.nrm_fraction.proofs.Field.{ring_F, *ᶠ-inverse, positive_value, num_not_nought}
+use Rattle.nrm_fraction.proofs.Tests.{less-is}
 
 -- (n / d) / (m / d) is n / m
 pub ratio_is : (n : ℤ) (d m : ℕ) → 0 < d → 0 < m → ¬ ((pos m over d).num ≡ pos 0) → n over d /ᶠ pos m over d ≡ n over m
@@ -29,14 +29,8 @@ ratio_is n d m h k nz =
         same_value (n over d) (n over m *ᶠ pos m over d) _ _ _ _ (IsValue_over n d h) (IsValue_product (n over m) (pos m over d) _ _ _ _ (IsValue_over n m k) (IsValue_over (pos m) d h))
         (solve ring_ℤ (n ∷ pos m ∷ pos d ∷ []) (v0 ⊗ (v1 ⊗ v2)) (v0 ⊗ v1 ⊗ v2) refl)
 
-pub less_values : (x y : Fraction) (n m : ℤ) (d e : ℕ) → IsValue x n d → IsValue y m e → less x y ≡ int_lt (n *ℤ pos e) (m *ℤ pos d)
-less_values x y n m d e v w =
-    by_lt_z (n *ℤ pos e) (m *ℤ pos d)
-    (λ l. less_if x y (below_from x y n m d e v w l) ∙ omega (arith, ints))
-    (λ l. less_unless x y (λ b. omega (arith, ints, below_to x y n m d e v w b)) ∙ omega (arith, ints))
-
-pub less_is : (n n' : ℤ) (m m' : ℕ) → 0 < m → 0 < m' → less (n over m) (n' over m') ≡ int_lt (n *ℤ pos m') (n' *ℤ pos m)
-less_is n n' m m' h k = less_values (n over m) (n' over m') n n' m m' (IsValue_over n m h) (IsValue_over n' m' k)
+less_over : (n n' : ℤ) (m m' : ℕ) → 0 < m → 0 < m' → less (n over m) (n' over m') ≡ int_lt (n *ℤ pos m') (n' *ℤ pos m)
+less_over n n' m m' h k = less-is (n over m) (n' over m') n n' m m' (IsValue_over n m h) (IsValue_over n' m' k)
 
 -- a positive number over d isn't 0
 number_not_nought : (m d : ℕ) → 0 < d → 0 < m → ¬ ((pos m over d).num ≡ pos 0)
@@ -95,10 +89,10 @@ crossed_below_is D E xs ys s p q (c ∷ cs) hD hE hp hq ep eq l w a =
     y_is = ratio_at E ys s c q hE hq eq (omega arith) (omega (arith, a.0))
 
     left : less (at (fractions D xs) c /ᶠ at (fractions D xs) s) (at (fractions E ys) c /ᶠ at (fractions E ys) s) ≡ int_lt (get_or xs c (pos 0) *ℤ pos q) (get_or ys c (pos 0) *ℤ pos p)
-    left = ap₂ less x_is y_is ∙ less_is (get_or xs c (pos 0)) (get_or ys c (pos 0)) p q hp hq
+    left = ap₂ less x_is y_is ∙ less_over (get_or xs c (pos 0)) (get_or ys c (pos 0)) p q hp hq
 
     right : less (at (fractions E ys) c /ᶠ at (fractions E ys) s) (at (fractions D xs) c /ᶠ at (fractions D xs) s) ≡ int_lt (get_or ys c (pos 0) *ℤ pos p) (get_or xs c (pos 0) *ℤ pos q)
-    right = ap₂ less y_is x_is ∙ less_is (get_or ys c (pos 0)) (get_or xs c (pos 0)) q p hq hp
+    right = ap₂ less y_is x_is ∙ less_over (get_or ys c (pos 0)) (get_or xs c (pos 0)) q p hq hp
 
 -- ---- a row divided by one of its entries
 pub unit_is : (D : ℕ) (ns : List ℤ) (s m : ℕ) → 0 < D → 0 < m → get_or ns s (pos 0) ≡ pos m → s < length ns → unit_row s (fractions D ns) ≡ fractions m ns

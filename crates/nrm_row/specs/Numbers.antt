@@ -1,4 +1,5 @@
 -- The whole numbers that a row is made of, and those that it keeps.
+use Rattle.nrm_row.specs.declared.limits.TheConstants.{MOST_COLUMNS}
 use Rattle.std.specs.Prelude.{ℕ, ◌≡◌, ◌<◌, ℤ, pos, ◌<ℤ◌, ◌≤◌, unsigned_abs, List, length, get_or, All, AllPairs}
 use Rattle.std.specs.Int.{IsInRange}
 use Rattle.nrm_fraction.specs.Large.{size_limit, IsSmall}
@@ -10,12 +11,12 @@ pub record AreEntries (width : ℕ) (entries : List (ℕ × ℤ)) : Type 0 where
   pub within : All (λ (e : ℕ × ℤ). e.0 < width) entries
   pub small : All (λ (e : ℕ × ℤ). IsSmall e.1) entries
 
--- one positive denominator and 1 to 577 numbers, below the limit
+-- one positive denominator and 1 to `MOST_COLUMNS` numbers, below the limit
 pub record IsRow (den : ℤ) (nums : List ℤ) : Type 0 where
   pub positive : pos 0 <ℤ den
   pub small : IsSmall den
   pub smalls : All IsSmall nums
-  pub width : IsInRange 1 577 (length nums)
+  pub width : IsInRange 1 MOST_COLUMNS (length nums)
 
 -- no number is greater than this in size
 abbrev pub IsBounded : ℕ → List ℤ → Type 0

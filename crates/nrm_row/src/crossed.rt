@@ -34,7 +34,7 @@ fn divisor(d: u128, a: i64, e: i64, us: &[i64], xs: &[i64]) -> u128
 }
 
 // The greatest common divisor of the denominator den e and all the numbers x e - a u.
-pub fn crossed_divisor(den: i64, a: i64, e: i64, us: &[i64], xs: &[i64]) -> i128
+pub(crate) fn crossed_divisor(den: i64, a: i64, e: i64, us: &[i64], xs: &[i64]) -> i128
     requires den_positive { pos 0 <ℤ den }
     requires e_positive { pos 0 <ℤ e }
     requires den_small { IsSmall den }
@@ -71,7 +71,7 @@ fn put_crossed(xs: &mut [i64], us: &[i64], a: i64, e: i64, g: i128) -> Option<i1
 }
 
 // The numbers x e - a u, each divided by g, or the first that reaches the limit.
-pub fn crossed_numbers(
+pub(crate) fn crossed_numbers(
     alloc: Global,
     xs: &[i64],
     us: &[i64],
@@ -86,7 +86,9 @@ pub fn crossed_numbers(
     requires e_small { IsSmall e }
     requires a_small { IsSmall a }
     ensures { let numbers = shrunk (unsigned_abs g) (crossed a e us.now xs.now) in
-        MatchResult result (λ made. (made.items ≡ numbers) × (first_reaching size_limit numbers ≡ None)) (λ f. IsFault f (first_reaching size_limit numbers)) }
+        MatchResult result
+        (λ made. (made.items ≡ numbers) × (first_reaching size_limit numbers ≡ None))
+        (λ f. IsFault f (first_reaching size_limit numbers)) }
 {
     let mut made = Vec::from_slice(alloc, xs)?;
     match put_crossed(&mut made, us, a, e, g) {

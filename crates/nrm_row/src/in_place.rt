@@ -2,6 +2,7 @@
 //! taken away. A bound on the sizes shows beforehand that all stay below the limit.
 #![tactic(auto)]
 
+ghost use Rattle.nrm_row.specs.declared.limits.TheConstants.{MOST_COLUMNS};
 ghost use Rattle.std.specs.Prelude.{◌≡◌, ◌<◌, ◌≤◌, ◌+◌, ◌*◌, ℕ, ℤ, pos, ◌-ℤ◌, ◌*ℤ◌, unsigned_abs, length, map, get_or, All, AllPairs, IfOk};
 ghost use Rattle.nrm_fraction.specs.Large.{size_limit, IsSmall};
 ghost use Rattle.nrm_fraction.specs.Rows.{number_at};
@@ -19,7 +20,7 @@ fn larger(a: u64, b: u64) -> u64
 }
 
 // The greatest of the numbers in size.
-pub fn greatest(nums: &[i64]) -> u64
+pub(crate) fn greatest(nums: &[i64]) -> u64
     requires { All IsSmall nums.now }
     ensures bound { IsBounded result nums.now }
     ensures small { result < size_limit }
@@ -31,9 +32,22 @@ pub fn greatest(nums: &[i64]) -> u64
     most
 }
 
+// The greatest in size of the numbers that are listed.
+pub(crate) fn greatest_listed(entries: &[(u16, i64)]) -> u64
+    requires { All (λ (e : ℕ × ℤ). IsSmall e.1) entries.now }
+    ensures bound { (c : ℕ) → unsigned_abs (number_at entries.now c) ≤ result }
+    ensures small { result < size_limit }
+{
+    let mut most = 0;
+    for (_, number) in entries {
+        most = larger(most, number.unsigned_abs());
+    }
+    most
+}
+
 // The columns whose number isn't 0, with their numbers.
-pub fn listed(alloc: Global, nums: &[i64]) -> Result<Vec<(u16, i64)>, AllocError>
-    requires { length nums.now ≤ 577 }
+pub(crate) fn listed(alloc: Global, nums: &[i64]) -> Result<Vec<(u16, i64)>, AllocError>
+    requires { length nums.now ≤ MOST_COLUMNS }
     ensures { IfOk result (λ made. Lists nums.now made.items) }
 {
     let mut made = Vec::with_capacity(alloc, nums.len())?;
@@ -76,7 +90,14 @@ fn subtract(xs: &mut [i64], most: u64, a: i64, us: &[(u16, i64)], size: u64)
 }
 
 // Makes the numbers x e - a u.
-pub fn cross_in_place(xs: &mut [i64], most: u64, a: i64, e: i64, us: &[(u16, i64)], size: u64)
+pub(crate) fn cross_in_place(
+    xs: &mut [i64],
+    most: u64,
+    a: i64,
+    e: i64,
+    us: &[(u16, i64)],
+    size: u64,
+)
     requires rising { AllPairs (λ (s t : ℕ × ℤ). s.0 < t.0) us.now }
     requires within { All (λ (s : ℕ × ℤ). s.0 < length xs.old) us.now }
     requires bounded { IsBounded most xs.old }

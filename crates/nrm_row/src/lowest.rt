@@ -10,7 +10,7 @@ use nrm_number::short_gcd;
 use std::alloc::{AllocError, Global};
 
 // The greatest common divisor of a denominator and all the numbers.
-pub fn divisor(den: i64, nums: &[i64]) -> i64
+pub(crate) fn divisor(den: i64, nums: &[i64]) -> i64
     requires positive { pos 0 <ℤ den }
     requires small { IsSmall den }
     ensures { result ≡ pos (gcd_all (unsigned_abs den) nums.now) }
@@ -39,7 +39,7 @@ fn divide_in_place(nums: &mut [i64], g: i64)
 }
 
 // The numbers, each divided by g.
-pub fn divided(alloc: Global, nums: &[i64], g: i64) -> Result<Vec<i64>, AllocError>
+pub(crate) fn divided(alloc: Global, nums: &[i64], g: i64) -> Result<Vec<i64>, AllocError>
     requires { pos 0 <ℤ g }
     ensures { IfOk result (λ made. made.items ≡ shrunk (unsigned_abs g) nums.now) }
 {

@@ -9,7 +9,7 @@ ghost use Rattle.nrm_fraction.specs.Large.{size_limit, IsSmall};
 use nrm_fraction::SIZE_LIMIT;
 use nrm_number::short_gcd;
 
-pub fn product(x: i64, y: i64) -> i128
+pub(crate) fn product(x: i64, y: i64) -> i128
     requires x_small { IsSmall x }
     requires y_small { IsSmall y }
     ensures value { result ≡ x *ℤ y }
@@ -19,7 +19,7 @@ pub fn product(x: i64, y: i64) -> i128
 }
 
 // x e - a u
-pub fn cross(x: i64, e: i64, a: i64, u: i64) -> i128
+pub(crate) fn cross(x: i64, e: i64, a: i64, u: i64) -> i128
     requires x_small { IsSmall x }
     requires e_small { IsSmall e }
     requires a_small { IsSmall a }
@@ -66,7 +66,7 @@ fn bound(most: u64, a: i64, e: i64, size: u64) -> Option<u64>
 }
 
 // Both, where both stay below the limit.
-pub fn bounds(den: i64, most: u64, a: i64, e: i64, size: u64) -> Option<(i64, u64)>
+pub(crate) fn bounds(den: i64, most: u64, a: i64, e: i64, size: u64) -> Option<(i64, u64)>
     requires den_small { IsSmall den }
     requires e_small { IsSmall e }
     requires a_small { IsSmall a }
@@ -81,14 +81,14 @@ pub fn bounds(den: i64, most: u64, a: i64, e: i64, size: u64) -> Option<(i64, u6
 }
 
 // Whether a number reaches the limit in size.
-pub fn is_large(n: i128) -> bool
+pub(crate) fn is_large(n: i128) -> bool
     ensures { result ≡ leb size_limit (unsigned_abs n) }
 {
     n.unsigned_abs() >= SIZE_LIMIT as u128
 }
 
 // What a number and a denominator have in common.
-pub fn shared_divisor(n: i64, den: i64) -> i64
+pub(crate) fn shared_divisor(n: i64, den: i64) -> i64
     requires positive { pos 0 <ℤ den }
     requires small { IsSmall den }
     ensures { result ≡ pos (gcd_of (unsigned_abs n) (unsigned_abs den)) }
@@ -97,7 +97,7 @@ pub fn shared_divisor(n: i64, den: i64) -> i64
 }
 
 // n divided by g, which is meant to divide it. Unsigned sizes are divided, which takes far less time, and 0 is not.
-pub fn quotient(n: i64, g: i64) -> i64
+pub(crate) fn quotient(n: i64, g: i64) -> i64
     requires { pos 0 <ℤ g }
     ensures { result ≡ shrink n (unsigned_abs g) }
 {
@@ -113,7 +113,7 @@ pub fn quotient(n: i64, g: i64) -> i64
 }
 
 // The same of a wide number, at 64 bits where both fit.
-pub fn wide_quotient(t: i128, g: i128) -> i128
+pub(crate) fn wide_quotient(t: i128, g: i128) -> i128
     requires { pos 0 <ℤ g }
     ensures { result ≡ shrink t (unsigned_abs g) }
 {

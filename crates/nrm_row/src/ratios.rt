@@ -19,8 +19,13 @@ fn ratio_below(xs: &[i64], ys: &[i64], p: i64, q: i64, col: usize) -> Option<boo
     requires within { col < length xs.now }
     ensures { (cols : List ℕ) → crossed_below p q xs.now ys.now (col ∷ cols) ≡ unwrap_or result (crossed_below p q xs.now ys.now cols) }
 {
-    let left = product(xs[col], q);
-    let right = product(ys[col], p);
+    let x = xs[col];
+    let y = ys[col];
+    if x == 0 && y == 0 {
+        return None;
+    }
+    let left = product(x, q);
+    let right = product(y, p);
     if left != right {
         Some(left < right)
     } else {
@@ -30,13 +35,14 @@ fn ratio_below(xs: &[i64], ys: &[i64], p: i64, q: i64, col: usize) -> Option<boo
 
 // Whether the ratios to the number at `col`, of the last number and then of those from `from` on, come before those of
 // the other numbers.
-pub fn ratios_below(xs: &[i64], ys: &[i64], col: usize, from: usize) -> bool
+pub(crate) fn ratios_below(xs: &[i64], ys: &[i64], col: usize, from: usize) -> bool
     requires xs_small { All IsSmall xs.now }
     requires ys_small { All IsSmall ys.now }
     requires widths { length ys.now ≡ length xs.now }
     requires within { col < length xs.now }
     requires from_within { from < length xs.now }
-    ensures { result ≡ crossed_below (get_or xs.now col (pos 0)) (get_or ys.now col (pos 0)) xs.now ys.now (ratio_columns from (length xs.now)) }
+    ensures { let columns = ratio_columns from (length xs.now) in
+        result ≡ crossed_below (get_or xs.now col (pos 0)) (get_or ys.now col (pos 0)) xs.now ys.now columns }
 {
     let p = xs[col];
     let q = ys[col];

@@ -1,7 +1,9 @@
 //! A row of fractions: whole numbers over one denominator, and a bound on their sizes. A unit row has its columns listed besides.
 #![tactic(auto)]
 
-ghost use Rattle.std.specs.Prelude.{◌≡◌, ◌+◌, ◌<◌, ◌≤◌, ◌^◌, ◌<ℤ◌, ◌*ℤ◌, pos, unsigned_abs, length, map, take, drop, All, IfOk, OnErr, MatchResult, None, List, get_or};
+ghost use Rattle.nrm_row.specs.declared.limits.TheConstants.{MOST_COLUMNS};
+ghost use Rattle.std.specs.Prelude.{◌≡◌, ◌↔◌, IsTrue, ◌+◌, ◌<◌, ◌≤◌, ◌^◌, ◌<ℤ◌, ◌*ℤ◌, ℕ, ℤ, pos};
+ghost use Rattle.std.specs.Prelude.{unsigned_abs, length, map, take, drop, All, IfOk, OnErr, MatchResult, None, List, get_or};
 ghost use Rattle.std.specs.Int.{IsInRange};
 ghost use Rattle.std.specs.List.{range_with_len};
 ghost use Rattle.nrm_fraction.specs.Fraction.{Fraction, ◌<ᶠ◌, less, whole};
@@ -13,7 +15,7 @@ ghost use Rattle.nrm_row.specs.Inner.Crossed.{crossed};
 ghost use Rattle.nrm_fraction.specs.Fault.{IsFault};
 
 use crate::crossed::{crossed_divisor, crossed_numbers};
-use crate::in_place::{cross_in_place, greatest, listed};
+use crate::in_place::{cross_in_place, greatest, greatest_listed, listed};
 use crate::lowest::{divided, divisor};
 use crate::numbers::{bounds, is_large, product, quotient, shared_divisor, wide_quotient};
 use crate::ratios::ratios_below;
@@ -38,7 +40,7 @@ fn lowest_row(alloc: Global, den: i64, nums: &[i64]) -> Result<Row, AllocError>
     requires positive { pos 0 <ℤ den }
     requires small { IsSmall den }
     requires smalls { All IsSmall nums.now }
-    requires width { IsInRange 1 577 (length nums.now) }
+    requires width { IsInRange 1 MOST_COLUMNS (length nums.now) }
     ensures { IfOk result (λ row. row ≡ fractions (unsigned_abs den) nums.now) }
 {
     let common = divisor(den, nums);
@@ -87,7 +89,7 @@ fn unit_of(alloc: Global, den: i64, nums: &[i64]) -> Result<Unit, AllocError>
     requires positive { pos 0 <ℤ den }
     requires small { IsSmall den }
     requires smalls { All IsSmall nums.now }
-    requires width { IsInRange 1 577 (length nums.now) }
+    requires width { IsInRange 1 MOST_COLUMNS (length nums.now) }
     ensures { IfOk result (λ row. row ≡ fractions (unsigned_abs den) nums.now) }
 {
     let common = divisor(den, nums);
@@ -96,7 +98,7 @@ fn unit_of(alloc: Global, den: i64, nums: &[i64]) -> Result<Unit, AllocError>
     let entries = listed(alloc, &made)?;
     Ok(Unit {
         den: lowest,
-        most: greatest(&made),
+        most: greatest_listed(&entries),
         nums: made,
         entries,
     })
@@ -120,6 +122,14 @@ impl Model for Unit {
 }
 
 impl Unit {
+    /// The columns whose number isn't 0, rising, with their numbers.
+    pub fn entries(&self) -> &[(u16, i64)]
+        ensures within { All (λ (e : ℕ × ℤ). e.0 < length self.now) result.now }
+        ensures noughts { (c : ℕ) → number_at result.now c ≡ pos 0 → at self.now c ≡ whole (pos 0) }
+    {
+        self.entries.as_slice()
+    }
+
     /// The row, without the list.
     pub fn into_row(self) -> Row
         ensures { result ≡ self }
@@ -151,16 +161,24 @@ impl Model for Row {
 impl Row {
     /// The row of this width with whole numbers at these columns, and 0 elsewhere.
     pub fn of(alloc: Global, width: u16, entries: &[(u16, i64)]) -> Result<Row, AllocError>
-        requires width { IsInRange 1 577 width }
+        requires width { IsInRange 1 MOST_COLUMNS width }
         requires entries { AreEntries width entries.now }
         ensures { IfOk result (λ row. row ≡ row_of width entries.now) }
     {
         let nums = filled(alloc, width, entries)?;
         Ok(Row {
             den: 1,
-            most: greatest(&nums),
+            most: greatest_listed(entries),
             nums,
         })
+    }
+
+    /// A row is never Large. It does nothing.
+    pub fn never_large(&self)
+        ensures { large_number size_limit self.now ≡ None }
+    {
+        // For the row's invariant alone.
+        let _ = &self.den;
     }
 
     /// The least common denominator.
@@ -180,10 +198,10 @@ impl Row {
         quotient(self.nums[usize::from(col)], divisor(self.den, &self.nums))
     }
 
-    /// How many columns the row has, the right side counted: 1 to 577.
+    /// How many columns the row has, the right side counted: 1 to `MOST_COLUMNS`.
     pub fn width(&self) -> u16
         ensures width { result ≡ length self.now }
-        ensures within { IsInRange 1 577 result }
+        ensures within { IsInRange 1 MOST_COLUMNS result }
     {
         self.nums.len() as u16
     }
@@ -202,6 +220,14 @@ impl Row {
         ensures { result ≡ less (whole (pos 0)) (at self.now col) }
     {
         self.nums[usize::from(col)] > 0
+    }
+
+    /// Whether the entry at a column is 0.
+    pub fn is_nought(&self, col: u16) -> bool
+        requires { col < length self.now }
+        ensures { IsTrue result ↔ (at self.now col ≡ whole (pos 0)) }
+    {
+        self.nums[usize::from(col)] == 0
     }
 
     /// This row divided by its entry at `col`. It is never Large.
@@ -233,7 +259,8 @@ impl Row {
         requires from_within { from < length self.now }
         requires positive { whole (pos 0) <ᶠ at self.now col }
         requires other_positive { whole (pos 0) <ᶠ at other.now col }
-        ensures { result ≡ lex_below (ratios (ratio_columns from (length self.now)) col self.now) (ratios (ratio_columns from (length self.now)) col other.now) }
+        ensures { let columns = ratio_columns from (length self.now) in
+            result ≡ lex_below (ratios columns col self.now) (ratios columns col other.now) }
     {
         ratios_below(&self.nums, &other.nums, usize::from(col), usize::from(from))
     }
@@ -243,7 +270,9 @@ impl Row {
         requires widths { length unit.now ≡ length self.old }
         requires within { col < length self.old }
         ensures row { let exact = combined col unit.now self.old in
-            MatchResult result (λ _. (self.new ≡ exact) × (large_number size_limit exact ≡ None)) (λ f. IsFault f (large_number size_limit exact)) }
+            MatchResult result
+            (λ _. (self.new ≡ exact) × (large_number size_limit exact ≡ None))
+            (λ f. IsFault f (large_number size_limit exact)) }
         ensures kept { OnErr result (self.new ≡ self.old) }
     {
         // For the unit row's invariant alone.

@@ -37,8 +37,12 @@ fn four(alloc: Global, first: i64, second: i64, third: i64, last: i64) -> Result
 fn is_combined_with_a_unit_row(rt: HostRuntime) -> Result<(), Fail> {
     let row = four(rt.alloc(), 2, 4, 0, 6)?;
     assert!(rt; row.is_positive(0));
-    let unit = row.unit(rt.alloc(), 0)?;
+    assert!(rt; row.is_nought(2) && !row.is_nought(0) && !row.is_negative(0));
     let mut combined = four(rt.alloc(), 1, 1, 1, 5)?;
+    assert!(rt; combined.is_positive(0));
+    assert!(rt; row.less_ratio(&combined, 0, 1));
+    let unit = row.unit(rt.alloc(), 0)?;
+    assert_eq!(rt; unit.entries(), [(0, 1), (1, 2), (3, 3)].as_slice());
     assert!(rt; combined.combine(rt.alloc(), &unit, 0).is_ok());
     assert_eq!(rt; combined.den(), 1);
     assert_eq!(rt;

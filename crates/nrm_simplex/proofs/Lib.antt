@@ -1,2 +1,3 @@
-pub mod TestPrograms
-pub mod Walk
+pub mod TestPrograms  -- the programs of the tests are within the limits
+pub mod Walk  -- how far `solve` has walked on a program's path, and what each step of it and its end say
+pub mod Closings  -- one certificate closes a program

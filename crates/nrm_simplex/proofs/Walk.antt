@@ -1,5 +1,5 @@
 -- How far `solve` has walked on a program's path, and what each step of it and its end say.
-use Rattle.std.proofs.Common.{◌≡◌, ℕ, suc, ◌+◌, ◌-◌, ◌^◌, ◌<◌, inl, inr, arith, refl, sym, ap, ◌∙◌, subst, List, Option, Some, None, Result, Ok, Err, MatchResult, IfOk, min}
+use Rattle.std.proofs.Common.{◌≡◌, ℕ, suc, ◌+◌, ◌-◌, ◌^◌, ◌<◌, inl, inr, arith, refl, sym, ap, ◌∙◌, subst, List, Some, None, Result, Ok, Err, MatchResult, IfOk, min}
 use Rattle.std.specs.Option.{option_map}
 use Rattle.nrm_fraction.specs.Fraction.{Fraction}
 use Rattle.nrm_lp.specs.declared.certificate.Certificate.{Certificate}
@@ -16,6 +16,7 @@ use Rattle.nrm_fraction.specs.declared.fault.RowFault.{RowFault}
 use Rattle.nrm_fraction.specs.declared.fault.RowFault.TheVariants as row
 use Rattle.nrm_fraction.specs.Fault.{IsFault}
 use Rattle.nrm_tableau.specs.Value.{TableauValue}
+use Rattle.nrm_tableau.proofs.Paths.{number-some}
 use Rattle.nrm_simplex.specs.declared.fault.SolveFault.{SolveFault}
 use Rattle.nrm_simplex.specs.Inner.Faults.{fault_after}
 use Rattle.nrm_simplex.specs.Solving.{IsClosing, IsSolveFault}
@@ -47,17 +48,7 @@ module _ (a : ProgramValue) (s : TableauValue) (pivots : ℕ) (walked : IsWalked
   -- a finished pivot
   module _ (col r : ℕ) (next : TableauValue) (counted : ℕ) (enters : entering s.table ≡ Some col) (leaves : option_map (λ (found : ℕ × List Fraction). found.0) (leaving s.program s.table col) ≡ Some r) (small : pivot_large size_limit s.program s.table ≡ None) (made : next ≡ record s { table = pivot s.table r col }) where
     row_is : row_number (leaving s.program s.table col) ≡ r
-    row_is = of (leaving s.program s.table col) leaves
-      where
-        some_same : (x y : ℕ) → Some x ≡ Some y → x ≡ y
-        some_same x y e = cc
-
-        none_some : (y : ℕ) → None ≡ Some y → ⊥
-        none_some y e = cc
-
-        of : (found : Option (ℕ × List Fraction)) → option_map (λ (found : ℕ × List Fraction). found.0) found ≡ Some r → row_number found ≡ r
-        of None e = absurd (none_some r e)
-        of (Some found) e = some_same found.0 r e
+    row_is = number-some s.program s.table col r leaves
 
     next_is : pivot s.table (row_number (leaving s.program s.table col)) col ≡ next.table
     next_is = ap (λ k. pivot s.table k col) row_is ∙ sym (ap (λ (s : TableauValue). s.table) made)

@@ -35,7 +35,8 @@ fn legs_of_singles(alloc: Global) -> Result<Vec<Vec<u8>>, AllocError>
 
 // And three on two each of the last three legs.
 fn legs_with_triangle(alloc: Global) -> Result<Vec<Vec<u8>>, AllocError>
-    ensures { IfOk result (λ legs. map (λ v. v.items) legs.items ≡ map (λ j. j ∷ []) (range_with_len 0 61) ++ (61 ∷ 62 ∷ []) ∷ (62 ∷ 63 ∷ []) ∷ (63 ∷ 61 ∷ []) ∷ []) }
+    ensures { IfOk result (λ legs. map (λ v. v.items) legs.items
+        ≡ map (λ j. j ∷ []) (range_with_len 0 61) ++ (61 ∷ 62 ∷ []) ∷ (62 ∷ 63 ∷ []) ∷ (63 ∷ 61 ∷ []) ∷ []) }
 {
     let mut legs = legs_of_singles(alloc)?;
     let first = vec![in alloc; 61, 62]?;

@@ -1,6 +1,6 @@
 -- Rows that change in their places.
 use Rattle.std.proofs.Common.{◌≡◌, ℕ, zero, suc, ◌+◌, ◌-◌, ◌<◌, arith, refl, sym, ap, ap₂, ◌∙◌, subst, List, [], ◌∷◌, ◌++◌, map, set, take, drop, length, get_or, append_assoc, All}
-use Rattle.std.proofs.lemmas.List.{drop_more, take_all, take_at, drop_all, get_or-drop, get_or_at, length-take-le, length-append, length-drop, length-map, append-nil}
+use Rattle.std.proofs.lemmas.List.{drop_more, map-append, take_more, take_all, take_at, drop_all, get_or-drop, get_or_at, length-take-le, length-append, length-drop, length-map, append-nil}
 use Rattle.std.proofs.lemmas.Slice.{drop-append-drop}
 use borrow.Rule.Slice.PartMut.{put_mid}
 use Rattle.nrm_fraction.specs.Fraction.{Fraction}
@@ -20,6 +20,15 @@ pub still_there : (F : List Fraction → List Fraction) (old rows : List (List F
 still_there F old rows k h p =
     ap (λ t. get_or t k []) (p ∙ ap (λ l. map F (take k old) ++ l) (drop_more old k [] h))
     ∙ get_or_at (map F (take k old)) (get_or old k []) (drop (k + 1) old) [] k (length-map (take k old) F ∙ length-take-le k old (omega arith))
+
+-- a row that stays as it is
+pub passed_by : (F : List Fraction → List Fraction) (old rows : List (List Fraction)) (k : ℕ) → k < length old → rows ≡ map F (take k old) ++ drop k old → F (get_or old k []) ≡ get_or old k [] → rows ≡ map F (take (k + 1) old) ++ drop (k + 1) old
+passed_by F old rows k h p same =
+    p
+    ∙ ap (λ l. map F (take k old) ++ l) (drop_more old k [] h)
+    ∙ ap (λ x. map F (take k old) ++ x ∷ drop (k + 1) old) (sym same)
+    ∙ sym (append_assoc (map F (take k old)) (F (get_or old k []) ∷ []) (drop (k + 1) old))
+    ∙ ap (λ xs. xs ++ drop (k + 1) old) (sym (ap (map F) (take_more old k [] h) ∙ map-append F (take k old) (get_or old k [] ∷ [])))
 
 -- the rows behind the pivot row, once those before it are made
 module _ (F : List Fraction → List Fraction) (rows front : List (List Fraction)) (r at : ℕ) (e : at ≡ r) (within : r < length rows) (made : front ≡ map F (take at rows)) where
@@ -62,6 +71,6 @@ set_again (x ∷ xs) zero a b = refl
 set_again (x ∷ xs) (suc i) a b = ap (λ rest. x ∷ rest) (set_again xs i a b)
 
 -- all of a list is written over another
-pub written_whole : (new old : List (List Fraction)) (len : ℕ) → length new ≡ length old → len ≡ length old → take len (new ++ drop (length new) old) ≡ new
+pub written_whole : {A : Type 0} (new old : List A) (len : ℕ) → length new ≡ length old → len ≡ length old → take len (new ++ drop (length new) old) ≡ new
 written_whole new old len h k =
     ap (λ t. take len (new ++ t)) (drop_all (length new) old (omega arith)) ∙ ap (take len) (append-nil new) ∙ take_all len new (omega arith)

@@ -1,6 +1,7 @@
 -- The first Large row of rows that are made in turn, and the rows after a pivot.
-use Rattle.std.proofs.Common.{◌≡◌, ℕ, zero, suc, ◌+◌, ◌-◌, ◌<◌, ◌≤◌, arith, refl, sym, ap, ◌∙◌, subst, ℤ, List, [], ◌∷◌, ◌++◌, map, set, take, drop, length, get_or, Option, Some, None}
-use Rattle.std.proofs.lemmas.List.{map-append, take-append-drop, drop_more, take_more, take_rest, append_assoc}
+use Rattle.std.proofs.Common.{◌≡◌, ℕ, zero, suc, ◌+◌, ◌-◌, ◌<◌, arith, refl, sym, ap, ◌∙◌, subst, ℤ, List, [], ◌∷◌, ◌++◌, map, set, take, drop, length, get_or, Option, Some, None}
+use Rattle.std.proofs.lemmas.Option.{none-some}
+use Rattle.std.proofs.lemmas.List.{map-append, take-append-drop, drop_more, take_more, take_rest}
 use Rattle.nrm_fraction.specs.Fraction.{Fraction}
 use Rattle.nrm_fraction.specs.Large.{first_large, first_of_two, large_number}
 use Rattle.nrm_lp.specs.Overflow.{rows_but}
@@ -28,10 +29,7 @@ module _ (limit : ℕ) where
 
   -- want of memory is a fault whatever the rows are
   pub fault_any : (f : RowFault) (found : Option ℤ) → IsFault f None → IsFault f found
-  fault_any (Large n) found h = absurd (none_some n h)
-    where
-      none_some : (n : ℤ) → None ≡ Some n → ⊥
-      none_some n e = cc
+  fault_any (Large n) found h = absurd (none-some n h)
   fault_any NoMemory found h = tt
 
   pub fault_row : (f : RowFault) (x : List Fraction) (ys : List (List Fraction)) → IsFault f (large_number limit x) → IsFault f (first_large limit (x ∷ ys))
@@ -60,9 +58,6 @@ module _ (limit : ℕ) where
     pub small_more : (k : ℕ) → k < length rows → first_large limit (map F (take k rows)) ≡ None → large_number limit (F (get_or rows k [])) ≡ None → first_large limit (map F (take (k + 1) rows)) ≡ None
     small_more k l small here = ap (first_large limit) (taken_more k l) ∙ small_both (map F (take k rows)) (F (get_or rows k []) ∷ []) small (small_row (F (get_or rows k [])) here)
 
-    pub made_more : (k : ℕ) (old made new : List (List Fraction)) → k < length rows → made ≡ old ++ map F (take k rows) → new ≡ made ++ F (get_or rows k []) ∷ [] → new ≡ old ++ map F (take (k + 1) rows)
-    made_more k old made new l h e = e ∙ ap (λ xs. xs ++ F (get_or rows k []) ∷ []) h ∙ append_assoc old (map F (take k rows)) (F (get_or rows k []) ∷ []) ∙ ap (λ xs. old ++ xs) (sym (taken_more k l))
-
 -- ---- the rows but one
 pub but_is : (r : ℕ) (rows : List (List Fraction)) → r < length rows → rows_but r rows ≡ take r rows ++ drop (r + 1) rows
 but_is r [] l = absurd (omega arith)
@@ -71,11 +66,6 @@ but_is (suc r) (row ∷ rows) l = ap (λ xs. row ∷ xs) (but_is r rows (omega a
   where
     next : suc (r + 1) ≡ suc r + 1
     next = omega arith
-
-pub put_back : (F : List Fraction → List Fraction) (u : List Fraction) (r : ℕ) (rows : List (List Fraction)) → r < length rows → take r (map F (rows_but r rows)) ++ u ∷ drop r (map F (rows_but r rows)) ≡ set (map F rows) r u
-put_back F u r [] l = absurd (omega arith)
-put_back F u zero (row ∷ rows) l = refl
-put_back F u (suc r) (row ∷ rows) l = ap (λ xs. F row ∷ xs) (put_back F u r rows (omega arith))
 
 pub but-map : (F : List Fraction → List Fraction) (r : ℕ) (rows : List (List Fraction)) → rows_but r (map F rows) ≡ map F (rows_but r rows)
 but-map F r [] = refl
@@ -97,8 +87,3 @@ others_are F r at rows l e =
     ∙ ap (λ xs. map F (take r rows) ++ map F xs) (behind_is r at rows e)
     ∙ sym (map-append F (take r rows) (drop (r + 1) rows))
     ∙ ap (map F) (sym (but_is r rows l))
-
-pub length-but : (F : List Fraction → List Fraction) (r : ℕ) (rows : List (List Fraction)) → r < length rows → r ≤ length (map F (rows_but r rows))
-length-but F zero rows l = omega arith
-length-but F (suc r) [] l = absurd (omega arith)
-length-but F (suc r) (row ∷ rows) l = omega (arith, length-but F r rows (omega arith))

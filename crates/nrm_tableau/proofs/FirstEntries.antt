@@ -1,4 +1,5 @@
 -- The entries that the first rows are made of.
+use Rattle.nrm_row.specs.declared.limits.TheConstants.{MOST_COLUMNS}
 use Rattle.std.proofs.Common.{◌≡◌, ℕ, suc, ◌+◌, ◌-◌, ◌<◌, ◌≤◌, ℤ, pos, neg_ℤ, arith, refl, sym, ap, ◌∙◌, subst, List, [], ◌∷◌, ◌++◌, map, length, get_or, true, false, eq-eqb, ne_eqb, inl, inr, lit<, zero, Result, ap₂}
 use Rattle.std.specs.List.{range_with_len}
 use Rattle.std.specs.Result.{IfOk}
@@ -67,7 +68,7 @@ module _ (a : ProgramValue) where
       let width : suc (right_side a) ≡ end + 1 = omega arith in
       subst (λ w. IsFilled w (first_entry a i) xs) width (subst (λ ys. IsFilled (suc (right_side a)) (first_entry a i) ys) (sym same) (closed_filled limits i bound es n l b is h))
 
-  pub width_within : IsLimited a → (end : ℕ) → end ≡ right_side a → (1 ≤ end + 1) × (end + 1 ≤ 577)
+  pub width_within : IsLimited a → (end : ℕ) → end ≡ right_side a → (1 ≤ end + 1) × (end + 1 ≤ MOST_COLUMNS)
   width_within limits end e = let caps = limits.cap_count in let bounds = limits.bound_count in (omega arith, omega arith)
 
 -- a row made of such entries

@@ -12,6 +12,7 @@ use Rattle.nrm_lp.specs.Program.{ProgramValue}
 use Rattle.nrm_lp.specs.Tableau.{better, entering_from, key_columns, leaving_from, product_count, right_side, row_count, slack}
 use Rattle.nrm_tableau.specs.Inner.Best.{IsCandidate, listed, wins_over}
 use Rattle.nrm_tableau.proofs.FirstEntries.{slacks_are}
+use Rattle.nrm_tableau.proofs.Sets.{nought_not_positive}
 
 -- ---- the entering column
 pub enter_more : (c : ℕ) (xs : List Fraction) → c + 1 < length xs → entering_from c (drop c xs) ≡ cond (less (at xs c) (whole (pos 0))) (Some c) (entering_from (c + 1) (drop (c + 1) xs))
@@ -73,6 +74,10 @@ module _ (a : ProgramValue) (rows : List (List Fraction)) (s : ℕ) where
 
   pub walk_none : (k : ℕ) → length rows ≤ k → None ≡ leaving_from (key_columns a) s k (drop k rows)
   walk_none k l = sym (at_drop_all (leaving_from (key_columns a) s k) rows k l)
+
+  -- a row with a 0 in the column is passed by
+  pub walk_past : (k : ℕ) (found : Option (ℕ × List Fraction)) → at (get_or rows k []) s ≡ whole (pos 0) → found ≡ step k found
+  walk_past k found nought = sym (ap (λ b. cond b (better k (own_list k) found) found) (nought_not_positive (at (get_or rows k []) s) nought))
 
   pub walked : (best : Option ℕ) → listed a rows s best ≡ leaving_from (key_columns a) s 0 rows → best ≡ option_map (λ (found : ℕ × List Fraction). found.0) (leaving_from (key_columns a) s 0 rows)
   walked None h = ap (option_map (λ (found : ℕ × List Fraction). found.0)) h

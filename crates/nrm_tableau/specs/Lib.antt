@@ -1,3 +1,4 @@
 pub mod Value
+pub mod RowSets
 pub mod Laws
 pub mod Inner

@@ -8,7 +8,7 @@ ghost use Rattle.nrm_lp.specs.Tableau.{product_count, row_count, right_side, sla
 use nrm_lp::Program;
 
 /// How many constraint rows there are.
-pub fn row_count(program: &Program) -> u16
+pub(crate) fn row_count(program: &Program) -> u16
     ensures count { result ≡ row_count program.now }
     ensures limits { IsLimited program.now }
 {
@@ -16,7 +16,7 @@ pub fn row_count(program: &Program) -> u16
 }
 
 /// The slack column of a constraint row.
-pub fn slack(program: &Program, row: u16) -> u16
+pub(crate) fn slack(program: &Program, row: u16) -> u16
     requires { row < row_count program.now }
     ensures column { result ≡ slack program.now row }
     ensures limits { IsLimited program.now }
@@ -25,7 +25,7 @@ pub fn slack(program: &Program, row: u16) -> u16
 }
 
 /// The last column.
-pub fn right_side(program: &Program) -> u16
+pub(crate) fn right_side(program: &Program) -> u16
     ensures column { result ≡ right_side program.now }
     ensures limits { IsLimited program.now }
 {

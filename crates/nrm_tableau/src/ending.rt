@@ -17,7 +17,7 @@ use nrm_row::{Row, RowFault};
 use std::alloc::{AllocError, Global};
 
 /// What is allotted to each product: the least common denominator, and the numerators over it.
-pub fn allotted(
+pub(crate) fn allotted(
     alloc: Global,
     program: &Program,
     rows: &[Row],
@@ -26,9 +26,11 @@ pub fn allotted(
     requires count { length basis.now ≡ length rows.now }
     requires widths { All (λ row. length row ≡ suc (right_side program.now)) rows.now }
     requires signs { All (λ row. less (at row (right_side program.now)) (whole (pos 0)) ≡ false) rows.now }
-    ensures { let values = map (λ j. basic_value (right_side program.now) j basis.now rows.now) (range_with_len 0 (product_count program.now)) in
+    ensures { let products = range_with_len 0 (product_count program.now) in
+        let values = map (λ j. basic_value (right_side program.now) j basis.now rows.now) products in
         MatchResult result
-        (λ made. (made.0 ≡ pos (common values)) × (made.1.items ≡ numerators (common values) values) × (first_too_large size_limit values ≡ None))
+        (λ made. (made.0 ≡ pos (common values)) × (made.1.items ≡ numerators (common values) values)
+        × (first_too_large size_limit values ≡ None))
         (λ f. IsFault f (first_too_large size_limit values)) }
 {
     let values = product_values(alloc, program, rows, basis)?;
@@ -44,7 +46,8 @@ fn product_values(
     requires count { length basis.now ≡ length rows.now }
     requires widths { All (λ row. length row ≡ suc (right_side program.now)) rows.now }
     requires signs { All (λ row. less (at row (right_side program.now)) (whole (pos 0)) ≡ false) rows.now }
-    ensures { IfOk result (λ values. values.items ≡ map (λ j. basic_value (right_side program.now) j basis.now rows.now) (range_with_len 0 (product_count program.now))) }
+    ensures { let products = range_with_len 0 (product_count program.now) in
+        IfOk result (λ values. values.items ≡ map (λ j. basic_value (right_side program.now) j basis.now rows.now) products) }
 {
     let end = right_side(program);
     let mut values = Vec::new(alloc);
@@ -80,7 +83,7 @@ fn entry(row: &Row, col: u16) -> Fraction
 }
 
 /// The bid price of each leg: the value row at the leg's slack.
-pub fn leg_prices(alloc: Global, program: &Program, value: &Row) -> Result<Row, AllocError>
+pub(crate) fn leg_prices(alloc: Global, program: &Program, value: &Row) -> Result<Row, AllocError>
     requires { length value.now ≡ suc (right_side program.now) }
     ensures { IfOk result (λ prices. prices ≡ map (λ i. at value.now (slack program.now i)) (range_with_len 0 (length program.now.caps))) }
 {
@@ -89,7 +92,7 @@ pub fn leg_prices(alloc: Global, program: &Program, value: &Row) -> Result<Row, 
 }
 
 /// The numbers of a row over its least common denominator, in order.
-pub fn numbers(alloc: Global, row: &Row) -> Result<Vec<i64>, AllocError>
+pub(crate) fn numbers(alloc: Global, row: &Row) -> Result<Vec<i64>, AllocError>
     ensures { IfOk result (λ made. made.items ≡ numerators (common row.now) row.now) }
 {
     let mut made = Vec::new(alloc);
@@ -100,10 +103,11 @@ pub fn numbers(alloc: Global, row: &Row) -> Result<Vec<i64>, AllocError>
 }
 
 /// The value row's right side over the denominator of the prices, which divides the value row's.
-pub fn value_over(value: &Row, prices: &Row, end: u16) -> i64
+pub(crate) fn value_over(value: &Row, prices: &Row, end: u16) -> i64
     requires within { end < length value.now }
     requires denominators { common prices.now ≤ common value.now }
-    ensures { result ≡ pos (nat_abs (get_or (numerators (common value.now) value.now) end (pos 0)) / (common value.now / common prices.now)) }
+    ensures { let number = get_or (numerators (common value.now) value.now) end (pos 0) in
+        result ≡ pos (nat_abs number / (common value.now / common prices.now)) }
 {
     let times = value.den().unsigned_abs() / prices.den().unsigned_abs();
     (value.num(end).unsigned_abs() / times) as i64

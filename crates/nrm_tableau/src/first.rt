@@ -8,14 +8,16 @@ ghost use Rattle.nrm_lp.specs.Limits.{IsLimited};
 ghost use Rattle.nrm_lp.specs.Program.{names};
 ghost use Rattle.nrm_lp.specs.Tableau.{first_entry, first_tableau, first_value, product_count, right_side, row_bound, row_count};
 ghost use Rattle.nrm_tableau.specs.Inner.Entries.{IsFilled};
+ghost use Rattle.nrm_tableau.specs.RowSets.{Covers, IsNoughtBut};
 
 use crate::columns::{right_side, row_count, slack};
+use crate::row_set::RowSet;
 use nrm_lp::Program;
 use nrm_row::Row;
 use std::alloc::{AllocError, Global};
 
 /// The constraint rows: those of the legs, then those of the bounds.
-pub fn first_rows(alloc: Global, program: &Program) -> Result<Vec<Row>, AllocError>
+pub(crate) fn first_rows(alloc: Global, program: &Program) -> Result<Vec<Row>, AllocError>
     ensures { IfOk result (λ rows. rows.items ≡ (first_tableau program.now).rows) }
 {
     let mut rows = Vec::new(alloc);
@@ -27,7 +29,7 @@ pub fn first_rows(alloc: Global, program: &Program) -> Result<Vec<Row>, AllocErr
 }
 
 /// The value row: each fare with its sign turned.
-pub fn first_value(alloc: Global, program: &Program) -> Result<Row, AllocError>
+pub(crate) fn first_value(alloc: Global, program: &Program) -> Result<Row, AllocError>
     ensures { IfOk result (λ row. row ≡ (first_tableau program.now).value) }
 {
     let entries = turned_fares(alloc, program)?;
@@ -35,11 +37,37 @@ pub fn first_value(alloc: Global, program: &Program) -> Result<Row, AllocError>
 }
 
 /// The basic columns: each row's own slack.
-pub fn first_basis(alloc: Global, program: &Program) -> Result<Vec<u16>, AllocError>
+pub(crate) fn first_basis(alloc: Global, program: &Program) -> Result<Vec<u16>, AllocError>
     ensures basis { IfOk result (λ basis. basis.items ≡ (first_tableau program.now).basis) }
     ensures limits { IsLimited program.now }
 {
     (program.product_count()..right_side(program)).collect(alloc)
+}
+
+/// The rows that have an entry other than 0 in each column before the right side, and maybe others.
+pub(crate) fn first_sets(alloc: Global, program: &Program) -> Result<Vec<RowSet>, AllocError>
+    ensures { IfOk result (λ sets. Covers (right_side program.now) sets.items (first_tableau program.now).rows) }
+{
+    let mut sets = Vec::new(alloc);
+    for product in 0..program.product_count() {
+        sets.push(rows_of(program, product))?;
+    }
+    for row in 0..row_count(program) {
+        sets.push(RowSet::of(row))?;
+    }
+    Ok(sets)
+}
+
+// The rows of a product's legs and of its bound.
+fn rows_of(program: &Program, product: u16) -> RowSet
+    requires { product < product_count program.now }
+    ensures { IsNoughtBut result (row_count program.now) (λ row. first_entry program.now row product) }
+{
+    let mut rows = RowSet::of(u16::from(program.leg_count()) + product);
+    for leg in program.legs_of(product) {
+        rows.insert(u16::from(*leg));
+    }
+    rows
 }
 
 fn first_row(alloc: Global, program: &Program, row: u16) -> Result<Row, AllocError>
@@ -65,7 +93,8 @@ fn leg_row(alloc: Global, program: &Program, leg: u8) -> Result<Row, AllocError>
 
 fn bound_row(alloc: Global, program: &Program, product: u16) -> Result<Row, AllocError>
     requires { product < product_count program.now }
-    ensures { IfOk result (λ made. made ≡ map (first_entry program.now (length program.now.caps + product)) (range_with_len 0 (suc (right_side program.now)))) }
+    ensures { let columns = range_with_len 0 (suc (right_side program.now)) in
+        IfOk result (λ made. made ≡ map (first_entry program.now (length program.now.caps + product)) columns) }
 {
     let entries = vec![in alloc; (product, 1)]?;
     let bound = program.bounds()[usize::from(product)];

@@ -1,19 +1,21 @@
 //! The lexicographic rule: which column enters, and which row leaves.
 #![tactic(auto)]
 
-ghost use Rattle.std.specs.Prelude.{◌≡◌, ◌<◌, ◌≤◌, suc, pos, [], get_or, length, All, cond};
+ghost use Rattle.std.specs.Prelude.{◌≡◌, ◌<◌, ◌≤◌, suc, pos, [], get_or, length, All, if◌then◌else◌};
 ghost use Rattle.std.specs.Option.{option_map};
 ghost use Rattle.nrm_fraction.specs.Fraction.{◌<ᶠ◌, less, whole};
 ghost use Rattle.nrm_fraction.specs.Rows.{at, ratios};
 ghost use Rattle.nrm_lp.specs.Tableau.{better, entering_from, key_columns, leaving_from, right_side, row_count};
 ghost use Rattle.nrm_tableau.specs.Inner.Best.{IsCandidate, listed, wins_over};
+ghost use Rattle.nrm_tableau.specs.RowSets.{IsNoughtBut};
 
 use crate::columns::row_count;
+use crate::row_set::RowSet;
 use nrm_lp::Program;
 use nrm_row::Row;
 
 /// The lowest-numbered column before the right side with a negative entry in the value row.
-pub fn entering_column(value: &Row) -> Option<u16>
+pub(crate) fn entering_column(value: &Row) -> Option<u16>
     ensures { result ≡ entering_from 0 value.now }
 {
     for col in 0..value.width() - 1 {
@@ -24,16 +26,25 @@ pub fn entering_column(value: &Row) -> Option<u16>
     None
 }
 
-/// The row that leaves for the column, if some row has a positive entry in it. The walk begins at the last row.
-pub fn leaving_row(program: &Program, rows: &[Row], col: u16) -> Option<u16>
+/// The row that leaves for the column, if some row has a positive entry in it; `touched` has the rows to be looked at. The walk
+/// begins at the last row.
+pub(crate) fn leaving_row(
+    program: &Program,
+    rows: &[Row],
+    col: u16,
+    touched: &RowSet,
+) -> Option<u16>
     requires before { col < right_side program.now }
     requires count { length rows.now ≡ row_count program.now }
     requires widths { All (λ row. length row ≡ suc (right_side program.now)) rows.now }
+    requires noughts { IsNoughtBut touched.now (length rows.now) (λ row. at (get_or rows.now row []) col) }
     ensures { result ≡ option_map (λ found. found.0) (leaving_from (key_columns program.now) col 0 rows.now) }
 {
     let mut best = None;
     for row in (0..row_count(program)).rev() {
-        best = better_row(program, rows, row, best, col);
+        if touched.contains(row) {
+            best = better_row(program, rows, row, best, col);
+        }
     }
     best
 }
@@ -47,7 +58,8 @@ fn better_row(program: &Program, rows: &[Row], row: u16, best: Option<u16>, col:
     ensures candidate { IsCandidate rows.now col result }
     ensures better { let found = listed program.now rows.now col best in
         let list = ratios (key_columns program.now) col (get_or rows.now row []) in
-        listed program.now rows.now col result ≡ cond (less (whole (pos 0)) (at (get_or rows.now row []) col)) (better row list found) found }
+        listed program.now rows.now col result
+        ≡ (if less (whole (pos 0)) (at (get_or rows.now row []) col) then better row list found else found) }
 {
     if rows[usize::from(row)].is_positive(col) && wins(program, rows, row, best, col) {
         Some(row)

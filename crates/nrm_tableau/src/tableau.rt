@@ -14,32 +14,41 @@ ghost use Rattle.nrm_fraction.specs.Large.{size_limit};
 
 use crate::columns::right_side;
 use crate::ending::{allotted, leg_prices, numbers, value_over};
-use crate::first::{first_basis, first_rows, first_value};
+use crate::first::{first_basis, first_rows, first_sets, first_value};
 use crate::leaving::{entering_column, leaving_row};
-use crate::pivot::{combine_others, pivot_row};
+use crate::pivot::{combine_others, pivot_row, spread};
+use crate::row_set::RowSet;
 use nrm_lp::{Certificate, Numbers, Program};
 use nrm_row::{Row, RowFault};
 use std::alloc::{AllocError, Global};
 use std::marker::Model;
 
 /// A tableau of the simplex method on a program: its constraint rows, the value row, and the basic column of each
-/// constraint row.
+/// constraint row. For each column before the right side it keeps a set with every row that has an entry other than 0 there,
+/// and maybe others, so that a pivot looks at these alone.
 #[derive(Drop)]
 pub struct Tableau<'a> {
     program: &'a Program,
     rows: Vec<Row>,
     value: Row,
     basis: Vec<u16>,
+    sets: Vec<RowSet>,
 }
 
 impl<'a> Model for Tableau<'a> {
-    ghost use Rattle.nrm_tableau.specs.Value.{TableauValue, IsOnPath};
+    ghost use Rattle.nrm_tableau.specs.Value.{TableauValue};
+    ghost use Rattle.nrm_tableau.specs.RowSets.{IsTableau};
 
     ghost Value = { TableauValue };
 
-    ghost view = { λ t. record { program = t.program.now; table = record { rows = t.rows.items; value = t.value; basis = t.basis.items } } };
+    ghost view = { λ t. record {
+      program = t.program.now;
+      table = record { rows = t.rows.items; value = t.value; basis = t.basis.items };
+    } };
 
-    ghost invariant = { λ t. IsOnPath (record { program = t.program.now; table = record { rows = t.rows.items; value = t.value; basis = t.basis.items } }) };
+    ghost invariant = { λ t. IsTableau
+        (record { program = t.program.now; table = record { rows = t.rows.items; value = t.value; basis = t.basis.items } })
+        t.sets.items };
 }
 
 impl<'a> Tableau<'a> {
@@ -50,11 +59,13 @@ impl<'a> Tableau<'a> {
         let rows = first_rows(alloc, program)?;
         let value = first_value(alloc, program)?;
         let basis = first_basis(alloc, program)?;
+        let sets = first_sets(alloc, program)?;
         Ok(Tableau {
             program,
             rows,
             value,
             basis,
+            sets,
         })
     }
 
@@ -77,7 +88,7 @@ impl<'a> Tableau<'a> {
         requires negative { less (at self.now.table.value col) (whole (pos 0)) ≡ true }
         ensures row { option_map (λ found. found.0) (leaving self.now.program self.now.table col) ≡ Some result }
     {
-        leaving_row(self.program, &self.rows, col).unwrap()
+        leaving_row(self.program, &self.rows, col, &self.sets[usize::from(col)]).unwrap()
     }
 
     /// The next tableau: the pivot row is made first, then the other constraint rows by number, then the value row, each in
@@ -94,9 +105,14 @@ impl<'a> Tableau<'a> {
         let mut rows = self.rows;
         let mut value = self.value;
         let mut basis = self.basis;
+        let mut sets = self.sets;
         let unit = pivot_row(alloc, &rows, row, col)?;
-        combine_others(alloc, &mut rows, row, &unit, col)?;
+        let mut changed = RowSet::of(row);
+        let touched = &sets[usize::from(col)];
+        combine_others(alloc, &mut rows, row, &unit, col, touched, &mut changed)?;
         value.combine(alloc, &unit, col)?;
+        spread(&mut sets, &changed, unit.entries());
+        sets[usize::from(col)] = RowSet::of(row);
         rows[place] = unit.into_row();
         basis[place] = col;
         Ok(Tableau {
@@ -104,6 +120,7 @@ impl<'a> Tableau<'a> {
             rows,
             value,
             basis,
+            sets,
         })
     }
 

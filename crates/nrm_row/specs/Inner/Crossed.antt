@@ -1,5 +1,5 @@
 -- The whole numbers of two rows that are combined or compared.
-use Rattle.std.specs.Prelude.{ℕ, ℤ, pos, ◌-ℤ◌, ◌*ℤ◌, int_lt, Bool, true, false, cond, get_or, List, [], ◌∷◌, map}
+use Rattle.std.specs.Prelude.{ℕ, ℤ, pos, ◌-ℤ◌, ◌*ℤ◌, int_lt, Bool, true, false, if◌then◌else◌, get_or, List, [], ◌∷◌, map}
 use Rattle.nrm_number.specs.Gcd.{shrink}
 
 -- the numbers x e - a u, of a row's numbers x and another's numbers u
@@ -18,4 +18,4 @@ crossed_below p q xs ys [] = false
 crossed_below p q xs ys (c ∷ cs) =
     let x = get_or xs c (pos 0) *ℤ q in
     let y = get_or ys c (pos 0) *ℤ p in
-    cond (int_lt x y) true (cond (int_lt y x) false (crossed_below p q xs ys cs))
+    if int_lt x y then true else if int_lt y x then false else crossed_below p q xs ys cs

@@ -1,3 +1,4 @@
+-- The divisor of the wide denominator and the numbers fits.
 use Rattle.std.proofs.Common.{rules, ◌≡◌, ◌<◌, ◌^◌, arith, unsigned_abs, ap, ap₂, ◌∙◌, pos, ◌*ℤ◌, to_z-of_z, to_z, of_z, w64}
 use mir.Syntax.{w128}
 use mir.Val.{SFits}

@@ -1,3 +1,4 @@
+-- The numbers that are put are those that were asked for.
 use Rattle.std.proofs.Common.{arith, ◌≡◌, sym, ap, ◌∙◌, length, unsigned_abs, to_z-of_z}
 use Rattle.nrm_fraction.specs.Large.{first_reaching, size_limit}
 use Rattle.nrm_row.specs.Inner.Crossed.{crossed, shrunk}

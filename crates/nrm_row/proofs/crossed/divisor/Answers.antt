@@ -1,3 +1,4 @@
+-- One more number, and where the divisor is 1 the rest change nothing.
 use Rattle.std.proofs.Common.{◌≡◌, sym, get_or, arith, rules, unsigned_abs, ap, ap₂, ◌∙◌, pos, ◌-ℤ◌, ◌*ℤ◌, ◌-◌, to_z-of_z, to_z, of_z, w64}
 use mir.Syntax.{w128}
 use mir.Val.{SFits}

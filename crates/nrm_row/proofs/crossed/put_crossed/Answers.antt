@@ -1,3 +1,4 @@
+-- One more number is put, or it is the first that is too large.
 use Rattle.std.proofs.Common.{rules, arith, ◌≡◌, ◌+◌, ap, sym, subst, ◌∙◌, get_or, set, pos, unsigned_abs, leb, false, Some, to_z, of_z, to_z-of_z, w64}
 use mir.Syntax.{w128}
 use mir.Val.{SFits}

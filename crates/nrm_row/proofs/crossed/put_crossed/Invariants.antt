@@ -1,3 +1,4 @@
+-- The numbers so far are put, and none of them is too large.
 use Rattle.std.proofs.Common.{unsigned_abs}
 use Rattle.nrm_row.specs.Inner.Crossed.{crossed, shrunk}
 use Rattle.nrm_row.proofs.Combining.{IsPutTo}

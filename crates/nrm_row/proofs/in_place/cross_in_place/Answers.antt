@@ -1,3 +1,4 @@
+-- The numbers that are multiplied have the bound that the subtraction asks for.
 use Rattle.std.proofs.Common.{arith, ◌*◌, ◌*ℤ◌, ◌-ℤ◌, ap, ap₂, sym, subst, ◌∙◌, get_or, length, map, pos, to_z, of_z, to_z-of_z, w64}
 use Rattle.std.proofs.lemmas.List.{get_or-map}
 use Rattle.nrm_fraction.specs.Rows.{number_at}

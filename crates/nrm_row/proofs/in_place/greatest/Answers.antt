@@ -1,3 +1,4 @@
+-- One more number is within the greatest.
 use Rattle.std.proofs.Common.{rules, arith, ◌≡◌, ◌≤◌, ◌<◌, ap, sym, subst, ◌∙◌, get_or, length, pos, ℤ, unsigned_abs, to_z-of_z, w64}
 use Rattle.std.proofs.lemmas.List.{take_all}
 use mir.Val.{SFits}

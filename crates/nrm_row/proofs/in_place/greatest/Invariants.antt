@@ -1,3 +1,4 @@
+-- The numbers so far are within the greatest.
 use Rattle.std.proofs.Common.{◌<◌, take}
 use Rattle.nrm_fraction.specs.Large.{size_limit}
 use Rattle.nrm_row.specs.Numbers.{IsBounded}

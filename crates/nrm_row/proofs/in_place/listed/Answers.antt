@@ -1,3 +1,4 @@
+-- One more column is listed, or its number is 0.
 use Rattle.std.proofs.Common.{rules, arith, ◌<◌, ◌+◌, ap, sym, subst, ◌∙◌, get_or, length, pos, ℤ, to_z-of_z, w64}
 use mir.Val.{SFits}
 use Rattle.nrm_row.proofs.Bits.{zero_from_bits}

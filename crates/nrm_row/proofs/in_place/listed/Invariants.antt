@@ -1,3 +1,4 @@
+-- The list has the columns so far whose number is not 0.
 use Rattle.nrm_row.proofs.InPlace.{IsListedTo}
 use Rattle.nrm_row.proofs.in_place.listed.Given as goal
 

@@ -1,3 +1,4 @@
+-- Each number is multiplied, and where e is 1 all stay.
 use Rattle.std.proofs.Common.{rules, arith, ◌≡◌, ◌≤◌, ◌<◌, ◌*◌, ◌*ℤ◌, ap, sym, subst, ◌∙◌, get_or, set, map, pos, ℤ, unsigned_abs, to_z, of_z, to_z-of_z, w64}
 use Rattle.std.proofs.lemmas.Int.{fits_signed_mul}
 use Rattle.std.proofs.lemmas.List.{get_or_default}

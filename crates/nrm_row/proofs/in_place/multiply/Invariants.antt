@@ -1,3 +1,4 @@
+-- The numbers so far are multiplied, and the rest are as they were.
 use Rattle.std.proofs.Common.{◌≡◌, ◌++◌, ◌*ℤ◌, map, take, drop}
 use Rattle.nrm_row.proofs.in_place.multiply.Given as goal
 

@@ -1,3 +1,4 @@
+-- At one more column its multiple is taken away, and nothing overflows.
 use Rattle.std.proofs.Common.{rules, arith, ◌≡◌, ◌≤◌, ◌<◌, ◌*◌, ◌*ℤ◌, ◌-ℤ◌, ap, ap₂, sym, subst, ◌∙◌, get_or, length, pos, ℤ, unsigned_abs, to_z, of_z, to_z-of_z, w64}
 use Rattle.std.proofs.lemmas.Int.{fits_signed_mul}
 use mir.Val.{SFits}

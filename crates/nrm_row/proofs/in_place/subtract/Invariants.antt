@@ -1,3 +1,4 @@
+-- At the columns so far their multiples are taken away.
 use Rattle.nrm_row.proofs.InPlace.{IsTakenTo}
 use Rattle.nrm_row.proofs.in_place.subtract.Given as goal
 

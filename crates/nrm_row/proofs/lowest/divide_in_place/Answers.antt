@@ -1,3 +1,4 @@
+-- One more number is divided, and where g is 1 all stay.
 use Rattle.std.proofs.Common.{rules, arith, ◌≡◌, ◌<◌, ap, sym, ◌∙◌, get_or, length, set, pos, unsigned_abs, to_z, of_z, to_z-of_z, w64}
 use Rattle.std.proofs.lemmas.List.{get_or_default}
 use Rattle.std.proofs.lemmas.List.Edits.{map_over_more}

@@ -1,3 +1,4 @@
+-- The numbers so far are divided, and the rest are as they were.
 use Rattle.std.proofs.Common.{◌≡◌, ◌++◌, map, take, drop, unsigned_abs}
 use Rattle.nrm_number.specs.Gcd.{shrink}
 use Rattle.nrm_row.proofs.lowest.divide_in_place.Given as goal

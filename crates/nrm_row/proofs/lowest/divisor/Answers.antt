@@ -1,3 +1,4 @@
+-- One more number, and where the divisor is 1 the rest change nothing.
 use Rattle.std.proofs.Common.{rules, ◌-◌, get_or, ◌≡◌, ◌<◌, arith, ap, ◌∙◌, pos, unsigned_abs, inl, inr, to_z-of_z, to_z, of_z, w64}
 use Rattle.std.proofs.lemmas.Int.{ints}
 use Rattle.nrm_fraction.specs.Large.{gcd_all, size_limit}

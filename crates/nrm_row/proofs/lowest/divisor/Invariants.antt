@@ -1,3 +1,4 @@
+-- The divisor is that of the numbers from i on.
 use Rattle.std.proofs.Common.{◌≡◌, ◌≤◌, length, drop, unsigned_abs}
 use Rattle.nrm_fraction.specs.Large.{gcd_all}
 use Rattle.nrm_row.proofs.lowest.divisor.Given as goal

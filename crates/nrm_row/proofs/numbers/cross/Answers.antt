@@ -1,3 +1,4 @@
+-- The difference of two products fits.
 use Rattle.std.proofs.Common.{◌<◌, ◌^◌, ◌-ℤ◌, ◌*ℤ◌, unsigned_abs, ap₂, sym, subst, ◌∙◌, to_z-of_z}
 use Rattle.nrm_row.proofs.Bits.{difference_is, difference_fits, difference_bound}
 use Rattle.nrm_row.proofs.numbers.cross.Goals as goal

@@ -1,3 +1,4 @@
+-- The product of two numbers of a row fits.
 use Rattle.nrm_row.proofs.Bits.{product_small}
 use Rattle.nrm_row.proofs.numbers.product.Goals as goal
 

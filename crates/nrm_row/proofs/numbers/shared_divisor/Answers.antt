@@ -1,3 +1,4 @@
+-- The divisor of a denominator fits.
 use Rattle.std.proofs.Common.{◌≡◌, ◌<◌, arith, unsigned_abs, ap, ap₂, ◌∙◌, pos, to_z-of_z, to_z, w64}
 use Rattle.std.proofs.lemmas.Int.{ints}
 use Rattle.nrm_number.specs.Gcd.{gcd as gcd_of}

@@ -1,3 +1,4 @@
+-- At 64 bits the quotient is the same.
 use Rattle.std.proofs.Common.{◌∙◌}
 use Rattle.std.proofs.lemmas.Int.{quot_fits, quot_is}
 use mir.Syntax.{w128}

@@ -1,3 +1,4 @@
+-- Where two numbers differ, they decide.
 use Rattle.std.proofs.Common.{rules, ◌≡◌, ap, ap₂, sym, ◌∙◌, get_or, pos, ◌*ℤ◌, of_z, to_z-of_z, w64}
 use mir.Syntax.{w128}
 use mir.Val.{SFits}

@@ -1,3 +1,4 @@
+-- A column decides, or the next one is asked.
 use Rattle.std.proofs.Common.{rules, ◌-◌, ◌+◌, ◌∷◌, ap, sym, ◌∙◌, length, get_or, pos, to_z-of_z, w64}
 use Rattle.std.specs.List.{range_with_len}
 use mir.Val.{SFits}

@@ -1,3 +1,4 @@
+-- The columns so far are the same in both.
 use Rattle.std.proofs.Common.{◌≡◌, ◌-◌, length, get_or, pos}
 use Rattle.std.specs.List.{range_with_len}
 use Rattle.nrm_fraction.specs.Rows.{ratio_columns}

@@ -1,3 +1,5 @@
+-- The numbers x e - a u divided by their common divisor are a row, or the first that is too large is told.
+use Rattle.nrm_row.specs.declared.limits.TheConstants.{MOST_COLUMNS}
 use Rattle.std.proofs.Common.{rules, ◌≡◌, ap, ap₂, sym, subst, subst₂, ◌∙◌, unsigned_abs, pos, List, ℤ, ℕ, ◌*ℤ◌, ◌<ℤ◌, to_z, of_z, to_z-of_z, w64, Some, None, leb, true, false, All}
 use Rattle.std.proofs.lemmas.Result.{err_from_is_err_and}
 use mir.Syntax.{w128}
@@ -59,7 +61,7 @@ greatest-requires c =
     let den : to_z w64 (of_z w64 (to_z w128 (of_z w128 c.wide_quotient-wide.result))) ≡ shrink (c.args.den *ℤ c.args.e) G = ap (λ z. to_z w64 (of_z w64 z)) wide ∙ small_fits (shrink (c.args.den *ℤ c.args.e) G) small in
     let items : c.in_ok-made.made.items ≡ shrunk G ns = c.in_ok-made.ensures.0 ∙ numbers in
     let none : first_reaching size_limit (shrunk G ns) ≡ None = ap (first_reaching size_limit) (sym numbers) ∙ c.in_ok-made.ensures.1 in
-    let wide_enough = subst (IsInRange 1 577) (sym (length-crossed c.args.a c.args.e c.args.us.now c.args.xs.now c.requires.lengths)) c.requires.row.width in
+    let wide_enough = subst (IsInRange 1 MOST_COLUMNS) (sym (length-crossed c.args.a c.args.e c.args.us.now c.args.xs.now c.requires.lengths)) c.requires.row.width in
     subst (All IsSmall) (sym c.deref.ensures.value) (subst (All IsSmall) (sym items) (made_is_row (c.args.den *ℤ c.args.e) ns positive small none wide_enough).smalls)
 
 pub invariant_of-result : goal.invariant_of-result
@@ -78,7 +80,7 @@ invariant_of-result c =
     let den : to_z w64 (of_z w64 (to_z w128 (of_z w128 c.wide_quotient-wide.result))) ≡ shrink (c.args.den *ℤ c.args.e) G = ap (λ z. to_z w64 (of_z w64 z)) wide ∙ small_fits (shrink (c.args.den *ℤ c.args.e) G) small in
     let items : c.in_ok-made.made.items ≡ shrunk G ns = c.in_ok-made.ensures.0 ∙ numbers in
     let none : first_reaching size_limit (shrunk G ns) ≡ None = ap (first_reaching size_limit) (sym numbers) ∙ c.in_ok-made.ensures.1 in
-    let wide_enough = subst (IsInRange 1 577) (sym (length-crossed c.args.a c.args.e c.args.us.now c.args.xs.now c.requires.lengths)) c.requires.row.width in
+    let wide_enough = subst (IsInRange 1 MOST_COLUMNS) (sym (length-crossed c.args.a c.args.e c.args.us.now c.args.xs.now c.requires.lengths)) c.requires.row.width in
     record {
       row = subst₂ (λ d ms. IsRow d ms) (sym den) (sym items) (loosened (shrink (c.args.den *ℤ c.args.e) G) (shrunk G ns) (made_is_row (c.args.den *ℤ c.args.e) ns positive small none wide_enough));
       bounded = subst (IsBounded c.greatest.result) c.deref.ensures.value c.greatest.ensures.bound;

@@ -1,3 +1,4 @@
+-- One more entry is written.
 use Rattle.std.proofs.Common.{arith, ap, ◌∙◌, pos}
 use Rattle.std.proofs.lemmas.List.FromFn.{fill_by_all}
 use Rattle.nrm_fraction.specs.Rows.{number_at}

@@ -1,3 +1,4 @@
+-- The numbers are those of the entries so far.
 use Rattle.std.proofs.Common.{◌≡◌, ◌<◌, ℕ, length, get_or, take, pos}
 use Rattle.nrm_fraction.specs.Rows.{number_at}
 use Rattle.nrm_row.proofs.row.filled.Given as goal

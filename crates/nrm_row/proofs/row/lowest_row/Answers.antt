@@ -1,3 +1,4 @@
+-- The numbers divided by their common divisor are a row of the same fractions.
 use Rattle.std.proofs.Common.{rules, ◌≡◌, ap, ap₂, sym, subst, ◌∙◌, pos, ◌<ℤ◌, unsigned_abs, to_z, of_z, to_z-of_z, w64, All}
 use mir.Val.{SFits}
 use Rattle.nrm_number.specs.Gcd.{shrink}

@@ -1,3 +1,4 @@
+-- Each pivot is one step of the path, and the last tableau closes it.
 use Rattle.std.proofs.Common.{◌∙◌, sym, subst, rules, MatchResult}
 use Rattle.nrm_lp.specs.Limits.{IsLimited}
 use Rattle.nrm_simplex.specs.Solving.{IsClosing, IsSolveFault}

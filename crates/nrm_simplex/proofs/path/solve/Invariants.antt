@@ -1,3 +1,4 @@
+-- The tableau is on the path, and what is left of the measure.
 use Rattle.nrm_simplex.proofs.Walk.{IsWalked, walk_left}
 use Rattle.nrm_simplex.proofs.path.solve.Given as goal
 

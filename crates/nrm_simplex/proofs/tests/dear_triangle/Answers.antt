@@ -1,3 +1,4 @@
+-- The program is within the limits.
 use Rattle.std.proofs.Common.{refl}
 use Rattle.nrm_simplex.proofs.TestPrograms.{limited}
 use Rattle.nrm_simplex.proofs.tests.dear_triangle.Goals as goal

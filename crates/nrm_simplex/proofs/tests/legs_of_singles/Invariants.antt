@@ -1,3 +1,4 @@
+-- The legs so far have a list each.
 use Rattle.std.proofs.Common.{◌≡◌, ◌∷◌, [], map}
 use Rattle.std.specs.List.{range_with_len}
 use Rattle.nrm_simplex.proofs.tests.legs_of_singles.Given as goal

@@ -1,3 +1,4 @@
+-- The numbers are those of the columns so far.
 use Rattle.std.proofs.Common.{◌≡◌, take}
 use Rattle.nrm_fraction.specs.Large.{common, numerators}
 use Rattle.nrm_tableau.proofs.ending.numbers.Given as goal

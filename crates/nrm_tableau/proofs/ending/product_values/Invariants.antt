@@ -1,3 +1,4 @@
+-- The values are those of the products so far.
 use Rattle.std.proofs.Common.{◌≡◌, map}
 use Rattle.std.specs.List.{range_with_len}
 use Rattle.nrm_lp.specs.Closing.{basic_value}

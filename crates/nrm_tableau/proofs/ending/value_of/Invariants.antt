@@ -1,3 +1,4 @@
+-- The product is basic in none of the rows so far.
 use Rattle.std.proofs.Common.{◌≡◌, drop}
 use Rattle.nrm_lp.specs.Closing.{basic_value}
 use Rattle.nrm_tableau.proofs.ending.value_of.Given as goal

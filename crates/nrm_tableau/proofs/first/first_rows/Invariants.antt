@@ -1,3 +1,4 @@
+-- The rows are those of the first tableau so far.
 use Rattle.std.proofs.Common.{◌≡◌, suc, map}
 use Rattle.std.specs.List.{range_with_len}
 use Rattle.nrm_lp.specs.Tableau.{first_entry, right_side}

@@ -1,3 +1,4 @@
+-- The entries of the fares make the value row.
 use Rattle.std.proofs.Common.{◌+◌, arith}
 use Rattle.nrm_lp.specs.Tableau.{first_value, right_side}
 use Rattle.nrm_tableau.proofs.FirstEntries.{value_list, width_within, made_row}

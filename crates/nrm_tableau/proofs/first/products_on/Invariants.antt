@@ -1,3 +1,4 @@
+-- The entries are those of the products so far.
 use Rattle.nrm_lp.specs.Tableau.{first_entry}
 use Rattle.nrm_tableau.specs.Inner.Entries.{IsFilled}
 use Rattle.nrm_tableau.proofs.first.products_on.Given as goal

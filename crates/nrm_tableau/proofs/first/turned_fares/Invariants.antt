@@ -1,3 +1,4 @@
+-- The entries are those of the fares so far.
 use Rattle.nrm_lp.specs.Tableau.{first_value}
 use Rattle.nrm_tableau.specs.Inner.Entries.{IsFilled}
 use Rattle.nrm_tableau.proofs.first.turned_fares.Given as goal

@@ -1,3 +1,4 @@
+-- None of the columns so far enters.
 use Rattle.std.proofs.Common.{◌≡◌, drop}
 use Rattle.nrm_lp.specs.Tableau.{entering_from}
 use Rattle.nrm_tableau.proofs.leaving.entering_column.Given as goal

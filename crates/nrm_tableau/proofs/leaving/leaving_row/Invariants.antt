@@ -1,3 +1,4 @@
+-- The best is that of the rows from this one on.
 use Rattle.std.proofs.Common.{◌≡◌, drop}
 use Rattle.nrm_lp.specs.Tableau.{leaving_from, key_columns}
 use Rattle.nrm_tableau.specs.Inner.Best.{IsCandidate, listed}

@@ -1,3 +1,4 @@
+-- In its place below the bound, or made anew, the row becomes the one minus the multiple of the unit row.
 use Rattle.std.proofs.Common.{rules, arith, ◌≡◌, ◌+◌, ◌*◌, ◌<◌, ◌≤◌, ap, ap₂, sym, subst, ◌∙◌, pos, ℕ, ℤ, ◌*ℤ◌, ◌-ℤ◌, ◌<ℤ◌, unsigned_abs, length, get_or, to_z, of_z, to_z-of_z, w64, None, All}
 use Rattle.std.proofs.lemmas.Result.{err_from_is_err_and}
 use mir.Val.{SFits}

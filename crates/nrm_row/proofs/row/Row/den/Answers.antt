@@ -1,3 +1,4 @@
+-- The denominator divided by the common divisor is the least common denominator.
 use Rattle.std.proofs.Common.{rules, ◌≡◌, ap₂, sym, subst, ◌∙◌, pos, ◌<ℤ◌, unsigned_abs, to_z, of_z, to_z-of_z, w64}
 use mir.Val.{SFits}
 use Rattle.nrm_number.specs.Gcd.{shrink}

@@ -1,3 +1,4 @@
+-- An entry has the sign of its number.
 use Rattle.std.proofs.Common.{arith, ◌≡◌, ◌<◌, ap, ◌∙◌, pos, length, get_or, to_z, of_z, w64}
 use Rattle.std.specs.Int.RustNames.{int_lt}
 use Rattle.nrm_row.proofs.Bits.{read_at}

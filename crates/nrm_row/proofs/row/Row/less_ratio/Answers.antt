@@ -1,3 +1,4 @@
+-- The numbers compare as the ratios do.
 use Rattle.std.proofs.Common.{◌≡◌, length, get_or, pos, arith, ◌∙◌}
 use Rattle.nrm_fraction.specs.Rows.{ratio_columns}
 use Rattle.nrm_row.specs.Inner.Crossed.{crossed_below}

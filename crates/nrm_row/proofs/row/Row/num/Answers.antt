@@ -1,3 +1,4 @@
+-- The number divided by the common divisor is that over the least common denominator.
 use Rattle.std.proofs.Common.{rules, arith, ◌≡◌, ◌<◌, ap, ap₂, sym, subst, ◌∙◌, pos, ◌<ℤ◌, unsigned_abs, length, get_or, to_z, of_z, to_z-of_z, w64}
 use Rattle.std.proofs.lemmas.List.{get_or-map}
 use mir.Val.{SFits}

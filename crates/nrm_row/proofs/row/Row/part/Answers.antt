@@ -1,3 +1,4 @@
+-- The fractions of some columns are those columns of the fractions.
 use Rattle.std.proofs.Common.{◌≡◌, ◌+◌, ◌-◌, ap₂, subst, ◌∙◌, arith, IfOk, unsigned_abs, take, drop}
 use Rattle.nrm_fraction.specs.Large.{fractions}
 use Rattle.nrm_row.proofs.LowestTerms.{row_part}

@@ -1,3 +1,4 @@
+-- The numbers over the one at the column are the row divided by its entry.
 use Rattle.std.proofs.Common.{arith, ◌≡◌, ◌<◌, length, get_or, pos, ◌<ℤ◌, unsigned_abs, ap, sym, subst, ◌∙◌, IfOk, to_z, of_z, w64}
 use Rattle.nrm_fraction.specs.Large.{fractions, IsSmall}
 use Rattle.nrm_row.proofs.Bits.{read_at}

@@ -1,0 +1,106 @@
+-- Sets of rows by their bits: a row put in, two sets joined, and the test of a row.
+use Rattle.std.proofs.Common.{◌≡◌, ℕ, ◌+◌, ◌*◌, ◌/◌, ◌%◌, ◌^◌, ◌<◌, ◌≤◌, ◌⊎◌, ◌↔◌, inl, inr, arith, tests, refl, sym, ap, ◌∙◌, subst, List, length, get_or, set, max, Bool, false, not, IsTrue, nat_eq, bit_and, bit_or, w64, get_or-set_same, get_or-set_other}
+use Rattle.std.specs.Int.{bit_at}
+use Rattle.std.proofs.lemmas.List.{get_or_past, length-set}
+use Rattle.std.proofs.lemmas.Bool.{cases_lt}
+use Rattle.std.proofs.lemmas.Nat.{one_shl, pow_pos}
+use Rattle.std.proofs.lemmas.Nat.Bits.{and_pow, bit_at_or, bit_at_set_same, bit_at_set_other, bit_at-zero, bit_at-lt}
+use Rattle.nrm_tableau.specs.RowSets.{row_bit}
+
+-- the test of a bit
+has_bit : (n k : ℕ) → k < 64 → IsTrue (not (nat_eq (bit_and n (1 * 2 ^ k % 18446744073709551616)) 0)) ↔ (bit_at n k ≡ 1)
+has_bit n k h = grind (arith, tests, one_shl k 64 h, and_pow n k, pow_pos k)
+
+pub has_row : (ws set : List ℕ) (row place : ℕ) → place ≡ row / 64 → ws ≡ set → IsTrue (not (nat_eq (bit_and (get_or ws place 0) (1 * 2 ^ (row % 64) % 18446744073709551616)) 0)) ↔ (row_bit set row ≡ 1)
+has_row ws set row place e f =
+    subst (λ xs. IsTrue (not (nat_eq (bit_and (get_or ws place 0) (1 * 2 ^ (row % 64) % 18446744073709551616)) 0)) ↔ (row_bit xs row ≡ 1)) f
+    (subst (λ k. IsTrue (not (nat_eq (bit_and (get_or ws place 0) (1 * 2 ^ (row % 64) % 18446744073709551616)) 0)) ↔ (bit_at (get_or ws k 0) (row % 64) ≡ 1)) e (has_bit (get_or ws place 0) (row % 64) (omega arith)))
+
+pub same_or_not : (i k : ℕ) → (i ≡ k) ⊎ ¬ (i ≡ k)
+same_or_not i k = grind arith
+
+module _ (ws : List ℕ) (row place : ℕ) (e : place ≡ row / 64) (h : row < 320) (l : length ws ≡ 5) where
+  abbrev word : ℕ
+  word = bit_or (get_or ws place 0) (1 * 2 ^ (row % 64) % 18446744073709551616)
+
+  here : get_or (set ws place word) (row / 64) 0 ≡ word
+  here = ap (λ k. get_or (set ws place word) k 0) (sym e) ∙ get_or-set_same ws place word 0 (omega arith)
+
+  -- a row that is put in is there
+  pub put_there : row_bit (set ws place word) row ≡ 1
+  put_there = ap (λ x. bit_at x (row % 64)) here ∙ bit_at_set_same w64 (get_or ws place 0) (row % 64) (omega arith)
+
+  -- and those before stay
+  pub put_kept : (r : ℕ) → row_bit ws r ≡ 1 → row_bit (set ws place word) r ≡ 1
+  put_kept r there = by_word (same_or_not (r / 64) place)
+    where
+      by_bit : r / 64 ≡ place → (r % 64 ≡ row % 64) ⊎ ¬ (r % 64 ≡ row % 64) → bit_at word (r % 64) ≡ 1
+      by_bit same (inl s) = ap (bit_at word) s ∙ bit_at_set_same w64 (get_or ws place 0) (row % 64) (omega arith)
+      by_bit same (inr d) = bit_at_set_other w64 (get_or ws place 0) (row % 64) (omega arith) (r % 64) d ∙ ap (λ k. bit_at (get_or ws k 0) (r % 64)) (sym same) ∙ there
+
+      by_word : (r / 64 ≡ place) ⊎ ¬ (r / 64 ≡ place) → row_bit (set ws place word) r ≡ 1
+      by_word (inl s) = ap (λ k. bit_at (get_or (set ws place word) k 0) (r % 64)) s ∙ ap (λ x. bit_at x (r % 64)) (get_or-set_same ws place word 0 (omega arith)) ∙ by_bit s (same_or_not (r % 64) (row % 64))
+      by_word (inr d) = ap (λ x. bit_at x (r % 64)) (get_or-set_other ws place (r / 64) word 0 d) ∙ there
+
+pub one_nought : {n : ℕ} → n ≡ 1 → n ≡ 0 → ⊥
+one_nought {n} e f = omega (arith, e, f)
+
+-- ---- two sets joined
+pub record IsJoinedTo (old other now : List ℕ) (i : ℕ) : Type 0 where
+  pub long : length now ≡ 5
+  pub joined : (k : ℕ) → k < i → get_or now k 0 ≡ bit_or (get_or old k 0) (get_or other k 0)
+  pub rest : (k : ℕ) → i ≤ k → get_or now k 0 ≡ get_or old k 0
+
+pub joined_first : (old other : List ℕ) → length old ≡ 5 → IsJoinedTo old other old 0
+joined_first old other l = record { long = l; joined = λ k h. absurd (omega arith); rest = λ k h. refl }
+
+pub joined_more : (old other now : List ℕ) (i : ℕ) → i < 5 → IsJoinedTo old other now i → IsJoinedTo old other (set now i (bit_or (get_or now i 0) (get_or other i 0))) (i + 1)
+joined_more old other now i h p = record {
+  long = length-set now i (bit_or (get_or now i 0) (get_or other i 0)) ∙ p.long;
+  joined = λ k l. by_place k l (same_or_not k i);
+  rest = λ k l. get_or-set_other now i k (bit_or (get_or now i 0) (get_or other i 0)) 0 (λ e. omega arith) ∙ p.rest k (omega arith);
+}
+  where
+    by_place : (k : ℕ) → k < i + 1 → (k ≡ i) ⊎ ¬ (k ≡ i) → get_or (set now i (bit_or (get_or now i 0) (get_or other i 0))) k 0 ≡ bit_or (get_or old k 0) (get_or other k 0)
+    by_place k l (inl s) =
+        ap (λ j. get_or (set now i (bit_or (get_or now i 0) (get_or other i 0))) j 0) s
+        ∙ get_or-set_same now i (bit_or (get_or now i 0) (get_or other i 0)) 0 (omega (arith, p.long))
+        ∙ ap (λ x. bit_or x (get_or other i 0)) (p.rest i (omega arith))
+        ∙ ap (λ j. bit_or (get_or old j 0) (get_or other j 0)) (sym s)
+    by_place k l (inr d) = get_or-set_other now i k (bit_or (get_or now i 0) (get_or other i 0)) 0 d ∙ p.joined k (omega arith)
+
+neither : (a b : ℕ) → max a b ≡ 0 → (a ≡ 0) × (b ≡ 0)
+neither a b e = (omega arith, omega arith)
+
+pub joined_bits : (old other now : List ℕ) → length old ≡ 5 → length other ≡ 5 → IsJoinedTo old other now 5 → (r : ℕ) → row_bit now r ≡ 0 → (row_bit old r ≡ 0) × (row_bit other r ≡ 0)
+joined_bits old other now lo lt p r e = by_place (cases_lt (r / 64) 5)
+  where
+    by_place : (r / 64 < 5) ⊎ (5 ≤ r / 64) → (row_bit old r ≡ 0) × (row_bit other r ≡ 0)
+    by_place (inl l) = neither (row_bit old r) (row_bit other r) (sym (bit_at_or (get_or old (r / 64) 0) (get_or other (r / 64) 0) (r % 64)) ∙ ap (λ x. bit_at x (r % 64)) (sym (p.joined (r / 64) l)) ∙ e)
+    by_place (inr l) = (
+      ap (λ x. bit_at x (r % 64)) (get_or_past old (r / 64) 0 (omega (arith, lo))) ∙ bit_at-zero (r % 64),
+      ap (λ x. bit_at x (r % 64)) (get_or_past other (r / 64) 0 (omega (arith, lt))) ∙ bit_at-zero (r % 64),
+    )
+
+-- a row that isn't found isn't there
+false_is : IsTrue false → ⊥
+false_is e = cc
+
+pub not_there : (ws : List ℕ) (r : ℕ) (b : Bool) → IsTrue b ↔ (row_bit ws r ≡ 1) → b ≡ false → row_bit ws r ≡ 0
+not_there ws r b d e = by_bit (same_or_not (row_bit ws r) 1)
+  where
+    by_bit : (row_bit ws r ≡ 1) ⊎ ¬ (row_bit ws r ≡ 1) → row_bit ws r ≡ 0
+    by_bit (inl s) = absurd (false_is (subst IsTrue e (d.1 s)))
+    by_bit (inr n) = omega (arith, bit_at-lt (get_or ws (r / 64) 0) (r % 64))
+
+-- a set that keeps all rows of another has no fewer
+pub without : (old new : List ℕ) (r : ℕ) → ((k : ℕ) → row_bit old k ≡ 1 → row_bit new k ≡ 1) → row_bit new r ≡ 0 → row_bit old r ≡ 0
+without old new r kept e = by_bit (same_or_not (row_bit old r) 1)
+  where
+    by_bit : (row_bit old r ≡ 1) ⊎ ¬ (row_bit old r ≡ 1) → row_bit old r ≡ 0
+    by_bit (inl s) = absurd (one_nought (kept r s) e)
+    by_bit (inr n) = omega (arith, bit_at-lt (get_or old (r / 64) 0) (r % 64))
+
+-- one more row
+pub up_to : (P : ℕ → Type 0) (n k : ℕ) → k < n + 1 → ((j : ℕ) → j < n → P j) → P n → P k
+up_to P n k l before here = elim (cases_lt k n) [ inl m ↦ before k m | inr m ↦ let e : n ≡ k = omega arith in subst P e here ]

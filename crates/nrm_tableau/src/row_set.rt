@@ -1,0 +1,63 @@
+//! Sets of constraint rows, of which there are at most 320: a bit for each row.
+#![tactic(auto)]
+
+ghost use Rattle.std.specs.Prelude.{◌≡◌, ◌<◌, ◌↔◌, ℕ, IsTrue};
+ghost use Rattle.nrm_tableau.specs.RowSets.{row_bit};
+
+use std::marker::Model;
+
+/// A set of constraint rows. Contracts see its words.
+#[derive(Clone, Copy)]
+pub(crate) struct RowSet {
+    words: [u64; 5],
+}
+
+impl Model for RowSet {
+    ghost use Rattle.std.specs.Prelude.{ℕ, List, ◌≡◌, length};
+
+    ghost Value = { List ℕ };
+
+    ghost view = { λ set. set.words };
+
+    ghost inverse = { λ words. record { words = words } };
+
+    ghost invariant = { λ set. length set.words ≡ 5 };
+}
+
+impl RowSet {
+    /// This row alone.
+    pub(crate) fn of(row: u16) -> RowSet
+        requires { row < 320 }
+        ensures { row_bit result row ≡ 1 }
+    {
+        let mut set = RowSet { words: [0; 5] };
+        set.insert(row);
+        set
+    }
+
+    /// Puts a row in.
+    pub(crate) fn insert(&mut self, row: u16)
+        requires { row < 320 }
+        ensures put { row_bit self.new row ≡ 1 }
+        ensures kept { (r : ℕ) → row_bit self.old r ≡ 1 → row_bit self.new r ≡ 1 }
+    {
+        self.words[usize::from(row / 64)] |= 1 << (row % 64);
+    }
+
+    /// Whether a row is in the set.
+    pub(crate) fn contains(&self, row: u16) -> bool
+        requires { row < 320 }
+        ensures { IsTrue result ↔ (row_bit self.now row ≡ 1) }
+    {
+        self.words[usize::from(row / 64)] & (1 << (row % 64)) != 0
+    }
+
+    /// Puts all rows of another set in.
+    pub(crate) fn join(&mut self, other: &RowSet)
+        ensures { (r : ℕ) → row_bit self.new r ≡ 0 → (row_bit self.old r ≡ 0) × (row_bit other.now r ≡ 0) }
+    {
+        for i in 0..5 {
+            self.words[i] |= other.words[i];
+        }
+    }
+}
