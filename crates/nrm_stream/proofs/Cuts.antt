@@ -8,7 +8,7 @@ use Rattle.std.proofs.lemmas.List.Sums.{split_at_first, fails_before_first, pass
 use Rattle.nrm_stream.specs.Lines.{parts_of, all_but_last, last_part, whole_lines, unfinished_line, lines_of, as_line}
 
 -- a place that was found is the first, and within
-found : (p : ℕ → Bool) (xs : List ℕ) (i : ℕ) → position p xs ≡ Some i → (position_or_len p xs ≡ i) × (i < length xs)
+pub found : (p : ℕ → Bool) (xs : List ℕ) (i : ℕ) → position p xs ≡ Some i → (position_or_len p xs ≡ i) × (i < length xs)
 found p xs i is = by (nat_lt (position_or_len p xs) (length xs)) refl
   where
     by : (b : Bool) → nat_lt (position_or_len p xs) (length xs) ≡ b → (position_or_len p xs ≡ i) × (i < length xs)
@@ -19,7 +19,7 @@ found p xs i is = by (nat_lt (position_or_len p xs) (length xs)) refl
         (place, omega arith)
     by false e = let none : None ≡ Some i = rw e at is in cc
 
-missing : (p : ℕ → Bool) (xs : List ℕ) → position p xs ≡ None → length xs ≤ position_or_len p xs
+pub missing : (p : ℕ → Bool) (xs : List ℕ) → position p xs ≡ None → length xs ≤ position_or_len p xs
 missing p xs is = by (nat_lt (position_or_len p xs) (length xs)) refl
   where
     by : (b : Bool) → nat_lt (position_or_len p xs) (length xs) ≡ b → length xs ≤ position_or_len p xs

@@ -5,5 +5,6 @@ pub mod JoinedLines
 pub mod Kept
 pub mod LongLines
 pub mod Pieces
+pub mod Searches
 pub mod Words
 mod FirstWords
