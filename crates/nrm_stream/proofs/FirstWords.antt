@@ -3,11 +3,15 @@
 use Rattle.std.proofs.Common.{ℕ, suc, ◌≡◌, ◌≤◌, ◌+◌, ◌-◌, ◌∙◌, Bool, true, false, ◌&&◌, ◌==◌, not, List, [], ◌∷◌, length, take, drop, Option, Some, None, refl, ap, sym, inl, inr, arith, codes, nat_le}
 use Rattle.std.specs.List.{list_all, onto_first, position, slice_split}
 use Rattle.std.specs.Char.{is_ascii_digit}
+use Rattle.std.specs.Prelude.{option_and_then}
 use Rattle.std.proofs.lemmas.Bool.{cases_Bool}
+use Rattle.std.proofs.lemmas.List.{take_rest}
 use Rattle.std.proofs.lemmas.List.Splits.{slice_split-cons_no}
-use Rattle.nrm_text.specs.Numbers.{is_whole}
-use Rattle.nrm_text.specs.Names.{name_in}
-use Rattle.nrm_stream.specs.Commands.{command_of_words, three_words, two_words}
+use Rattle.nrm_text.specs.Numbers.{is_whole, whole_between}
+use Rattle.nrm_model.specs.declared.limits.TheConstants.{MOST_PARTY}
+use Rattle.nrm_text.specs.Names.{is_name, name_before, name_in}
+use Rattle.nrm_stream.specs.Commands.{booking_of, command_of_words, three_words, two_words}
+use Rattle.nrm_stream.specs.declared.command.Command.{Command}
 use Rattle.nrm_stream.specs.declared.command.Command.TheVariants as command
 use Rattle.nrm_stream.proofs.Cuts.{some-parts, split-found, split-missing}
 use Rattle.nrm_stream.proofs.LongLines.{booking-none, both}
@@ -57,6 +61,37 @@ booking-words name party = by (position is_space party) refl
         ap (λ (parts : List (List ℕ)). command_of_words (codes "book" ∷ name ∷ parts)) (split-found is_space party i e).0
         ∙ too-many-words (codes "book") name (take i party) (slice_split is_space more) (some-parts is_space more)
         ∙ sym bad
+
+-- what follows `book`, by the name before the first space
+pub booking_by : Option (List ℕ × List ℕ) → Command
+booking_by None = command.Bad
+booking_by (Some cut) = booking_of (Some cut.0) (whole_between 1 MOST_PARTY cut.1)
+
+name-words : (rest : List ℕ) → command_of_words (codes "book" ∷ slice_split (λ c. c == 32) rest) ≡ booking_by (name_before 32 rest)
+unfolding booking_by
+name-words rest = by (position is_space rest) refl
+  where
+    named : (i : ℕ) (b : Bool) → is_name (take i rest) ≡ b
+        → booking_of (name_in (take i rest)) (whole_between 1 MOST_PARTY (drop (i + 1) rest)) ≡ booking_by (option_and_then (λ name. Some (name, drop (i + 1) rest)) (name_in (take i rest)))
+    named i true e = rw e refl
+    named i false e = rw e refl
+
+    by : (at : Option ℕ) → position is_space rest ≡ at → command_of_words (codes "book" ∷ slice_split is_space rest) ≡ booking_by (name_before 32 rest)
+    by None e = ap (λ (parts : List (List ℕ)). command_of_words (codes "book" ∷ parts)) (split-missing is_space rest e) ∙ rw e refl
+    by (Some i) e =
+        let party : take (length rest - (i + 1)) (drop (i + 1) rest) ≡ drop (i + 1) rest = take_rest rest (i + 1) in
+        let parts = (split-found is_space rest i e).0 ∙ ap (λ (p : List ℕ). take i rest ∷ slice_split is_space p) party in
+        let words = ap (λ (ps : List (List ℕ)). command_of_words (codes "book" ∷ ps)) parts ∙ booking-words (take i rest) (drop (i + 1) rest) in
+        words ∙ rw e (named i (is_name (take i rest)) refl)
+
+pub booked : (rest name party : List ℕ) → name_before 32 rest ≡ Some (name, party)
+    → booking_of (Some name) (whole_between 1 MOST_PARTY party) ≡ command_of_words (codes "book" ∷ slice_split (λ c. c == 32) rest)
+unfolding booking_by
+booked rest name party is = sym (name-words rest ∙ ap booking_by is)
+
+pub not-booked : (rest : List ℕ) → name_before 32 rest ≡ None → command.Bad ≡ command_of_words (codes "book" ∷ slice_split (λ c. c == 32) rest)
+unfolding booking_by
+not-booked rest is = sym (name-words rest ∙ ap booking_by is)
 
 cancel-more : (number : List ℕ) (more : List (List ℕ)) → 1 ≤ length more → command_of_words (codes "cancel" ∷ number ∷ more) ≡ command.Bad
 cancel-more number [] some = absurd (omega arith)

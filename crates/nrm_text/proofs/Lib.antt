@@ -3,3 +3,5 @@ pub mod Examples
 pub mod Fractions
 pub mod ReadBack
 pub mod Values
+mod Padding
+pub mod FirstNames

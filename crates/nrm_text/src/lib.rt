@@ -8,5 +8,5 @@ mod number;
 
 pub use laws::{fractions_read_back, numbers_and_names_read_back, words_read_back};
 pub use line::{LINE_ROOM, Line, Text};
-pub use name::{Name, name_of};
+pub use name::{Name, name_before, name_of};
 pub use number::{NumberFault, read_whole};

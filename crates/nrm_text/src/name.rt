@@ -1,7 +1,7 @@
 //! Names of legs and products.
-ghost use Rattle.std.specs.Prelude.{◌≡◌, ◌≤◌, ◌-◌, ◌++◌, length, replicate, IsTrue};
+ghost use Rattle.std.specs.Prelude.{◌≡◌, ◌<◌, ◌≤◌, ◌-◌, ◌++◌, length, replicate, slice_index, take, IsTrue, MatchOption, true, false};
 ghost use Rattle.std.specs.Int.{IsInRange};
-ghost use Rattle.nrm_text.specs.Names.{is_name, is_name_byte, name_in};
+ghost use Rattle.nrm_text.specs.Names.{is_name, is_name_byte, name_before, name_in};
 ghost use Rattle.std.specs.List.{list_all};
 
 use std::hash::{Hash, Hasher};
@@ -69,7 +69,7 @@ impl PartialEq for Name {
     ghost laws = { Prim.search (comparing, rules) };
 
     fn eq(&self, other: &Name) -> bool {
-        self.bytes() == other.bytes()
+        self.len == other.len && self.bytes == other.bytes
     }
 }
 
@@ -82,59 +82,78 @@ impl Eq for Name {
 
 impl Hash for Name {
     ghost use Rattle.std.proofs.Common.{rules};
-    ghost use Rattle.std.specs.Prelude.{◌∷◌, []};
+    ghost use Rattle.std.specs.Prelude.{◌∷◌, ◌++◌, ◌-◌, [], length, replicate};
     ghost use Rattle.std.specs.Cmp.Rules.{hashing};
 
-    ghost hash_input = { λ name. name ∷ [] };
+    // The bytes with the zeros behind them.
+    ghost hash_input = { λ name. (name ++ replicate (12 - length name) 0) ∷ [] };
 
     ghost respects_eq = { Prim.search (hashing, rules) };
 
     fn hash<H: Hasher>(&self, state: &mut H) {
-        state.write(self.bytes());
+        state.write(&self.bytes);
     }
 }
+
+// Each byte that may stand in a name, at its own place. At the other places is `-`, which is none of their bytes.
+static NAME_BYTES: [u8; 256] = *b"------------------------------------------------0123456789------\
+    -ABCDEFGHIJKLMNOPQRSTUVWXYZ-------------------------------------\
+    ----------------------------------------------------------------\
+    ----------------------------------------------------------------";
 
 // Whether a byte may stand in a name.
 fn may_stand(c: u8) -> bool
     ensures { result ≡ is_name_byte c }
 {
-    c.is_ascii_uppercase() || c.is_ascii_digit() || c == b'-'
+    NAME_BYTES[c as usize] == c
 }
 
-// Whether each byte may stand in a name.
-fn all_may_stand(bytes: &[u8]) -> bool
-    ensures { result ≡ list_all is_name_byte bytes.now }
+// The bytes at the front that may stand in a name, up to twelve of them, with zeros behind them, and how many they are.
+#[inline(always)]
+fn front_of(bytes: &[u8]) -> ([u8; 12], usize)
+    ensures few { result.1 ≤ 12 }
+    ensures within { result.1 ≤ length bytes.now }
+    ensures may_stand { list_all is_name_byte (take result.1 bytes.now) ≡ true }
+    ensures stops { result.1 < 12 → result.1 < length bytes.now → is_name_byte (slice_index bytes.now result.1) ≡ false }
+    ensures kept { result.0 ≡ take result.1 bytes.now ++ replicate (12 - result.1) 0 }
 {
-    bytes.iter().all(|c| may_stand(*c))
-}
-
-// Whether the bytes are a name.
-fn is_name_text(bytes: &[u8]) -> bool
-    ensures { result ≡ is_name bytes.now }
-{
-    let few = 1 <= bytes.len() && bytes.len() <= 12;
-    few && all_may_stand(bytes)
-}
-
-// The bytes with zeros behind them.
-fn padded(bytes: &[u8]) -> [u8; 12]
-    requires { length bytes.now ≤ 12 }
-    ensures { result ≡ bytes.now ++ replicate (12 - length bytes.now) 0 }
-{
+    let most = bytes.len().min(12);
     let mut kept = [0; 12];
-    kept[..bytes.len()].copy_from_slice(bytes);
-    kept
+    let mut len = 0;
+    while len < most && may_stand(bytes[len]) {
+        kept[len] = bytes[len];
+        len += 1;
+    }
+    (kept, len)
 }
 
 /// The name that these bytes are, if they are one.
 pub fn name_of(bytes: &[u8]) -> Option<Name>
     ensures { result ≡ name_in bytes.now }
 {
-    if !is_name_text(bytes) {
+    let (kept, len) = front_of(bytes);
+    if len == 0 || len < bytes.len() {
         return None;
     }
     Some(Name {
-        bytes: padded(bytes),
-        len: bytes.len() as u8,
+        bytes: kept,
+        len: len as u8,
     })
+}
+
+/// The name before the first byte of a kind that stands in no name, and the bytes after that byte, if there is such a byte and a
+/// name before it.
+pub fn name_before(bytes: &[u8], end: u8) -> Option<(Name, &[u8])>
+    requires { is_name_byte end ≡ false }
+    ensures { MatchOption result (name_before end bytes.now ≡ None) (λ cut. name_before end bytes.now ≡ Some (cut.0, cut.1.now)) }
+{
+    let (kept, len) = front_of(bytes);
+    if len == 0 || len == bytes.len() || bytes[len] != end {
+        return None;
+    }
+    let name = Name {
+        bytes: kept,
+        len: len as u8,
+    };
+    Some((name, &bytes[len + 1..]))
 }
