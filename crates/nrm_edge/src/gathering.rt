@@ -67,7 +67,9 @@ fn send_rest<K: Sink>(sink: &mut K, bytes: &[u8], sent: &mut usize) -> Result<()
     Ok(())
 }
 
-// Puts all that is left, and then the buffer is empty. After `Failed` what didn't go out is left still.
+// Puts all that is left, and then the buffer is empty. After `Failed` what didn't go out is left still. Few puts come to it.
+#[cold]
+#[inline(never)]
 fn send_on<K: Sink>(sink: &mut K, bytes: &mut Vec<u8>, sent: &mut usize) -> Result<(), Failed>
     requires { sent.old ≤ length bytes.old.items }
     ensures all { OnOk result ((bytes.new.items ≡ []) × (sent.new ≡ 0)) }
