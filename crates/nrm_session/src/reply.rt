@@ -20,7 +20,7 @@ use nrm_stream::Command;
 use nrm_text::{Name, Text};
 use std::alloc::Global;
 
-// The most bytes of a reply with a fraction.
+// The most bytes of a reply with a fraction. A call clears its room before it begins, so each kind of line has a call of its own.
 const ROOM: usize = 128;
 
 /// What a line is answered. Legs are named by their numbers in the network.
@@ -155,69 +155,81 @@ pub fn carry_out(alloc: Global, controller: &mut Controller, command: &Command) 
     }
 }
 
-// The line of a request that was sold.
+// Puts the line of a request that was sold.
 #[tactic(auto, using(nrm_text::proofs::Decimals::short_decimal))]
-fn sold_line(number: u64) -> Text<24>
-    ensures { result ≡ text_of (sold number) }
+fn put_sold<K: Sink>(number: u64, sink: &mut K) -> Result<(), Failed>
+    ensures whole { OnOk result (Appends (K.held sink.old) (K.held sink.new) (text_of (sold number))) }
+    ensures cut { OnErr result (AppendsFront (K.held sink.old) (K.held sink.new) (text_of (sold number))) }
+    ensures cause { HasCause (K.faults sink.old) (K.faults sink.new) result }
 {
-    let mut line = Text::new();
+    let mut line = Text::<24>::new();
     line.push_bytes(b"ok ");
     line.push_u64(number);
     line.push_bytes(b"\n");
-    line
+    put_all(sink, line.bytes())
 }
 
-// The line of a request that a leg refused.
-fn refused_line(leg: &Name) -> Text<16>
-    ensures { result ≡ text_of (no_leg leg.now) }
+// Puts the line of a request that a leg refused.
+fn put_refused<K: Sink>(leg: &Name, sink: &mut K) -> Result<(), Failed>
+    ensures whole { OnOk result (Appends (K.held sink.old) (K.held sink.new) (text_of (no_leg leg.now))) }
+    ensures cut { OnErr result (AppendsFront (K.held sink.old) (K.held sink.new) (text_of (no_leg leg.now))) }
+    ensures cause { HasCause (K.faults sink.old) (K.faults sink.new) result }
 {
-    let mut line = Text::new();
+    let mut line = Text::<16>::new();
     line.push_bytes(b"no ");
     line.push_name(leg);
     line.push_bytes(b"\n");
-    line
+    put_all(sink, line.bytes())
 }
 
-// The line of a cancellation.
+// Puts the line of a cancellation.
 #[tactic(auto, using(nrm_text::proofs::Decimals::short_decimal))]
-fn cancelled_line(number: u64, refund: u64) -> Text<52>
-    ensures { result ≡ text_of (cancelled number refund) }
+fn put_cancelled<K: Sink>(number: u64, refund: u64, sink: &mut K) -> Result<(), Failed>
+    ensures whole { OnOk result (Appends (K.held sink.old) (K.held sink.new) (text_of (cancelled number refund))) }
+    ensures cut { OnErr result (AppendsFront (K.held sink.old) (K.held sink.new) (text_of (cancelled number refund))) }
+    ensures cause { HasCause (K.faults sink.old) (K.faults sink.new) result }
 {
-    let mut line = Text::new();
+    let mut line = Text::<52>::new();
     line.push_bytes(b"cancelled ");
     line.push_u64(number);
     line.push_bytes(b" ");
     line.push_u64(refund);
     line.push_bytes(b"\n");
-    line
+    put_all(sink, line.bytes())
 }
 
-// The line of a new plan with its mean value.
+// Puts the line of a new plan with its mean value.
 #[tactic(auto, using(nrm_text::proofs::Fractions::short_fraction))]
-fn optimised_line(num: u64, den: u64) -> Text<ROOM>
+#[inline(never)]
+fn put_optimised<K: Sink>(num: u64, den: u64, sink: &mut K) -> Result<(), Failed>
     requires { 1 ≤ den }
-    ensures { result ≡ text_of (optimised (pos num over den)) }
+    ensures whole { OnOk result (Appends (K.held sink.old) (K.held sink.new) (text_of (optimised (pos num over den)))) }
+    ensures cut { OnErr result (AppendsFront (K.held sink.old) (K.held sink.new) (text_of (optimised (pos num over den)))) }
+    ensures cause { HasCause (K.faults sink.old) (K.faults sink.new) result }
 {
-    let mut line = Text::new();
+    let mut line = Text::<ROOM>::new();
     line.push_bytes(b"optimised ");
     line.push_fraction(i128::from(num), u128::from(den));
     line.push_bytes(b"\n");
-    line
+    put_all(sink, line.bytes())
 }
 
-// The line of hindsight, with the revenue of the bookings that stand.
+// Puts the line of hindsight, with the revenue of the bookings that stand.
 #[tactic(auto, using(nrm_text::proofs::Fractions::short_fraction, nrm_text::proofs::Decimals::short_decimal))]
-fn hindsight_line(num: u64, den: u64, revenue: u64) -> Text<ROOM>
+#[inline(never)]
+fn put_hindsight<K: Sink>(num: u64, den: u64, revenue: u64, sink: &mut K) -> Result<(), Failed>
     requires { 1 ≤ den }
-    ensures { result ≡ text_of (hindsight_told (pos num over den) revenue) }
+    ensures whole { OnOk result (Appends (K.held sink.old) (K.held sink.new) (text_of (hindsight_told (pos num over den) revenue))) }
+    ensures cut { OnErr result (AppendsFront (K.held sink.old) (K.held sink.new) (text_of (hindsight_told (pos num over den) revenue))) }
+    ensures cause { HasCause (K.faults sink.old) (K.faults sink.new) result }
 {
-    let mut line = Text::new();
+    let mut line = Text::<ROOM>::new();
     line.push_bytes(b"hindsight ");
     line.push_fraction(i128::from(num), u128::from(den));
     line.push_bytes(b" revenue ");
     line.push_u64(revenue);
     line.push_bytes(b"\n");
-    line
+    put_all(sink, line.bytes())
 }
 
 /// Puts the text of a reply: a line in one piece, and of a leg and of a plan as many lines as there are.
@@ -234,17 +246,15 @@ pub fn put_reply<K: Sink>(controller: &Controller, reply: Reply, sink: &mut K) -
     match reply {
         Reply::Bad => put_all(sink, b"bad\n"),
         Reply::Unknown => put_all(sink, b"unknown\n"),
-        Reply::Sold { number } => put_all(sink, sold_line(number).bytes()),
-        Reply::NoLeg(leg) => put_all(sink, refused_line(&net.leg_at(leg).name).bytes()),
+        Reply::Sold { number } => put_sold(number, sink),
+        Reply::NoLeg(leg) => put_refused(&net.leg_at(leg).name, sink),
         Reply::NoFare => put_all(sink, b"no fare\n"),
-        Reply::Cancelled { number, refund } => put_all(sink, cancelled_line(number, refund).bytes()),
-        Reply::Optimised { num, den } => put_all(sink, optimised_line(num, den).bytes()),
+        Reply::Cancelled { number, refund } => put_cancelled(number, refund, sink),
+        Reply::Optimised { num, den } => put_optimised(num, den, sink),
         Reply::OptimisedNone => put_all(sink, b"optimised none\n"),
         Reply::Overflow => put_all(sink, b"overflow\n"),
         Reply::Memory => put_all(sink, b"memory\n"),
-        Reply::Hindsight { num, den, revenue } => {
-            put_all(sink, hindsight_line(num, den, revenue).bytes())
-        }
+        Reply::Hindsight { num, den, revenue } => put_hindsight(num, den, revenue, sink),
         Reply::Leg(leg) => leg_text(net, controller.book(), leg, sink),
         Reply::Plan => plan_text(net, controller.plan(), sink),
     }
