@@ -55,7 +55,8 @@ impl<K: Sink + Drop> GatheringSink<K> {
 fn send_rest<K: Sink>(sink: &mut K, bytes: &[u8], sent: &mut usize) -> Result<(), Failed>
     requires { sent.old ≤ length bytes.now }
     ensures within { sent.new ≤ length bytes.now }
-    ensures bytes { Keeps (append_known (K.held sink.old) (drop sent.old bytes.now)) (append_known (K.held sink.new) (drop sent.new bytes.now)) }
+    ensures bytes { Keeps (append_known (K.held sink.old) (drop sent.old bytes.now))
+        (append_known (K.held sink.new) (drop sent.new bytes.now)) }
     ensures all { OnOk result (sent.new ≡ length bytes.now) }
     ensures cause { HasCause (K.faults sink.old) (K.faults sink.new) result }
 {
@@ -69,7 +70,12 @@ fn send_rest<K: Sink>(sink: &mut K, bytes: &[u8], sent: &mut usize) -> Result<()
 // Puts all that is left, and then nothing is gathered. After `Failed` what didn't go out is left still. Few puts come to it.
 #[cold]
 #[inline(never)]
-fn send_on<K: Sink>(sink: &mut K, bytes: &[u8], sent: &mut usize, len: &mut usize) -> Result<(), Failed>
+fn send_on<K: Sink>(
+    sink: &mut K,
+    bytes: &[u8],
+    sent: &mut usize,
+    len: &mut usize,
+) -> Result<(), Failed>
     requires sent { sent.old ≤ len.old }
     requires len { len.old ≤ length bytes.now }
     ensures all { OnOk result ((sent.new ≡ 0) × (len.new ≡ 0)) }
@@ -105,11 +111,17 @@ impl<K: Sink + Drop> Sink for GatheringSink<K> {
         requires { 0 < length piece.now }
         ensures some { IfOk result (λ count. 0 < count) }
         ensures room { IfOk result (λ count. count ≤ length piece.now) }
-        ensures bytes { WriteAppends (append_known (K.held self.old.sink) self.old.gathered) (append_known (K.held self.new.sink) self.new.gathered) result piece.now }
+        ensures bytes { WriteAppends (append_known (K.held self.old.sink) self.old.gathered)
+            (append_known (K.held self.new.sink) self.new.gathered) result piece.now }
         ensures cause { HasCause (K.faults self.old.sink) (K.faults self.new.sink) result }
     {
         if piece.len() > self.bytes.len() - self.len {
-            send_on(&mut self.sink, self.bytes.as_slice(), &mut self.sent, &mut self.len)?;
+            send_on(
+                &mut self.sink,
+                self.bytes.as_slice(),
+                &mut self.sent,
+                &mut self.len,
+            )?;
         }
         let count = piece.len().min(self.bytes.len() - self.len);
         write_at(&mut self.bytes, self.len, &piece[..count]);
@@ -118,11 +130,17 @@ impl<K: Sink + Drop> Sink for GatheringSink<K> {
     }
 
     fn flush(&mut self) -> Result<(), Failed>
-        ensures bytes { Keeps (append_known (K.held self.old.sink) self.old.gathered) (append_known (K.held self.new.sink) self.new.gathered) }
+        ensures bytes { Keeps (append_known (K.held self.old.sink) self.old.gathered)
+            (append_known (K.held self.new.sink) self.new.gathered) }
         ensures cause { HasCause (K.faults self.old.sink) (K.faults self.new.sink) result }
         ensures sent { OnOk result (K.unsent self.new.sink ++ self.new.gathered ≡ []) }
     {
-        send_on(&mut self.sink, self.bytes.as_slice(), &mut self.sent, &mut self.len)?;
+        send_on(
+            &mut self.sink,
+            self.bytes.as_slice(),
+            &mut self.sent,
+            &mut self.len,
+        )?;
         self.sink.flush()
     }
 }

@@ -1,27 +1,16 @@
 -- The place of the first byte that passes a test, where it is known that none passes before some place.
-use Rattle.std.proofs.Common.{ℕ, ◌≡◌, ◌∙◌, ◌+◌, ◌-◌, ◌<◌, ◌≤◌, Bool, false, true, List, length, get_or, take, drop, Some, None, not, nat_lt, refl, sym, ap, subst, arith, inl, inr, length-drop}
+use Rattle.std.proofs.Common.{ℕ, ◌≡◌, ◌∙◌, ◌+◌, ◌-◌, ◌<◌, ◌≤◌, Bool, false, true, List, length, get_or, take, drop, Some, None, not, ap}
+use Rattle.std.proofs.Common.{subst, arith, inl, inr, length-drop}
 use Rattle.std.specs.List.{position, position_or_len, prefix_len}
-use Rattle.std.proofs.lemmas.Bool.{cases_lt, lt-ltb, le-ltb}
+use Rattle.std.proofs.lemmas.Bool.{cases_lt}
 use Rattle.std.proofs.lemmas.List.{get_or-drop, take_rest}
-use Rattle.std.proofs.lemmas.List.Sums.{position_or_len_is, fails_before_first, passes_at_first}
+use Rattle.std.proofs.lemmas.List.Sums.{fails_before_first, passes_at_first}
 use Rattle.std.proofs.lemmas.Simd.{run_in_chunk_fails, run_in_chunk_stops}
-use Rattle.nrm_stream.proofs.Cuts.{found, missing}
+use Rattle.nrm_text.proofs.Places.{found, missing, nowhere, placed}
 
 module _ (p : ℕ → Bool) (xs : List ℕ) where
   abbrev pub NoneBefore : ℕ → Type 0
   NoneBefore at = (k : ℕ) → k < at → p (get_or xs k 0) ≡ false
-
-  placed : (i : ℕ) → i < length xs → NoneBefore i → p (get_or xs i 0) ≡ true → position p xs ≡ Some i
-  placed i within fails passes =
-      let is = position_or_len_is p xs i 0 (omega arith) fails (λ _. passes) in
-      let test = lt-ltb (position_or_len p xs) (length xs) (omega (arith, is)) in
-      rw test (ap Some is)
-
-  nowhere : NoneBefore (length xs) → position p xs ≡ None
-  nowhere fails =
-      let is = position_or_len_is p xs (length xs) 0 (omega arith) fails (λ short. absurd (omega arith)) in
-      let test = le-ltb (position_or_len p xs) (length xs) (omega (arith, is)) in
-      rw test refl
 
   module _ (at : ℕ) (none : NoneBefore at) where
     -- so many of the next bytes come before it
@@ -34,7 +23,7 @@ module _ (p : ℕ → Bool) (xs : List ℕ) where
 
       pub found-here : before < n → position p xs ≡ Some (at + before)
       found-here short =
-          placed (at + before) (omega arith)
+          placed p xs (at + before) (omega arith)
           (λ k early. elim (cases_lt k at) [
             | inl first ↦ none k first
             | inr late ↦ run_in_chunk_fails p xs at n before 0 room counted k late early
@@ -45,13 +34,14 @@ module _ (p : ℕ → Bool) (xs : List ℕ) where
     rest-fails : (k : ℕ) → at ≤ k → k - at < position_or_len p (drop at xs) → p (get_or xs k 0) ≡ false
     rest-fails k late short =
         let back : at + (k - at) ≡ k = omega arith in
-        subst (λ x. p x ≡ false) (get_or-drop at xs (k - at) 0 ∙ ap (λ j. get_or xs j 0) back) (fails_before_first p (drop at xs) (k - at) 0 short)
+        subst (λ x. p x ≡ false) (get_or-drop at xs (k - at) 0 ∙ ap (λ j. get_or xs j 0) back)
+        (fails_before_first p (drop at xs) (k - at) 0 short)
 
     found-later : (place : ℕ) → position p (drop at xs) ≡ Some place → position p xs ≡ Some (at + place)
     found-later place is =
         let (first, within) = found p (drop at xs) place is in
         let passes = passes_at_first p (drop at xs) 0 (omega arith) in
-        placed (at + place) (omega (arith, length-drop at xs))
+        placed p xs (at + place) (omega (arith, length-drop at xs))
         (λ k early. elim (cases_lt k at) [
           | inl before ↦ none k before
           | inr late ↦ rest-fails k late (omega arith)
@@ -61,7 +51,7 @@ module _ (p : ℕ → Bool) (xs : List ℕ) where
     found-nowhere : position p (drop at xs) ≡ None → position p xs ≡ None
     found-nowhere is =
         let past = missing p (drop at xs) is in
-        nowhere (λ k short. elim (cases_lt k at) [
+        nowhere p xs (λ k short. elim (cases_lt k at) [
           | inl before ↦ none k before
           | inr late ↦ rest-fails k late (omega (arith, length-drop at xs))
         ])

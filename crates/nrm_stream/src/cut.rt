@@ -50,7 +50,8 @@ pub(crate) fn first_at(bytes: &[u8], wanted: u8) -> Option<usize>
 /// The bytes before the first such byte, and those after it. `None` exactly where there is none.
 pub fn split_once(bytes: &[u8], wanted: u8) -> Option<(&[u8], &[u8])>
     ensures { MatchOption result (slice_split (λ c. c == wanted) bytes.now ≡ bytes.now ∷ [])
-        (λ cut. (slice_split (λ c. c == wanted) bytes.now ≡ cut.0.now ∷ slice_split (λ c. c == wanted) cut.1.now) × (length cut.1.now < length bytes.now)) }
+        (λ cut. (slice_split (λ c. c == wanted) bytes.now ≡ cut.0.now ∷ slice_split (λ c. c == wanted) cut.1.now)
+        × (length cut.1.now < length bytes.now)) }
 {
     match first_at(bytes, wanted) {
         Some(end) => Some((&bytes[..end], &bytes[end + 1..])),

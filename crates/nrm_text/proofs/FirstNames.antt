@@ -1,31 +1,13 @@
 -- The name before the first byte of a kind, from the bytes at the front that may stand in a name.
-use Rattle.std.proofs.Common.{ℕ, ◌≡◌, ◌⊎◌, ◌+◌, ◌<◌, ◌≤◌, ◌==◌, Bool, true, false, nat_le, List, length, take, drop, get_or, Option, Some, None, refl, sym, ap, subst, arith, inl, inr}
-use Rattle.std.specs.List.{list_all, position, position_or_len}
-use Rattle.std.specs.Prelude.{nat_lt}
-use Rattle.std.proofs.lemmas.Bool.{and_from, and_left, and_right, both_ways, cases_Bool, cases_lt, eqb-true, eq-eqb, le-leb, le-ltb, lt-leb, lt-ltb, ltb-true}
+use Rattle.std.proofs.Common.{ℕ, ◌≡◌, ◌⊎◌, ◌+◌, ◌<◌, ◌≤◌, ◌==◌, Bool, true, false, nat_le, List, length, take, drop, get_or, Option, Some}
+use Rattle.std.proofs.Common.{None, refl, sym, ap, subst, arith, inl, inr}
+use Rattle.std.specs.List.{list_all, position}
+use Rattle.std.proofs.lemmas.Bool.{and_from, and_left, and_right, both_ways, cases_Bool, cases_lt, eqb-true, eq-eqb, le-leb, lt-leb}
 use Rattle.std.proofs.lemmas.List.{get_or-take, length-take-le}
 use Rattle.std.proofs.lemmas.List.Folds.{list_all_at}
-use Rattle.std.proofs.lemmas.List.Sums.{AllPass-from_list_all, position_or_len_is, passes_at_first}
+use Rattle.std.proofs.lemmas.List.Sums.{AllPass-from_list_all, passes_at_first}
+use Rattle.nrm_text.proofs.Places.{found, placed}
 use Rattle.nrm_text.specs.Names.{is_name, is_name_byte, name_before, name_in}
-
--- the first place of a byte that passes a test
-pub placed : (p : ℕ → Bool) (xs : List ℕ) (i : ℕ) → i < length xs → ((k : ℕ) → k < i → p (get_or xs k 0) ≡ false) → p (get_or xs i 0) ≡ true → position p xs ≡ Some i
-placed p xs i within fails passes =
-    let is = position_or_len_is p xs i 0 (omega arith) fails (λ _. passes) in
-    let test = lt-ltb (position_or_len p xs) (length xs) (omega (arith, is)) in
-    rw test (ap Some is)
-
--- a place that was found is the first, and within
-pub found : (p : ℕ → Bool) (xs : List ℕ) (i : ℕ) → position p xs ≡ Some i → (position_or_len p xs ≡ i) × (i < length xs)
-found p xs i is = by (nat_lt (position_or_len p xs) (length xs)) refl
-  where
-    by : (b : Bool) → nat_lt (position_or_len p xs) (length xs) ≡ b → (position_or_len p xs ≡ i) × (i < length xs)
-    by true e =
-        let same : Some (position_or_len p xs) ≡ Some i = rw e at is in
-        let place : position_or_len p xs ≡ i = cc in
-        let within = ltb-true (position_or_len p xs) (length xs) e in
-        (place, omega arith)
-    by false e = let none : None ≡ Some i = rw e at is in cc
 
 no-name : (bytes : List ℕ) → is_name bytes ≡ false → name_in bytes ≡ None
 no-name bytes e = rw e refl
@@ -41,12 +23,14 @@ module _ (end : ℕ) (xs : List ℕ) (n : ℕ) (within : n ≤ length xs) (few :
   name-byte : (k : ℕ) → k < n → is_name_byte (get_or xs k 0) ≡ true
   name-byte k short =
       let long : length (take n xs) ≡ n = length-take-le n xs within in
-      subst (λ c. is_name_byte c ≡ true) (get_or-take n xs k 0 short) (AllPass-from_list_all is_name_byte (take n xs) may_stand k 0 (omega (arith, long)))
+      subst (λ c. is_name_byte c ≡ true) (get_or-take n xs k 0 short) (AllPass-from_list_all is_name_byte (take n xs) may_stand k 0
+      (omega (arith, long)))
 
   not-end : (k : ℕ) → k < n → is_end (get_or xs k 0) ≡ false
   not-end k short =
       elim (cases_Bool (is_end (get_or xs k 0))) [
-        | inl e ↦ absurd (both_ways (is_name_byte end) apart (subst (λ c. is_name_byte c ≡ true) (eqb-true (get_or xs k 0) end e) (name-byte k short)))
+        | inl e ↦ absurd (both_ways (is_name_byte end) apart (subst (λ c. is_name_byte c ≡ true) (eqb-true (get_or xs k 0) end e)
+            (name-byte k short)))
         | inr e ↦ e
       ]
 
@@ -60,22 +44,26 @@ module _ (end : ℕ) (xs : List ℕ) (n : ℕ) (within : n ≤ length xs) (few :
       rw (placed is_end xs n more not-end (eq-eqb (get_or xs n 0) end ends)) (rw (a-name (take n xs) name) refl)
 
   -- or it isn't, or there are none before it
-  stands-elsewhere : (i : ℕ) → position is_end xs ≡ Some i → (n ≡ 0) ⊎ ((n ≡ length xs) ⊎ (get_or xs n 0 ≡ end → ⊥)) → is_name (take i xs) ≡ false
+  stands-elsewhere : (i : ℕ) → position is_end xs ≡ Some i → (n ≡ 0) ⊎ ((n ≡ length xs) ⊎ (get_or xs n 0 ≡ end → ⊥)) → is_name (take i xs)
+      ≡ false
   stands-elsewhere i is why =
       let (first, inside) = found is_end xs i is in
-      let passes : is_end (get_or xs i 0) ≡ true = subst (λ k. is_end (get_or xs k 0) ≡ true) first (passes_at_first is_end xs 0 (omega arith)) in
+      let passes : is_end (get_or xs i 0) ≡ true =
+      subst (λ k. is_end (get_or xs k 0) ≡ true) first (passes_at_first is_end xs 0 (omega arith)) in
       let long : length (take i xs) ≡ i = length-take-le i xs (omega arith) in
       elim (cases_lt i n) [
         | inl early ↦ absurd (both_ways (is_end (get_or xs i 0)) (not-end i early) passes)
         | inr late ↦ elim (cases_lt n i) [
           | inl later ↦ elim (cases_lt n 12) [
-            | inl short ↦ and_right _ _ (list_all_at is_name_byte (take i xs) n 0 (omega (arith, long)) (subst (λ c. is_name_byte c ≡ false) (sym (get_or-take i xs n 0 later)) (stops short (omega arith))))
+            | inl short ↦ and_right _ _ (list_all_at is_name_byte (take i xs) n 0 (omega (arith, long))
+                (subst (λ c. is_name_byte c ≡ false) (sym (get_or-take i xs n 0 later)) (stops short (omega arith))))
             | inr full ↦ and_left _ _ (and_right _ _ (lt-leb (length (take i xs)) 12 (omega (arith, long))))
           ]
           | inr here ↦ elim why [
             | inl none ↦ and_left _ _ (and_left _ _ (lt-leb 1 (length (take i xs)) (omega (arith, long))))
             | inr (inl all) ↦ absurd (omega arith)
-            | inr (inr other) ↦ absurd (other (eqb-true (get_or xs n 0) end (subst (λ k. is_end (get_or xs k 0) ≡ true) (omega arith) passes)))
+            | inr (inr other) ↦ absurd (other (eqb-true (get_or xs n 0) end
+                (subst (λ k. is_end (get_or xs k 0) ≡ true) (omega arith) passes)))
           ]
         ]
       ]

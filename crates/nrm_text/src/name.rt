@@ -4,27 +4,30 @@ ghost use Rattle.std.specs.Int.{IsInRange};
 ghost use Rattle.nrm_text.specs.Names.{is_name, is_name_byte, name_before, name_in};
 ghost use Rattle.std.specs.List.{list_all};
 
+use crate::limits::MOST_NAME_BYTES;
 use std::hash::{Hash, Hasher};
 use std::marker::Model;
 
 /// The name of a leg or a product: 1 to 12 bytes out of `A` to `Z`, `0` to `9` and `-`.
 #[derive(Clone, Copy, Debug)]
 pub struct Name {
-    bytes: [u8; 12],
+    bytes: [u8; MOST_NAME_BYTES],
     len: u8,
 }
 
 impl Model for Name {
     ghost use Rattle.std.specs.Prelude.{ℕ, List, ◌≡◌, ◌-◌, ◌≤◌, ◌++◌, take, drop, length, replicate, IsTrue};
     ghost use Rattle.nrm_text.specs.Names.{is_name};
+    ghost use Rattle.nrm_text.specs.declared.limits.TheConstants.{MOST_NAME_BYTES};
 
     ghost Value = { List ℕ };
 
     ghost view = { λ n. take n.len n.bytes };
 
-    ghost invariant = { λ n. (length n.bytes ≡ 12) × (n.len ≤ 12) × (drop n.len n.bytes ≡ replicate (12 - n.len) 0) × IsTrue (is_name (take n.len n.bytes)) };
+    ghost invariant = { λ n. (length n.bytes ≡ MOST_NAME_BYTES) × (n.len ≤ MOST_NAME_BYTES)
+        × (drop n.len n.bytes ≡ replicate (MOST_NAME_BYTES - n.len) 0) × IsTrue (is_name (take n.len n.bytes)) };
 
-    ghost inverse = { λ name. record { bytes = name ++ replicate (12 - length name) 0; len = length name } };
+    ghost inverse = { λ name. record { bytes = name ++ replicate (MOST_NAME_BYTES - length name) 0; len = length name } };
 
     ghost use Rattle.nrm_text.specs.NameBytes.{same_bytes};
 
@@ -36,17 +39,17 @@ impl Name {
     pub fn bytes(&self) -> &[u8]
         ensures bytes { result.now ≡ self.now }
         ensures name { IsTrue (is_name self.now) }
-        ensures length { IsInRange 1 12 (length self.now) }
+        ensures length { IsInRange 1 MOST_NAME_BYTES (length self.now) }
     {
         let len = self.len as usize;
         &self.bytes[..len]
     }
 
     // The bytes of the name with zeros behind them.
-    pub(crate) fn padded(&self) -> &[u8; 12]
-        ensures padded { result.now ≡ self.now ++ replicate (12 - length self.now) 0 }
-        ensures length { length result.now ≡ 12 }
-        ensures within { length self.now ≤ 12 }
+    pub(crate) fn padded(&self) -> &[u8; MOST_NAME_BYTES]
+        ensures padded { result.now ≡ self.now ++ replicate (MOST_NAME_BYTES - length self.now) 0 }
+        ensures length { length result.now ≡ MOST_NAME_BYTES }
+        ensures within { length self.now ≤ MOST_NAME_BYTES }
     {
         &self.bytes
     }
@@ -83,10 +86,11 @@ impl Eq for Name {
 impl Hash for Name {
     ghost use Rattle.std.proofs.Common.{rules};
     ghost use Rattle.std.specs.Prelude.{◌∷◌, ◌++◌, ◌-◌, [], length, replicate};
+    ghost use Rattle.nrm_text.specs.declared.limits.TheConstants.{MOST_NAME_BYTES};
     ghost use Rattle.std.specs.Cmp.Rules.{hashing};
 
     // The bytes with the zeros behind them.
-    ghost hash_input = { λ name. (name ++ replicate (12 - length name) 0) ∷ [] };
+    ghost hash_input = { λ name. (name ++ replicate (MOST_NAME_BYTES - length name) 0) ∷ [] };
 
     ghost respects_eq = { Prim.search (hashing, rules) };
 
@@ -110,15 +114,15 @@ fn may_stand(c: u8) -> bool
 
 // The bytes at the front that may stand in a name, up to twelve of them, with zeros behind them, and how many they are.
 #[inline(always)]
-fn front_of(bytes: &[u8]) -> ([u8; 12], usize)
-    ensures few { result.1 ≤ 12 }
+fn front_of(bytes: &[u8]) -> ([u8; MOST_NAME_BYTES], usize)
+    ensures few { result.1 ≤ MOST_NAME_BYTES }
     ensures within { result.1 ≤ length bytes.now }
     ensures may_stand { list_all is_name_byte (take result.1 bytes.now) ≡ true }
-    ensures stops { result.1 < 12 → result.1 < length bytes.now → is_name_byte (slice_index bytes.now result.1) ≡ false }
-    ensures kept { result.0 ≡ take result.1 bytes.now ++ replicate (12 - result.1) 0 }
+    ensures stops { result.1 < MOST_NAME_BYTES → result.1 < length bytes.now → is_name_byte (slice_index bytes.now result.1) ≡ false }
+    ensures kept { result.0 ≡ take result.1 bytes.now ++ replicate (MOST_NAME_BYTES - result.1) 0 }
 {
-    let most = bytes.len().min(12);
-    let mut kept = [0; 12];
+    let most = bytes.len().min(MOST_NAME_BYTES);
+    let mut kept = [0; MOST_NAME_BYTES];
     let mut len = 0;
     while len < most && may_stand(bytes[len]) {
         kept[len] = bytes[len];

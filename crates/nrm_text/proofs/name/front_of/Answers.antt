@@ -8,5 +8,6 @@ pub loop-len-preserved : goal.loop-len-preserved
 loop-len-preserved c = record {
   within = omega arith;
   may_stand = grind (arith, common_steps);
-  kept = padded-more c.args.bytes.now c.loop-len.kept c.loop-len.len 12 (omega (arith, c.min-most.ensures)) (omega (arith, c.min-most.ensures)) c.loop-len.invariant.kept;
+  kept = padded-more c.args.bytes.now c.loop-len.kept c.loop-len.len 12 (omega (arith, c.min-most.ensures))
+      (omega (arith, c.min-most.ensures)) c.loop-len.invariant.kept;
 }

@@ -14,9 +14,12 @@ returns-in_err-send_on-clause-bytes g c =
     let inside = c.self.inside in
     let sent = c.send_on.new in
     let bytes = subst (λ (b : List ℕ).
-        Keeps (append_known (held inside.sink) (drop inside.sent (take inside.len b))) (append_known (held sent.sink) (drop sent.sent (take sent.len b))))
-        c.as_slice.ensures.value c.send_on.ensures.bytes in
-    let before : append_known (held inside.sink) (drop inside.sent (take inside.len inside.bytes.items)) ≡ append_known (held c.args.self.now.sink) c.args.self.now.gathered =
-        λ j. append_known (held (c.self.view_is j).sink) (c.self.view_is j).gathered in
+    Keeps (append_known (held inside.sink) (drop inside.sent (take inside.len b)))
+    (append_known (held sent.sink) (drop sent.sent (take sent.len b))))
+    c.as_slice.ensures.value c.send_on.ensures.bytes in
+    let before : append_known (held inside.sink) (drop inside.sent (take inside.len inside.bytes.items))
+    ≡ append_known (held c.args.self.now.sink) c.args.self.now.gathered =
+    λ j. append_known (held (c.self.view_is j).sink) (c.self.view_is j).gathered in
     unwritten _ _ c.from_residual.result c.args.piece.now c.from_residual.ensures.0
-    (subst (λ (o : Option (List ℕ)). Keeps o (append_known (held sent.sink) (drop sent.sent (take sent.len inside.bytes.items)))) before bytes)
+    (subst (λ (o : Option (List ℕ)). Keeps o (append_known (held sent.sink) (drop sent.sent (take sent.len inside.bytes.items)))) before
+    bytes)
