@@ -11,7 +11,8 @@ use Rattle.nrm_edge.specs.Pieces.{AppendsFront}
 pub Appends-more : (a b c : Option (List ℕ)) (piece : List ℕ) (sent more : ℕ) → Appends a b (take sent piece)
     → Appends b c (take more (take (length piece - sent) (drop sent piece))) → Appends a c (take (sent + more) piece)
 Appends-more a b c piece sent more first next =
-    rw (take-add sent more piece) (Appends-trans a b c (take sent piece) (take more (drop sent piece)) first (rw (take_rest piece sent) at next))
+    rw (take-add sent more piece) (Appends-trans a b c (take sent piece) (take more (drop sent piece)) first
+    (rw (take_rest piece sent) at next))
 
 -- a front of a text is a front of the text and more
 pub AppendsFront-more : (a b : Option (List ℕ)) (text more : List ℕ) → AppendsFront a b text → AppendsFront a b (text ++ more)
@@ -22,7 +23,8 @@ AppendsFront-more a b text more front = record {
 }
 
 -- a text went out, and then a front of more: a front of both
-pub AppendsFront-after : (a b c : Option (List ℕ)) (text more : List ℕ) → Appends a b text → AppendsFront b c more → AppendsFront a c (text ++ more)
+pub AppendsFront-after : (a b c : Option (List ℕ)) (text more : List ℕ) → Appends a b text → AppendsFront b c more
+    → AppendsFront a c (text ++ more)
 AppendsFront-after a b c text more whole front = record {
   count = length text + front.count;
   short = omega (arith, front.short, length-append text more);

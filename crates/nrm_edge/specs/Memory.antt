@@ -1,9 +1,11 @@
 -- A source, a sink and files in memory: what they hold, how their calls are cut, and which of them fail.
-use Rattle.std.specs.Prelude.{◌-◌, ◌==◌, ◌||◌, ◌++◌, ℕ, Bool, List, [], ◌∷◌, length, take, drop, min, max, unwrap_or, slice_get, bytes_eq, Option, Some, None, if◌then◌else◌}
+use Rattle.std.specs.Prelude.{◌-◌, ◌==◌, ◌||◌, ◌++◌, ℕ, Bool, List, [], ◌∷◌, length, take, drop, min, max, unwrap_or, slice_get, bytes_eq}
+use Rattle.std.specs.Prelude.{Option, Some, None, if◌then◌else◌}
 use Rattle.std.specs.List.{list_any}
 use Rattle.nrm_edge.specs.Causes.{one_more, counted}
 
--- the bytes still to come, the most bytes that each take gives, the numbers of the takes that fail, and how many takes and faults there were
+-- the bytes still to come, the most bytes that each take gives, the numbers of the takes that fail, and how many takes and faults
+-- there were
 pub record HeldSource : Type 0 where
   pub coming : List ℕ
   pub cuts : List ℕ
@@ -27,7 +29,8 @@ after_failure s = record s { takes = one_more s.takes; faults = one_more s.fault
 abbrev pub after_take : HeldSource → ℕ → HeldSource
 after_take s given = record s { coming = drop given s.coming; takes = one_more s.takes }
 
--- the bytes that went out, the room for all of them, the most bytes that each put takes, the numbers of the puts that fail, and how many puts and faults there were
+-- the bytes that went out, the room for all of them, the most bytes that each put takes, the numbers of the puts that fail, and
+-- how many puts and faults there were
 pub record HeldSink : Type 0 where
   pub held : List ℕ
   pub room : ℕ

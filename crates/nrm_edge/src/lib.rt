@@ -1,6 +1,11 @@
 //! The outside of the seat controller: where bytes come from, where they go, and files. Each is a trait with a count
 //! of faults; there are implementations in memory, which tell their bytes, and over std, which count their failures, and a sink
 //! that gathers before another one.
+//!
+//! A caller makes its outside by `StdSource::new`, `StdSink::new` and `DirFiles::new`, or in memory by `MemSource::new`,
+//! `MemSink::new` and `MemFiles::new`, and may set a `GatheringSink::new` before a sink. Then it calls `Files::fetch`,
+//! `Source::take`, `put_all`, which is made of `Sink::put`, and `Sink::flush`, and sees what went out by `MemSink::held`, behind a
+//! gathering sink through `GatheringSink::sink`. `tests::a_gathering_sink_sends_on_in_few_pieces` runs such a sequence.
 #![tactic(auto)]
 
 mod dir_files;

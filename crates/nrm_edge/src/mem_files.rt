@@ -21,7 +21,12 @@ impl Model for MemFiles {
 
     ghost Value = { HeldFiles };
 
-    ghost view = { λ s. record { files = map (λ pair. (pair.0.items, pair.1.items)) s.list.items; failing = s.failing.items; fetches = s.fetches; faults = s.faults } };
+    ghost view = { λ s. record {
+      files = map (λ pair. (pair.0.items, pair.1.items)) s.list.items;
+      failing = s.failing.items;
+      fetches = s.fetches;
+      faults = s.faults;
+    } };
 }
 
 impl MemFiles {
@@ -30,7 +35,12 @@ impl MemFiles {
     /// Files with these names and bytes; the fetches whose numbers, from 1, stand in `failing` fail. It takes no
     /// memory, but its `fetch` does.
     pub fn new(list: Vec<(Vec<u8>, Vec<u8>)>, failing: Vec<u64>) -> MemFiles
-        ensures { result ≡ record { files = map (λ pair. (pair.0.items, pair.1.items)) list.items; failing = failing.items; fetches = 0; faults = 0 } }
+        ensures { result ≡ record {
+          files = map (λ pair. (pair.0.items, pair.1.items)) list.items;
+          failing = failing.items;
+          fetches = 0;
+          faults = 0;
+        } }
     {
         MemFiles {
             list,

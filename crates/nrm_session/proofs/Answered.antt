@@ -1,9 +1,9 @@
 -- Commands that a controller answered one after another, and one of them that was cut.
-use Rattle.std.proofs.Common.{ℕ, ◌≡◌, ◌∙◌, ◌<◌, ◌≤◌, List, [], ◌∷◌, ◌++◌, length, take, Option, Result, Ok, Err, refl, sym, ap, subst, arith, append-nil, append_assoc, length-append}
-use Rattle.std.proofs.KnownBytes.{Appends-nil, Appends-trans, Appends-kept}
+use Rattle.std.proofs.Common.{ℕ, ◌≡◌, ◌∙◌, ◌<◌, ◌≤◌, List, [], ◌∷◌, ◌++◌, length, take, Option, Result, Ok, Err, refl, sym, ap, subst}
+use Rattle.std.proofs.Common.{append-nil, append_assoc}
 use Rattle.std.proofs.lemmas.Grind.{flat_map-append}
 use Rattle.std.specs.Prelude.{OnOk, OnErr}
-use Rattle.std.specs.Io.KnownBytes.{Appends, Keeps}
+use Rattle.std.specs.Io.KnownBytes.{Appends}
 use Rattle.nrm_edge.specs.Causes.{HasCause, Rose}
 use Rattle.nrm_edge.specs.Pieces.{AppendsFront}
 use Rattle.nrm_model.specs.Network.{NetworkValue}
@@ -15,22 +15,24 @@ use Rattle.nrm_session.specs.Replies.{Reply, text_of}
 use Rattle.nrm_session.specs.Run.{Run, Writes, output_of}
 use Rattle.nrm_session.specs.Clerks.{AreMeanings, Answers, AnswersCut, is_control, refines, refines_cut}
 use Rattle.nrm_session.specs.Serving.{Refines, RefinesCut, WritesCut}
-use Rattle.nrm_session.specs.Step.{Step}
 
 -- a run goes on by another
-pub run-joined : (net : NetworkValue) (s : SeatState) (commands : List Command) (replies : List Reply) (mid : SeatState) (more : List Command) (others : List Reply) (s' : SeatState)
+pub run-joined : (net : NetworkValue) (s : SeatState) (commands : List Command) (replies : List Reply) (mid : SeatState)
+    (more : List Command) (others : List Reply) (s' : SeatState)
     → Run net s commands replies mid → Run net mid more others s' → Run net s (commands ++ more) (replies ++ others) s'
 run-joined net s [] [] mid more others s' run rest = subst (λ (m : SeatState). Run net m more others s') run rest
 run-joined net s [] (r ∷ replies) mid more others s' run rest = absurd run
 run-joined net s (d ∷ commands) [] mid more others s' run rest = absurd run
-run-joined net s (d ∷ commands) (r ∷ replies) mid more others s' (next, first, run) rest = (next, first, run-joined net next commands replies mid more others s' run rest)
+run-joined net s (d ∷ commands) (r ∷ replies) mid more others s' (next, first, run) rest =
+    (next, first, run-joined net next commands replies mid more others s' run rest)
 
 writes-joined : (net : NetworkValue) (s mid s' : SeatState) (commands more : List Command) (output text : List ℕ)
     → Writes net s commands output mid → Writes net mid more text s' → Writes net s (commands ++ more) (output ++ text) s'
 writes-joined net s mid s' commands more output text first rest = record {
   replies = first.replies ++ rest.replies;
   run = run-joined net s commands first.replies mid more rest.replies s' first.run rest.run;
-  output = ap (λ o. o ++ text) first.output ∙ ap (λ o. output_of first.replies ++ o) rest.output ∙ sym (flat_map-append text_of first.replies rest.replies);
+  output = ap (λ o. o ++ text) first.output ∙ ap (λ o. output_of first.replies ++ o) rest.output
+      ∙ sym (flat_map-append text_of first.replies rest.replies);
 }
 
 -- and by one in which a reply was cut
@@ -50,12 +52,14 @@ cut-joined net s mid s' commands more output text first rest =
       step = rest.step;
       count = rest.count;
       short = rest.short;
-      output = ap (λ o. o ++ text) first.output ∙ ap (λ o. output_of first.replies ++ o) rest.output ∙ sym (append_assoc (output_of first.replies) (output_of rest.replies) front)
+      output = ap (λ o. o ++ text) first.output ∙ ap (λ o. output_of first.replies ++ o) rest.output
+          ∙ sym (append_assoc (output_of first.replies) (output_of rest.replies) front)
           ∙ ap (λ o. o ++ front) (sym (flat_map-append text_of first.replies rest.replies));
     }
 
 -- more commands may come behind the one that was cut
-cut-longer : (net : NetworkValue) (s s' : SeatState) (commands more : List Command) (output : List ℕ) → WritesCut net s commands output s' → WritesCut net s (commands ++ more) output s'
+cut-longer : (net : NetworkValue) (s s' : SeatState) (commands more : List Command) (output : List ℕ) → WritesCut net s commands output s'
+    → WritesCut net s (commands ++ more) output s'
 cut-longer net s s' commands more output cut = record {
   before = cut.before;
   cut = cut.cut;
@@ -72,32 +76,41 @@ cut-longer net s s' commands more output cut = record {
 }
 
 -- no command
-pub refines-nothing : (control : ControlValue) → Refines control control [] []
+refines-nothing : (control : ControlValue) → Refines control control [] []
 refines-nothing control = record { network = refl; run = λ s stands. (s, stands, record { replies = []; run = refl; output = refl }) }
 
 module _ (old mid new : ControlValue) (commands more : List Command) (output text : List ℕ) (first : Refines old mid commands output) where
   -- further commands
-  pub refines-more : Refines mid new more text → Refines old new (commands ++ more) (output ++ text)
+  refines-more : Refines mid new more text → Refines old new (commands ++ more) (output ++ text)
   refines-more rest = record {
     network = rest.network ∙ first.network;
     run = λ s stands.
         let (m, stands_m, writes) = first.run s stands in
-        let (s', stands', others) = rest.run m stands_m in
-        (s', stands', writes-joined old.net s m s' commands more output text writes (subst (λ (net : NetworkValue). Writes net m more text s') first.network others));
+        let (s', stands', others) = rest.run m stands_m in (
+          s',
+          stands',
+          writes-joined old.net s m s' commands more output text writes
+              (subst (λ (net : NetworkValue). Writes net m more text s') first.network others),
+        );
   }
 
   -- and of those one that was cut
-  pub refines-then_cut : RefinesCut mid new more text → RefinesCut old new (commands ++ more) (output ++ text)
+  refines-then_cut : RefinesCut mid new more text → RefinesCut old new (commands ++ more) (output ++ text)
   refines-then_cut rest = record {
     network = rest.network ∙ first.network;
     run = λ s stands.
         let (m, stands_m, writes) = first.run s stands in
-        let (s', stands', others) = rest.run m stands_m in
-        (s', stands', cut-joined old.net s m s' commands more output text writes (subst (λ (net : NetworkValue). WritesCut net m more text s') first.network others));
+        let (s', stands', others) = rest.run m stands_m in (
+          s',
+          stands',
+          cut-joined old.net s m s' commands more output text writes
+              (subst (λ (net : NetworkValue). WritesCut net m more text s') first.network others),
+        );
   }
 
 -- commands that come behind the one that was cut
-refines-behind : (old new : ControlValue) (commands more : List Command) (output : List ℕ) → RefinesCut old new commands output → RefinesCut old new (commands ++ more) output
+refines-behind : (old new : ControlValue) (commands more : List Command) (output : List ℕ) → RefinesCut old new commands output
+    → RefinesCut old new (commands ++ more) output
 refines-behind old new commands more output cut = record {
   network = cut.network;
   run = λ s stands. let (s', stands', writes) = cut.run s stands in (s', stands', cut-longer old.net s s' commands more output writes);
@@ -107,30 +120,55 @@ pub refines-are : {B : Type 0} → AreMeanings {V = ControlValue × B} refines r
 refines-are = record {
   nothing = λ v. refines-nothing v.0;
   more = λ old mid new commands others output text first rest. refines-more old.0 mid.0 new.0 commands others output text first rest;
-  then_cut = λ old mid new commands others output text first rest. refines-then_cut old.0 mid.0 new.0 commands others output text first rest;
+  then_cut = λ old mid new commands others output text first rest. refines-then_cut old.0 mid.0 new.0 commands others output text first
+      rest;
   behind = λ old new commands others output cut. refines-behind old.0 new.0 commands others output cut;
 }
 
 -- one command
-pub refines-one : (old new : ControlValue) (c : Command) (reply : Reply) → Steps old new c reply → Refines old new (c ∷ []) (text_of reply)
+refines-one : (old new : ControlValue) (c : Command) (reply : Reply) → Steps old new c reply → Refines old new (c ∷ []) (text_of reply)
 refines-one old new c reply steps = record {
   network = steps.network;
-  run = λ s stands. let (s', step, stands') = steps.step s stands in (s', stands', record { replies = reply ∷ []; run = (s', step, refl); output = sym (append-nil (text_of reply)) });
+  run = λ s stands. let (s', step, stands') =
+      steps.step s stands in (
+        s',
+        stands',
+        record {
+          replies = reply ∷ [];
+          run = (s', step, refl);
+          output = sym (append-nil (text_of reply));
+        },
+      );
 }
 
-pub refines-one_cut : (old new : ControlValue) (c : Command) (reply : Reply) (count : ℕ) → Steps old new c reply → count < length (text_of reply) → RefinesCut old new (c ∷ []) (take count (text_of reply))
+refines-one_cut : (old new : ControlValue) (c : Command) (reply : Reply) (count : ℕ) → Steps old new c reply
+    → count < length (text_of reply) → RefinesCut old new (c ∷ []) (take count (text_of reply))
 refines-one_cut old new c reply count steps within = record {
   network = steps.network;
   run = λ s stands.
       let (s', step, stands') = steps.step s stands in (
         s',
         stands',
-        record { before = []; cut = c; after = []; commands_are = refl; replies = []; mid = s; run = refl; reply = reply; step = step; count = count; short = within; output = refl },
+        record {
+          before = [];
+          cut = c;
+          after = [];
+          commands_are = refl;
+          replies = [];
+          mid = s;
+          run = refl;
+          reply = reply;
+          step = step;
+          count = count;
+          short = within;
+          output = refl;
+        },
       );
 }
 
 answers-one : {B : Type 0} (old new : ControlValue × B) (c : Command) (held held' : Option (List ℕ)) (faults faults' : ℕ)
-    → AnswersLine old.0 new.0 c held held' → IsControl new.0 → faults' ≡ faults → Answers refines is_control old new (c ∷ []) held held' faults faults'
+    → AnswersLine old.0 new.0 c held held' → IsControl new.0 → faults' ≡ faults
+    → Answers refines is_control old new (c ∷ []) held held' faults faults'
 answers-one old new c held held' faults faults' line kept same = record {
   output = text_of line.reply;
   written = line.written;
@@ -141,7 +179,8 @@ answers-one old new c held held' faults faults' line kept same = record {
 }
 
 cut-one : {B : Type 0} (old new : ControlValue × B) (c : Command) (held held' : Option (List ℕ)) (faults faults' : ℕ)
-    → CutsLine old.0 new.0 c held held' → IsControl new.0 → Rose faults faults' → faults ≤ faults' → AnswersCut refines_cut is_control old new (c ∷ []) held held' faults faults'
+    → CutsLine old.0 new.0 c held held' → IsControl new.0 → Rose faults faults' → faults ≤ faults'
+    → AnswersCut refines_cut is_control old new (c ∷ []) held held' faults faults'
 cut-one old new c held held' faults faults' line kept rose later = record {
   output = take line.front.count (text_of line.reply);
   written = line.front.grown;
@@ -152,18 +191,25 @@ cut-one old new c held held' faults faults' line kept rose later = record {
 }
 
 -- so it is as the line was answered
-pub answered : {B T E : Type 0} (old new : ControlValue × B) (c : Command) (held held' : Option (List ℕ)) (faults faults' : ℕ) (result : Result T E)
-    → IsControl new.0 → OnOk result (AnswersLine old.0 new.0 c held held') → HasCause faults faults' result → OnOk result (Answers refines is_control old new (c ∷ []) held held' faults faults')
-answered old new c held held' faults faults' (Ok value) kept line cause = answers-one old new c held held' faults faults' line kept cause.done
+pub answered : {B T E : Type 0} (old new : ControlValue × B) (c : Command) (held held' : Option (List ℕ)) (faults faults' : ℕ)
+    (result : Result T E)
+    → IsControl new.0 → OnOk result (AnswersLine old.0 new.0 c held held') → HasCause faults faults' result
+    → OnOk result (Answers refines is_control old new (c ∷ []) held held' faults faults')
+answered old new c held held' faults faults' (Ok value) kept line cause =
+    answers-one old new c held held' faults faults' line kept cause.done
 answered old new c held held' faults faults' (Err error) kept line cause = tt
 
-pub answered-cut : {B T E : Type 0} (old new : ControlValue × B) (c : Command) (held held' : Option (List ℕ)) (faults faults' : ℕ) (result : Result T E)
-    → IsControl new.0 → OnErr result (CutsLine old.0 new.0 c held held') → HasCause faults faults' result → OnErr result (AnswersCut refines_cut is_control old new (c ∷ []) held held' faults faults')
+pub answered-cut : {B T E : Type 0} (old new : ControlValue × B) (c : Command) (held held' : Option (List ℕ)) (faults faults' : ℕ)
+    (result : Result T E)
+    → IsControl new.0 → OnErr result (CutsLine old.0 new.0 c held held') → HasCause faults faults' result
+    → OnErr result (AnswersCut refines_cut is_control old new (c ∷ []) held held' faults faults')
 answered-cut old new c held held' faults faults' (Ok value) kept line cause = tt
-answered-cut old new c held held' faults faults' (Err error) kept line cause = cut-one old new c held held' faults faults' line kept cause.failed cause.later
+answered-cut old new c held held' faults faults' (Err error) kept line cause =
+    cut-one old new c held held' faults faults' line kept cause.failed cause.later
 
 -- a reply that was put to a line
-pub line-answered : {T E : Type 0} (old new : ControlValue) (c : Command) (reply : Reply) (held held' : Option (List ℕ)) (result : Result T E)
+pub line-answered : {T E : Type 0} (old new : ControlValue) (c : Command) (reply : Reply) (held held' : Option (List ℕ))
+    (result : Result T E)
     → Steps old new c reply → OnOk result (Appends held held' (text_of reply)) → OnOk result (AnswersLine old new c held held')
 line-answered old new c reply held held' (Ok value) steps written = record { reply = reply; steps = steps; written = written }
 line-answered old new c reply held held' (Err error) steps written = tt

@@ -20,7 +20,8 @@ use Rattle.nrm_session.specs.Serving.{SentOn, ServesBy, Streams, WritesCut}
 use Rattle.nrm_session.specs.declared.serving.End.TheVariants as end
 use Rattle.nrm_stream.specs.Commands.{whole_commands}
 use Rattle.nrm_stream.specs.declared.command.Command.{Command}
-use Rattle.nrm_session.specs.Replies.{Reply, bad, unknown, sold, no_leg, no_fare, cancelled, hindsight_told, memory, optimised, optimised_at, optimised_none, overflow, plan_told, text_of}
+use Rattle.nrm_session.specs.Replies.{Reply, bad, unknown, sold, no_leg, no_fare, cancelled, hindsight_told, memory, optimised}
+use Rattle.nrm_session.specs.Replies.{optimised_at, optimised_none, overflow, plan_told, text_of}
 use Rattle.nrm_session.specs.Run.{Run}
 use Rattle.nrm_session.specs.Step.{LooksBack, Reoptimises, Step, is_large, lacks_memory, optimises, overflows, tells, wants_memory}
 use Rattle.nrm_session.specs.declared.reply.Reply.TheVariants as answered
@@ -51,7 +52,8 @@ sold_once plan = record {
 }
 
 -- both legs refuse the second request, and the first in the product's own order is named; the request is remembered
-both_legs_refuse : Run there_and_back (opening first) (command.Book (codes "BACK") 1 ∷ command.Book (codes "BACK") 1 ∷ []) (sold 1 ∷ no_leg (codes "BC") ∷ []) (sold_once first)
+both_legs_refuse : Run there_and_back (opening first) (command.Book (codes "BACK") 1 ∷ command.Book (codes "BACK") 1 ∷ [])
+    (sold 1 ∷ no_leg (codes "BC") ∷ []) (sold_once first)
 both_legs_refuse = (after_request there_and_back (opening first) 0 1, (refl, refl), (sold_once first, (refl, refl), refl))
 
 -- the plan in force is told
@@ -60,7 +62,17 @@ a_plan = (refl, refl)
 
 -- a new plan is for the seats left now, and nothing else changes; there is no second period
 plans_again : Step there_and_back (sold_once first) (command.Reoptimise 1) optimised_none (sold_once (first_for 1 (0 ∷ 0 ∷ [])))
-plans_again = optimises (first_for 1 (0 ∷ 0 ∷ [])) (record { mode_is = refl; left_is = refl; period_is = refl; planned = record { left = record { legs = refl; seats = λ i short. within i short }; period = (omega arith, omega arith); certificate = refl; nests = refl } })
+plans_again = optimises (first_for 1 (0 ∷ 0 ∷ [])) (record {
+  mode_is = refl;
+  left_is = refl;
+  period_is = refl;
+  planned = record {
+    left = record { legs = refl; seats = λ i short. within i short };
+    period = (omega arith, omega arith);
+    certificate = refl;
+    nests = refl;
+  };
+})
   where
     within : (i : ℕ) → i < 2 → get_or (0 ∷ 0 ∷ []) i 0 ≤ (leg_of there_and_back i).seats
     within zero short = omega arith
@@ -96,7 +108,8 @@ wants_for_memory : (net : NetworkValue) (s : SeatState) → Step net s command.H
 wants_for_memory net s = (lacks_memory, refl)
 
 -- both requests are remembered, the refused one too; one for a product that isn't there is none
-both_asked : requests_in there_and_back (command.Book (codes "BACK") 1 ∷ command.Cancel 1 ∷ command.Book (codes "NONE") 1 ∷ command.Book (codes "LOC") 2 ∷ command.Hindsight ∷ [])
+both_asked : requests_in there_and_back (command.Book (codes "BACK") 1 ∷ command.Cancel 1 ∷ command.Book (codes "NONE") 1
+    ∷ command.Book (codes "LOC") 2 ∷ command.Hindsight ∷ [])
     ≡ record { product = 0; party = 1 } ∷ record { product = 1; party = 2 } ∷ []
 both_asked = refl
 
@@ -114,7 +127,13 @@ sold_twice kept = let first = kept 0 (lit< tt) in omega (arith, first)
 
 -- what a reply means where the controller stands
 abbrev standing : ControlValue
-standing = record { net = there_and_back; plan = first; bookings = record { number = 1; product = 0; party = 1 } ∷ []; next = 2; tallies = 1 ∷ 0 ∷ [] }
+standing = record {
+  net = there_and_back;
+  plan = first;
+  bookings = record { number = 1; product = 0; party = 1 } ∷ [];
+  next = 2;
+  tallies = 1 ∷ 0 ∷ [];
+}
 
 the_second_leg : reply_in standing (answered.NoLeg 1) ≡ no_leg (codes "BC")
 the_second_leg = refl
@@ -157,7 +176,8 @@ text_of_optimised_none = refl
 text_of_overflow : text_of overflow ≡ codes "overflow\n"
 text_of_overflow = refl
 
-text_of_hindsight : (value : Fraction) → value.num ≡ pos 301 → value.den ≡ 2 → text_of (hindsight_told value 101) ≡ codes "hindsight 301/2 revenue 101\n"
+text_of_hindsight : (value : Fraction) → value.num ≡ pos 301 → value.den ≡ 2 → text_of (hindsight_told value 101)
+    ≡ codes "hindsight 301/2 revenue 101\n"
 unfolding digits
 text_of_hindsight value num den = rw (num, den) refl
 
@@ -195,11 +215,14 @@ cut_within = record {
 abbrev at_bytes : List ℕ → List ℕ → Streams
 at_bytes coming held = record { coming = Some coming; held = Some held; source_faults = 0; sink_faults = 0 }
 
-not_done_before_the_end : (whole cut : List Command → List ℕ → Type 0) → ServesBy whole cut (at_bytes (codes "xy") []) (at_bytes (codes "y") []) 9 end.Done → ⊥
+not_done_before_the_end : (whole cut : List Command → List ℕ → Type 0)
+    → ServesBy whole cut (at_bytes (codes "xy") []) (at_bytes (codes "y") []) 9 end.Done → ⊥
 not_done_before_the_end whole cut (taken, output, took, ended, means) = let no : codes "y" ≡ [] = ended in cc no
 
-one_byte_too_many : (whole cut : List Command → List ℕ → Type 0) → ServesBy whole cut (at_bytes (codes "x\ny") []) (at_bytes [] (codes "bad\n")) 2 end.TooLong
-    → (taken : List ℕ) × (output : List ℕ) × (codes "x\ny" ≡ taken ++ []) × (length taken ≡ 3) × (codes "bad\n" ≡ [] ++ output) × whole (whole_commands (take 2 taken)) output
+one_byte_too_many : (whole cut : List Command → List ℕ → Type 0) → ServesBy whole cut (at_bytes (codes "x\ny") [])
+    (at_bytes [] (codes "bad\n")) 2 end.TooLong
+    → (taken : List ℕ) × (output : List ℕ) × (codes "x\ny" ≡ taken ++ []) × (length taken ≡ 3) × (codes "bad\n" ≡ [] ++ output)
+    × whole (whole_commands (take 2 taken)) output
 one_byte_too_many whole cut served = served
 
 -- ---- with a failed put nothing is said of what was kept back, and else it is nothing

@@ -1,16 +1,16 @@
-pub mod Answered
-pub mod Clerks
-pub mod Determined
-pub mod Examples
-pub mod FirstParts
-pub mod Hindsights
-pub mod InForce
-pub mod OtherLines
-pub mod Periods
-pub mod Pieces
-pub mod PrintedPlans
-pub mod Runs
-pub mod Seats
-pub mod Steps
-pub mod Taken
-pub mod Verdicts
+pub mod Answered  -- commands that a controller answered one after another, and one of them that was cut
+pub mod Clerks  -- what a clerk's answers come to: one after another, cut, and sent on
+pub mod Determined  -- commands determine replies and states, where memory suffices
+pub mod Examples  -- lines answered on a small network, which a reader can check by hand
+pub mod FirstParts  -- each first part of a run is a run
+pub mod Hindsights  -- the value of hindsight bounds every selection of the requests so far
+pub mod InForce  -- the plan in force stays one of the network
+pub mod OtherLines  -- lines that take no memory never want for it
+pub mod Periods  -- periods that a network has, and one that it lacks
+pub mod Pieces  -- what one call of the splitter adds to the lines that were answered
+pub mod PrintedPlans  -- the prices of a `plan` line are those of the last line that was answered `optimised`
+pub mod Runs  -- each list of commands has a run
+pub mod Seats  -- no step oversells a leg
+pub mod SessionEnds  -- from the bytes that were taken so far to what each end of a session says
+pub mod Steps  -- what the controller's calls answer is a step
+pub mod Verdicts  -- the reply to a request is the one that the headline says

@@ -1,5 +1,5 @@
 -- A period that a network has, and one that it lacks, as the step asks.
-use Rattle.std.proofs.Common.{ℕ, ◌≡◌, ◌<◌, Bool, true, false, arith}
+use Rattle.std.proofs.Common.{ℕ, ◌≡◌, ◌<◌, true, false, arith}
 use Rattle.std.proofs.lemmas.Bool.Decides.{nat_tests}
 use Rattle.std.specs.Int.{IsInRange}
 use Rattle.nrm_model.specs.Network.{NetworkValue}

@@ -24,8 +24,10 @@ use Rattle.nrm_session.proofs.Periods.{had}
 use Rattle.nrm_session.specs.Laws.{EachListHasARun}
 
 -- there is a reply and a state for each case of an option
-for-option : {X : Type 0} (o : Option X) (none : Reply) (some : X → Reply) (kept : SeatState) (changed : X → SeatState) → none ≢ memory → ((x : X) → some x ≢ memory)
-    → (reply : Reply) × (s' : SeatState) × MatchOption o ((reply ≡ none) × (s' ≡ kept)) (λ x. (reply ≡ some x) × (s' ≡ changed x)) × (reply ≢ memory)
+for-option : {X : Type 0} (o : Option X) (none : Reply) (some : X → Reply) (kept : SeatState) (changed : X → SeatState) → none ≢ memory
+    → ((x : X) → some x ≢ memory)
+    → (reply : Reply) × (s' : SeatState) × MatchOption o ((reply ≡ none) × (s' ≡ kept)) (λ x. (reply ≡ some x) × (s' ≡ changed x))
+    × (reply ≢ memory)
 for-option None none some kept changed one other = (none, kept, (refl, refl), one)
 for-option (Some x) none some kept changed one other = (some x, changed x, (refl, refl), other x)
 
@@ -43,19 +45,23 @@ module _ (net : NetworkValue) (s : SeatState) (k : ℕ) where
   again : IsInRange 1 net.periods k → (reply : Reply) × (s' : SeatState) × Reoptimises net s k reply s' × (reply ≢ memory)
   again within = by (has-a-plan net s.plan.mode (seats_left net s.bookings) k (are-seats-left net s.bookings) within)
     where
-      by : ((plan : PlanValue) × IsPlanFor net s.plan.mode (seats_left net s.bookings) k plan) ⊎ ((n : ℕ) × (number : ℤ) × PlanOverflows net s.plan.mode (seats_left net s.bookings) k n number)
+      by : ((plan : PlanValue) × IsPlanFor net s.plan.mode (seats_left net s.bookings) k plan)
+          ⊎ ((n : ℕ) × (number : ℤ) × PlanOverflows net s.plan.mode (seats_left net s.bookings) k n number)
           → (reply : Reply) × (s' : SeatState) × Reoptimises net s k reply s' × (reply ≢ memory)
       by (inl (plan, for)) = (optimised_at (value_of net plan), with_plan s plan, optimises plan for, planned (value_of net plan))
       by (inr (n, number, large)) = (overflow, s, overflows n number large, λ e. cc)
 
-  in-period : (beyond : Bool) → lacks_period net k ≡ beyond → (reply : Reply) × (s' : SeatState) × MatchBool beyond (Gives unknown reply s s') (Reoptimises net s k reply s') × (reply ≢ memory)
+  in-period : (beyond : Bool) → lacks_period net k ≡ beyond → (reply : Reply) × (s' : SeatState)
+      × MatchBool beyond (Gives unknown reply s s') (Reoptimises net s k reply s') × (reply ≢ memory)
   in-period true is = (unknown, s, (refl, refl), λ e. cc)
   in-period false is = again (had net k is)
 
 look-back : (net : NetworkValue) (s : SeatState) → (reply : Reply) × LooksBack net s reply × (reply ≢ memory)
 look-back net s = by (has-a-hindsight net (tallies_of net s.requests))
   where
-    by : ((value : Fraction) × IsHindsight net (tallies_of net s.requests) value) ⊎ ((n : ℕ) × (number : ℤ) × HindsightOverflows net (tallies_of net s.requests) n number) → (reply : Reply) × LooksBack net s reply × (reply ≢ memory)
+    by : ((value : Fraction) × IsHindsight net (tallies_of net s.requests) value)
+        ⊎ ((n : ℕ) × (number : ℤ) × HindsightOverflows net (tallies_of net s.requests) n number) → (reply : Reply) × LooksBack net s reply
+        × (reply ≢ memory)
     by (inl (value, is)) = (hindsight_told value (revenue_of (inventory_of net) s.bookings), tells value is, λ e. cc)
     by (inr (n, number, large)) = (overflow, is_large n number large, λ e. cc)
 

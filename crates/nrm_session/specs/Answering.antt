@@ -8,7 +8,8 @@ use Rattle.nrm_control.specs.Standing.{ControlValue, StandsFor}
 use Rattle.nrm_fraction.specs.Fraction.{◌over◌}
 use Rattle.nrm_report.specs.Texts.{leg_text, plan_text}
 use Rattle.nrm_stream.specs.declared.command.Command.{Command}
-use Rattle.nrm_session.specs.Replies.{Reply, text_of, bad, unknown, sold, no_leg, no_fare, cancelled, optimised, optimised_none, overflow, memory, hindsight_told, leg_told, plan_told}
+use Rattle.nrm_session.specs.Replies.{Reply, text_of, bad, unknown, sold, no_leg, no_fare, cancelled, optimised, optimised_none, overflow}
+use Rattle.nrm_session.specs.Replies.{memory, hindsight_told, leg_told, plan_told}
 use Rattle.nrm_session.specs.Step.{Step}
 use Rattle.nrm_session.specs.declared.reply.Reply.{Reply as Answered}
 use Rattle.nrm_session.specs.declared.reply.Reply.TheVariants as answered
@@ -51,8 +52,8 @@ IsTellable net answered.Overflow = ⊤
 IsTellable net answered.Memory = ⊤
 IsTellable net answered.Plan = ⊤
 
--- A line was answered: the controller makes the step of some reply, whose text was written whole; or a front of it was, and the state is the one
--- after the line all the same.
+-- A line was answered: the controller makes the step of some reply, whose text was written whole; or a front of it was, and the
+-- state is the one after the line all the same.
 pub record AnswersLine (old new : ControlValue) (command : Command) (held held' : Option (List ℕ)) : Type 0 where
   pub reply : Reply
   pub steps : Steps old new command reply

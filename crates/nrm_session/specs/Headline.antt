@@ -23,9 +23,10 @@ pub record InForce (plan : PlanValue) (its_mode : Mode) (prices : Certificate) :
 abbrev pub bid_price_sum : NetworkValue → Certificate → ℕ → ℕ
 bid_price_sum net prices product = price_sum (sizes prices.p) (product_of net product).legs
 
--- On a leg, the party plus the seats that are kept from the product are no more than the seats left. By the mode of the plan in force none are
--- kept under first come, first served and by bid prices, and under virtual nesting those that are protected for the buckets above the product's
--- own (`kept_from`). A difference of whole numbers ends at 0, so the seats left would be 0 if more were sold than there are; no leg ever has.
+-- On a leg, the party plus the seats that are kept from the product are no more than the seats left. By the mode of the plan in
+-- force none are kept under first come, first served and by bid prices, and under virtual nesting those that are protected for
+-- the buckets above the product's own (`kept_from`). A difference of whole numbers ends at 0, so the seats left would be 0 if
+-- more were sold than there are; no leg ever has.
 abbrev pub SeatsCover : NetworkValue → SeatState → ℕ → ℕ → ℕ → Type 0
 SeatsCover net s product party leg = party + kept_from net s.plan leg product ≤ left_on (inventory_of net) s.bookings leg
 
@@ -35,7 +36,8 @@ EveryLegCovers net s product party = All (SeatsCover net s product party) (produ
 
 -- In bid-price mode, the fare reaches the sum of the bid prices of its legs.
 abbrev pub FareReaches : NetworkValue → SeatState → ℕ → Type 0
-FareReaches net s product = (prices : Certificate) → InForce s.plan mode.Bid prices → bid_price_sum net prices product ≤ nat_abs prices.den * (product_of net product).fare
+FareReaches net s product = (prices : Certificate) → InForce s.plan mode.Bid prices
+    → bid_price_sum net prices product ≤ nat_abs prices.den * (product_of net product).fare
 
 -- In the product's own order, a leg of this name is the first on which they don't cover.
 pub record FirstLegShort (net : NetworkValue) (s : SeatState) (product party : ℕ) (name : List ℕ) : Type 0 where
@@ -47,8 +49,8 @@ pub record FirstLegShort (net : NetworkValue) (s : SeatState) (product party : �
   pub short : ¬ (SeatsCover net s product party leg)
   pub its_name : (leg_of net leg).name ≡ name
 
--- The reply sells with the next number exactly when every leg covers and the fare reaches. It names a leg exactly when that is the first leg
--- short. It says that the fare refuses exactly when every leg covers and the fare doesn't reach.
+-- The reply sells with the next number exactly when every leg covers and the fare reaches. It names a leg exactly when that is
+-- the first leg short. It says that the fare refuses exactly when every leg covers and the fare doesn't reach.
 pub record Headline (net : NetworkValue) (s : SeatState) (product party : ℕ) (reply : Reply) : Type 0 where
   pub is_sold : (reply ≡ sold s.next) ↔ (EveryLegCovers net s product party × FareReaches net s product)
   pub names_leg : (name : List ℕ) → (reply ≡ no_leg name) ↔ FirstLegShort net s product party name
@@ -69,9 +71,10 @@ pub record RequestIsAnswered (net : NetworkValue) (s : SeatState) (product party
   pub no_other : IsOneOfThree s reply
   pub stands : BookingStands s product party reply s'
 
--- in every state each step at a request for a product of the network says this; and each reply of which the headline holds is one of such a step, so
--- there is no other
+-- in every state each step at a request for a product of the network says this; and each reply of which the headline holds is one
+-- of such a step, so there is no other
 abbrev pub RequestsAreAnswered : Type 0
 RequestsAreAnswered = (net : NetworkValue) (s : SeatState) (name : List ℕ) (product party : ℕ) → product_named net name ≡ Some product
     → ((reply : Reply) (s' : SeatState) → Step net s (command.Book name party) reply s' → RequestIsAnswered net s product party reply s')
-    × ((reply : Reply) → Headline net s product party reply → Step net s (command.Book name party) reply (after_request net s product party))
+    × ((reply : Reply) → Headline net s product party reply → Step net s (command.Book name party) reply
+    (after_request net s product party))

@@ -30,9 +30,9 @@ request_in net command.Bad = []
 abbrev pub requests_in : NetworkValue → List Command → List Request
 requests_in net commands = flat_map (request_in net) commands
 
--- No selection of these requests, each whole and at most once, that fits the seats earns more than the value, and an allocation of their program,
--- which may sell parts of seats, gains just that: so it is the least bound that the program gives. The bookings that stand are such a selection, and
--- the revenue is what they earn.
+-- No selection of these requests, each whole and at most once, that fits the seats earns more than the value, and an allocation
+-- of their program, which may sell parts of seats, gains just that: so it is the least bound that the program gives. The bookings
+-- that stand are such a selection, and the revenue is what they earn.
 pub record IsBounded (net : NetworkValue) (requests : List Request) (s : SeatState) (value : Fraction) (revenue : ℕ) : Type 0 where
   pub bound : BoundsSelections net requests value
   pub attained : IsAttained (hindsight_program net (tallies_of net requests)) value
@@ -42,7 +42,8 @@ pub record IsBounded (net : NetworkValue) (requests : List Request) (s : SeatSta
 -- So it is at each line of hindsight that tells a value, after any commands from s on: of the requests before s and all of theirs.
 abbrev pub BoundsFrom : NetworkValue → SeatState → Type 0
 BoundsFrom net s = (commands : List Command) (replies : List Reply) (mid after : SeatState) (value : Fraction) (revenue : ℕ)
-    → Run net s commands replies mid → Step net mid command.Hindsight (hindsight_told value revenue) after → IsBounded net (s.requests ++ requests_in net commands) mid value revenue
+    → Run net s commands replies mid → Step net mid command.Hindsight (hindsight_told value revenue) after
+    → IsBounded net (s.requests ++ requests_in net commands) mid value revenue
 
 -- From an opening on those are all requests so far.
 abbrev pub HindsightBounds : Type 0
@@ -50,4 +51,5 @@ HindsightBounds = (net : NetworkValue) (plan : PlanValue) → IsNetwork net → 
 
 -- And from each state whose bookings oversell no leg and are a choice of its requests.
 abbrev pub HindsightBoundsOn : Type 0
-HindsightBoundsOn = (net : NetworkValue) (s : SeatState) → IsNetwork net → IsKept net s → ChosenFrom s.requests (requests_of s.bookings) → BoundsFrom net s
+HindsightBoundsOn = (net : NetworkValue) (s : SeatState) → IsNetwork net → IsKept net s → ChosenFrom s.requests (requests_of s.bookings)
+    → BoundsFrom net s

@@ -27,9 +27,10 @@ TellsOfPlan reply = (value : Option Fraction) × (reply ≡ optimised_at value)
 abbrev pub NoneTellsOfPlan : List Reply → Type 0
 NoneTellsOfPlan replies = All (λ reply. ¬ (TellsOfPlan reply)) replies
 
--- Among commands and their replies from s on, this is the last line that was answered `optimised`: the period that it names, the value that it was
--- answered, and the state in which it came.
-pub record LastOptimised (net : NetworkValue) (s : SeatState) (commands : List Command) (replies : List Reply) (period : ℕ) (value : Fraction) (when : SeatState) : Type 0 where
+-- Among commands and their replies from s on, this is the last line that was answered `optimised`: the period that it names, the
+-- value that it was answered, and the state in which it came.
+pub record LastOptimised (net : NetworkValue) (s : SeatState) (commands : List Command) (replies : List Reply) (period : ℕ)
+    (value : Fraction) (when : SeatState) : Type 0 where
   pub before : List Command
   pub after : List Command
   pub line : commands ≡ before ++ command.Reoptimise period ∷ after
@@ -39,16 +40,19 @@ pub record LastOptimised (net : NetworkValue) (s : SeatState) (commands : List C
   pub came : Run net s before replies_before when
   pub last : NoneTellsOfPlan replies_after
 
--- For which seats left and from which period the plan in force is: those that were left when the last line came that was answered `optimised`, and the
--- period that it names; every seat and period 1 where no line was. The value that the line was answered is that of the plan's certificate.
-pub data IsPlannedFor (net : NetworkValue) (s : SeatState) (commands : List Command) (replies : List Reply) (prices : Certificate) : List ℕ → ℕ → Type 0 where
+-- For which seats left and from which period the plan in force is: those that were left when the last line came that was answered
+-- `optimised`, and the period that it names; every seat and period 1 where no line was. The value that the line was answered is
+-- that of the plan's certificate.
+pub data IsPlannedFor (net : NetworkValue) (s : SeatState) (commands : List Command) (replies : List Reply)
+    (prices : Certificate) : List ℕ → ℕ → Type 0 where
   at_opening : NoneTellsOfPlan replies → IsPlannedFor net s commands replies prices (inventory_of net).seats 1
   at_line : (period : ℕ) (when : SeatState) → LastOptimised net s commands replies period (mean_value net.histories prices) when
       → IsPlannedFor net s commands replies prices (seats_left net when.bookings) period
 
--- a reply is the text of a certificate whose allocation is optimal and whose bid prices are optimal duals, against every allocation and all prices, of
--- the program at these seats left and from this period
-pub record PrintsOptimalPrices (net : NetworkValue) (m : Mode) (s : SeatState) (commands : List Command) (replies : List Reply) (reply : Reply) : Type 0 where
+-- a reply is the text of a certificate whose allocation is optimal and whose bid prices are optimal duals, against every
+-- allocation and all prices, of the program at these seats left and from this period
+pub record PrintsOptimalPrices (net : NetworkValue) (m : Mode) (s : SeatState) (commands : List Command) (replies : List Reply)
+    (reply : Reply) : Type 0 where
   pub left : List ℕ
   pub period : ℕ
   pub prices : Certificate
@@ -58,6 +62,8 @@ pub record PrintsOptimalPrices (net : NetworkValue) (m : Mode) (s : SeatState) (
 
 -- In a mode that solves programs, after any commands from an opening, so is what a `plan` line prints.
 abbrev pub PrintedPricesAreOptimal : Type 0
-PrintedPricesAreOptimal = (net : NetworkValue) (m : Mode) (plan : PlanValue) (commands : List Command) (replies : List Reply) (mid after : SeatState) (reply : Reply)
-    → IsNetwork net → m ≢ mode.FirstCome → IsOpeningPlan net m plan → Run net (opening plan) commands replies mid → Step net mid command.Plan reply after
+PrintedPricesAreOptimal = (net : NetworkValue) (m : Mode) (plan : PlanValue) (commands : List Command) (replies : List Reply)
+    (mid after : SeatState) (reply : Reply)
+    → IsNetwork net → m ≢ mode.FirstCome → IsOpeningPlan net m plan → Run net (opening plan) commands replies mid
+    → Step net mid command.Plan reply after
     → PrintsOptimalPrices net m (opening plan) commands replies reply

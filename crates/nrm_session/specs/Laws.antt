@@ -29,7 +29,8 @@ pub record IsKept (net : NetworkValue) (s : SeatState) : Type 0 where
 -- first part of a run is a run
 abbrev pub SeatsAreKept : Type 0
 SeatsAreKept = ((net : NetworkValue) (plan : PlanValue) → IsKept net (opening plan))
-    × ((net : NetworkValue) (s s' : SeatState) (commands : List Command) (replies : List Reply) → IsKept net s → Run net s commands replies s' → IsKept net s')
+    × ((net : NetworkValue) (s s' : SeatState) (commands : List Command) (replies : List Reply) → IsKept net s
+    → Run net s commands replies s' → IsKept net s')
 
 -- no line wanted for memory
 abbrev pub MemorySuffices : List Reply → Type 0
@@ -38,7 +39,8 @@ MemorySuffices replies = All (λ reply. reply ≢ memory) replies
 -- want of memory is the one reply that is free: where none wants for it, the commands determine the replies and the state
 abbrev pub RepliesAreDetermined : Type 0
 RepliesAreDetermined = (net : NetworkValue) (s : SeatState) (commands : List Command) (replies others : List Reply) (s' s'' : SeatState)
-    → Run net s commands replies s' → Run net s commands others s'' → MemorySuffices replies → MemorySuffices others → (others ≡ replies) × (s'' ≡ s')
+    → Run net s commands replies s' → Run net s commands others s'' → MemorySuffices replies → MemorySuffices others → (others ≡ replies)
+    × (s'' ≡ s')
 
 -- a line for which a program is solved: one of hindsight, and one that optimises again from a period of the network, where the mode solves
 -- programs
@@ -74,11 +76,14 @@ pub record IsPlanned (net : NetworkValue) (m : Mode) (s : SeatState) : Type 0 wh
 
 -- so it is in each opening, and a run from such a state comes to such a state
 abbrev pub PlansAreKept : Type 0
-PlansAreKept = ((net : NetworkValue) (m : Mode) (plan : PlanValue) → IsNetwork net → IsOpeningPlan net m plan → IsPlanned net m (opening plan))
+PlansAreKept = ((net : NetworkValue) (m : Mode) (plan : PlanValue) → IsNetwork net → IsOpeningPlan net m plan
+    → IsPlanned net m (opening plan))
     × ((net : NetworkValue) (m : Mode) (s s' : SeatState) (commands : List Command) (replies : List Reply)
     → IsNetwork net → IsPlanned net m s → Run net s commands replies s' → IsPlanned net m s')
 
 -- each first part of a run is a run, and the rest is one from where it came: so what holds after each run holds in every state on the way
 abbrev pub RunsHaveFirstParts : Type 0
-RunsHaveFirstParts = (net : NetworkValue) (s s' : SeatState) (first rest : List Command) (replies : List Reply) → Run net s (first ++ rest) replies s'
-    → (before : List Reply) × (later : List Reply) × (mid : SeatState) × (replies ≡ before ++ later) × Run net s first before mid × Run net mid rest later s'
+RunsHaveFirstParts = (net : NetworkValue) (s s' : SeatState) (first rest : List Command) (replies : List Reply)
+    → Run net s (first ++ rest) replies s'
+    → (before : List Reply) × (later : List Reply) × (mid : SeatState) × (replies ≡ before ++ later) × Run net s first before mid
+    × Run net mid rest later s'

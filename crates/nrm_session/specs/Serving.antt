@@ -13,8 +13,8 @@ use Rattle.nrm_session.specs.Run.{Run, Writes, output_of}
 use Rattle.nrm_session.specs.declared.serving.End.{End}
 use Rattle.nrm_session.specs.declared.serving.End.TheVariants as end
 
--- Of these commands one was cut, since a put failed: the replies to those before it stand whole, then a front of its own reply, which isn't all of it,
--- and s' is the state after it.
+-- Of these commands one was cut, since a put failed: the replies to those before it stand whole, then a front of its own reply,
+-- which isn't all of it, and s' is the state after it.
 pub record WritesCut (net : NetworkValue) (s : SeatState) (commands : List Command) (bytes : List ℕ) (s' : SeatState) : Type 0 where
   pub before : List Command
   pub cut : Command
@@ -29,7 +29,8 @@ pub record WritesCut (net : NetworkValue) (s : SeatState) (commands : List Comma
   pub short : count < length (text_of reply)
   pub output : bytes ≡ output_of replies ++ take count (text_of reply)
 
--- The network stays. From each state that the controller stood for, a run over the commands gives this output, and the controller stands for the run's last state.
+-- The network stays. From each state that the controller stood for, a run over the commands gives this output, and the controller
+-- stands for the run's last state.
 pub record Refines (old new : ControlValue) (commands : List Command) (output : List ℕ) : Type 0 where
   pub network : new.net ≡ old.net
   pub run : (s : SeatState) → StandsFor old s → (s' : SeatState) × StandsFor new s' × Writes old.net s commands output s'
@@ -61,18 +62,21 @@ pub record TookAndWrote (before after : Streams) (limit : ℕ) (taken output : L
   pub short : length taken ≤ limit
   pub written : Appends before.held after.held output
 
--- What each end says, by what it means that commands were answered with an output and that one of them was cut. Done: the input was taken to its end,
--- and the replies to all its lines were written. ReadFault: the replies to the whole lines that were taken. WriteFault: one line was cut, or only
--- sending on the replies to all failed: of the whole lines that were taken, or of all lines of an input that was taken to its end. TooLong: one byte more than the limit was taken, and the replies to the whole
--- lines before that byte were written.
+-- What each end says, by what it means that commands were answered with an output and that one of them was cut. Done: the input
+-- was taken to its end, and the replies to all its lines were written. ReadFault: the replies to the whole lines that were taken.
+-- WriteFault: one line was cut, or only sending on the replies to all failed: of the whole lines that were taken, or of all lines
+-- of an input that was taken to its end. TooLong: one byte more than the limit was taken, and the replies to the whole lines
+-- before that byte were written.
 abbrev pub ServesBy : (List Command → List ℕ → Type 0) → (List Command → List ℕ → Type 0) → Streams → Streams → ℕ → End → Type 0
 ServesBy whole cut before after limit end.Done =
-    (taken : List ℕ) × (output : List ℕ) × TookAndWrote before after limit taken output × IsAtEnd after.coming × whole (commands_of taken) output
+    (taken : List ℕ) × (output : List ℕ) × TookAndWrote before after limit taken output × IsAtEnd after.coming
+    × whole (commands_of taken) output
 ServesBy whole cut before after limit end.ReadFault =
     (taken : List ℕ) × (output : List ℕ) × TookAndWrote before after limit taken output × whole (whole_commands taken) output
 ServesBy whole cut before after limit end.WriteFault =
     (taken : List ℕ) × (output : List ℕ) × TookAndWrote before after limit taken output
-    × ((cut (whole_commands taken) output ⊎ whole (whole_commands taken) output) ⊎ (IsAtEnd after.coming × (cut (commands_of taken) output ⊎ whole (commands_of taken) output)))
+    × ((cut (whole_commands taken) output ⊎ whole (whole_commands taken) output)
+    ⊎ (IsAtEnd after.coming × (cut (commands_of taken) output ⊎ whole (commands_of taken) output)))
 ServesBy whole cut before after limit end.TooLong =
     (taken : List ℕ) × (output : List ℕ) × Consumes before.coming after.coming taken × (length taken ≡ limit + 1)
     × Appends before.held after.held output × whole (whole_commands (take limit taken)) output
@@ -90,8 +94,8 @@ CountsFaults before after end.WriteFault =
     Rose before.sink_faults after.sink_faults × (before.sink_faults ≤ after.sink_faults) × (after.source_faults ≡ before.source_faults)
 CountsFaults before after end.TooLong = (after.source_faults ≡ before.source_faults) × (after.sink_faults ≡ before.sink_faults)
 
--- From a sink that keeps nothing back nothing is kept back at the end, unless the sink failed. A take may fail each time, and the session then ends
--- with nothing kept back: so all that was put is sent on before more is taken.
+-- From a sink that keeps nothing back nothing is kept back at the end, unless the sink failed. A take may fail each time, and the
+-- session then ends with nothing kept back: so all that was put is sent on before more is taken.
 abbrev pub SentOn : List ℕ → List ℕ → End → Type 0
 SentOn unsent unsent' end.Done = unsent ≡ [] → unsent' ≡ []
 SentOn unsent unsent' end.ReadFault = unsent ≡ [] → unsent' ≡ []

@@ -14,24 +14,27 @@ use Rattle.nrm_control.specs.State.{SeatState, answer_in, after_request, after_c
 use Rattle.nrm_report.specs.Texts.{leg_text, plan_text}
 use Rattle.nrm_stream.specs.declared.command.Command.{Command}
 use Rattle.nrm_stream.specs.declared.command.Command.TheVariants as command
-use Rattle.nrm_session.specs.Replies.{Reply, bad, unknown, cancelled, overflow, memory, hindsight_told, leg_told, plan_told, optimised_at, reply_to}
+use Rattle.nrm_session.specs.Replies.{Reply, bad, unknown, cancelled, overflow, memory, hindsight_told, leg_told, plan_told, optimised_at}
+use Rattle.nrm_session.specs.Replies.{reply_to}
 
 -- this reply, and all is remembered as it was
 abbrev pub Gives : Reply → Reply → SeatState → SeatState → Type 0
 Gives expected reply s s' = (reply ≡ expected) × (s' ≡ s)
 
--- A network is optimised again, at the seats left and period k: the new plan is in force, and its mean value is told; or the program is
--- Large, and nothing changes; or memory is wanting where a program is solved, and nothing changes. That is the one reply which is free, here
--- and at a line of hindsight.
+-- A network is optimised again, at the seats left and period k: the new plan is in force, and its mean value is told; or the
+-- program is Large, and nothing changes; or memory is wanting where a program is solved, and nothing changes. That is the one
+-- reply which is free, here and at a line of hindsight.
 pub data Reoptimises (net : NetworkValue) (s : SeatState) (k : ℕ) : Reply → SeatState → Type 0 where
-  optimises : (plan : PlanValue) → IsPlanFor net s.plan.mode (seats_left net s.bookings) k plan → Reoptimises net s k (optimised_at (value_of net plan)) (with_plan s plan)
+  optimises : (plan : PlanValue) → IsPlanFor net s.plan.mode (seats_left net s.bookings) k plan
+      → Reoptimises net s k (optimised_at (value_of net plan)) (with_plan s plan)
   overflows : (n : ℕ) (number : ℤ) → PlanOverflows net s.plan.mode (seats_left net s.bookings) k n number → Reoptimises net s k overflow s
   wants_memory : s.plan.mode ≢ mode.FirstCome → Reoptimises net s k memory s
 
--- A line of hindsight: its value at the tallies of all requests so far, and the revenue of the bookings that stand; or its program is Large;
--- or memory is wanting.
+-- A line of hindsight: its value at the tallies of all requests so far, and the revenue of the bookings that stand; or its
+-- program is Large; or memory is wanting.
 pub data LooksBack (net : NetworkValue) (s : SeatState) : Reply → Type 0 where
-  tells : (value : Fraction) → IsHindsight net (tallies_of net s.requests) value → LooksBack net s (hindsight_told value (revenue_of (inventory_of net) s.bookings))
+  tells : (value : Fraction) → IsHindsight net (tallies_of net s.requests) value
+      → LooksBack net s (hindsight_told value (revenue_of (inventory_of net) s.bookings))
   is_large : (n : ℕ) (number : ℤ) → HindsightOverflows net (tallies_of net s.requests) n number → LooksBack net s overflow
   lacks_memory : LooksBack net s memory
 

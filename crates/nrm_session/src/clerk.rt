@@ -37,8 +37,10 @@ pub trait Clerk<B> {
         requires command { IsCommand command.now }
         requires next { controller.old.next < BOOKING_LIMIT }
         requires ready { ready (controller.old, beside.old) }
-        ensures whole { OnOk result (Answers whole ready (controller.old, beside.old) (controller.new, beside.new) (command.now ∷ []) (K.held sink.old) (K.held sink.new) (K.faults sink.old) (K.faults sink.new)) }
-        ensures cut { OnErr result (AnswersCut cut ready (controller.old, beside.old) (controller.new, beside.new) (command.now ∷ []) (K.held sink.old) (K.held sink.new) (K.faults sink.old) (K.faults sink.new)) };
+        ensures whole { OnOk result (Answers whole ready (controller.old, beside.old) (controller.new, beside.new) (command.now ∷ [])
+            (K.held sink.old) (K.held sink.new) (K.faults sink.old) (K.faults sink.new)) }
+        ensures cut { OnErr result (AnswersCut cut ready (controller.old, beside.old) (controller.new, beside.new) (command.now ∷ [])
+            (K.held sink.old) (K.held sink.new) (K.faults sink.old) (K.faults sink.new)) };
 }
 
 /// A controller alone, with nothing beside it.

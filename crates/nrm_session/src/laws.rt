@@ -2,7 +2,8 @@
 ghost use Rattle.nrm_session.specs.Headline.{RequestsAreAnswered};
 ghost use Rattle.nrm_session.specs.Hindsight.{HindsightBounds, HindsightBoundsOn};
 ghost use Rattle.nrm_session.specs.LastPlan.{PrintedPricesAreOptimal};
-ghost use Rattle.nrm_session.specs.Laws.{EachListHasARun, OtherLinesNeedNoMemory, PlansAreKept, RepliesAreDetermined, RunsHaveFirstParts, SeatsAreKept, StatesAreDetermined};
+ghost use Rattle.nrm_session.specs.Laws.{EachListHasARun, OtherLinesNeedNoMemory, PlansAreKept, RepliesAreDetermined, RunsHaveFirstParts};
+ghost use Rattle.nrm_session.specs.Laws.{SeatsAreKept, StatesAreDetermined};
 
 /// No leg has more seats sold than it has in an opening, and a run keeps that from any state.
 pub fn seats_are_kept()
@@ -35,8 +36,8 @@ pub fn plans_are_kept()
     ensures { PlansAreKept }
 {}
 
-/// What a `plan` line prints, after any commands from an opening, are optimal bid prices of the program at the seats left and from the period of the last
-/// line that was answered `optimised`, or of the opening.
+/// What a `plan` line prints, after any commands from an opening, are optimal bid prices of the program at the seats left and
+/// from the period of the last line that was answered `optimised`, or of the opening.
 pub fn printed_prices_are_optimal()
     ensures { PrintedPricesAreOptimal }
 {}

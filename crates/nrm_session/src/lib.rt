@@ -1,4 +1,8 @@
 //! The session: lines to replies.
+//!
+//! `serve` answers the lines of a stream by a controller. It is `serve_by` with the clerk `Alone`, which answers a line by
+//! `answer_line`: `carry_out`, and then `put_reply`. Another clerk brings a `Clerk::answer` of its own.
+//! `tests::lines_are_answered_by_hand` runs a session.
 #![tactic(auto)]
 
 mod clerk;
@@ -15,4 +19,4 @@ pub use laws::{
     runs_have_first_parts, seats_are_kept, states_are_determined,
 };
 pub use reply::{Reply, answer_line, carry_out, put_reply};
-pub use serving::{End, serve, serve_by};
+pub use serving::{End, LATEST_START, serve, serve_by};

@@ -20,7 +20,7 @@ use nrm_stream::Command;
 use nrm_text::{Name, Text};
 use std::alloc::Global;
 
-// The most bytes of a reply of one line.
+// The most bytes of a reply with a fraction. A call clears its room before it begins, so each kind of line has a call of its own.
 const ROOM: usize = 128;
 
 /// What a line is answered. Legs are named by their numbers in the network.
@@ -85,7 +85,8 @@ fn cancel(controller: &mut Controller, number: u64) -> Reply
     }
 }
 
-// Carries out a `reoptimise` line.
+// Carries out a `reoptimise` line, which is rare and long.
+#[inline(never)]
 fn reoptimise(alloc: Global, controller: &mut Controller, period: u8) -> Reply
     requires { 1 ≤ period }
     ensures step { Steps controller.old controller.new (command.Reoptimise period) (reply_in controller.new result) }
@@ -103,7 +104,8 @@ fn reoptimise(alloc: Global, controller: &mut Controller, period: u8) -> Reply
     }
 }
 
-// Carries out a `hindsight` line.
+// Carries out a `hindsight` line, which is rare and long.
+#[inline(never)]
 fn look_back(alloc: Global, controller: &Controller) -> Reply
     ensures step { Steps controller.now controller.now command.Hindsight (reply_in controller.now result) }
     ensures tellable { IsTellable controller.now.net result }
@@ -132,6 +134,7 @@ fn tell_leg(controller: &Controller, name: &Name) -> Reply
 
 /// Carries out a command, and gives its reply. It takes memory for `hindsight`, and for `reoptimise` where the mode solves
 /// programs, and for no other.
+#[inline(always)]
 pub fn carry_out(alloc: Global, controller: &mut Controller, command: &Command) -> Reply
     requires command { IsCommand command.now }
     requires next { controller.old.next < BOOKING_LIMIT }
@@ -152,64 +155,81 @@ pub fn carry_out(alloc: Global, controller: &mut Controller, command: &Command) 
     }
 }
 
-// Writes the line of a request that was sold.
+// Puts the line of a request that was sold.
 #[tactic(auto, using(nrm_text::proofs::Decimals::short_decimal))]
-fn write_sold(line: &mut Text<ROOM>, number: u64)
-    requires { line.old ≡ [] }
-    ensures { line.new ≡ text_of (sold number) }
+fn put_sold<K: Sink>(number: u64, sink: &mut K) -> Result<(), Failed>
+    ensures whole { OnOk result (Appends (K.held sink.old) (K.held sink.new) (text_of (sold number))) }
+    ensures cut { OnErr result (AppendsFront (K.held sink.old) (K.held sink.new) (text_of (sold number))) }
+    ensures cause { HasCause (K.faults sink.old) (K.faults sink.new) result }
 {
+    let mut line = Text::<24>::new();
     line.push_bytes(b"ok ");
     line.push_u64(number);
     line.push_bytes(b"\n");
+    put_all(sink, line.bytes())
 }
 
-// Writes the line of a request that a leg refused.
-fn write_refused(line: &mut Text<ROOM>, leg: &Name)
-    requires { line.old ≡ [] }
-    ensures { line.new ≡ text_of (no_leg leg.now) }
+// Puts the line of a request that a leg refused.
+fn put_refused<K: Sink>(leg: &Name, sink: &mut K) -> Result<(), Failed>
+    ensures whole { OnOk result (Appends (K.held sink.old) (K.held sink.new) (text_of (no_leg leg.now))) }
+    ensures cut { OnErr result (AppendsFront (K.held sink.old) (K.held sink.new) (text_of (no_leg leg.now))) }
+    ensures cause { HasCause (K.faults sink.old) (K.faults sink.new) result }
 {
+    let mut line = Text::<16>::new();
     line.push_bytes(b"no ");
     line.push_name(leg);
     line.push_bytes(b"\n");
+    put_all(sink, line.bytes())
 }
 
-// Writes the line of a cancellation.
+// Puts the line of a cancellation.
 #[tactic(auto, using(nrm_text::proofs::Decimals::short_decimal))]
-fn write_cancelled(line: &mut Text<ROOM>, number: u64, refund: u64)
-    requires { line.old ≡ [] }
-    ensures { line.new ≡ text_of (cancelled number refund) }
+fn put_cancelled<K: Sink>(number: u64, refund: u64, sink: &mut K) -> Result<(), Failed>
+    ensures whole { OnOk result (Appends (K.held sink.old) (K.held sink.new) (text_of (cancelled number refund))) }
+    ensures cut { OnErr result (AppendsFront (K.held sink.old) (K.held sink.new) (text_of (cancelled number refund))) }
+    ensures cause { HasCause (K.faults sink.old) (K.faults sink.new) result }
 {
+    let mut line = Text::<52>::new();
     line.push_bytes(b"cancelled ");
     line.push_u64(number);
     line.push_bytes(b" ");
     line.push_u64(refund);
     line.push_bytes(b"\n");
+    put_all(sink, line.bytes())
 }
 
-// Writes the line of a new plan with its mean value.
+// Puts the line of a new plan with its mean value.
 #[tactic(auto, using(nrm_text::proofs::Fractions::short_fraction))]
-fn write_optimised(line: &mut Text<ROOM>, num: u64, den: u64)
-    requires empty { line.old ≡ [] }
-    requires some { 1 ≤ den }
-    ensures { line.new ≡ text_of (optimised (pos num over den)) }
+#[inline(never)]
+fn put_optimised<K: Sink>(num: u64, den: u64, sink: &mut K) -> Result<(), Failed>
+    requires { 1 ≤ den }
+    ensures whole { OnOk result (Appends (K.held sink.old) (K.held sink.new) (text_of (optimised (pos num over den)))) }
+    ensures cut { OnErr result (AppendsFront (K.held sink.old) (K.held sink.new) (text_of (optimised (pos num over den)))) }
+    ensures cause { HasCause (K.faults sink.old) (K.faults sink.new) result }
 {
+    let mut line = Text::<ROOM>::new();
     line.push_bytes(b"optimised ");
     line.push_fraction(i128::from(num), u128::from(den));
     line.push_bytes(b"\n");
+    put_all(sink, line.bytes())
 }
 
-// Writes the line of hindsight, with the revenue of the bookings that stand.
+// Puts the line of hindsight, with the revenue of the bookings that stand.
 #[tactic(auto, using(nrm_text::proofs::Fractions::short_fraction, nrm_text::proofs::Decimals::short_decimal))]
-fn write_hindsight(line: &mut Text<ROOM>, num: u64, den: u64, revenue: u64)
-    requires empty { line.old ≡ [] }
-    requires some { 1 ≤ den }
-    ensures { line.new ≡ text_of (hindsight_told (pos num over den) revenue) }
+#[inline(never)]
+fn put_hindsight<K: Sink>(num: u64, den: u64, revenue: u64, sink: &mut K) -> Result<(), Failed>
+    requires { 1 ≤ den }
+    ensures whole { OnOk result (Appends (K.held sink.old) (K.held sink.new) (text_of (hindsight_told (pos num over den) revenue))) }
+    ensures cut { OnErr result (AppendsFront (K.held sink.old) (K.held sink.new) (text_of (hindsight_told (pos num over den) revenue))) }
+    ensures cause { HasCause (K.faults sink.old) (K.faults sink.new) result }
 {
+    let mut line = Text::<ROOM>::new();
     line.push_bytes(b"hindsight ");
     line.push_fraction(i128::from(num), u128::from(den));
     line.push_bytes(b" revenue ");
     line.push_u64(revenue);
     line.push_bytes(b"\n");
+    put_all(sink, line.bytes())
 }
 
 /// Puts the text of a reply: a line in one piece, and of a leg and of a plan as many lines as there are.
@@ -223,23 +243,21 @@ pub fn put_reply<K: Sink>(controller: &Controller, reply: Reply, sink: &mut K) -
     ensures cause { HasCause (K.faults sink.old) (K.faults sink.new) result }
 {
     let net = controller.network();
-    let mut line = Text::new();
     match reply {
-        Reply::Bad => return put_all(sink, b"bad\n"),
-        Reply::Unknown => return put_all(sink, b"unknown\n"),
-        Reply::NoFare => return put_all(sink, b"no fare\n"),
-        Reply::OptimisedNone => return put_all(sink, b"optimised none\n"),
-        Reply::Overflow => return put_all(sink, b"overflow\n"),
-        Reply::Memory => return put_all(sink, b"memory\n"),
-        Reply::Leg(leg) => return leg_text(net, controller.book(), leg, sink),
-        Reply::Plan => return plan_text(net, controller.plan(), sink),
-        Reply::Sold { number } => write_sold(&mut line, number),
-        Reply::NoLeg(leg) => write_refused(&mut line, &net.leg_at(leg).name),
-        Reply::Cancelled { number, refund } => write_cancelled(&mut line, number, refund),
-        Reply::Optimised { num, den } => write_optimised(&mut line, num, den),
-        Reply::Hindsight { num, den, revenue } => write_hindsight(&mut line, num, den, revenue),
+        Reply::Bad => put_all(sink, b"bad\n"),
+        Reply::Unknown => put_all(sink, b"unknown\n"),
+        Reply::Sold { number } => put_sold(number, sink),
+        Reply::NoLeg(leg) => put_refused(&net.leg_at(leg).name, sink),
+        Reply::NoFare => put_all(sink, b"no fare\n"),
+        Reply::Cancelled { number, refund } => put_cancelled(number, refund, sink),
+        Reply::Optimised { num, den } => put_optimised(num, den, sink),
+        Reply::OptimisedNone => put_all(sink, b"optimised none\n"),
+        Reply::Overflow => put_all(sink, b"overflow\n"),
+        Reply::Memory => put_all(sink, b"memory\n"),
+        Reply::Hindsight { num, den, revenue } => put_hindsight(num, den, revenue, sink),
+        Reply::Leg(leg) => leg_text(net, controller.book(), leg, sink),
+        Reply::Plan => plan_text(net, controller.plan(), sink),
     }
-    put_all(sink, line.bytes())
 }
 
 /// Carries a command out, and puts its reply.

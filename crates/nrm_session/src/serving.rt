@@ -18,6 +18,10 @@ use nrm_edge::{Failed, Sink, Source};
 use nrm_stream::{Command, Splitter};
 use std::alloc::Global;
 
+/// The number of the next booking with which a session may begin at the latest, a tenth of `BOOKING_LIMIT`: no stream has so many
+/// lines that it would come to that.
+pub const LATEST_START: u64 = 100_000_000_000;
+
 // The most bytes that are taken at once.
 const PIECE: usize = 65_536;
 
@@ -42,7 +46,8 @@ fn take_front<S: Source>(source: &mut S, buffer: &mut [u8], most: u64) -> Result
     ensures few { IfOk result (λ count. count ≤ most) }
     ensures within { IfOk result (λ count. count ≤ length buffer.new) }
     ensures bytes { ReadConsumes (S.coming source.old) (S.coming source.new) result buffer.new }
-    ensures end { IfOk result (λ count. count ≡ 0 → Consumes (S.coming source.old) (S.coming source.new) [] × IsAtEnd (S.coming source.new)) }
+    ensures end { IfOk result (λ count. count ≡ 0 → Consumes (S.coming source.old) (S.coming source.new) []
+        × IsAtEnd (S.coming source.new)) }
     ensures cause { HasCause (S.faults source.old) (S.faults source.new) result }
 {
     let room = most.min(buffer.len() as u64) as usize;
@@ -61,8 +66,10 @@ fn answer_piece<C: Clerk<B>, B, K: Sink>(
     requires next { controller.old.next + length piece.now < BOOKING_LIMIT }
     requires ready { C.ready (controller.old, beside.old) }
     requires meanings { AreMeanings C.whole C.cut }
-    ensures whole { OnOk result (AnswersPiece C.whole C.ready (controller.old, beside.old) (controller.new, beside.new) splitter.old splitter.new piece.now (K.held sink.old) (K.held sink.new) (K.faults sink.old) (K.faults sink.new)) }
-    ensures cut { OnErr result (CutsPiece C.whole C.cut C.ready (controller.old, beside.old) (controller.new, beside.new) splitter.old piece.now (K.held sink.old) (K.held sink.new) (K.faults sink.old) (K.faults sink.new)) }
+    ensures whole { OnOk result (AnswersPiece C.whole C.ready (controller.old, beside.old) (controller.new, beside.new)
+        splitter.old splitter.new piece.now (K.held sink.old) (K.held sink.new) (K.faults sink.old) (K.faults sink.new)) }
+    ensures cut { OnErr result (CutsPiece C.whole C.cut C.ready (controller.old, beside.old) (controller.new, beside.new)
+        splitter.old piece.now (K.held sink.old) (K.held sink.new) (K.faults sink.old) (K.faults sink.new)) }
     ensures sent { OnOk result (K.unsent sink.old ≡ [] → K.unsent sink.new ≡ []) }
 {
     let mut rest = piece;
@@ -93,8 +100,10 @@ fn answer_last<C: Clerk<B>, B, K: Sink>(
     requires next { controller.old.next < BOOKING_LIMIT }
     requires ready { C.ready (controller.old, beside.old) }
     requires meanings { AreMeanings C.whole C.cut }
-    ensures whole { OnOk result (Answers C.whole C.ready (controller.old, beside.old) (controller.new, beside.new) (option_to_list last) (K.held sink.old) (K.held sink.new) (K.faults sink.old) (K.faults sink.new)) }
-    ensures cut { OnErr result (AnswersCut (stopped C.whole C.cut) C.ready (controller.old, beside.old) (controller.new, beside.new) (option_to_list last) (K.held sink.old) (K.held sink.new) (K.faults sink.old) (K.faults sink.new)) }
+    ensures whole { OnOk result (Answers C.whole C.ready (controller.old, beside.old) (controller.new, beside.new) (option_to_list last)
+        (K.held sink.old) (K.held sink.new) (K.faults sink.old) (K.faults sink.new)) }
+    ensures cut { OnErr result (AnswersCut (stopped C.whole C.cut) C.ready (controller.old, beside.old) (controller.new, beside.new)
+        (option_to_list last) (K.held sink.old) (K.held sink.new) (K.faults sink.old) (K.faults sink.new)) }
     ensures sent { OnOk result (K.unsent sink.old ≡ [] → K.unsent sink.new ≡ []) }
 {
     match last {
@@ -118,7 +127,8 @@ fn end_input<C: Clerk<B>, B, K: Sink>(
     requires next { controller.old.next < BOOKING_LIMIT }
     requires ready { C.ready (controller.old, beside.old) }
     requires meanings { AreMeanings C.whole C.cut }
-    ensures ends { EndsInput C.whole C.cut C.ready (controller.old, beside.old) (controller.new, beside.new) (option_to_list last) (K.held sink.old) (K.held sink.new) (K.faults sink.old) (K.faults sink.new) result }
+    ensures ends { EndsInput C.whole C.cut C.ready (controller.old, beside.old) (controller.new, beside.new) (option_to_list last)
+        (K.held sink.old) (K.held sink.new) (K.faults sink.old) (K.faults sink.new) result }
     ensures sent { SentOn (K.unsent sink.old) (K.unsent sink.new) result }
 {
     match answer_last::<C, B, K>(alloc, controller, beside, last, sink) {
@@ -127,8 +137,9 @@ fn end_input<C: Clerk<B>, B, K: Sink>(
     }
 }
 
-/// Answers each line of a stream of at most `limit` bytes by a clerk, in order: every whole line of a piece before the next piece is taken. Before it
-/// takes again it sends on what it put. A byte more than the limit is taken only when all lines up to the limit are answered.
+/// Answers each line of a stream of at most `limit` bytes by a clerk, in order: every whole line of a piece before the next piece
+/// is taken. Before it takes again it sends on what it put. A byte more than the limit is taken only when all lines up to the
+/// limit are answered.
 pub fn serve_by<C: Clerk<B>, B, S: Source, K: Sink>(
     alloc: Global,
     controller: &mut Controller,
@@ -138,11 +149,13 @@ pub fn serve_by<C: Clerk<B>, B, S: Source, K: Sink>(
     limit: u64,
 ) -> End
     requires limit { limit ≤ 2 ^ 32 }
-    requires next { controller.old.next ≤ 100000000000 }
+    requires next { controller.old.next ≤ LATEST_START }
     requires ready { C.ready (controller.old, beside.old) }
     requires meanings { AreMeanings C.whole C.cut }
     ensures serves { let at = streams S.coming S.faults K.held K.faults in
-        ServesBy (C.whole (controller.old, beside.old) (controller.new, beside.new)) (C.cut (controller.old, beside.old) (controller.new, beside.new)) (at source.old sink.old) (at source.new sink.new) limit result }
+        ServesBy (C.whole (controller.old, beside.old) (controller.new, beside.new))
+        (C.cut (controller.old, beside.old) (controller.new, beside.new))
+        (at source.old sink.old) (at source.new sink.new) limit result }
     ensures counts { let at = streams S.coming S.faults K.held K.faults in
         CountsFaults (at source.old sink.old) (at source.new sink.new) result }
     ensures sent { SentOn (K.unsent sink.old) (K.unsent sink.new) result }
@@ -179,9 +192,10 @@ pub fn serve_by<C: Clerk<B>, B, S: Source, K: Sink>(
     }
 }
 
-/// Answers each line of a stream of at most `limit` bytes, in order: every whole line of a piece before the next piece is taken, one line of
-/// reply a put; the texts of a leg and of a plan take one put a line. Before it takes again it sends on what it put. A byte more than the
-/// limit is taken only when all lines up to the limit are answered. It takes memory for lines of `reoptimise` and `hindsight` alone.
+/// Answers each line of a stream of at most `limit` bytes, in order: every whole line of a piece before the next piece is taken,
+/// one line of reply a put; the texts of a leg and of a plan take one put a line. Before it takes again it sends on what it put.
+/// A byte more than the limit is taken only when all lines up to the limit are answered. It takes memory for lines of
+/// `reoptimise` and `hindsight` alone.
 pub fn serve<S: Source, K: Sink>(
     alloc: Global,
     controller: &mut Controller,
@@ -190,7 +204,7 @@ pub fn serve<S: Source, K: Sink>(
     limit: u64,
 ) -> End
     requires limit { limit ≤ 2 ^ 32 }
-    requires next { controller.old.next ≤ 100000000000 }
+    requires next { controller.old.next ≤ LATEST_START }
     ensures serves { let at = streams S.coming S.faults K.held K.faults in
         Serves controller.old controller.new (at source.old sink.old) (at source.new sink.new) limit result }
     ensures counts { let at = streams S.coming S.faults K.held K.faults in

@@ -84,7 +84,8 @@ fn lines_are_answered_by_hand(rt: HostRuntime) {
             &[],
         ),
         End::Done,
-        b"ok 1\ncancelled 1 1000\nunknown\nok 2\nleg AB seats 3 sold 1 left 2\non AB LOC 1\nfirst\noptimised none\nunknown\nhindsight 1200/1 revenue 200\nbad\n",
+        b"ok 1\ncancelled 1 1000\nunknown\nok 2\nleg AB seats 3 sold 1 left 2\non AB LOC 1\nfirst\noptimised none\nunknown\n\
+            hindsight 1200/1 revenue 200\nbad\n",
     );
 }
 

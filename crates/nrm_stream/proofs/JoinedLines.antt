@@ -1,5 +1,6 @@
 -- The lines of joined bytes.
-use Rattle.std.proofs.Common.{ℕ, ◌≡◌, ◌∙◌, ◌+◌, ◌<◌, ◌≤◌, Bool, false, ◌==◌, List, [], ◌∷◌, ◌++◌, length, get_or, take, drop, refl, sym, ap, subst, arith, inl, inr, All, append_assoc}
+use Rattle.std.proofs.Common.{ℕ, ◌≡◌, ◌∙◌, ◌+◌, ◌<◌, ◌≤◌, Bool, false, ◌==◌, List, [], ◌∷◌, ◌++◌, length, get_or, take, drop, refl, sym, ap}
+use Rattle.std.proofs.Common.{subst, arith, inl, inr, All, append_assoc}
 use Rattle.std.specs.List.{onto_first, position_or_len}
 use Rattle.std.proofs.lemmas.Bool.{cases_Bool}
 use Rattle.std.proofs.lemmas.List.Elements.{All-nil, All-cons, All-append}
@@ -18,12 +19,13 @@ Unbroken line = All (λ c. is_end c ≡ false) line
 
 -- a byte more at the front of the first part
 onto-joined : (x : ℕ) (parts : List (List ℕ)) (ys : List ℕ) → is_end x ≡ false → 1 ≤ length parts
-    → onto_first x (all_but_last parts ++ parts_of (last_part parts ++ ys)) ≡ all_but_last (onto_first x parts) ++ parts_of (last_part (onto_first x parts) ++ ys)
+    → onto_first x (all_but_last parts ++ parts_of (last_part parts ++ ys)) ≡ all_but_last (onto_first x parts)
+    ++ parts_of (last_part (onto_first x parts) ++ ys)
 onto-joined x [] ys e some = absurd (omega arith)
 onto-joined x (p ∷ []) ys e some = rw e refl
 onto-joined x (p ∷ q ∷ more) ys e some = refl
 
-pub parts-joined : (xs ys : List ℕ) → parts_of (xs ++ ys) ≡ all_but_last (parts_of xs) ++ parts_of (last_part (parts_of xs) ++ ys)
+parts-joined : (xs ys : List ℕ) → parts_of (xs ++ ys) ≡ all_but_last (parts_of xs) ++ parts_of (last_part (parts_of xs) ++ ys)
 parts-joined [] ys = refl
 parts-joined (x ∷ xs) ys =
     let rest = parts-joined xs ys in
@@ -31,7 +33,8 @@ parts-joined (x ∷ xs) ys =
     elim (cases_Bool (is_end x)) [
       | inl e ↦
           let (front, last) = before-others [] (parts_of xs) some in
-          rw e (ap (λ (p : List (List ℕ)). [] ∷ p) rest ∙ ap (λ (f : List (List ℕ)). f ++ parts_of (last_part (parts_of xs) ++ ys)) (sym front) ∙ ap (λ (l : List ℕ). all_but_last ([] ∷ parts_of xs) ++ parts_of (l ++ ys)) (sym last))
+          rw e (ap (λ (p : List (List ℕ)). [] ∷ p) rest ∙ ap (λ (f : List (List ℕ)). f ++ parts_of (last_part (parts_of xs) ++ ys))
+          (sym front) ∙ ap (λ (l : List ℕ). all_but_last ([] ∷ parts_of xs) ++ parts_of (l ++ ys)) (sym last))
       | inr e ↦ rw e (ap (λ (p : List (List ℕ)). onto_first x p) rest ∙ onto-joined x (parts_of xs) ys e some)
     ]
 
@@ -45,12 +48,16 @@ front-append (p ∷ q ∷ a) b some = let (front, last) = front-append (q ∷ a)
 pub joined : LinesOfJoined
 joined xs ys =
     let parts = parts-joined xs ys in
-    let (front, last) = front-append (whole_lines xs) (parts_of (unfinished_line xs ++ ys)) (some-parts is_end (unfinished_line xs ++ ys)) in
-    let whole : whole_lines (xs ++ ys) ≡ whole_lines xs ++ whole_lines (unfinished_line xs ++ ys) = ap (λ (p : List (List ℕ)). all_but_last p) parts ∙ front in
-    let rest : unfinished_line (xs ++ ys) ≡ unfinished_line (unfinished_line xs ++ ys) = ap (λ (p : List (List ℕ)). last_part p) parts ∙ last in (
+    let (front, last) = front-append (whole_lines xs) (parts_of (unfinished_line xs ++ ys)) (some-parts is_end (unfinished_line xs ++ ys))
+    in
+    let whole : whole_lines (xs ++ ys) ≡ whole_lines xs ++ whole_lines (unfinished_line xs ++ ys) =
+    ap (λ (p : List (List ℕ)). all_but_last p) parts ∙ front in
+    let rest : unfinished_line (xs ++ ys) ≡ unfinished_line (unfinished_line xs ++ ys) =
+    ap (λ (p : List (List ℕ)). last_part p) parts ∙ last in (
       whole,
       rest,
-      ap (λ (w : List (List ℕ)). w ++ as_line (unfinished_line (xs ++ ys))) whole ∙ ap (λ (l : List ℕ). (whole_lines xs ++ whole_lines (unfinished_line xs ++ ys)) ++ as_line l) rest
+      ap (λ (w : List (List ℕ)). w ++ as_line (unfinished_line (xs ++ ys))) whole
+          ∙ ap (λ (l : List ℕ). (whole_lines xs ++ whole_lines (unfinished_line xs ++ ys)) ++ as_line l) rest
           ∙ append_assoc (whole_lines xs) (whole_lines (unfinished_line xs ++ ys)) (as_line (unfinished_line (unfinished_line xs ++ ys))),
     )
 
@@ -70,16 +77,22 @@ unfinished-unbroken (x ∷ xs) =
     ]
 
 -- a piece with no end of a line joins the line
-pub parts-unended : (line piece : List ℕ) → Unbroken line → length piece ≤ position_or_len is_end piece → parts_of (line ++ piece) ≡ (line ++ piece) ∷ []
+pub parts-unended : (line piece : List ℕ) → Unbroken line → length piece ≤ position_or_len is_end piece → parts_of (line ++ piece)
+    ≡ (line ++ piece) ∷ []
 parts-unended line piece unbroken none =
-    slice_split_none is_end (line ++ piece) (All-append (λ c. is_end c ≡ false) line piece unbroken (λ k d short. fails_before_first is_end piece k d (omega arith)))
+    slice_split_none is_end (line ++ piece) (All-append (λ c. is_end c ≡ false) line piece unbroken
+    (λ k d short. fails_before_first is_end piece k d (omega arith)))
 
 -- the first end of a line ends it
 pub parts-ended : (line piece : List ℕ) → Unbroken line → position_or_len is_end piece < length piece
-    → parts_of (line ++ piece) ≡ (line ++ take (position_or_len is_end piece) piece) ∷ parts_of (drop (position_or_len is_end piece + 1) piece)
+    → parts_of (line ++ piece) ≡ (line ++ take (position_or_len is_end piece) piece)
+    ∷ parts_of (drop (position_or_len is_end piece + 1) piece)
 parts-ended line piece unbroken some =
     let at : ℕ = position_or_len is_end piece in
     let front : Unbroken (take at piece) = fails-front is_end piece in
-    let whole : line ++ piece ≡ (line ++ take at piece) ++ get_or piece at 0 ∷ drop (at + 1) piece = ap (λ (p : List ℕ). line ++ p) (split_at_first is_end piece 0 some) ∙ sym (append_assoc line (take at piece) (get_or piece at 0 ∷ drop (at + 1) piece)) in
+    let whole : line ++ piece ≡ (line ++ take at piece) ++ get_or piece at 0 ∷ drop (at + 1) piece =
+    ap (λ (p : List ℕ). line ++ p) (split_at_first is_end piece 0 some)
+    ∙ sym (append_assoc line (take at piece) (get_or piece at 0 ∷ drop (at + 1) piece)) in
     ap (λ (b : List ℕ). parts_of b) whole
-    ∙ slice_split_at is_end (line ++ take at piece) (get_or piece at 0) (drop (at + 1) piece) (All-append (λ c. is_end c ≡ false) line (take at piece) unbroken front) (passes_at_first is_end piece 0 some)
+    ∙ slice_split_at is_end (line ++ take at piece) (get_or piece at 0) (drop (at + 1) piece)
+    (All-append (λ c. is_end c ≡ false) line (take at piece) unbroken front) (passes_at_first is_end piece 0 some)

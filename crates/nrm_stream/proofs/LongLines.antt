@@ -1,10 +1,12 @@
 -- A line of more than 22 bytes asks for nothing that is known.
-use Rattle.std.proofs.Common.{ℕ, suc, ◌≡◌, ◌<◌, ◌≤◌, ◌+◌, ◌-◌, ◌*◌, ◌^◌, Bool, true, false, not, ◌&&◌, ◌==◌, List, [], ◌∷◌, length, Option, Some, None, refl, ap, sym, ◌∙◌, inl, inr, arith, bytes_eq, codes, nat_le, get_or, length-take, length-append, ◌++◌}
+use Rattle.std.proofs.Common.{ℕ, suc, ◌≡◌, ◌<◌, ◌≤◌, ◌+◌, ◌-◌, ◌*◌, ◌^◌, Bool, true, false, not, ◌&&◌, ◌==◌, List, [], ◌∷◌, length, Option}
+use Rattle.std.proofs.Common.{Some, None, refl, ap, sym, ◌∙◌, inl, inr, arith, bytes_eq, codes, nat_le, get_or, length-take, length-append}
+use Rattle.std.proofs.Common.{◌++◌}
 use Rattle.std.specs.List.{fold, list_all, onto_first, slice_split}
 use Rattle.std.specs.Char.{is_ascii_digit}
 use Rattle.std.specs.Str.Lines.{strip_carriage_return}
 use Rattle.std.proofs.Math.Nat.{pow-succ', pow-le-pow_right, mul-le-mul_right}
-use Rattle.std.proofs.lemmas.Bool.{cases_Bool, cases_lt, leb-true}
+use Rattle.std.proofs.lemmas.Bool.{and_parts, cases_Bool, cases_lt, leb-true}
 use Rattle.std.proofs.lemmas.Slice.Eq.{bytes_eq-Decides}
 use Rattle.nrm_text.specs.Names.{is_name, name_in}
 use Rattle.nrm_text.specs.Numbers.{is_whole, value_of, whole_between}
@@ -12,10 +14,6 @@ use Rattle.nrm_stream.specs.Commands.{booking_of, one_word, two_words, three_wor
 use Rattle.nrm_stream.specs.Splitting.{kept_of}
 use Rattle.nrm_stream.specs.declared.command.Command.TheVariants as command
 use Rattle.nrm_stream.proofs.Cuts.{some-parts}
-
-pub both : (a b : Bool) → (a && b) ≡ true → (a ≡ true) × (b ≡ true)
-both true b h = (refl, h)
-both false b h = cc
 
 same-length : (a b : List ℕ) → bytes_eq a b ≡ true → length a ≡ length b
 same-length a b h = ap length ((bytes_eq-Decides a b).0 h)
@@ -27,7 +25,8 @@ value-grows a (d ∷ more) =
     let power = 10 ^ length more in
     let e : a * 10 ^ suc (length more) ≡ (a * 10) * power = ap (λ (x : ℕ). a * x) (pow-succ' 10 (length more)) ∙ grind arith in
     let first : (a * 10) * power ≤ (a * 10 + (d - 48)) * power = mul-le-mul_right power (omega arith) in
-    let rest : (a * 10 + (d - 48)) * power ≤ fold (λ value c. value * 10 + (c - 48)) (a * 10 + (d - 48)) more = value-grows (a * 10 + (d - 48)) more in
+    let rest : (a * 10 + (d - 48)) * power ≤ fold (λ value c. value * 10 + (c - 48)) (a * 10 + (d - 48)) more =
+    value-grows (a * 10 + (d - 48)) more in
     rw e (omega (arith, first, rest))
 
 -- a whole number below 10 ^ k has at most k digits
@@ -35,15 +34,16 @@ whole-short : (k high : ℕ) (b : List ℕ) → 1 ≤ k → high < 10 ^ k → is
 whole-short k high [] some low whole small = omega arith
 whole-short k high (c ∷ []) some low whole small = omega arith
 whole-short k high (c ∷ d ∷ more) some low whole small =
-    let (head, tail) = both (is_ascii_digit c && not (c == 48)) (list_all is_ascii_digit (d ∷ more)) whole in
-    let (digit, other) = both (is_ascii_digit c) (not (c == 48)) head in
-    let above : 48 ≤ c = leb-true 48 c (both (nat_le 48 c) (nat_le c 57) digit).0 in
+    let (head, tail) = and_parts (is_ascii_digit c && not (c == 48)) (list_all is_ascii_digit (d ∷ more)) whole in
+    let (digit, other) = and_parts (is_ascii_digit c) (not (c == 48)) head in
+    let above : 48 ≤ c = leb-true 48 c (and_parts (nat_le 48 c) (nat_le c 57) digit).0 in
     let not_zero : 49 ≤ c = grind arith in
     let power = 10 ^ length (d ∷ more) in
     let grows : (0 * 10 + (c - 48)) * power ≤ value_of (c ∷ d ∷ more) = value-grows (0 * 10 + (c - 48)) (d ∷ more) in
     let least : 1 * power ≤ (0 * 10 + (c - 48)) * power = mul-le-mul_right power (omega arith) in
     elim (cases_lt k (length (c ∷ d ∷ more))) [
-      | inl long ↦ let power_up : 10 ^ k ≤ power = pow-le-pow_right (omega arith) (omega arith) in absurd (omega (arith, power_up, least, grows))
+      | inl long ↦ let power_up : 10 ^ k ≤ power =
+          pow-le-pow_right (omega arith) (omega arith) in absurd (omega (arith, power_up, least, grows))
       | inr short ↦ short
     ]
 
@@ -78,8 +78,8 @@ no-number : (k low high : ℕ) (b : List ℕ) → 1 ≤ k → high < 10 ^ k → 
 no-number k low high b some low_enough long =
     elim (cases_Bool (is_whole b && nat_le low (value_of b) && nat_le (value_of b) high)) [
       | inl e ↦
-          let (front, under) = both (is_whole b && nat_le low (value_of b)) (nat_le (value_of b) high) e in
-          let (whole, over) = both (is_whole b) (nat_le low (value_of b)) front in
+          let (front, under) = and_parts (is_whole b && nat_le low (value_of b)) (nat_le (value_of b) high) e in
+          let (whole, over) = and_parts (is_whole b) (nat_le low (value_of b)) front in
           let short = whole-short k high b some low_enough whole (leb-true (value_of b) high under) in
           absurd (omega (arith, short))
       | inr e ↦ rw e refl
@@ -89,8 +89,8 @@ no-name : (b : List ℕ) → 12 < length b → name_in b ≡ None
 no-name b long =
     elim (cases_Bool (is_name b)) [
       | inl e ↦
-          let (front, all) = both (nat_le 1 (length b) && nat_le (length b) 12) (list_all _ b) e in
-          let short = leb-true (length b) 12 (both (nat_le 1 (length b)) (nat_le (length b) 12) front).1 in
+          let (front, all) = and_parts (nat_le 1 (length b) && nat_le (length b) 12) (list_all _ b) e in
+          let short = leb-true (length b) 12 (and_parts (nat_le 1 (length b)) (nat_le (length b) 12) front).1 in
           absurd (omega (arith, short))
       | inr e ↦ rw e refl
     ]
@@ -156,7 +156,7 @@ stripped line =
       | inr e ↦ rw e (omega arith)
     ]
 
-pub command_of-long : (line : List ℕ) → 22 < length line → command_of line ≡ command.Bad
+command_of-long : (line : List ℕ) → 22 < length line → command_of line ≡ command.Bad
 command_of-long line long =
     let text = strip_carriage_return line in
     let same = split-spaced (λ c. c == 32) text in
@@ -178,7 +178,8 @@ pub command_of-kept : (u v rest : List ℕ) → kept_of u ≡ kept_of v → comm
 command_of-kept u v rest same =
     elim (cases_Bool (nat_le (length u) 22)) [
       | inl e ↦ elim (cases_Bool (nat_le (length v) 22)) [
-        | inl f ↦ let one : Some u ≡ Some v = rw (e, f) at same in let equal : u ≡ v = cc in ap (λ (w : List ℕ). command_of (w ++ rest)) equal
+        | inl f ↦ let one : Some u ≡ Some v = rw (e, f) at same in let equal : u ≡ v =
+            cc in ap (λ (w : List ℕ). command_of (w ++ rest)) equal
         | inr f ↦ let one : Some u ≡ None = rw (e, f) at same in cc
       ]
       | inr e ↦ elim (cases_Bool (nat_le (length v) 22)) [
@@ -186,7 +187,8 @@ command_of-kept u v rest same =
         | inr f ↦
             let long_u = kept-long u e in
             let long_v = kept-long v f in
-            command_of-long (u ++ rest) (omega (arith, long_u, length-append u rest)) ∙ sym (command_of-long (v ++ rest) (omega (arith, long_v, length-append v rest)))
+            command_of-long (u ++ rest) (omega (arith, long_u, length-append u rest))
+            ∙ sym (command_of-long (v ++ rest) (omega (arith, long_v, length-append v rest)))
       ]
     ]
 

@@ -1,14 +1,17 @@
 //! Commands as they are read: lower-case words with one space between each two, and one carriage return dropped at the
 //! end of the line.
-ghost use Rattle.std.specs.Prelude.{◌≡◌, ◌==◌, ◌∷◌, bytes_eq, codes};
+ghost use Rattle.std.specs.Prelude.{◌≡◌, ◌==◌, ◌∷◌, bytes_eq, codes, Some};
 ghost use Rattle.std.specs.List.{slice_split};
 ghost use Rattle.std.specs.Str.Lines.{strip_carriage_return};
-ghost use Rattle.nrm_stream.specs.Commands.{command_of, command_of_words, IsCommand, one_word, three_words, two_words};
+ghost use Rattle.std.specs.Option.{option_map_or};
+ghost use Rattle.nrm_text.specs.Numbers.{whole_between};
+ghost use Rattle.nrm_stream.specs.Commands.{booking_of, command_of, command_of_words, IsCommand, one_word, three_words, two_words};
+ghost use Rattle.nrm_stream.specs.declared.command.Command.TheVariants as command;
 
 use crate::Command;
 use crate::cut::split_once;
 use nrm_model::{LAST_BOOKING, MOST_PARTY};
-use nrm_text::{name_of, read_whole};
+use nrm_text::{Name, name_before, name_of, read_whole};
 
 // The last period that a line may name: two digits, whatever the network has.
 const LAST_PERIOD: u64 = 99;
@@ -44,16 +47,25 @@ fn command_of_one(word: &[u8]) -> Command
     }
 }
 
+// A cancellation, by the bytes of its number.
+#[inline(always)]
+fn cancellation(number: &[u8]) -> Command
+    ensures command { result ≡ option_map_or command.Cancel (whole_between 0 LAST_BOOKING number.now) command.Bad }
+    ensures within { IsCommand result }
+{
+    match read_whole(number, LAST_BOOKING) {
+        Ok(number) => Command::Cancel { number },
+        Err(_) => Command::Bad,
+    }
+}
+
 // A command of two words.
 fn command_of_two(word: &[u8], next: &[u8]) -> Command
     ensures command { result ≡ two_words word.now next.now }
     ensures within { IsCommand result }
 {
     if is_word(word, b"cancel") {
-        match read_whole(next, LAST_BOOKING) {
-            Ok(number) => Command::Cancel { number },
-            Err(_) => Command::Bad,
-        }
+        cancellation(next)
     } else if is_word(word, b"reoptimise") {
         match read_whole(next, LAST_PERIOD) {
             Ok(period) if period >= 1 => Command::Reoptimise {
@@ -71,24 +83,34 @@ fn command_of_two(word: &[u8], next: &[u8]) -> Command
     }
 }
 
-// A command of three words.
-fn command_of_three(word: &[u8], name: &[u8], party: &[u8]) -> Command
-    ensures command { result ≡ three_words word.now name.now party.now }
+// What a request asks for, of a product and by the bytes of its party.
+#[inline(always)]
+fn booking(product: &Name, party: &[u8]) -> Command
+    ensures command { result ≡ booking_of (Some product.now) (whole_between 1 MOST_PARTY party.now) }
     ensures within { IsCommand result }
 {
-    if !is_word(word, b"book") {
-        return Command::Bad;
-    }
-    match (name_of(name), read_whole(party, u64::from(MOST_PARTY))) {
-        (Some(product), Ok(party)) if party >= 1 => Command::Book {
-            product,
+    match read_whole(party, u64::from(MOST_PARTY)) {
+        Ok(party) if party >= 1 => Command::Book {
+            product: *product,
             party: party as u16,
         },
         _ => Command::Bad,
     }
 }
 
+// A command of three words.
+fn command_of_three(word: &[u8], name: &[u8], party: &[u8]) -> Command
+    ensures command { result ≡ three_words word.now name.now party.now }
+    ensures within { IsCommand result }
+{
+    match name_of(name) {
+        Some(product) if is_word(word, b"book") => booking(&product, party),
+        _ => Command::Bad,
+    }
+}
+
 // What the words of a line ask for.
+#[inline(never)]
 fn command_in_words(line: &[u8]) -> Command
     ensures command { result ≡ command_of_words (slice_split (λ c. c == 32) line.now) }
     ensures within { IsCommand result }
@@ -106,22 +128,24 @@ fn command_in_words(line: &[u8]) -> Command
 }
 
 // What a line asks for that begins with `book` and a space. A party with a space in it is no number.
+#[inline(always)]
 fn booking_in(rest: &[u8]) -> Command
     ensures command { result ≡ command_of_words (codes "book" ∷ slice_split (λ c. c == 32) rest.now) }
     ensures within { IsCommand result }
 {
-    match split_once(rest, b' ') {
-        Some((name, party)) => command_of_three(b"book", name, party),
+    match name_before(rest, b' ') {
+        Some(cut) => booking(&cut.0, cut.1),
         None => Command::Bad,
     }
 }
 
 // What a line asks for that begins with `cancel` and a space. A number has no space in it.
+#[inline(always)]
 fn cancellation_in(rest: &[u8]) -> Command
     ensures command { result ≡ command_of_words (codes "cancel" ∷ slice_split (λ c. c == 32) rest.now) }
     ensures within { IsCommand result }
 {
-    command_of_two(b"cancel", rest)
+    cancellation(rest)
 }
 
 // What the words of a line ask for: those of most lines are told by their first bytes.

@@ -24,12 +24,13 @@ pub struct Splitter {
 
 impl Model for Splitter {
     ghost use Rattle.std.specs.Prelude.{ℕ, List, Option, Some, None, ◌≡◌, ◌≤◌, take, length, if◌then◌else◌};
+    ghost use Rattle.nrm_stream.specs.declared.splitter.TheConstants.{LONGEST_LINE};
 
     ghost Value = { Option (List ℕ) };
 
     ghost view = { λ s. if s.is_longer then None else Some (take s.len s.bytes) };
 
-    ghost invariant = { λ s. (length s.bytes ≡ 22) × (s.len ≤ 22) };
+    ghost invariant = { λ s. (length s.bytes ≡ LONGEST_LINE) × (s.len ≤ LONGEST_LINE) };
 }
 
 impl Splitter {

@@ -1,30 +1,33 @@
 //! Names of legs and products.
-ghost use Rattle.std.specs.Prelude.{◌≡◌, ◌≤◌, ◌-◌, ◌++◌, length, replicate, IsTrue};
+ghost use Rattle.std.specs.Prelude.{◌≡◌, ◌<◌, ◌≤◌, ◌-◌, ◌++◌, length, replicate, slice_index, take, IsTrue, MatchOption, true, false};
 ghost use Rattle.std.specs.Int.{IsInRange};
-ghost use Rattle.nrm_text.specs.Names.{is_name, is_name_byte, name_in};
+ghost use Rattle.nrm_text.specs.Names.{is_name, is_name_byte, name_before, name_in};
 ghost use Rattle.std.specs.List.{list_all};
 
+use crate::limits::MOST_NAME_BYTES;
 use std::hash::{Hash, Hasher};
 use std::marker::Model;
 
 /// The name of a leg or a product: 1 to 12 bytes out of `A` to `Z`, `0` to `9` and `-`.
 #[derive(Clone, Copy, Debug)]
 pub struct Name {
-    bytes: [u8; 12],
+    bytes: [u8; MOST_NAME_BYTES],
     len: u8,
 }
 
 impl Model for Name {
     ghost use Rattle.std.specs.Prelude.{ℕ, List, ◌≡◌, ◌-◌, ◌≤◌, ◌++◌, take, drop, length, replicate, IsTrue};
     ghost use Rattle.nrm_text.specs.Names.{is_name};
+    ghost use Rattle.nrm_text.specs.declared.limits.TheConstants.{MOST_NAME_BYTES};
 
     ghost Value = { List ℕ };
 
     ghost view = { λ n. take n.len n.bytes };
 
-    ghost invariant = { λ n. (length n.bytes ≡ 12) × (n.len ≤ 12) × (drop n.len n.bytes ≡ replicate (12 - n.len) 0) × IsTrue (is_name (take n.len n.bytes)) };
+    ghost invariant = { λ n. (length n.bytes ≡ MOST_NAME_BYTES) × (n.len ≤ MOST_NAME_BYTES)
+        × (drop n.len n.bytes ≡ replicate (MOST_NAME_BYTES - n.len) 0) × IsTrue (is_name (take n.len n.bytes)) };
 
-    ghost inverse = { λ name. record { bytes = name ++ replicate (12 - length name) 0; len = length name } };
+    ghost inverse = { λ name. record { bytes = name ++ replicate (MOST_NAME_BYTES - length name) 0; len = length name } };
 
     ghost use Rattle.nrm_text.specs.NameBytes.{same_bytes};
 
@@ -36,17 +39,17 @@ impl Name {
     pub fn bytes(&self) -> &[u8]
         ensures bytes { result.now ≡ self.now }
         ensures name { IsTrue (is_name self.now) }
-        ensures length { IsInRange 1 12 (length self.now) }
+        ensures length { IsInRange 1 MOST_NAME_BYTES (length self.now) }
     {
         let len = self.len as usize;
         &self.bytes[..len]
     }
 
     // The bytes of the name with zeros behind them.
-    pub(crate) fn padded(&self) -> &[u8; 12]
-        ensures padded { result.now ≡ self.now ++ replicate (12 - length self.now) 0 }
-        ensures length { length result.now ≡ 12 }
-        ensures within { length self.now ≤ 12 }
+    pub(crate) fn padded(&self) -> &[u8; MOST_NAME_BYTES]
+        ensures padded { result.now ≡ self.now ++ replicate (MOST_NAME_BYTES - length self.now) 0 }
+        ensures length { length result.now ≡ MOST_NAME_BYTES }
+        ensures within { length self.now ≤ MOST_NAME_BYTES }
     {
         &self.bytes
     }
@@ -69,7 +72,7 @@ impl PartialEq for Name {
     ghost laws = { Prim.search (comparing, rules) };
 
     fn eq(&self, other: &Name) -> bool {
-        self.bytes() == other.bytes()
+        self.len == other.len && self.bytes == other.bytes
     }
 }
 
@@ -82,59 +85,79 @@ impl Eq for Name {
 
 impl Hash for Name {
     ghost use Rattle.std.proofs.Common.{rules};
-    ghost use Rattle.std.specs.Prelude.{◌∷◌, []};
+    ghost use Rattle.std.specs.Prelude.{◌∷◌, ◌++◌, ◌-◌, [], length, replicate};
+    ghost use Rattle.nrm_text.specs.declared.limits.TheConstants.{MOST_NAME_BYTES};
     ghost use Rattle.std.specs.Cmp.Rules.{hashing};
 
-    ghost hash_input = { λ name. name ∷ [] };
+    // The bytes with the zeros behind them.
+    ghost hash_input = { λ name. (name ++ replicate (MOST_NAME_BYTES - length name) 0) ∷ [] };
 
     ghost respects_eq = { Prim.search (hashing, rules) };
 
     fn hash<H: Hasher>(&self, state: &mut H) {
-        state.write(self.bytes());
+        state.write(&self.bytes);
     }
 }
+
+// Each byte that may stand in a name, at its own place. At the other places is `-`, which is none of their bytes.
+static NAME_BYTES: [u8; 256] = *b"------------------------------------------------0123456789------\
+    -ABCDEFGHIJKLMNOPQRSTUVWXYZ-------------------------------------\
+    ----------------------------------------------------------------\
+    ----------------------------------------------------------------";
 
 // Whether a byte may stand in a name.
 fn may_stand(c: u8) -> bool
     ensures { result ≡ is_name_byte c }
 {
-    c.is_ascii_uppercase() || c.is_ascii_digit() || c == b'-'
+    NAME_BYTES[c as usize] == c
 }
 
-// Whether each byte may stand in a name.
-fn all_may_stand(bytes: &[u8]) -> bool
-    ensures { result ≡ list_all is_name_byte bytes.now }
+// The bytes at the front that may stand in a name, up to twelve of them, with zeros behind them, and how many they are.
+#[inline(always)]
+fn front_of(bytes: &[u8]) -> ([u8; MOST_NAME_BYTES], usize)
+    ensures few { result.1 ≤ MOST_NAME_BYTES }
+    ensures within { result.1 ≤ length bytes.now }
+    ensures may_stand { list_all is_name_byte (take result.1 bytes.now) ≡ true }
+    ensures stops { result.1 < MOST_NAME_BYTES → result.1 < length bytes.now → is_name_byte (slice_index bytes.now result.1) ≡ false }
+    ensures kept { result.0 ≡ take result.1 bytes.now ++ replicate (MOST_NAME_BYTES - result.1) 0 }
 {
-    bytes.iter().all(|c| may_stand(*c))
-}
-
-// Whether the bytes are a name.
-fn is_name_text(bytes: &[u8]) -> bool
-    ensures { result ≡ is_name bytes.now }
-{
-    let few = 1 <= bytes.len() && bytes.len() <= 12;
-    few && all_may_stand(bytes)
-}
-
-// The bytes with zeros behind them.
-fn padded(bytes: &[u8]) -> [u8; 12]
-    requires { length bytes.now ≤ 12 }
-    ensures { result ≡ bytes.now ++ replicate (12 - length bytes.now) 0 }
-{
-    let mut kept = [0; 12];
-    kept[..bytes.len()].copy_from_slice(bytes);
-    kept
+    let most = bytes.len().min(MOST_NAME_BYTES);
+    let mut kept = [0; MOST_NAME_BYTES];
+    let mut len = 0;
+    while len < most && may_stand(bytes[len]) {
+        kept[len] = bytes[len];
+        len += 1;
+    }
+    (kept, len)
 }
 
 /// The name that these bytes are, if they are one.
 pub fn name_of(bytes: &[u8]) -> Option<Name>
     ensures { result ≡ name_in bytes.now }
 {
-    if !is_name_text(bytes) {
+    let (kept, len) = front_of(bytes);
+    if len == 0 || len < bytes.len() {
         return None;
     }
     Some(Name {
-        bytes: padded(bytes),
-        len: bytes.len() as u8,
+        bytes: kept,
+        len: len as u8,
     })
+}
+
+/// The name before the first byte of a kind that stands in no name, and the bytes after that byte, if there is such a byte and a
+/// name before it.
+pub fn name_before(bytes: &[u8], end: u8) -> Option<(Name, &[u8])>
+    requires { is_name_byte end ≡ false }
+    ensures { MatchOption result (name_before end bytes.now ≡ None) (λ cut. name_before end bytes.now ≡ Some (cut.0, cut.1.now)) }
+{
+    let (kept, len) = front_of(bytes);
+    if len == 0 || len == bytes.len() || bytes[len] != end {
+        return None;
+    }
+    let name = Name {
+        bytes: kept,
+        len: len as u8,
+    };
+    Some((name, &bytes[len + 1..]))
 }

@@ -33,8 +33,10 @@ fn over_or_off(bytes: &[u8]) -> NumberFault
 }
 
 // The number that these bytes write where each is a digit, in one pass.
+#[inline(always)]
 fn value_up_to(bytes: &[u8], max: u64) -> Result<u64, NumberFault>
-    ensures { result ≡ (if list_all is_ascii_digit bytes.now then (if nat_lt max (value_of bytes.now) then Err Over else Ok (value_of bytes.now)) else Err Off) }
+    ensures { result ≡ (if list_all is_ascii_digit bytes.now then (if nat_lt max (value_of bytes.now) then Err Over else Ok
+        (value_of bytes.now)) else Err Off) }
 {
     let most = max / 10;
     let mut value: u64 = 0;
@@ -55,6 +57,7 @@ fn value_up_to(bytes: &[u8], max: u64) -> Result<u64, NumberFault>
 ///
 /// # Errors
 /// `Off` exactly where the bytes are no whole number; else `Over` exactly where the number is above `max`.
+#[inline(always)]
 pub fn read_whole(bytes: &[u8], max: u64) -> Result<u64, NumberFault>
     ensures { result ≡ whole_up_to max bytes.now }
 {

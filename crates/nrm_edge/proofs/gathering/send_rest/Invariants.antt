@@ -1,3 +1,4 @@
+-- What went out and what waits are together what they were.
 use Rattle.std.proofs.Common.{◌≡◌, ◌≤◌, ◌-◌, drop, length}
 use Rattle.std.specs.Io.KnownBytes.{append_known, Keeps}
 use Rattle.nrm_edge.proofs.gathering.send_rest.Given as goal
@@ -6,7 +7,8 @@ use Rattle.nrm_edge.proofs.gathering.send_rest.Given as goal
 abbrev pub invariant-loop-sent : goal.invariant-loop-sent
 invariant-loop-sent g l = record {
   within : l.sent ≤ length l.bytes;
-  bytes : Keeps (append_known (g.K.Sink.held l.initial.sink) (drop l.initial.sent l.bytes)) (append_known (g.K.Sink.held l.sink) (drop l.sent l.bytes));
+  bytes : Keeps (append_known (g.K.Sink.held l.initial.sink) (drop l.initial.sent l.bytes))
+      (append_known (g.K.Sink.held l.sink) (drop l.sent l.bytes));
   count : g.K.Sink.faults l.sink ≡ g.K.Sink.faults l.initial.sink;
 }
 

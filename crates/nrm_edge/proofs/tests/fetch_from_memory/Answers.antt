@@ -1,3 +1,4 @@
+-- A fetch from files in memory leaves what stands under each name.
 use Rattle.std.proofs.Common.{◌≡◌, ap}
 use Rattle.nrm_edge.specs.Fetch.{Folder}
 use Rattle.nrm_edge.specs.Memory.{stored_under}

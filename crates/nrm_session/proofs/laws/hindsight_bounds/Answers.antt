@@ -1,3 +1,4 @@
+-- Hindsight bounds every selection of the requests.
 use Rattle.nrm_session.proofs.Hindsights.{bounded, openings-bounded}
 use Rattle.nrm_session.proofs.laws.hindsight_bounds.Goals as goal
 

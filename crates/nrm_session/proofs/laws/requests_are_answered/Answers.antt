@@ -1,3 +1,4 @@
+-- What each request is answered.
 use Rattle.nrm_session.proofs.Verdicts.{requests-answered}
 use Rattle.nrm_session.proofs.laws.requests_are_answered.Goals as goal
 

@@ -1,3 +1,4 @@
+-- The value and the revenue are a step of a `hindsight` line.
 use Rattle.std.proofs.Common.{◌∙◌, pos}
 use Rattle.nrm_fraction.specs.Fraction.{◌over◌}
 use Rattle.nrm_book.specs.Bookings.{revenue_of}

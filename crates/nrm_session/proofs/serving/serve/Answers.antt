@@ -1,3 +1,4 @@
+-- The loop over a clerk, with a controller alone.
 use Rattle.nrm_session.proofs.Answered.{refines-are}
 use Rattle.nrm_session.proofs.Hindsights.{control-bounds}
 use Rattle.nrm_session.proofs.serving.serve.Goals as goal

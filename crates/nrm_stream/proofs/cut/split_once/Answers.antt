@@ -1,3 +1,4 @@
+-- The parts of the bytes begin with those before the first such byte.
 use Rattle.std.proofs.Common.{◌==◌, ◌∙◌, sym}
 use Rattle.nrm_stream.proofs.Cuts.{split-found, split-missing}
 use Rattle.nrm_stream.proofs.cut.split_once.Goals as goal

@@ -1,3 +1,4 @@
+-- The first line is the bytes before the first line feed, or all bytes.
 use Rattle.nrm_stream.proofs.Cuts.{line-first}
 use Rattle.nrm_stream.proofs.lines.next_line.Goals as goal
 

@@ -1,3 +1,4 @@
+-- The digits so far have the value so far.
 use Rattle.std.proofs.Common.{◌≡◌, ◌≤◌, ◌+◌, ◌-◌, ◌*◌, drop}
 use Rattle.std.specs.Prelude.{fold}
 use Rattle.std.specs.Char.{is_ascii_digit}

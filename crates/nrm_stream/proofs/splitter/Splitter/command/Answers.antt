@@ -1,3 +1,4 @@
+-- A line of which only that it is longer is kept is bad.
 use Rattle.std.proofs.Common.{◌∙◌, sym}
 use Rattle.nrm_stream.proofs.LongLines.{command_of-longer}
 use Rattle.nrm_stream.proofs.splitter.Splitter.command.Goals as goal
