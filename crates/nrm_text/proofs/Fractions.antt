@@ -9,7 +9,7 @@ use Rattle.nrm_number.specs.Gcd.{gcd, shrink}
 use Rattle.nrm_number.proofs.GcdLaws.{gcd_is, nat_abs-shrink}
 use Rattle.nrm_fraction.specs.Fraction.{Fraction, ◌over◌}
 use Rattle.nrm_fraction.proofs.Values.{IsValue_over}
-use Rattle.nrm_text.specs.Fractions.{sign_of, fraction_text}
+use Rattle.nrm_text.specs.Fractions.{sign_of, signed_text, fraction_text}
 
 -- ---- the numbers of n over d
 pub over_num : (n : ℤ) (d : ℕ) → 0 < d → (n over d).num ≡ shrink n (gcd (nat_abs n) d)
@@ -78,6 +78,12 @@ short_wide_decimal n small = length-decimal-le_wide 38 n (omega arith) (omega ar
 short_sign : (num : ℤ) → length (sign_of num) ≤ 1
 short_sign (pos n) = omega arith
 short_sign (negsuc n) = omega arith
+
+-- a number of 128 bits is written with its sign in at most 40 bytes
+pub short_signed : (num : ℤ) → nat_abs num ≤ 2 ^ 127 → length (signed_text num) ≤ 40
+short_signed num size =
+    let digits : length (decimal (nat_abs num)) ≤ 39 = length-decimal-le_wide 39 (nat_abs num) (omega arith) (omega arith) (omega arith) in
+    omega (arith, short_sign num, digits, length-append (sign_of num) (decimal (nat_abs num)))
 
 -- a fraction of two numbers below 2 ^ 126 is written in at most 78 bytes
 pub short_text : (x : Fraction) → nat_abs x.num < 2 ^ 126 → x.den < 2 ^ 126 → length (fraction_text x) ≤ 78
