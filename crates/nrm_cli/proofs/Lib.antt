@@ -10,5 +10,4 @@ pub mod Replies
 pub mod Serving
 pub mod Telling
 pub mod Unsent
-pub mod Wide
 pub mod Without

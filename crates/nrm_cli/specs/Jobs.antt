@@ -1,8 +1,8 @@
 -- What the words of the command line ask for.
-use Rattle.std.specs.Prelude.{ℕ, ℤ, ⊤, ◌≡◌, ◌-◌, ◌^◌, min, nat_abs, decimal, List, [], ◌∷◌, ◌++◌, bytes_eq, codes, Option, Some, None, option_map, Result, Ok, if◌then◌else◌}
+use Rattle.std.specs.Prelude.{ℕ, ℤ, ⊤, ◌≡◌, ◌-◌, ◌^◌, min, decimal, List, [], ◌∷◌, bytes_eq, codes, Option, Some, None, option_map, Result, Ok, if◌then◌else◌}
 use Rattle.nrm_edge.specs.Fetch.{Folder}
 use Rattle.nrm_text.specs.Numbers.{whole_between}
-use Rattle.nrm_text.specs.Fractions.{sign_of}
+use Rattle.nrm_text.specs.Fractions.{signed_text}
 use Rattle.nrm_text.specs.Words.{text_line}
 use Rattle.nrm_model.specs.Network.{NetworkValue}
 use Rattle.nrm_model.specs.declared.mode.Mode.{Mode}
@@ -89,4 +89,4 @@ told_pivots n = min n (2 ^ 32 - 1)
 -- the line that says that the opening program is Large: after so many pivots, at which number
 abbrev pub overflow_line : ℕ → ℤ → List ℕ
 overflow_line pivots number =
-    text_line (codes "overflow" ∷ codes "after" ∷ decimal pivots ∷ codes "pivots" ∷ codes "at" ∷ (sign_of number ++ decimal (nat_abs number)) ∷ [])
+    text_line (codes "overflow" ∷ codes "after" ∷ decimal pivots ∷ codes "pivots" ∷ codes "at" ∷ signed_text number ∷ [])

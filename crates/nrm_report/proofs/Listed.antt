@@ -15,8 +15,7 @@ use Rattle.nrm_model.specs.Network.{NetworkValue}
 use Rattle.nrm_book.specs.Bookings.{sold_of}
 use Rattle.nrm_book.specs.Seats.{pairs_sold}
 use Rattle.nrm_book.specs.declared.booking.Booking.{Booking}
-use Rattle.nrm_report.specs.Inner.Leg.{sold_line}
-use Rattle.nrm_report.specs.Texts.{on_line}
+use Rattle.nrm_report.specs.Texts.{on_line, sold_line}
 
 module _ {A X : Type 0} (shows : A → X) (line : X → List ℕ) where
   -- the lines of the entries so far, and of one more

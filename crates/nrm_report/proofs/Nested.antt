@@ -3,9 +3,10 @@ use Rattle.std.proofs.Common.{ℕ, suc, ℤ, to_z, of_z, w64, ◌≡◌, ◌∙�
 use Rattle.std.specs.Prelude.{codes, decimal}
 use Rattle.std.specs.List.{join_with_byte, range_with_len}
 use Rattle.std.proofs.lemmas.List.{flat_map_more, take_more}
+use Rattle.std.proofs.lemmas.Option.{same_Some}
 use Rattle.std.proofs.lemmas.List.Folds.{flat_map-map}
 use Rattle.std.proofs.lemmas.List.FromFn.{length-map-range_with_len}
-use Rattle.nrm_text.specs.Words.{text_line}
+use Rattle.nrm_text.specs.Words.{spaced, text_line}
 use Rattle.nrm_model.specs.Inventory.{inventory_of, uses_leg}
 use Rattle.nrm_model.specs.Network.{NetworkValue, leg_of}
 use Rattle.nrm_model.specs.Limits.{IsNetwork}
@@ -26,9 +27,9 @@ use Rattle.nrm_plan.proofs.Looked.{legs-held, own-levels}
 use Rattle.nrm_report.specs.Inner.Nests.{IsNested, protections_line, protections_line_by}
 use Rattle.nrm_report.specs.Texts.{protect_line}
 
--- a number with a space before it
+-- a number behind a space
 abbrev pub word : ℕ → List ℕ
-word seats = 32 ∷ decimal seats
+word seats = spaced (decimal seats)
 
 -- words with a space between each two: the first, and then each of the others behind a space
 joined : (first : List ℕ) (more : List (List ℕ)) → join_with_byte 32 (first ∷ more) ≡ first ++ flat_map (λ w. 32 ∷ w) more
@@ -46,10 +47,7 @@ number-read z (k, is, low) = let small : IsSmall z = rw is low in small_same z s
 -- the protections of a plan are as many, whichever of its equal nests they are read from
 pub same-count : (held : Option NestsValue) (i buckets : ℕ) → (found : NestsValue) × (held ≡ Some found) × (i < length found.protections) × (length (get_or found.protections i []) ≡ buckets)
     → (nests : NestsValue) → held ≡ Some nests → length (get_or nests.protections i []) ≡ buckets
-same-count held i buckets (found, is, leg, count) nests has = ap (λ (n : NestsValue). length (get_or n.protections i [])) (some-same nests found (sym has ∙ is)) ∙ count
-  where
-    some-same : (x y : NestsValue) → Some x ≡ Some y → x ≡ y
-    some-same x y e = cc
+same-count held i buckets (found, is, leg, count) nests has = ap (λ (n : NestsValue). length (get_or n.protections i [])) (same_Some nests found (sym has ∙ is)) ∙ count
 
 module _ (net : NetworkValue) (cert : Certificate) (plan : PlanValue) (of : IsNested net cert plan) (i : ℕ) (leg : i < length net.legs) where
   -- the bucket of a product on the leg

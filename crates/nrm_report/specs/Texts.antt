@@ -23,10 +23,13 @@ leg_line net bookings i =
     text_line (codes "leg" ∷ (leg_of net i).name ∷ codes "seats" ∷ decimal (leg_of net i).seats ∷ codes "sold" ∷ decimal (sold_on (inventory_of net) bookings i)
     ∷ codes "left" ∷ decimal (left_on (inventory_of net) bookings i) ∷ [])
 
--- the seats that a product has sold on a leg, and nothing where it has sold none
+-- a product on a leg with the seats that it has sold, and nothing if it has sold none
+abbrev pub sold_line : NetworkValue → ℕ → ℕ → ℕ → List ℕ
+sold_line net i j sold =
+    if sold == 0 then [] else text_line (codes "on" ∷ (leg_of net i).name ∷ (product_of net j).name ∷ decimal sold ∷ [])
+
 abbrev pub on_line : NetworkValue → List Booking → ℕ → ℕ → List ℕ
-on_line net bookings i j =
-    if sold_of bookings j == 0 then [] else text_line (codes "on" ∷ (leg_of net i).name ∷ (product_of net j).name ∷ decimal (sold_of bookings j) ∷ [])
+on_line net bookings i j = sold_line net i j (sold_of bookings j)
 
 -- the leg text: the leg's line, then each product on it with a seat sold, in file order
 abbrev pub leg_text : NetworkValue → List Booking → ℕ → List ℕ
