@@ -1,10 +1,10 @@
--- The steps of the loops that add up loads, price sums and costs, and the sizes of what they add.
-use Rattle.std.proofs.Common.{◌≡◌, ℕ, zero, suc, ◌+◌, ◌-◌, ◌*◌, ◌^◌, ◌<◌, ◌≤◌, arith, ap, ◌∙◌, subst, List, [], ◌∷◌, drop, length, get_or, true, false, cond}
+-- The steps of the loops that add up loads and costs, and the sizes of what they add.
+use Rattle.std.proofs.Common.{◌≡◌, ℕ, zero, suc, ◌+◌, ◌-◌, ◌*◌, ◌^◌, ◌<◌, ◌≤◌, arith, ap, ◌∙◌, subst, List, [], ◌∷◌, drop, length, get_or, true, false, cond, All}
 use Rattle.std.proofs.lemmas.List.{at_drop_more, at_drop_all}
 use Rattle.std.proofs.Math.Nat.{mul-le-mul}
 use Rattle.nrm_lp.specs.Program.{AreLegs, AreProducts, IsProgram, ProgramValue, dot, load, names, price_sum, surplus}
 
--- ---- one more product, leg or price
+-- ---- one more product or leg
 pub load_more : (i : ℕ) (legs : List (List ℕ)) (xs : List ℕ) (j : ℕ) → j < length legs → j < length xs → load i (drop j legs) (drop j xs) ≡ cond (names i (get_or legs j [])) (get_or xs j 0) 0 + load i (drop (j + 1) legs) (drop (j + 1) xs)
 load_more i legs xs j l m = at_drop_more (λ (ls : List (List ℕ)). load i ls (drop j xs)) legs j [] l ∙ at_drop_more (load i (get_or legs j [] ∷ drop (j + 1) legs)) xs j 0 m
 
@@ -17,12 +17,6 @@ load_unnamed i legs xs j sum total l m e h = omega (arith, h, load_more i legs x
 pub load_done : (i : ℕ) (legs : List (List ℕ)) (xs : List ℕ) (j sum total : ℕ) → length legs ≤ j → sum + load i (drop j legs) (drop j xs) ≡ total → sum ≡ total
 load_done i legs xs j sum total l h = omega (arith, h, at_drop_all (λ (ls : List (List ℕ)). load i ls (drop j xs)) legs j l)
 
-pub prices_more : (p ls : List ℕ) (k : ℕ) → k < length ls → price_sum p (drop k ls) ≡ get_or p (get_or ls k 0) 0 + price_sum p (drop (k + 1) ls)
-prices_more p ls k l = at_drop_more (price_sum p) ls k 0 l
-
-pub prices_done : (p ls : List ℕ) (k sum total : ℕ) → length ls ≤ k → sum + price_sum p (drop k ls) ≡ total → sum ≡ total
-prices_done p ls k sum total l h = omega (arith, h, at_drop_all (price_sum p) ls k l)
-
 pub dot_more : (cs ps : List ℕ) (i : ℕ) → i < length cs → i < length ps → dot (drop i cs) (drop i ps) ≡ get_or cs i 0 * get_or ps i 0 + dot (drop (i + 1) cs) (drop (i + 1) ps)
 dot_more cs ps i l m = at_drop_more (λ (xs : List ℕ). dot xs (drop i ps)) cs i 0 l ∙ at_drop_more (dot (get_or cs i 0 ∷ drop (i + 1) cs)) ps i 0 m
 
@@ -34,10 +28,10 @@ surplus_more d p us rs legs j l m n =
     ∙ at_drop_more (surplus d p (get_or us j 0 ∷ drop (j + 1) us) (get_or rs j 0 ∷ drop (j + 1) rs)) legs j [] n
 
 -- ---- a product's legs are legs of the program
-leg_below : (n : ℕ) (ls : List ℕ) → AreLegs n ls → (k : ℕ) → k < length ls → get_or ls k 0 < n
-leg_below n [] h k l = absurd (omega arith)
-leg_below n (i ∷ ls) h zero l = h.0
-leg_below n (i ∷ ls) h (suc k) l = leg_below n ls h.2 k (omega arith)
+legs_below : (n : ℕ) (ls : List ℕ) → AreLegs n ls → All (λ leg. leg < n) ls
+legs_below n [] h k d l = absurd (omega arith)
+legs_below n (i ∷ ls) h zero d l = h.0
+legs_below n (i ∷ ls) h (suc k) d l = legs_below n ls h.2 k d (omega arith)
 
 legs_at : (n : ℕ) (us rs : List ℕ) (legs : List (List ℕ)) → AreProducts n us rs legs → (j : ℕ) → j < length us → AreLegs n (get_or legs j [])
 legs_at n [] rs legs h j l = absurd (omega arith)
@@ -47,8 +41,8 @@ legs_at n (u ∷ us) (r ∷ rs) [] h j l = absurd h
 legs_at n (u ∷ us) (r ∷ rs) (ls ∷ legs) h zero l = h.0
 legs_at n (u ∷ us) (r ∷ rs) (ls ∷ legs) h (suc j) l = legs_at n us rs legs h.1 j (omega arith)
 
-pub product_leg : (a : ProgramValue) → IsProgram a → (j : ℕ) (ls : List ℕ) → j < length a.bounds → get_or a.legs j [] ≡ ls → (k : ℕ) → k < length ls → get_or ls k 0 < length a.caps
-product_leg a ok j ls l e k m = leg_below (length a.caps) ls (subst (AreLegs (length a.caps)) e (legs_at (length a.caps) a.bounds a.fares a.legs ok j l)) k m
+pub product_legs : (a : ProgramValue) → IsProgram a → (j : ℕ) (ls : List ℕ) → j < length a.bounds → get_or a.legs j [] ≡ ls → All (λ leg. leg < length a.caps) ls
+product_legs a ok j ls l e = legs_below (length a.caps) ls (subst (AreLegs (length a.caps)) e (legs_at (length a.caps) a.bounds a.fares a.legs ok j l))
 
 -- ---- sizes
 pub seats_money : (seats money : ℕ) → seats ≤ 31968 → money < 2 ^ 48 → seats * money ≤ 2 ^ 63

@@ -1,8 +1,7 @@
 pub mod Failing  -- what the conditions after the shape say where none fails, and that none fails where an allocation and bid prices meet
-pub mod Sizes  -- the sizes of numbers below a limit
 pub mod Passing  -- a certificate at which no condition fails shows what it should, and one that shows it fails none
 pub mod Naming  -- a product or a leg that is named is one of the program's, or of the network's
-pub mod Adding  -- the steps of the loops that add up loads, price sums and costs, and the sizes of what they add
+pub mod Adding  -- the steps of the loops that add up loads and costs, and the sizes of what they add
 pub mod Searches  -- the steps of a search for the least number at which a test holds
 pub mod Examples  -- the checker's verdicts worked: each condition failing first, with its least leg or product, and certificates that pass
 pub mod ReadingExamples  -- certificate files of a small network, worked: what is written, what is read, and each refusal

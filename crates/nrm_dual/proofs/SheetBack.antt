@@ -16,7 +16,7 @@ use Rattle.nrm_fraction.proofs.Lowest.{common_is, numerators_are}
 use Rattle.nrm_model.specs.Network.{NetworkValue}
 use Rattle.nrm_lp.specs.declared.certificate.Certificate.{Certificate}
 use Rattle.nrm_lp.specs.Shape.{HasShape, IsNumber}
-use Rattle.nrm_dual.proofs.Sizes.{below_limit}
+use Rattle.nrm_lp.proofs.Sizes.{below_limit}
 use Rattle.nrm_dual.specs.Reading.{Written, Sheet, first_missing, times, certificate_over, certificate_or_refusal, small_or_refusal, whole_or_refusal, certificate_on, allocation_in, value_in, prices_in}
 use Rattle.nrm_dual.specs.ReadBack.{IsLowest}
 

@@ -15,7 +15,7 @@ use Rattle.nrm_text.proofs.ReadBack as back
 use Rattle.nrm_lp.specs.Shape.{IsNumber}
 use Rattle.nrm_model.specs.Network.{NetworkValue, leg_named, product_named}
 use Rattle.nrm_dual.specs.Reading.{Written, written_by, written_in, the_value, of_product, of_leg, entry_at, entry_of_words, entry_of, is_over}
-use Rattle.nrm_dual.proofs.Sizes.{below_limit}
+use Rattle.nrm_lp.proofs.Sizes.{below_limit}
 use Rattle.nrm_dual.proofs.SheetBack.{IsWritten}
 
 -- ---- the text of a fraction

@@ -25,7 +25,7 @@ use Rattle.nrm_dual.specs.Refusals.{too_long}
 use Rattle.nrm_dual.specs.Reading.{Written, blank, after_lines, or_refusal, certificate_on, certificate_of}
 use Rattle.nrm_dual.specs.Texts.{value_line, product_line, leg_line, certificate_text}
 use Rattle.nrm_dual.specs.ReadBack.{IsLowest, WrittenIsRead}
-use Rattle.nrm_dual.proofs.Sizes.{below_limit}
+use Rattle.nrm_lp.proofs.Sizes.{below_limit}
 use Rattle.nrm_dual.proofs.SheetBack.{IsWritten, full_sheet, sheet_back}
 use Rattle.nrm_dual.proofs.WrittenFractions.{GivesBack, fraction_back, joined_none, line_back, value_entry, product_entry, leg_entry}
 use Rattle.nrm_dual.proofs.Filling.{sheet_filled}
