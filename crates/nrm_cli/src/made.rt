@@ -7,7 +7,7 @@ ghost use Rattle.nrm_text.specs.Words.{text_line};
 ghost use Rattle.nrm_model.specs.Network.{NetworkValue};
 ghost use Rattle.nrm_control.specs.Standing.{ControlValue, IsControl};
 ghost use Rattle.nrm_session.specs.Answering.{IsTellable, reply_in};
-ghost use Rattle.nrm_gen.specs.MadeCommands.{made_commands};
+ghost use Rattle.nrm_gen.specs.MadeCommands.{command_count, made_commands};
 ghost use Rattle.nrm_cli.specs.Ends.{SentOn};
 ghost use Rattle.nrm_cli.specs.Jobs.{run_made as made_job};
 ghost use Rattle.nrm_cli.specs.Made.{count_words, hindsight_word, summary_words};
@@ -31,9 +31,9 @@ fn answer_all(
     controller: &mut Controller,
     maker: &mut Maker,
 ) -> Option<(Counts, Reply)>
-    requires next { controller.old.next ≤ 100000000000 }
+    requires next { controller.old.next ≡ 1 }
     requires kept { IsControl controller.old }
-    requires within { maker.old.given ≤ 10000 }
+    requires within { maker.old.given ≤ command_count }
     ensures { IfSome result (λ made. AnswersMade controller.old controller.new (rest_of maker.old) made.0 made.1) }
 {
     let mut counts = Counts::new();
@@ -82,7 +82,8 @@ fn push_hindsight(line: &mut Line, hindsight: Reply)
 // The line that sums a made run up.
 fn line_of_summary(counts: &Counts, revenue: u64, hindsight: Reply) -> Line
     requires { (net : NetworkValue) × IsTellable net hindsight }
-    ensures { (control : ControlValue) → result ≡ text_line (summary_words counts.now revenue (hindsight_word (reply_in control hindsight))) }
+    ensures { (control : ControlValue)
+        → result ≡ text_line (summary_words counts.now revenue (hindsight_word (reply_in control hindsight))) }
 {
     let mut line = line_of_counts(counts);
     line.push_count(b"revenue", revenue);
@@ -99,9 +100,9 @@ fn put_summary<K: Sink>(
     maker: &mut Maker,
     sink: &mut K,
 ) -> Status
-    requires next { controller.old.next ≤ 100000000000 }
+    requires next { controller.old.next ≡ 1 }
     requires kept { IsControl controller.old }
-    requires within { maker.old.given ≤ 10000 }
+    requires within { maker.old.given ≤ command_count }
     ensures puts { (net : NetworkValue) (number : ℕ) → HasBegun net controller.old → rest_of maker.old ≡ made_commands number
         → PutsSummary net controller.old.plan number (K.held sink.old) (K.held sink.new) (K.faults sink.old) (K.faults sink.new) result }
     ensures later { K.faults sink.old ≤ K.faults sink.new }

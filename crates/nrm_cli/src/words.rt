@@ -7,6 +7,9 @@ ghost use Rattle.nrm_cli.specs.Jobs.{job_of, made_run_of, mode_of};
 use nrm_model::Mode;
 use nrm_text::{is_word, read_whole};
 
+// The last number that a network and its commands are made of.
+const LAST_MADE: u32 = u32::MAX;
+
 /// What the words ask for.
 #[derive(Clone, Copy)]
 pub(crate) enum Asked<'a> {
@@ -34,10 +37,11 @@ fn mode_in(word: &String) -> Option<Mode>
 
 // The made run of a mode and a number.
 fn made_run_in(mode: &String, number: &String) -> Option<Asked<'static>>
-    ensures { option_map job_in result ≡ made_run_of (mode_of (string_bytes mode.now)) (whole_between 0 4294967295 (string_bytes number.now)) }
+    ensures { option_map job_in result
+        ≡ made_run_of (mode_of (string_bytes mode.now)) (whole_between 0 LAST_MADE (string_bytes number.now)) }
 {
     let mode = mode_in(mode)?;
-    match read_whole(number.as_bytes(), u64::from(u32::MAX)) {
+    match read_whole(number.as_bytes(), u64::from(LAST_MADE)) {
         Ok(number) => Some(Asked::Made(mode, number as u32)),
         Err(_) => None,
     }

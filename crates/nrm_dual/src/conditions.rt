@@ -1,5 +1,5 @@
 //! The conditions behind the shape: for each of them how it fails at a product or a leg, and the least at which it does.
-#![tactic(auto, using(crate::proofs::Searches::found, crate::proofs::Searches::passed, crate::proofs::Searches::none_left))]
+#![tactic(auto, using(crate::proofs::LeastSearch::found, crate::proofs::LeastSearch::passed, crate::proofs::LeastSearch::none_left))]
 
 ghost use Rattle.std.specs.Prelude.{◌≡◌, ◌<◌, nat_abs, length};
 ghost use Rattle.nrm_lp.specs.Certified.{sizes};

@@ -1,5 +1,6 @@
 -- What is written of a leg and of a plan.
-use Rattle.std.specs.Prelude.{ℕ, ◌==◌, nat_abs, map, length, List, [], ◌∷◌, ◌++◌, flat_map, decimal, codes, Option, Some, None, if◌then◌else◌}
+use Rattle.std.specs.Prelude.{ℕ, ◌==◌, nat_abs, map, length, List, [], ◌∷◌, ◌++◌, flat_map, decimal, codes, Option, Some, None}
+use Rattle.std.specs.Prelude.{if◌then◌else◌}
 use Rattle.std.specs.List.{range_with_len}
 use Rattle.nrm_fraction.specs.Fraction.{◌over◌}
 use Rattle.nrm_text.specs.Fractions.{fraction_text}
@@ -20,8 +21,8 @@ use Rattle.nrm_dual.specs.Texts.{certificate_text}
 -- how a leg stands: its seats, those sold and those left
 abbrev pub leg_line : NetworkValue → List Booking → ℕ → List ℕ
 leg_line net bookings i =
-    text_line (codes "leg" ∷ (leg_of net i).name ∷ codes "seats" ∷ decimal (leg_of net i).seats ∷ codes "sold" ∷ decimal (sold_on (inventory_of net) bookings i)
-    ∷ codes "left" ∷ decimal (left_on (inventory_of net) bookings i) ∷ [])
+    text_line (codes "leg" ∷ (leg_of net i).name ∷ codes "seats" ∷ decimal (leg_of net i).seats
+    ∷ codes "sold" ∷ decimal (sold_on (inventory_of net) bookings i) ∷ codes "left" ∷ decimal (left_on (inventory_of net) bookings i) ∷ [])
 
 -- a product on a leg with the seats that it has sold, and nothing if it has sold none
 abbrev pub sold_line : NetworkValue → ℕ → ℕ → ℕ → List ℕ
@@ -38,7 +39,8 @@ leg_text net bookings i = leg_line net bookings i ++ flat_map (on_line net booki
 -- a product in a nest: its adjusted fare and its bucket
 abbrev pub nest_line : NetworkValue → Certificate → ℕ → ℕ → List ℕ
 nest_line net cert i j =
-    text_line (codes "nest" ∷ (leg_of net i).name ∷ (product_of net j).name ∷ fraction_text (adjusted_fare net cert i j over nat_abs cert.den) ∷ decimal (bucket_of net cert i j) ∷ [])
+    text_line (codes "nest" ∷ (leg_of net i).name ∷ (product_of net j).name
+    ∷ fraction_text (adjusted_fare net cert i j over nat_abs cert.den) ∷ decimal (bucket_of net cert i j) ∷ [])
 
 -- the protections of a leg, for each of its buckets but the last
 abbrev pub protect_line : NetworkValue → Certificate → ℕ → ℕ → List ℕ

@@ -103,8 +103,10 @@ fn put_allotted<K: Sink>(
     sink: &mut K,
 ) -> Result<(), Failed>
     requires { HasShape size_limit (length net.now.products) (length net.now.legs) certificate.now }
-    ensures whole { OnOk result (Appends (K.held sink.old) (K.held sink.new) (flat_map (product_line net.now certificate.now) (range_with_len 0 (length net.now.products)))) }
-    ensures cut { OnErr result (AppendsFront (K.held sink.old) (K.held sink.new) (flat_map (product_line net.now certificate.now) (range_with_len 0 (length net.now.products)))) }
+    ensures whole { OnOk result (Appends (K.held sink.old) (K.held sink.new)
+        (flat_map (product_line net.now certificate.now) (range_with_len 0 (length net.now.products)))) }
+    ensures cut { OnErr result (AppendsFront (K.held sink.old) (K.held sink.new)
+        (flat_map (product_line net.now certificate.now) (range_with_len 0 (length net.now.products)))) }
     ensures cause { HasCause (K.faults sink.old) (K.faults sink.new) result }
 {
     for product in 0..net.product_count() as u16 {
@@ -116,8 +118,10 @@ fn put_allotted<K: Sink>(
 // Puts the lines of the legs, in file order.
 fn put_prices<K: Sink>(net: &Network, certificate: &Certificate, sink: &mut K) -> Result<(), Failed>
     requires { HasShape size_limit (length net.now.products) (length net.now.legs) certificate.now }
-    ensures whole { OnOk result (Appends (K.held sink.old) (K.held sink.new) (flat_map (leg_line net.now certificate.now) (range_with_len 0 (length net.now.legs)))) }
-    ensures cut { OnErr result (AppendsFront (K.held sink.old) (K.held sink.new) (flat_map (leg_line net.now certificate.now) (range_with_len 0 (length net.now.legs)))) }
+    ensures whole { OnOk result (Appends (K.held sink.old) (K.held sink.new)
+        (flat_map (leg_line net.now certificate.now) (range_with_len 0 (length net.now.legs)))) }
+    ensures cut { OnErr result (AppendsFront (K.held sink.old) (K.held sink.new)
+        (flat_map (leg_line net.now certificate.now) (range_with_len 0 (length net.now.legs)))) }
     ensures cause { HasCause (K.faults sink.old) (K.faults sink.new) result }
 {
     for leg in 0..net.leg_count() as u8 {

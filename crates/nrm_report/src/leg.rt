@@ -15,7 +15,9 @@ use nrm_text::{Name, Text};
 
 // The line of a leg, from its numbers.
 fn line_of_leg(name: &Name, seats: u16, sold: u16, left: u16) -> Text<ROOM>
-    ensures { result ≡ text_line (codes "leg" ∷ name.now ∷ codes "seats" ∷ decimal seats ∷ codes "sold" ∷ decimal sold ∷ codes "left" ∷ decimal left ∷ []) }
+    ensures { result
+        ≡ text_line (codes "leg" ∷ name.now ∷ codes "seats" ∷ decimal seats ∷ codes "sold" ∷ decimal sold
+        ∷ codes "left" ∷ decimal left ∷ []) }
 {
     let mut line = Text::of_bytes(b"leg ");
     line.push_name(name);
@@ -72,8 +74,10 @@ fn line_for_leg(net: &Network, book: &Book, leg: u8) -> Text<ROOM>
 fn put_products<K: Sink>(net: &Network, book: &Book, leg: u8, sink: &mut K) -> Result<(), Failed>
     requires book { book.now.inventory ≡ inventory_of net.now }
     requires leg { leg < length net.now.legs }
-    ensures whole { OnOk result (Appends (K.held sink.old) (K.held sink.new) (flat_map (on_line net.now book.now.bookings leg) (products_on (inventory_of net.now) leg))) }
-    ensures cut { OnErr result (AppendsFront (K.held sink.old) (K.held sink.new) (flat_map (on_line net.now book.now.bookings leg) (products_on (inventory_of net.now) leg))) }
+    ensures whole { OnOk result (Appends (K.held sink.old) (K.held sink.new)
+        (flat_map (on_line net.now book.now.bookings leg) (products_on (inventory_of net.now) leg))) }
+    ensures cut { OnErr result (AppendsFront (K.held sink.old) (K.held sink.new)
+        (flat_map (on_line net.now book.now.bookings leg) (products_on (inventory_of net.now) leg))) }
     ensures cause { HasCause (K.faults sink.old) (K.faults sink.new) result }
 {
     for (product, sold) in book.on_leg(leg) {

@@ -1,6 +1,7 @@
 //! The nests of a plan: leg by leg a line for each product on it, with its adjusted fare and its bucket, and then leg by
 //! leg a line of its protections. Each line is put at once.
-ghost use Rattle.std.specs.Prelude.{ℕ, ◌≡◌, ◌≤◌, ◌<◌, ◌*◌, ◌+◌, ◌^◌, ◌++◌, ◌∷◌, [], codes, decimal, flat_map, get_or, length, true, unsigned_abs, OnErr, OnOk, Some};
+ghost use Rattle.std.specs.Prelude.{ℕ, ◌≡◌, ◌≤◌, ◌<◌, ◌*◌, ◌+◌, ◌^◌, ◌++◌, ◌∷◌, [], codes, decimal, flat_map, get_or, length, true};
+ghost use Rattle.std.specs.Prelude.{unsigned_abs, OnErr, OnOk, Some};
 ghost use Rattle.std.specs.Io.KnownBytes.{Appends};
 ghost use Rattle.std.specs.List.{range_with_len};
 ghost use Rattle.nrm_edge.specs.Causes.{HasCause};
@@ -97,8 +98,10 @@ fn put_nests_of_leg<K: Sink>(
 ) -> Result<(), Failed>
     requires nested { IsNested net.now certificate.now plan.now }
     requires leg { leg < length net.now.legs }
-    ensures whole { OnOk result (Appends (K.held sink.old) (K.held sink.new) (flat_map (nest_line net.now certificate.now leg) (products_on (inventory_of net.now) leg))) }
-    ensures cut { OnErr result (AppendsFront (K.held sink.old) (K.held sink.new) (flat_map (nest_line net.now certificate.now leg) (products_on (inventory_of net.now) leg))) }
+    ensures whole { OnOk result (Appends (K.held sink.old) (K.held sink.new)
+        (flat_map (nest_line net.now certificate.now leg) (products_on (inventory_of net.now) leg))) }
+    ensures cut { OnErr result (AppendsFront (K.held sink.old) (K.held sink.new)
+        (flat_map (nest_line net.now certificate.now leg) (products_on (inventory_of net.now) leg))) }
     ensures cause { HasCause (K.faults sink.old) (K.faults sink.new) result }
 {
     for product in 0..net.product_count() as u16 {
@@ -117,8 +120,12 @@ fn put_nests<K: Sink>(
     sink: &mut K,
 ) -> Result<(), Failed>
     requires { IsNested net.now certificate.now plan.now }
-    ensures whole { OnOk result (Appends (K.held sink.old) (K.held sink.new) (flat_map (λ i. flat_map (nest_line net.now certificate.now i) (products_on (inventory_of net.now) i)) (range_with_len 0 (length net.now.legs)))) }
-    ensures cut { OnErr result (AppendsFront (K.held sink.old) (K.held sink.new) (flat_map (λ i. flat_map (nest_line net.now certificate.now i) (products_on (inventory_of net.now) i)) (range_with_len 0 (length net.now.legs)))) }
+    ensures whole { OnOk result (Appends (K.held sink.old) (K.held sink.new)
+        (flat_map (λ i. flat_map (nest_line net.now certificate.now i) (products_on (inventory_of net.now) i))
+        (range_with_len 0 (length net.now.legs)))) }
+    ensures cut { OnErr result (AppendsFront (K.held sink.old) (K.held sink.new)
+        (flat_map (λ i. flat_map (nest_line net.now certificate.now i) (products_on (inventory_of net.now) i))
+        (range_with_len 0 (length net.now.legs)))) }
     ensures cause { HasCause (K.faults sink.old) (K.faults sink.new) result }
 {
     for leg in 0..net.leg_count() as u8 {
@@ -129,10 +136,12 @@ fn put_nests<K: Sink>(
 
 // Appends the protections of a leg, for each of so many buckets.
 fn push_protections(line: &mut Text<ROOM>, plan: &Plan, leg: u8, buckets: u8)
-    requires nests { (nests : NestsValue) × (plan.now.nests ≡ Some nests) × (leg < length nests.protections) × (length (get_or nests.protections leg []) ≡ buckets) }
+    requires nests { (nests : NestsValue) × (plan.now.nests ≡ Some nests) × (leg < length nests.protections)
+        × (length (get_or nests.protections leg []) ≡ buckets) }
     requires few { buckets ≤ MOST_THRESHOLDS }
     requires room { length line.old ≤ 100 }
-    ensures text { (nests : NestsValue) → plan.now.nests ≡ Some nests → line.new ≡ line.old ++ flat_map (λ seats. spaced (decimal seats)) (get_or nests.protections leg []) }
+    ensures text { (nests : NestsValue) → plan.now.nests ≡ Some nests
+        → line.new ≡ line.old ++ flat_map (λ seats. spaced (decimal seats)) (get_or nests.protections leg []) }
     ensures length { length line.new ≤ length line.old + 21 * buckets }
 {
     for above in 0..buckets {
@@ -157,8 +166,10 @@ fn line_for_protections(net: &Network, plan: &Plan, leg: u8) -> Text<ROOM>
 // Puts the lines of the protections, leg by leg.
 fn put_protections<K: Sink>(net: &Network, plan: &Plan, sink: &mut K) -> Result<(), Failed>
     requires { (cert : Cert) × IsNested net.now cert plan.now }
-    ensures whole { OnOk result (Appends (K.held sink.old) (K.held sink.new) (flat_map (protections_line net.now plan.now) (range_with_len 0 (length net.now.legs)))) }
-    ensures cut { OnErr result (AppendsFront (K.held sink.old) (K.held sink.new) (flat_map (protections_line net.now plan.now) (range_with_len 0 (length net.now.legs)))) }
+    ensures whole { OnOk result (Appends (K.held sink.old) (K.held sink.new)
+        (flat_map (protections_line net.now plan.now) (range_with_len 0 (length net.now.legs)))) }
+    ensures cut { OnErr result (AppendsFront (K.held sink.old) (K.held sink.new)
+        (flat_map (protections_line net.now plan.now) (range_with_len 0 (length net.now.legs)))) }
     ensures cause { HasCause (K.faults sink.old) (K.faults sink.new) result }
 {
     for leg in 0..net.leg_count() as u8 {
@@ -175,8 +186,10 @@ pub(crate) fn nested_text<K: Sink>(
     sink: &mut K,
 ) -> Result<(), Failed>
     requires { IsNested net.now certificate.now plan.now }
-    ensures whole { OnOk result (Appends (K.held sink.old) (K.held sink.new) (certificate_text net.now certificate.now ++ nests_text net.now plan.now.period certificate.now)) }
-    ensures cut { OnErr result (AppendsFront (K.held sink.old) (K.held sink.new) (certificate_text net.now certificate.now ++ nests_text net.now plan.now.period certificate.now)) }
+    ensures whole { OnOk result (Appends (K.held sink.old) (K.held sink.new)
+        (certificate_text net.now certificate.now ++ nests_text net.now plan.now.period certificate.now)) }
+    ensures cut { OnErr result (AppendsFront (K.held sink.old) (K.held sink.new)
+        (certificate_text net.now certificate.now ++ nests_text net.now plan.now.period certificate.now)) }
     ensures cause { HasCause (K.faults sink.old) (K.faults sink.new) result }
 {
     certificate_text(net, certificate, sink)?;

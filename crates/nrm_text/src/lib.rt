@@ -15,7 +15,7 @@ mod tests;
 mod word;
 
 pub use laws::{fractions_read_back, numbers_and_names_read_back, words_read_back};
-pub use line::{LINE_ROOM, Line, Text};
+pub use line::{Line, Text};
 pub use name::{Name, name_of};
 pub use number::{NumberFault, read_whole};
 pub use word::is_word;

@@ -9,11 +9,8 @@ use itoa::{Buffer, write_digits};
 use nrm_number::gcd;
 use std::marker::Model;
 
-/// The most bytes that a `Line` holds.
-pub const LINE_ROOM: usize = 512;
-
 /// A line of at most 512 bytes.
-pub type Line = Text<LINE_ROOM>;
+pub type Line = Text<512>;
 
 /// A text of at most `ROOM` bytes. Contracts see its bytes.
 #[derive(Drop)]

@@ -1,7 +1,7 @@
-use Rattle.std.proofs.Common.{List, ℕ, ◌≡◌, ◌++◌, ◌∷◌, [], ◌∙◌, ap, sym, codes, decimal}
+use Rattle.std.proofs.Common.{List, ℕ, ◌≡◌, ◌++◌, ◌∷◌, [], ◌∙◌, sym, codes, decimal}
 use Rattle.std.specs.List.{join_with_byte}
 use Rattle.nrm_gen.specs.MadeCommands.{command_count}
-use Rattle.nrm_cli.proofs.Making.{count-more, first-words}
+use Rattle.nrm_cli.proofs.MadeRuns.{count-more, first-words}
 use Rattle.nrm_cli.proofs.made.line_of_counts.Goals as goal
 
 pub returns-clause-text : goal.returns-clause-text

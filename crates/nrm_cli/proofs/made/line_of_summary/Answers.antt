@@ -1,6 +1,6 @@
 use Rattle.nrm_session.specs.Answering.{reply_in}
 use Rattle.nrm_cli.specs.Made.{hindsight_word}
-use Rattle.nrm_cli.proofs.Making.{line-is}
+use Rattle.nrm_cli.proofs.MadeRuns.{line-is}
 use Rattle.nrm_cli.proofs.made.line_of_summary.Goals as goal
 
 pub returns : goal.returns

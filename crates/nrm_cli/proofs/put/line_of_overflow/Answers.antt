@@ -5,7 +5,8 @@ use Rattle.nrm_cli.specs.Jobs.{overflow_line}
 use Rattle.nrm_cli.proofs.put.line_of_overflow.Goals as goal
 
 -- the pieces of the line, one after another
-line-is : (pivots : ℕ) (number : ℤ) → ((((codes "overflow after " ++ decimal pivots) ++ codes " pivots at ") ++ signed_text number) ++ 10 ∷ []) ≡ overflow_line pivots number
+line-is : (pivots : ℕ) (number : ℤ)
+    → ((((codes "overflow after " ++ decimal pivots) ++ codes " pivots at ") ++ signed_text number) ++ 10 ∷ []) ≡ overflow_line pivots number
 line-is pivots number =
     ap (λ (line : List ℕ). line ++ 10 ∷ [])
     (append_assoc (codes "overflow after " ++ decimal pivots) (codes " pivots at ") (signed_text number)

@@ -3,7 +3,7 @@ use Rattle.std.proofs.Common.{ℕ, ◌≡◌, ◌<◌, ◌∙◌, All, sym, subs
 use Rattle.std.proofs.lemmas.Option.{get_or_from_slice_get}
 use Rattle.nrm_lp.specs.Program.{price_sum}
 use Rattle.nrm_lp.specs.Certified.{sizes}
-use Rattle.nrm_dual.proofs.Adding.{product_legs}
+use Rattle.nrm_dual.proofs.SumSteps.{product_legs}
 use Rattle.nrm_dual.proofs.sums.price_sum.Goals as goal
 
 pub price_sum-requires-clause-legs : goal.price_sum-requires-clause-legs

@@ -1,6 +1,6 @@
 use Rattle.std.proofs.Common.{ℕ, List, ◌≡◌, ◌∙◌, ◌++◌, [], ap, flat_map, get_or, length, refl, sym}
 use Rattle.nrm_model.specs.Network.{leg_of}
-use Rattle.nrm_report.proofs.Nested.{protections-held, protections-shown, word}
+use Rattle.nrm_report.proofs.NestLines.{protections-held, protections-shown, word}
 use Rattle.nrm_report.proofs.nests.line_for_protections.Goals as goal
 
 pub push_protections-requires-clause-nests : goal.push_protections-requires-clause-nests

@@ -1,5 +1,5 @@
 use Rattle.std.proofs.Common.{◌<◌, ◌∙◌, [], get_or, length, arith}
-use Rattle.nrm_report.proofs.Nested.{level-above, level-more, same-count}
+use Rattle.nrm_report.proofs.NestLines.{level-above, level-more, same-count}
 use Rattle.nrm_report.proofs.nests.push_protections.Goals as goal
 
 pub loop-above-preserved : goal.loop-above-preserved

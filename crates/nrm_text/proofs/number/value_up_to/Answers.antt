@@ -8,7 +8,8 @@ use Rattle.nrm_text.specs.declared.number.NumberFault.{NumberFault}
 use Rattle.nrm_text.specs.declared.number.NumberFault.TheVariants.{Off, Over}
 use Rattle.nrm_text.proofs.Values.{value_of-above}
 use Rattle.nrm_text.proofs.number.value_up_to.Goals as goal
-use Rattle.nrm_text.proofs.number.value_up_to.Goals.{then-value-most-via-then-value-most, then-value-most-via-else-value-most+then-digit-max}
+use Rattle.nrm_text.proofs.number.value_up_to.Goals.{then-value-most-via-then-value-most}
+use Rattle.nrm_text.proofs.number.value_up_to.Goals.{then-value-most-via-else-value-most+then-digit-max}
 
 over : (digits above : Bool) (value : ℕ) (fault : NumberFault) → above ≡ true → fault ≡ (if digits then Over else Off)
     → (let answer : Result ℕ NumberFault = Err fault in answer) ≡ (if digits then (if above then Err Over else Ok value) else Err Off)
