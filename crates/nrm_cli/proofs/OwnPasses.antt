@@ -8,11 +8,11 @@ use Rattle.nrm_lp.proofs.Certify.{certifies}
 use Rattle.nrm_dlp.specs.Programs.{opening_program}
 use Rattle.nrm_dlp.proofs.Limited.{opening-limited}
 use Rattle.nrm_dual.proofs.ClosingLowest.{closings_read}
-use Rattle.nrm_dual.proofs.Passing.{certified_passes, optimal_passes}
+use Rattle.nrm_dual.proofs.PassesCertify.{certified_passes, optimal_passes}
 use Rattle.nrm_dual.proofs.WrittenRead.{written_read}
 use Rattle.nrm_cli.specs.Certificates.{certificate_in}
 use Rattle.nrm_cli.specs.Own.{OptimalCertificatesPass, OwnCertificatesPass}
-use Rattle.nrm_cli.proofs.Places.{legs-of, products-of, shape-of-program}
+use Rattle.nrm_cli.proofs.ProgramOfNetwork.{legs-of, products-of, shape-of-program}
 
 pub own-passes : OwnCertificatesPass
 own-passes net is n t closes =

@@ -18,10 +18,12 @@ use Rattle.nrm_dual.specs.declared.verdict.Verdict.{Verdict}
 use Rattle.nrm_dual.specs.declared.verdict.Verdict.TheVariants as verdict
 use Rattle.nrm_plan.specs.Plans.{IsOpeningPlan, OpeningOverflows, PlanValue}
 use Rattle.nrm_report.specs.Texts.{plan_text}
-use Rattle.nrm_opening.specs.Outside.{Outside, FilesFailed, SourceFailed, SinkFailed, NothingFailed, Wrote, WroteCut, WroteNothing, LeftStream}
+use Rattle.nrm_opening.specs.Outside.{Outside, FilesFailed, SourceFailed, SinkFailed, NothingFailed, Wrote, WroteCut, WroteNothing}
+use Rattle.nrm_opening.specs.Outside.{LeftStream}
 use Rattle.nrm_opening.specs.Refusals.{file_fault_line}
 use Rattle.nrm_cli.specs.Certificates.{certificate_under, verdict_line}
-use Rattle.nrm_cli.specs.Jobs.{Job, run_file, plan_file, check_file, print_file, run_made, HasNetwork, NamesFile, TakesStream, overflow_line, told_pivots}
+use Rattle.nrm_cli.specs.Jobs.{Job, run_file, plan_file, check_file, print_file, run_made, HasNetwork, NamesFile, TakesStream}
+use Rattle.nrm_cli.specs.Jobs.{overflow_line, told_pivots}
 use Rattle.nrm_cli.specs.Made.{MadeRun}
 use Rattle.nrm_cli.specs.Tells.{Opens, Told, ToldCut}
 use Rattle.nrm_cli.specs.declared.status.Status.{Status}
@@ -58,11 +60,14 @@ pub record Ran (asked : Option Job) (before after : Outside) (writes : NetworkVa
 
 -- the stream was taken to its end, and the replies to all its lines were written
 abbrev pub RanThrough : Option Job → Outside → Outside → Type 0
-RanThrough asked before after = Ran asked before after (λ net plan taken output. (length taken ≤ stream_limit) × IsAtEnd after.coming × RunWrites net plan (commands_of taken) output)
+RanThrough asked before after =
+    Ran asked before after (λ net plan taken output. (length taken ≤ stream_limit) × IsAtEnd after.coming
+    × RunWrites net plan (commands_of taken) output)
 
 -- those to the whole lines that were taken
 abbrev pub RanSoFar : Option Job → Outside → Outside → Type 0
-RanSoFar asked before after = Ran asked before after (λ net plan taken output. (length taken ≤ stream_limit) × RunWrites net plan (whole_commands taken) output)
+RanSoFar asked before after =
+    Ran asked before after (λ net plan taken output. (length taken ≤ stream_limit) × RunWrites net plan (whole_commands taken) output)
 
 -- of some commands one was cut, since a put failed in its reply; or the replies to all were put, and only sending them on failed
 abbrev pub RunStops : NetworkValue → PlanValue → List Command → List ℕ → Type 0
@@ -75,7 +80,9 @@ RanCut asked before after = Ran asked before after (λ net plan taken output. (l
 
 -- one byte more was taken than a stream may have, and the replies to the whole lines before that byte were written
 abbrev pub RanTooLong : Option Job → Outside → Outside → Type 0
-RanTooLong asked before after = Ran asked before after (λ net plan taken output. (length taken ≡ stream_limit + 1) × RunWrites net plan (whole_commands (take stream_limit taken)) output)
+RanTooLong asked before after =
+    Ran asked before after (λ net plan taken output. (length taken ≡ stream_limit + 1)
+    × RunWrites net plan (whole_commands (take stream_limit taken)) output)
 
 -- memory ran out before anything was written, and before a byte of the stream was taken
 abbrev pub RanOut : Option Job → Outside → Outside → Type 0
@@ -97,10 +104,11 @@ Ends asked before after status.Overflow = Told asked before after status.Overflo
 
 -- if an output failed, the files' count is as it was, or what was cut is the line that tells of their fault
 abbrev pub FilesFailedBefore : Outside → Outside → Type 0
-FilesFailedBefore before after = (after.file_faults ≡ before.file_faults) ⊎ (FilesFailed before after × WroteCut before after file_fault_line)
+FilesFailedBefore before after =
+    (after.file_faults ≡ before.file_faults) ⊎ (FilesFailed before after × WroteCut before after file_fault_line)
 
--- which counts each status leaves as they were: a count of faults rises, by one, only with the status of its fault, and that of the files too if the
--- line that tells of it is cut
+-- which counts each status leaves as they were: a count of faults rises, by one, only with the status of its fault, and
+-- that of the files too if the line that tells of it is cut
 abbrev pub Failures : Status → Outside → Outside → Type 0
 Failures status.ReadFault before after = (after.file_faults ≡ before.file_faults) × (after.sink_faults ≡ before.sink_faults)
 Failures status.WriteFault before after = (after.source_faults ≡ before.source_faults) × FilesFailedBefore before after
@@ -127,7 +135,8 @@ OrRanOut before after s wanted output = ((s ≡ wanted) × Wrote before after ou
 
 -- where the opening program is Large the line that says so is written
 abbrev pub TellsOverflow : NetworkValue → Mode → Outside → Outside → Status → Type 0
-TellsOverflow net m before after s = (n : ℕ) (number : ℤ) → OpeningOverflows net m n number → OrRanOut before after s status.Overflow (overflow_line (told_pivots n) number)
+TellsOverflow net m before after s =
+    (n : ℕ) (number : ℤ) → OpeningOverflows net m n number → OrRanOut before after s status.Overflow (overflow_line (told_pivots n) number)
 
 -- what is written of a job that has a network: of a run, where the network has an opening plan in the mode, and the stream is told
 -- and short, the replies to all its lines; of a plan, the opening plan, where there is one; of a check, where the second file is told and
@@ -138,14 +147,16 @@ CompletesJob (run_file m file) net before after s =
     × ((plan : PlanValue) (stream : List ℕ) → IsOpeningPlan net m plan → before.coming ≡ Some stream → length stream ≤ stream_limit
     → (output : List ℕ) × RunWrites net plan (commands_of stream) output × OrRanOut before after s status.Done output)
 CompletesJob (plan_file m file) net before after s =
-    TellsOverflow net m before after s × ((plan : PlanValue) → IsOpeningPlan net m plan → OrRanOut before after s status.Done (plan_text net plan))
+    TellsOverflow net m before after s
+    × ((plan : PlanValue) → IsOpeningPlan net m plan → OrRanOut before after s status.Done (plan_text net plan))
 CompletesJob (check_file file certificate) net before after s =
     (files : Folder) (given : Certificate) → before.files ≡ Some files → certificate_under net (files certificate) ≡ Ok given
     → let found = verdict_on (opening_program net) given in OrRanOut before after s (status_of found) (verdict_line net found)
 CompletesJob (print_file file) net before after s = OrRanOut before after s status.Done (canonical_file net)
 CompletesJob (run_made m number) net before after s =
     TellsOverflow net m before after s
-    × ((plan : PlanValue) → IsOpeningPlan net m plan → (text : List ℕ) × MadeRun net plan number text × OrRanOut before after s status.Done text)
+    × ((plan : PlanValue) → IsOpeningPlan net m plan → (text : List ℕ) × MadeRun net plan number text
+    × OrRanOut before after s status.Done text)
 
 -- nothing failed that the job uses: the files if it names one, the stream if it takes it, the output
 pub record NothingHinders (job : Job) (before after : Outside) : Type 0 where
@@ -156,7 +167,8 @@ pub record NothingHinders (job : Job) (before after : Outside) : Type 0 where
 -- if the words ask for a job that has a network, and nothing that it uses failed, the job is done
 abbrev pub Completes : Option Job → Outside → Outside → Status → Type 0
 Completes asked before after s =
-    (job : Job) (net : NetworkValue) → asked ≡ Some job → HasNetwork job before.files net → NothingHinders job before after → CompletesJob job net before after s
+    (job : Job) (net : NetworkValue) → asked ≡ Some job → HasNetwork job before.files net → NothingHinders job before after
+    → CompletesJob job net before after s
 
 -- after every status but that of a failed output nothing is kept back, from an output on that kept nothing back
 abbrev pub SentOn : Status → List ℕ → List ℕ → Type 0

@@ -1,14 +1,16 @@
 -- What the words of the command line ask for.
-use Rattle.std.specs.Prelude.{ℕ, ℤ, ⊤, ◌≡◌, ◌-◌, ◌^◌, min, nat_abs, decimal, List, [], ◌∷◌, ◌++◌, bytes_eq, codes, Option, Some, None, option_map, Result, Ok, if◌then◌else◌}
+use Rattle.std.specs.Prelude.{ℕ, ℤ, ⊤, ◌≡◌, ◌-◌, ◌^◌, min, decimal, List, [], ◌∷◌, bytes_eq, codes, Option, Some, None, option_map}
+use Rattle.std.specs.Prelude.{Ok, if◌then◌else◌}
 use Rattle.nrm_edge.specs.Fetch.{Folder}
 use Rattle.nrm_text.specs.Numbers.{whole_between}
-use Rattle.nrm_text.specs.Fractions.{sign_of}
+use Rattle.nrm_text.specs.Fractions.{signed_text}
 use Rattle.nrm_text.specs.Words.{text_line}
 use Rattle.nrm_model.specs.Network.{NetworkValue}
 use Rattle.nrm_model.specs.declared.mode.Mode.{Mode}
 use Rattle.nrm_model.specs.declared.mode.Mode.TheVariants as mode
 use Rattle.nrm_opening.specs.Refusals.{network_under}
 use Rattle.nrm_gen.specs.MadeNetwork.{made_network}
+use Rattle.nrm_cli.specs.declared.words.TheConstants.{LAST_MADE}
 
 -- to run the controller on a network file in a mode, to write its opening plan, to check a certificate against a network file, to print a
 -- network file, and to run the controller in a mode on the network that is made of a number, over the commands that are made of it
@@ -64,8 +66,8 @@ made_run_of (Some m) (Some number) = Some (run_made m number)
 made_run_of (Some m) None = None
 made_run_of None number = None
 
--- `run MODE FILE`, `plan MODE FILE`, `check FILE CERT`, `print FILE` and `gen MODE NUMBER`, of a whole number up to 4,294,967,295; all other
--- words ask for nothing
+-- `run MODE FILE`, `plan MODE FILE`, `check FILE CERT`, `print FILE` and `gen MODE NUMBER`, of a whole number up to
+-- 4,294,967,295; all other words ask for nothing
 abbrev pub job_of : List (List ℕ) → Option Job
 job_of [] = None
 job_of (verb ∷ []) = None
@@ -74,7 +76,7 @@ job_of (verb ∷ second ∷ third ∷ []) =
     if bytes_eq verb (codes "run") then option_map (λ m. run_file m third) (mode_of second)
     else if bytes_eq verb (codes "plan") then option_map (λ m. plan_file m third) (mode_of second)
     else if bytes_eq verb (codes "check") then Some (check_file second third)
-    else if bytes_eq verb (codes "gen") then made_run_of (mode_of second) (whole_between 0 4294967295 third)
+    else if bytes_eq verb (codes "gen") then made_run_of (mode_of second) (whole_between 0 LAST_MADE third)
     else None
 job_of (verb ∷ second ∷ third ∷ fourth ∷ more) = None
 
@@ -89,4 +91,4 @@ told_pivots n = min n (2 ^ 32 - 1)
 -- the line that says that the opening program is Large: after so many pivots, at which number
 abbrev pub overflow_line : ℕ → ℤ → List ℕ
 overflow_line pivots number =
-    text_line (codes "overflow" ∷ codes "after" ∷ decimal pivots ∷ codes "pivots" ∷ codes "at" ∷ (sign_of number ++ decimal (nat_abs number)) ∷ [])
+    text_line (codes "overflow" ∷ codes "after" ∷ decimal pivots ∷ codes "pivots" ∷ codes "at" ∷ signed_text number ∷ [])

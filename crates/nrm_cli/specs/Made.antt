@@ -8,7 +8,8 @@ use Rattle.nrm_book.specs.Bookings.{revenue_of}
 use Rattle.nrm_plan.specs.Plans.{PlanValue}
 use Rattle.nrm_control.specs.State.{SeatState, opening}
 use Rattle.nrm_session.specs.Laws.{MemorySuffices}
-use Rattle.nrm_session.specs.Replies.{Reply, bad, unknown, sold, no_leg, no_fare, cancelled, optimised, optimised_none, overflow, memory, hindsight_told, leg_told, plan_told}
+use Rattle.nrm_session.specs.Replies.{Reply, bad, unknown, sold, no_leg, no_fare, cancelled, optimised, optimised_none, overflow, memory}
+use Rattle.nrm_session.specs.Replies.{hindsight_told, leg_told, plan_told}
 use Rattle.nrm_session.specs.Run.{Run}
 use Rattle.nrm_gen.specs.MadeCommands.{command_count, made_commands}
 use Rattle.nrm_cli.specs.declared.counts.Counts.{Counts}
@@ -63,9 +64,9 @@ hindsight_word (plan_told text) = codes "overflow"
 -- how many commands there are, and each count with its word
 abbrev pub count_words : Counts → List (List ℕ)
 count_words c =
-    codes "made" ∷ codes "lines" ∷ decimal command_count ∷ codes "ok" ∷ decimal c.sold ∷ codes "no" ∷ decimal c.no_leg ∷ codes "fare" ∷ decimal c.no_fare
-    ∷ codes "cancelled" ∷ decimal c.cancelled ∷ codes "unknown" ∷ decimal c.unknown ∷ codes "legs" ∷ decimal c.legs ∷ codes "optimised" ∷ decimal c.optimised
-    ∷ codes "overflow" ∷ decimal c.overflow ∷ []
+    codes "made" ∷ codes "lines" ∷ decimal command_count ∷ codes "ok" ∷ decimal c.sold ∷ codes "no" ∷ decimal c.no_leg
+    ∷ codes "fare" ∷ decimal c.no_fare ∷ codes "cancelled" ∷ decimal c.cancelled ∷ codes "unknown" ∷ decimal c.unknown
+    ∷ codes "legs" ∷ decimal c.legs ∷ codes "optimised" ∷ decimal c.optimised ∷ codes "overflow" ∷ decimal c.overflow ∷ []
 
 -- and the revenue and the word of hindsight
 abbrev pub summary_words : Counts → ℕ → List ℕ → List (List ℕ)
@@ -73,9 +74,12 @@ summary_words c revenue hindsight = count_words c ++ codes "revenue" ∷ decimal
 
 -- the summary of replies of which the last is to hindsight, and of the bookings that stand
 abbrev pub summary_line : NetworkValue → List Reply → SeatState → List ℕ
-summary_line net replies s = text_line (summary_words (counts_from nothing_counted replies) (revenue_of (inventory_of net) s.bookings) (hindsight_word (last_of replies)))
+summary_line net replies s =
+    text_line (summary_words (counts_from nothing_counted replies) (revenue_of (inventory_of net) s.bookings)
+    (hindsight_word (last_of replies)))
 
--- a text is the summary of a run from the opening with a plan, over the commands that are made of a number, in which no line wants for memory
+-- a text is the summary of a run from the opening with a plan, over the commands that are made of a number, in which no
+-- line wants for memory
 pub record MadeRun (net : NetworkValue) (plan : PlanValue) (number : ℕ) (text : List ℕ) : Type 0 where
   pub replies : List Reply
   pub last : SeatState

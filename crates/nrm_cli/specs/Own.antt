@@ -34,7 +34,8 @@ OwnCertificatesPass = (net : NetworkValue) → IsNetwork net → (n : ℕ) (t : 
 abbrev pub OptimalCertificatesPass : Type 0
 OptimalCertificatesPass = (net : NetworkValue) → IsNetwork net → (n : ℕ) (t : Tableau) → Closes size_limit (opening_program net) n t
     → (given : Certificate) → HasShape size_limit (length net.products) (length net.legs) given
-    → IsOptimalAllocation (opening_program net) (nat_abs given.q) (sizes given.x) → IsOptimalPrices (opening_program net) (nat_abs given.den) (sizes given.p)
+    → IsOptimalAllocation (opening_program net) (nat_abs given.q) (sizes given.x)
+    → IsOptimalPrices (opening_program net) (nat_abs given.den) (sizes given.p)
     → nat_abs given.value ≡ cost (opening_program net) (nat_abs given.den) (sizes given.p)
     → verdict_on (opening_program net) given ≡ Optimal
 
@@ -51,8 +52,8 @@ pub record WasPlanned (contents : Option (List ℕ)) (text : List ℕ) : Type 0 
   pub held_after : after.held ≡ Some (held ++ text)
   pub ends : Ends (Some (plan_file mode.Bid file)) before after status.Done
 
--- if the words ask for a certificate to be checked that is the text which such a call wrote of the same network file, and neither files nor output failed,
--- `optimal` is written, or memory ran out
+-- if the words ask for a certificate to be checked that is the text which such a call wrote of the same network file,
+-- and neither files nor output failed, `optimal` is written, or memory ran out
 abbrev pub PlannedPasses : Option Job → Outside → Outside → Status → Type 0
 PlannedPasses asked before after s =
     (file certificate text : List ℕ) (files : Folder) → asked ≡ Some (check_file file certificate) → before.files ≡ Some files

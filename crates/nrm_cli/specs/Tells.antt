@@ -18,7 +18,8 @@ use Rattle.nrm_gen.specs.MadeNetwork.{made_network}
 use Rattle.nrm_opening.specs.Outside.{Outside, OnFile, FilesFailed, Wrote, WroteCut, LeftStream}
 use Rattle.nrm_opening.specs.Refusals.{Refusal, network_under, refusal_line, file_fault_line}
 use Rattle.nrm_cli.specs.Certificates.{LacksCertificate, certificate_under, lacking_line, verdict_line}
-use Rattle.nrm_cli.specs.Jobs.{Job, run_file, plan_file, check_file, print_file, run_made, mode_of_job, NamesFile, usage_line, overflow_line, told_pivots}
+use Rattle.nrm_cli.specs.Jobs.{Job, run_file, plan_file, check_file, print_file, run_made, mode_of_job, NamesFile, usage_line}
+use Rattle.nrm_cli.specs.Jobs.{overflow_line, told_pivots}
 use Rattle.nrm_cli.specs.Made.{MadeRun}
 use Rattle.nrm_cli.specs.declared.status.Status.{Status}
 use Rattle.nrm_cli.specs.declared.status.Status.TheVariants as status
@@ -69,24 +70,33 @@ Gives asked before net given = Reads asked before net (λ contents. certificate_
 abbrev pub Lacks : Option Job → Outside → NetworkValue → LacksCertificate → Type 0
 Lacks asked before net reason = Reads asked before net (λ contents. certificate_under net contents ≡ Err reason)
 
--- a text, the status that goes with it, and why it is told. A plan is that of period 1 with every seat left. A verdict is that on the certificate for the program of period 1 with
--- every seat left: `optimal` where allocation and bid prices are optimal, whoever made them, and else the first condition that fails
+-- a text, the status that goes with it, and why it is told. A plan is that of period 1 with every seat left. A verdict
+-- is that on the certificate for the program of period 1 with every seat left: `optimal` where allocation and bid
+-- prices are optimal, whoever made them, and else the first condition that fails
 pub data Tells (asked : Option Job) (before after : Outside) : Status → List ℕ → Type 0 where
   usage : asked ≡ None → Tells asked before after status.Usage usage_line
   refused : (refusal : Refusal) → Refuses asked before refusal → Tells asked before after status.Refused (refusal_line refusal)
-  lacking : (net : NetworkValue) (reason : LacksCertificate) → Lacks asked before net reason → Tells asked before after status.Refused (lacking_line net reason)
-  optimal : (net : NetworkValue) (given : Certificate) → Gives asked before net given → verdict_on (opening_program net) given ≡ verdict.Optimal
+  lacking : (net : NetworkValue) (reason : LacksCertificate) → Lacks asked before net reason
+      → Tells asked before after status.Refused (lacking_line net reason)
+  optimal : (net : NetworkValue) (given : Certificate) → Gives asked before net given
+      → verdict_on (opening_program net) given ≡ verdict.Optimal
       → Certifies size_limit (opening_program net) given → Tells asked before after status.Done (verdict_line net verdict.Optimal)
-  wrong : (net : NetworkValue) (given : Certificate) (found : Verdict) → Gives asked before net given → verdict_on (opening_program net) given ≡ found
+  wrong : (net : NetworkValue) (given : Certificate) (found : Verdict) → Gives asked before net given
+      → verdict_on (opening_program net) given ≡ found
       → found ≢ verdict.Optimal → found ≢ verdict.WrongShape → Tells asked before after status.Wrong (verdict_line net found)
-  planned : (m : Mode) (file : List ℕ) (net : NetworkValue) (plan : PlanValue) → Opens asked (plan_file m file) before net → IsOpeningPlan net m plan
+  planned : (m : Mode) (file : List ℕ) (net : NetworkValue) (plan : PlanValue) → Opens asked (plan_file m file) before net
+      → IsOpeningPlan net m plan
       → Tells asked before after status.Done (plan_text net plan)
-  overflow : (job : Job) (m : Mode) (net : NetworkValue) (n : ℕ) (number : ℤ) → mode_of_job job ≡ Some m → Opens asked job before net → OpeningOverflows net m n number
+  overflow : (job : Job) (m : Mode) (net : NetworkValue) (n : ℕ) (number : ℤ) → mode_of_job job ≡ Some m → Opens asked job before net
+      → OpeningOverflows net m n number
       → Tells asked before after status.Overflow (overflow_line (told_pivots n) number)
-  summed : (m : Mode) (number : ℕ) (plan : PlanValue) (text : List ℕ) → asked ≡ Some (run_made m number) → IsOpeningPlan (made_network number) m plan
+  summed : (m : Mode) (number : ℕ) (plan : PlanValue) (text : List ℕ) → asked ≡ Some (run_made m number)
+      → IsOpeningPlan (made_network number) m plan
       → MadeRun (made_network number) plan number text → Tells asked before after status.Done text
-  printed : (file : List ℕ) (net : NetworkValue) → Opens asked (print_file file) before net → Tells asked before after status.Done (canonical_file net)
-  file_fault : (job : Job) → asked ≡ Some job → NamesFile job → FilesFailed before after → Tells asked before after status.FileFault file_fault_line
+  printed : (file : List ℕ) (net : NetworkValue) → Opens asked (print_file file) before net
+      → Tells asked before after status.Done (canonical_file net)
+  file_fault : (job : Job) → asked ≡ Some job → NamesFile job → FilesFailed before after
+      → Tells asked before after status.FileFault file_fault_line
 
 -- it was written whole, or cut; the stream was not touched
 pub record Told (asked : Option Job) (before after : Outside) (s : Status) : Type 0 where

@@ -72,24 +72,13 @@ pub(crate) fn open_certificate<F: Files>(
     }
 }
 
-// A line of this text.
-fn line_of(text: &[u8]) -> Line
-    requires { length text.now ≤ 512 }
-    ensures { result ≡ text.now }
-{
-    let mut line = Line::new();
-    line.push_bytes(text);
-    line
-}
-
 // A line of this text, a name and the end of the line.
 fn line_naming(text: &[u8], name: &Name) -> Line
     requires { length text.now ≤ 100 }
     ensures { result ≡ text.now ++ name.now ++ 10 ∷ [] }
 {
-    let mut line = Line::new();
-    line.push_bytes(text);
-    line.push_bytes(name.bytes());
+    let mut line = Line::of_bytes(text);
+    line.push_name(name);
     line.push_bytes(b"\n");
     line
 }
@@ -101,9 +90,8 @@ fn line_numbering(text: &[u8], number: u32, end: &[u8]) -> Line
     requires end { length end.now ≤ 100 }
     ensures { result ≡ text.now ++ decimal number ++ end.now }
 {
-    let mut line = Line::new();
-    line.push_bytes(text);
-    line.push_whole(u128::from(number));
+    let mut line = Line::of_bytes(text);
+    line.push_u64(u64::from(number));
     line.push_bytes(end);
     line
 }
@@ -114,12 +102,12 @@ fn line_of_fault(net: &Network, fault: CertFault) -> Option<Line>
     ensures { result ≡ option_map (λ cause. lacking_line net.now (refused_for cause)) (refusal_of fault) }
 {
     let line = match fault {
-        CertFault::Long => line_of(b"refused certificate long\n"),
+        CertFault::Long => Line::of_bytes(b"refused certificate long\n"),
         CertFault::Line(number) => line_numbering(b"refused certificate line ", number, b"\n"),
         CertFault::Large(number) => {
             line_numbering(b"refused certificate line ", number, b" large\n")
         }
-        CertFault::NoValue => line_of(b"refused certificate no value\n"),
+        CertFault::NoValue => Line::of_bytes(b"refused certificate no value\n"),
         CertFault::NoProduct(product) => {
             line_naming(
                 b"refused certificate no product ",
@@ -127,7 +115,7 @@ fn line_of_fault(net: &Network, fault: CertFault) -> Option<Line>
             )
         }
         CertFault::NoLeg(leg) => line_naming(b"refused certificate no leg ", &net.leg_at(leg).name),
-        CertFault::TooFine => line_of(b"refused certificate too fine\n"),
+        CertFault::TooFine => Line::of_bytes(b"refused certificate too fine\n"),
         CertFault::NoMemory => return None,
     };
     Some(line)
@@ -140,9 +128,9 @@ impl NoCertificate {
         ensures { result ≡ lack_line net.now self }
     {
         match self {
-            NoCertificate::Absent => Some(line_of(b"refused certificate no file\n")),
+            NoCertificate::Absent => Some(Line::of_bytes(b"refused certificate no file\n")),
             NoCertificate::Unread(fault) => line_of_fault(net, fault),
-            NoCertificate::Fault => Some(line_of(b"file fault\n")),
+            NoCertificate::Fault => Some(Line::of_bytes(b"file fault\n")),
         }
     }
 
@@ -163,12 +151,12 @@ pub(crate) fn line_of_verdict(net: &Network, verdict: Verdict) -> Line
     ensures { result ≡ verdict_line net.now verdict }
 {
     match verdict {
-        Verdict::Optimal => line_of(b"optimal\n"),
-        Verdict::WrongShape => line_of(b"wrong shape\n"),
+        Verdict::Optimal => Line::of_bytes(b"optimal\n"),
+        Verdict::WrongShape => Line::of_bytes(b"wrong shape\n"),
         Verdict::WrongProduct(product) => {
             line_naming(b"wrong product ", &net.product_at(product).name)
         }
         Verdict::WrongLeg(leg) => line_naming(b"wrong leg ", &net.leg_at(leg).name),
-        Verdict::WrongValue => line_of(b"wrong value\n"),
+        Verdict::WrongValue => Line::of_bytes(b"wrong value\n"),
     }
 }

@@ -59,7 +59,8 @@ fn check_certificate<F: Files, K: Sink>(
     files: &mut F,
     sink: &mut K,
 ) -> Status
-    ensures checks { ChecksFile net.now (F.contents files.old) name.now (K.held sink.old) (K.held sink.new) (F.faults files.old) (F.faults files.new) (K.faults sink.old) (K.faults sink.new) result }
+    ensures checks { ChecksFile net.now (F.contents files.old) name.now (K.held sink.old) (K.held sink.new)
+        (F.faults files.old) (F.faults files.new) (K.faults sink.old) (K.faults sink.new) result }
     ensures files { F.contents files.new ≡ F.contents files.old }
     ensures later { K.faults sink.old ≤ K.faults sink.new }
     ensures sent { SentOn result (K.unsent sink.old) (K.unsent sink.new) }

@@ -7,7 +7,7 @@ ghost use Rattle.nrm_text.specs.Words.{text_line};
 ghost use Rattle.nrm_model.specs.Network.{NetworkValue};
 ghost use Rattle.nrm_control.specs.Standing.{ControlValue, IsControl};
 ghost use Rattle.nrm_session.specs.Answering.{IsTellable, reply_in};
-ghost use Rattle.nrm_gen.specs.MadeCommands.{made_commands};
+ghost use Rattle.nrm_gen.specs.MadeCommands.{command_count, made_commands};
 ghost use Rattle.nrm_cli.specs.Ends.{SentOn};
 ghost use Rattle.nrm_cli.specs.Jobs.{run_made as made_job};
 ghost use Rattle.nrm_cli.specs.Made.{count_words, hindsight_word, summary_words};
@@ -31,9 +31,9 @@ fn answer_all(
     controller: &mut Controller,
     maker: &mut Maker,
 ) -> Option<(Counts, Reply)>
-    requires next { controller.old.next ≤ 100000000000 }
+    requires next { controller.old.next ≡ 1 }
     requires kept { IsControl controller.old }
-    requires within { maker.old.given ≤ 10000 }
+    requires within { maker.old.given ≤ command_count }
     ensures { IfSome result (λ made. AnswersMade controller.old controller.new (rest_of maker.old) made.0 made.1) }
 {
     let mut counts = Counts::new();
@@ -48,34 +48,20 @@ fn answer_all(
     Some((counts, last))
 }
 
-// Appends a word and a number, with a space before each.
-#[tactic(auto, using(nrm_text::proofs::Decimals::short_decimal))]
-fn push_count(line: &mut Line, word: &[u8], count: u32)
-    requires { length line.old + length word.now + 22 ≤ 512 }
-    ensures text { line.new ≡ (line.old ++ 32 ∷ word.now) ++ 32 ∷ decimal count }
-    ensures length { length line.new ≤ length line.old + length word.now + 22 }
-{
-    line.push_bytes(b" ");
-    line.push_bytes(word);
-    line.push_bytes(b" ");
-    line.push_whole(u128::from(count));
-}
-
 // The words of the counts.
 fn line_of_counts(counts: &Counts) -> Line
     ensures text { result ≡ join_with_byte 32 (count_words counts.now) }
     ensures length { length result ≤ 280 }
 {
-    let mut line = Line::new();
-    line.push_bytes(b"made lines 10000");
-    push_count(&mut line, b"ok", counts.sold);
-    push_count(&mut line, b"no", counts.no_leg);
-    push_count(&mut line, b"fare", counts.no_fare);
-    push_count(&mut line, b"cancelled", counts.cancelled);
-    push_count(&mut line, b"unknown", counts.unknown);
-    push_count(&mut line, b"legs", counts.legs);
-    push_count(&mut line, b"optimised", counts.optimised);
-    push_count(&mut line, b"overflow", counts.overflow);
+    let mut line = Line::of_bytes(b"made lines 10000");
+    line.push_count(b"ok", u64::from(counts.sold));
+    line.push_count(b"no", u64::from(counts.no_leg));
+    line.push_count(b"fare", u64::from(counts.no_fare));
+    line.push_count(b"cancelled", u64::from(counts.cancelled));
+    line.push_count(b"unknown", u64::from(counts.unknown));
+    line.push_count(b"legs", u64::from(counts.legs));
+    line.push_count(b"optimised", u64::from(counts.optimised));
+    line.push_count(b"overflow", u64::from(counts.overflow));
     line
 }
 
@@ -94,14 +80,13 @@ fn push_hindsight(line: &mut Line, hindsight: Reply)
 }
 
 // The line that sums a made run up.
-#[tactic(auto, using(nrm_text::proofs::Decimals::short_decimal))]
 fn line_of_summary(counts: &Counts, revenue: u64, hindsight: Reply) -> Line
     requires { (net : NetworkValue) × IsTellable net hindsight }
-    ensures { (control : ControlValue) → result ≡ text_line (summary_words counts.now revenue (hindsight_word (reply_in control hindsight))) }
+    ensures { (control : ControlValue)
+        → result ≡ text_line (summary_words counts.now revenue (hindsight_word (reply_in control hindsight))) }
 {
     let mut line = line_of_counts(counts);
-    line.push_bytes(b" revenue ");
-    line.push_whole(u128::from(revenue));
+    line.push_count(b"revenue", revenue);
     line.push_bytes(b" hindsight ");
     push_hindsight(&mut line, hindsight);
     line.push_bytes(b"\n");
@@ -115,9 +100,9 @@ fn put_summary<K: Sink>(
     maker: &mut Maker,
     sink: &mut K,
 ) -> Status
-    requires next { controller.old.next ≤ 100000000000 }
+    requires next { controller.old.next ≡ 1 }
     requires kept { IsControl controller.old }
-    requires within { maker.old.given ≤ 10000 }
+    requires within { maker.old.given ≤ command_count }
     ensures puts { (net : NetworkValue) (number : ℕ) → HasBegun net controller.old → rest_of maker.old ≡ made_commands number
         → PutsSummary net controller.old.plan number (K.held sink.old) (K.held sink.new) (K.faults sink.old) (K.faults sink.new) result }
     ensures later { K.faults sink.old ≤ K.faults sink.new }

@@ -1,9 +1,8 @@
 //! One line, put with the status that goes with it.
-ghost use Rattle.std.specs.Prelude.{◌≡◌, ◌≤◌, ◌++◌, [], decimal, length, nat_abs, OnErr, OnOk};
+ghost use Rattle.std.specs.Prelude.{◌≡◌, ◌≤◌, [], OnErr, OnOk};
 ghost use Rattle.std.specs.Io.KnownBytes.{Appends};
 ghost use Rattle.nrm_edge.specs.Causes.{HasCause};
 ghost use Rattle.nrm_edge.specs.Pieces.{AppendsCut};
-ghost use Rattle.nrm_text.specs.Fractions.{sign_of};
 ghost use Rattle.nrm_cli.specs.Ends.{SentOn};
 ghost use Rattle.nrm_cli.specs.Jobs.{overflow_line};
 ghost use Rattle.nrm_cli.specs.Inner.Parts.{PutsLine, PutsReason, PutsUnplanned, status_for};
@@ -60,38 +59,15 @@ pub(crate) fn put_reason<K: Sink>(sink: &mut K, reason: NoNetwork) -> Status
     }
 }
 
-// Appends `-` before a negative number.
-fn push_sign(line: &mut Line, number: i128)
-    requires { length line.old ≤ 100 }
-    ensures text { line.new ≡ line.old ++ sign_of number }
-    ensures length { length line.new ≤ 101 }
-{
-    if number < 0 {
-        line.push_bytes(b"-");
-    }
-}
-
-// Appends a whole number, with its sign where it is negative.
-#[tactic(auto, using(crate::proofs::Wide::wide_decimal))]
-fn push_signed(line: &mut Line, number: i128)
-    requires { length line.old ≤ 100 }
-    ensures text { line.new ≡ line.old ++ (sign_of number ++ decimal (nat_abs number)) }
-    ensures length { length line.new ≤ 150 }
-{
-    push_sign(line, number);
-    line.push_whole(number.unsigned_abs());
-}
-
 // The line of a program that is Large.
-#[tactic(auto, using(nrm_text::proofs::Decimals::short_decimal))]
+#[tactic(auto, using(nrm_text::proofs::Decimals::short_decimal, nrm_text::proofs::Fractions::short_signed))]
 fn line_of_overflow(pivots: u32, number: i128) -> Line
     ensures { result ≡ overflow_line pivots number }
 {
-    let mut line = Line::new();
-    line.push_bytes(b"overflow after ");
-    line.push_whole(u128::from(pivots));
+    let mut line = Line::of_bytes(b"overflow after ");
+    line.push_u64(u64::from(pivots));
     line.push_bytes(b" pivots at ");
-    push_signed(&mut line, number);
+    line.push_signed(number);
     line.push_bytes(b"\n");
     line
 }

@@ -35,7 +35,7 @@ fn answer_stream<S: Source, K: Sink>(
     source: &mut S,
     sink: &mut K,
 ) -> End
-    requires { controller.old.next ≤ 100000000000 }
+    requires { controller.old.next ≡ 1 }
     ensures serves { let at = streams S.coming S.faults K.held K.faults in
         Serves controller.old controller.new (at source.old sink.old) (at source.new sink.new) stream_limit result }
     ensures counts { let at = streams S.coming S.faults K.held K.faults in

@@ -9,7 +9,11 @@ const NETWORK: &[u8] =
 
 // Four histories of one period.
 const DEMANDED: &[u8] =
-    b"periods,4,1\nleg,AB,10\nleg,BC,10\nproduct,ABH,400,AB\nproduct,ABL,150,AB\nproduct,ACH,500,AB,BC\nproduct,BCL,80,BC\nproduct,ACL,229,AB,BC\ndemand,ABH,1,2\ndemand,ABH,2,4\ndemand,ABH,3,3\ndemand,ABH,4,3\ndemand,ABL,1,6\ndemand,ABL,2,8\ndemand,ABL,3,5\ndemand,ABL,4,9\ndemand,ACH,1,4\ndemand,ACH,2,2\ndemand,ACH,3,6\ndemand,ACH,4,4\ndemand,BCL,1,7\ndemand,BCL,2,9\ndemand,BCL,3,8\ndemand,BCL,4,8\n";
+    b"periods,4,1\nleg,AB,10\nleg,BC,10\nproduct,ABH,400,AB\nproduct,ABL,150,AB\nproduct,ACH,500,AB,BC\n\
+    product,BCL,80,BC\nproduct,ACL,229,AB,BC\ndemand,ABH,1,2\ndemand,ABH,2,4\ndemand,ABH,3,3\n\
+    demand,ABH,4,3\ndemand,ABL,1,6\ndemand,ABL,2,8\ndemand,ABL,3,5\ndemand,ABL,4,9\ndemand,ACH,1,4\n\
+    demand,ACH,2,2\ndemand,ACH,3,6\ndemand,ACH,4,4\ndemand,BCL,1,7\ndemand,BCL,2,9\ndemand,BCL,3,8\n\
+    demand,BCL,4,8\n";
 
 const OPTIMAL: &[u8] =
     b"value 4130/1\nproduct ABH 3/1\nproduct ABL 3/1\nproduct ACH 4/1\nproduct BCL 6/1\nproduct ACL 0/1\nleg AB 150/1\nleg BC 80/1\n";
@@ -24,7 +28,8 @@ const STREAM: &[u8] = b"book THRU 2\nbook THRU 1\nbook LOC 1\nbook LOC 1\nbook X
 
 // A price so fine that its denominator is the limit.
 const FINE: &[u8] =
-    b"value 4130/1\nproduct ABH 3/1\nproduct ABL 3/1\nproduct ACH 4/1\nproduct BCL 6/1\nproduct ACL 0/1\nleg AB 150/1\nleg BC 1/281474976710656\n";
+    b"value 4130/1\nproduct ABH 3/1\nproduct ABL 3/1\nproduct ACH 4/1\nproduct BCL 6/1\nproduct ACL 0/1\n\
+    leg AB 150/1\nleg BC 1/281474976710656\n";
 
 // The files, of which the fetches with these numbers fail.
 fn files(alloc: Global, failing: &[u64]) -> Result<MemFiles, AllocError> {
@@ -313,7 +318,9 @@ fn a_made_run_is_summed_up(rt: HostRuntime) -> Result<(), Fail> {
     assert_eq!(rt; status, Status::Done);
     assert_eq!(rt;
         sink.held(),
-        b"made lines 10000 ok 791 no 6721 fare 0 cancelled 397 unknown 1575 legs 512 optimised 3 overflow 0 revenue 193932 hindsight 299535/1\n".as_slice()
+        b"made lines 10000 ok 791 no 6721 fare 0 cancelled 397 unknown 1575 legs 512 optimised 3 overflow 0 \
+        revenue 193932 hindsight 299535/1\n"
+            .as_slice()
     );
     Ok(())
 }

@@ -3,7 +3,8 @@ ghost use Rattle.std.specs.Prelude.{map, option_map, string_bytes};
 ghost use Rattle.nrm_session.specs.Headline.{RequestsAreAnswered};
 ghost use Rattle.nrm_session.specs.Hindsight.{HindsightBounds};
 ghost use Rattle.nrm_session.specs.LastPlan.{PrintedPricesAreOptimal};
-ghost use Rattle.nrm_session.specs.Laws.{EachListHasARun, OtherLinesNeedNoMemory, PlansAreKept, RepliesAreDetermined, RunsHaveFirstParts, SeatsAreKept, StatesAreDetermined};
+ghost use Rattle.nrm_session.specs.Laws.{EachListHasARun, OtherLinesNeedNoMemory, PlansAreKept, RepliesAreDetermined, RunsHaveFirstParts};
+ghost use Rattle.nrm_session.specs.Laws.{SeatsAreKept, StatesAreDetermined};
 ghost use Rattle.nrm_opening.specs.Outside.{outside};
 ghost use Rattle.nrm_cli.specs.Call.{Call};
 ghost use Rattle.nrm_cli.specs.Ends.{SentOn};
@@ -58,21 +59,25 @@ fn run_asked<F: Files, S: Source, K: Sink>(
 /// that are made of a number, up to 4,294,967,295, on the network that is made of it, and sums the replies up in one line. MODE is `first`,
 /// `bid` or `davn`. All other words get the usage line.
 ///
-/// What the call says of itself: `call` ties the bytes that it took and wrote, the files and the counts of faults to its status, and where it answered a
-/// stream, to the run of a session over the lines of that stream (`Call`); `sent`, that nothing is kept back at the end.
+/// What the call says of itself: `call` ties the bytes that it took and wrote, the files and the counts of faults to
+/// its status, and where it answered a stream, to the run of a session over the lines of that stream (`Call`); `sent`,
+/// that nothing is kept back at the end.
 ///
-/// The other clauses are laws about every run of a session, and so about that one. A request for a product of the network is sold exactly when on every leg
-/// the party and what is kept from the product fit the seats left, and its fare reaches the sum of its legs' bid prices where the mode has them; else the
-/// first leg that is short is named, or the fare, and no other reply is given; what is sold stands (`requests`). No leg has more seats sold than it
-/// has (`seats`). The plan in force is one of the network, and in the modes that solve programs its bid prices are optimal duals (`optimal`); what a
-/// `plan` line prints is the text of such a plan, for the seats left and from the period of the last line that was answered `optimised` (`printed`). At
-/// each line of hindsight that tells a value, no selection of the requests so far, sold or not, cancelled or not, each whole and at most once, that fits
-/// the seats earns more, an allocation of their program earns just that, and the bookings that stand are such a selection, which earns the revenue beside
-/// it (`hindsight`). The commands of a session have one list of replies and one last state where no line runs out of memory (`determined`), and such a
-/// list (`there`); with the replies given the states are one (`states`); a first part of a run is a run, so each law holds in every state on the
-/// way (`parts`). A line runs out of memory only where a program is solved, and then nothing changes (`free`). What a file gives is a network as the laws
-/// ask for (`networks`). The text of what the solver finds for a network passes the check (`own`), and so does each certificate whose allocation and bid
-/// prices are optimal and whose value is their cost (`others`).
+/// The other clauses are laws about every run of a session, and so about that one. A request for a product of the
+/// network is sold exactly when on every leg the party and what is kept from the product fit the seats left, and its
+/// fare reaches the sum of its legs' bid prices where the mode has them; else the first leg that is short is named, or
+/// the fare, and no other reply is given; what is sold stands (`requests`). No leg has more seats sold than it has
+/// (`seats`). The plan in force is one of the network, and in the modes that solve programs its bid prices are optimal
+/// duals (`optimal`); what a `plan` line prints is the text of such a plan, for the seats left and from the period of
+/// the last line that was answered `optimised` (`printed`). At each line of hindsight that tells a value, no selection
+/// of the requests so far, sold or not, cancelled or not, each whole and at most once, that fits the seats earns more,
+/// an allocation of their program earns just that, and the bookings that stand are such a selection, which earns the
+/// revenue beside it (`hindsight`). The commands of a session have one list of replies and one last state where no line
+/// runs out of memory (`determined`), and such a list (`there`); with the replies given the states are one (`states`);
+/// a first part of a run is a run, so each law holds in every state on the way (`parts`). A line runs out of memory
+/// only where a program is solved, and then nothing changes (`free`). What a file gives is a network as the laws ask
+/// for (`networks`). The text of what the solver finds for a network passes the check (`own`), and so does each
+/// certificate whose allocation and bid prices are optimal and whose value is their cost (`others`).
 pub fn run<F: Files, S: Source, K: Sink>(
     alloc: Global,
     words: &[String],

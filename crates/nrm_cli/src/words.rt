@@ -1,11 +1,14 @@
 //! The words of the command line.
-ghost use Rattle.std.specs.Prelude.{◌≡◌, bytes_eq, is_some, map, option_map, string_bytes};
+ghost use Rattle.std.specs.Prelude.{◌≡◌, is_some, map, option_map, string_bytes};
 ghost use Rattle.nrm_cli.specs.Inner.Parts.{job_in};
 ghost use Rattle.nrm_text.specs.Numbers.{whole_between};
 ghost use Rattle.nrm_cli.specs.Jobs.{job_of, made_run_of, mode_of};
 
 use nrm_model::Mode;
-use nrm_text::read_whole;
+use nrm_text::{is_word, read_whole};
+
+// The last number that a network and its commands are made of.
+const LAST_MADE: u32 = u32::MAX;
 
 /// What the words ask for.
 #[derive(Clone, Copy)]
@@ -17,22 +20,15 @@ pub(crate) enum Asked<'a> {
     Made(Mode, u32),
 }
 
-// Whether a word is this one.
-fn is_word(word: &String, wanted: &str) -> bool
-    ensures { result ≡ bytes_eq (string_bytes word.now) wanted.now }
-{
-    word.as_str() == wanted
-}
-
 // The mode of a word.
 fn mode_in(word: &String) -> Option<Mode>
     ensures { result ≡ mode_of (string_bytes word.now) }
 {
-    if is_word(word, "first") {
+    if is_word(word.as_bytes(), b"first") {
         Some(Mode::FirstCome)
-    } else if is_word(word, "bid") {
+    } else if is_word(word.as_bytes(), b"bid") {
         Some(Mode::Bid)
-    } else if is_word(word, "davn") {
+    } else if is_word(word.as_bytes(), b"davn") {
         Some(Mode::Davn)
     } else {
         None
@@ -41,10 +37,11 @@ fn mode_in(word: &String) -> Option<Mode>
 
 // The made run of a mode and a number.
 fn made_run_in(mode: &String, number: &String) -> Option<Asked<'static>>
-    ensures { option_map job_in result ≡ made_run_of (mode_of (string_bytes mode.now)) (whole_between 0 4294967295 (string_bytes number.now)) }
+    ensures { option_map job_in result
+        ≡ made_run_of (mode_of (string_bytes mode.now)) (whole_between 0 LAST_MADE (string_bytes number.now)) }
 {
     let mode = mode_in(mode)?;
-    match read_whole(number.as_bytes(), u64::from(u32::MAX)) {
+    match read_whole(number.as_bytes(), u64::from(LAST_MADE)) {
         Ok(number) => Some(Asked::Made(mode, number as u32)),
         Err(_) => None,
     }
@@ -62,19 +59,19 @@ pub(crate) fn asked_in(words: &[String]) -> Option<Asked<'_>>
     ensures { option_map job_in result ≡ job_of (map string_bytes words.now) }
 {
     match words {
-        [verb, file] if is_word(verb, "print") => Some(Asked::Print(file.as_str())),
-        [verb, mode, file] if is_word(verb, "run") => match mode_in(mode) {
+        [verb, file] if is_word(verb.as_bytes(), b"print") => Some(Asked::Print(file.as_str())),
+        [verb, mode, file] if is_word(verb.as_bytes(), b"run") => match mode_in(mode) {
             Some(mode) => Some(Asked::Run(mode, file.as_str())),
             None => None,
         },
-        [verb, mode, file] if is_word(verb, "plan") => match mode_in(mode) {
+        [verb, mode, file] if is_word(verb.as_bytes(), b"plan") => match mode_in(mode) {
             Some(mode) => Some(Asked::Plan(mode, file.as_str())),
             None => None,
         },
-        [verb, file, certificate] if is_word(verb, "check") => {
+        [verb, file, certificate] if is_word(verb.as_bytes(), b"check") => {
             Some(Asked::Check(file.as_str(), certificate.as_str()))
         }
-        [verb, mode, number] if is_word(verb, "gen") => made_run_in(mode, number),
+        [verb, mode, number] if is_word(verb.as_bytes(), b"gen") => made_run_in(mode, number),
         _ => None,
     }
 }

@@ -1,5 +1,6 @@
 -- A row of fractions over its least common denominator is in lowest terms, so the certificate of a closing is.
-use Rattle.std.proofs.Common.{◌≡◌, ℕ, zero, suc, ◌*◌, ◌/◌, ◌<◌, ◌≤◌, ℤ, pos, ◌*ℤ◌, nat_abs, arith, refl, sym, ap, ◌∙◌, subst, List, [], ◌∷◌, map, length}
+use Rattle.std.proofs.Common.{◌≡◌, ℕ, zero, suc, ◌*◌, ◌/◌, ◌<◌, ◌≤◌, ℤ, pos, ◌*ℤ◌, nat_abs, arith, refl, sym, ap, ◌∙◌, subst, List, [], ◌∷◌}
+use Rattle.std.proofs.Common.{map, length}
 use Prim.Native.Nat.{◌∣◌}
 use Rattle.std.proofs.lemmas.Nat.Gcd.{dvd_refl, dvd_trans, le_of_dvd}
 use Rattle.std.proofs.lemmas.Int.{unsigned_abs-mul}
@@ -42,7 +43,8 @@ den-dvd-rest x g r some whole divides =
 abbrev unsigned : List ℤ → List ℤ
 unsigned ns = map (λ n. pos n) (map (λ n. nat_abs n) ns)
 
-common-dvd-rest : (xs : List Fraction) (g r : ℕ) → 0 < g → common xs ∣ r * g → g ∣ gcd_all (r * g) (unsigned (numerators (r * g) xs)) → common xs ∣ r
+common-dvd-rest : (xs : List Fraction) (g r : ℕ) → 0 < g → common xs ∣ r * g → g ∣ gcd_all (r * g) (unsigned (numerators (r * g) xs))
+    → common xs ∣ r
 common-dvd-rest [] g r some whole divides = one-dvd r
 common-dvd-rest (x ∷ xs) g r some whole divides =
     let size : ℕ = nat_abs (x.num *ℤ pos (r * g / x.den)) in
@@ -86,7 +88,9 @@ closing_lowest : (a : ProgramValue) (t : Tableau) → IsLowest (certificate a t)
 closing_lowest a t = record { allocation = over_common_lowest (product_values a t); prices = over_common_lowest (leg_prices a t) }
 
 -- a program with the network's legs and products asks for the same shape
-closing_shaped : (net : NetworkValue) (a : ProgramValue) (t : Tableau) → length a.bounds ≡ length net.products → length a.caps ≡ length net.legs → Certifies size_limit a (certificate a t) → HasShape size_limit (length net.products) (length net.legs) (certificate a t)
+closing_shaped : (net : NetworkValue) (a : ProgramValue) (t : Tableau) → length a.bounds ≡ length net.products
+    → length a.caps ≡ length net.legs → Certifies size_limit a (certificate a t)
+    → HasShape size_limit (length net.products) (length net.legs) (certificate a t)
 closing_shaped net a t products legs h =
     subst (λ n. HasShape size_limit n (length net.legs) (certificate a t)) products (subst (λ n. HasShape size_limit (length a.bounds) n (certificate a t)) legs h.shape)
 

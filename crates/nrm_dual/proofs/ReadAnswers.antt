@@ -28,7 +28,8 @@ module _ (net : NetworkValue) (bytes : List ℕ) (sheet : Sheet) (histories : �
   pub file_answer : AnswersCertificate result (certificate_of net bytes)
   file_answer = subst (AnswersCertificate result) (sym file_is) answer
 
-pub answer_shaped : (net : NetworkValue) (bytes : List ℕ) (result : Result Certificate CertFault) → AnswersCertificate result (certificate_of net bytes) → IfOk result (HasShape size_limit (length net.products) (length net.legs))
+pub answer_shaped : (net : NetworkValue) (bytes : List ℕ) (result : Result Certificate CertFault)
+    → AnswersCertificate result (certificate_of net bytes) → IfOk result (HasShape size_limit (length net.products) (length net.legs))
 answer_shaped net bytes (Ok certificate) read = read_shaped net bytes certificate read
 answer_shaped net bytes (Err cause) read = tt
 
@@ -38,7 +39,8 @@ refused_on : (refusal : Option CertRefusal) (read : Result Sheet CertRefusal) (n
 refused_on None read next file e is = tt
 refused_on (Some refusal) read next file e is = is ∙ ap (λ r. or_refusal r next) (same_Some read (Err refusal) e)
 
-pub lines_refuse : (net : NetworkValue) (bytes : List ℕ) (cause : CertFault) → length bytes ≤ 65536 → Refuses cause (after_lines net (blank net) 1 (lines_of bytes)) → AnswersCertificate (Err cause) (certificate_of net bytes)
+pub lines_refuse : (net : NetworkValue) (bytes : List ℕ) (cause : CertFault) → length bytes ≤ 65536
+    → Refuses cause (after_lines net (blank net) 1 (lines_of bytes)) → AnswersCertificate (Err cause) (certificate_of net bytes)
 lines_refuse net bytes cause short e =
     refused_on (refusal_of cause) (after_lines net (blank net) 1 (lines_of bytes)) (certificate_on net) (certificate_of net bytes) e
     (ap (λ long. if long then Err too_long else or_refusal (after_lines net (blank net) 1 (lines_of bytes)) (certificate_on net)) (not_long (length bytes) short))

@@ -1,5 +1,6 @@
 -- The certificate of a full sheet, where the sheet has the shares and bid prices of a certificate in lowest terms, is that certificate.
-use Rattle.std.proofs.Common.{◌≡◌, ℕ, suc, ◌*◌, ◌<◌, ◌^◌, ℤ, pos, ◌*ℤ◌, nat_abs, arith, refl, sym, ap, ap₂, ◌∙◌, List, [], ◌∷◌, map, length, get_or, All, cond, Option, Some, None, Ok}
+use Rattle.std.proofs.Common.{◌≡◌, ℕ, suc, ◌*◌, ◌<◌, ◌^◌, ℤ, pos, ◌*ℤ◌, nat_abs, arith, refl, sym, ap, ap₂, ◌∙◌, List, [], ◌∷◌, map, length}
+use Rattle.std.proofs.Common.{get_or, All, cond, Option, Some, None, Ok}
 use Rattle.std.specs.List.{range_with_len}
 use Rattle.std.proofs.lemmas.Bool.{lt-leb}
 use Rattle.std.proofs.lemmas.List.{length-map, get_or-map, same_lists}
@@ -16,8 +17,9 @@ use Rattle.nrm_fraction.proofs.Lowest.{common_is, numerators_are}
 use Rattle.nrm_model.specs.Network.{NetworkValue}
 use Rattle.nrm_lp.specs.declared.certificate.Certificate.{Certificate}
 use Rattle.nrm_lp.specs.Shape.{HasShape, IsNumber}
-use Rattle.nrm_dual.proofs.Sizes.{below_limit}
-use Rattle.nrm_dual.specs.Reading.{Written, Sheet, first_missing, times, certificate_over, certificate_or_refusal, small_or_refusal, whole_or_refusal, certificate_on, allocation_in, value_in, prices_in}
+use Rattle.nrm_lp.proofs.Sizes.{below_limit}
+use Rattle.nrm_dual.specs.Reading.{Written, Sheet, first_missing, times, certificate_over, certificate_or_refusal, small_or_refusal}
+use Rattle.nrm_dual.specs.Reading.{whole_or_refusal, certificate_on, allocation_in, value_in, prices_in}
 use Rattle.nrm_dual.specs.ReadBack.{IsLowest}
 
 -- a fraction that was written for n / d
@@ -35,7 +37,8 @@ times_written m d n k w is some h =
     turn m a d = omega arith
 
 -- a fraction for each number of a list
-given_each : (m d : ℕ) (ns : List ℤ) (w : ℕ → Written) → All (IsNumber size_limit) ns → 0 < d → ((j : ℕ) → IsWritten (get_or ns j (pos 0)) (d * m) (w j))
+given_each : (m d : ℕ) (ns : List ℤ) (w : ℕ → Written) → All (IsNumber size_limit) ns → 0 < d
+    → ((j : ℕ) → IsWritten (get_or ns j (pos 0)) (d * m) (w j))
     → map (times m) (map (λ j. Some (w j)) (range_with_len 0 (length ns))) ≡ fractions d ns
 given_each m d ns w small some h =
     same_lists (map (times m) given) (fractions d ns)
@@ -69,7 +72,8 @@ all_below [] h = refl
 all_below (n ∷ ns) h = one_below n ns (below_limit n (All-head (IsNumber size_limit) n ns h)) (all_below ns (All-tail (IsNumber size_limit) n ns h))
 
 -- a row in lowest terms isn't Large where its numbers are below the limit
-row_small : (d : ℕ) (ns : List ℤ) → 0 < d → d < 2 ^ 48 → gcd_all d ns ≡ 1 → All (IsNumber size_limit) ns → large_number size_limit (fractions d ns) ≡ None
+row_small : (d : ℕ) (ns : List ℤ) → 0 < d → d < 2 ^ 48 → gcd_all d ns ≡ 1 → All (IsNumber size_limit) ns
+    → large_number size_limit (fractions d ns) ≡ None
 row_small d ns some l lowest h =
     ap₂ (λ m ms. first_reaching size_limit (pos m ∷ ms)) (common_is d ns some lowest) (ap (λ m. numerators m (fractions d ns)) (common_is d ns some lowest) ∙ numerators_are d ns some)
     ∙ one_below (pos d) ns l (all_below ns h)

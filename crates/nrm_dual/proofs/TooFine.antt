@@ -1,5 +1,6 @@
 -- A number of the certificate is Large exactly where one is found on the way to it.
-use Rattle.std.proofs.Common.{◌≡◌, ℕ, ◌<◌, ◌^◌, ℤ, pos, arith, refl, sym, ap, ◌∙◌, subst, List, [], ◌∷◌, drop, get_or, Option, Some, None, Result, Ok, Err, to_z, of_z, w64}
+use Rattle.std.proofs.Common.{◌≡◌, ℕ, ◌<◌, ◌^◌, ℤ, pos, arith, refl, sym, ap, ◌∙◌, subst, List, [], ◌∷◌, drop, get_or, Option, Some, None}
+use Rattle.std.proofs.Common.{Result, Ok, Err, to_z, of_z, w64}
 use Prim.Native.Nat.{◌∣◌}
 use Rattle.std.proofs.lemmas.Bool.{lt-leb}
 use Rattle.std.proofs.lemmas.Nat.Gcd.{dvd_trans, dvd_refl, le_of_dvd}
@@ -26,7 +27,8 @@ use Rattle.nrm_fraction.proofs.Reaching.{reaching_no}
 use Rattle.nrm_fraction.proofs.Sizes.{small_same}
 
 -- each running denominator divides what all denominators divide
-running_small : (m d : ℕ) (xs : List Fraction) → 0 < m → m < 2 ^ 48 → 0 < d → d ∣ m → common xs ∣ m → first_reaching size_limit (running d xs) ≡ None
+running_small : (m d : ℕ) (xs : List Fraction) → 0 < m → m < 2 ^ 48 → 0 < d → d ∣ m → common xs ∣ m
+    → first_reaching size_limit (running d xs) ≡ None
 running_small m d [] some small h in_m all = refl
 running_small m d (x ∷ xs) some small h in_m all =
     let here : x.den ∣ m = dvd_trans x.den (dvd-lcm_left x.den (common xs)) all in
@@ -55,13 +57,15 @@ found_large xs n e = go (large_number size_limit xs) refl
     go None is = absurd (none-some n (sym (none_on_the_way xs is) ∙ e))
 
 -- an answer that fails by this fault answers as it does
-pub err_answer : (result : Result Certificate CertFault) (cause : CertFault) (file : Result Certificate CertRefusal) → IsErrAnd result (λ e. e ≡ cause)
+pub err_answer : (result : Result Certificate CertFault) (cause : CertFault) (file : Result Certificate CertRefusal)
+    → IsErrAnd result (λ e. e ≡ cause)
     → AnswersCertificate (Err cause) file → AnswersCertificate result file
 err_answer (Err e) cause file is h = subst (λ e. AnswersCertificate (Err e) file) (sym is) h
 err_answer (Ok certificate) cause file is h = absurd is
 
 -- a least common denominator keeps its value in 64 bits
-short_same : (xs : List Fraction) (d : ℤ) → d ≡ pos (common xs) → first_too_large size_limit xs ≡ None → to_z w64 (of_z w64 d) ≡ pos (common xs)
+short_same : (xs : List Fraction) (d : ℤ) → d ≡ pos (common xs) → first_too_large size_limit xs ≡ None
+    → to_z w64 (of_z w64 d) ≡ pos (common xs)
 short_same xs d is none =
     let w : (first_reaching size_limit (running 1 xs) ≡ None) × (first_reaching size_limit (numerators (common xs) xs) ≡ None) = reach_parts size_limit (running 1 xs) (numerators (common xs) xs) none in
     ap (λ z. to_z w64 (of_z w64 z)) is ∙ small_same (pos (common xs)) (common_below size_limit xs (omega arith) w.0)
@@ -71,20 +75,24 @@ module _ (shares : List Fraction) (value : Fraction) (prices : List Fraction) wh
   large_shares : (m : ℤ) → large_number size_limit shares ≡ Some m → certificate_or_refusal shares value prices ≡ Err too_fine
   large_shares m is = ap (λ o. small_or_refusal o (large_number size_limit (value ∷ prices)) (certificate_over shares value prices)) is
 
-  large_money : (m : ℤ) → large_number size_limit shares ≡ None → large_number size_limit (value ∷ prices) ≡ Some m → certificate_or_refusal shares value prices ≡ Err too_fine
+  large_money : (m : ℤ) → large_number size_limit shares ≡ None → large_number size_limit (value ∷ prices) ≡ Some m
+      → certificate_or_refusal shares value prices ≡ Err too_fine
   large_money m none is =
       ap (λ o. small_or_refusal o (large_number size_limit (value ∷ prices)) (certificate_over shares value prices)) none
       ∙ ap (λ o. small_or_refusal None o (certificate_over shares value prices)) is
 
-  pub fault_of_shares : (f : RowFault) → IsFault f (first_too_large size_limit shares) → AnswersCertificate (Err (cause_of f)) (certificate_or_refusal shares value prices)
+  pub fault_of_shares : (f : RowFault) → IsFault f (first_too_large size_limit shares)
+      → AnswersCertificate (Err (cause_of f)) (certificate_or_refusal shares value prices)
   fault_of_shares (Large n) e = let w = found_large shares n e in large_shares w.0 w.1
   fault_of_shares NoMemory e = tt
 
-  pub fault_of_money : (f : RowFault) → first_too_large size_limit shares ≡ None → IsFault f (first_too_large size_limit (value ∷ prices)) → AnswersCertificate (Err (cause_of f)) (certificate_or_refusal shares value prices)
+  pub fault_of_money : (f : RowFault) → first_too_large size_limit shares ≡ None → IsFault f (first_too_large size_limit (value ∷ prices))
+      → AnswersCertificate (Err (cause_of f)) (certificate_or_refusal shares value prices)
   fault_of_money (Large n) none e = let w = found_large (value ∷ prices) n e in large_money w.0 (none_large shares none) w.1
   fault_of_money NoMemory none e = tt
 
-  pub made_of_both : first_too_large size_limit shares ≡ None → first_too_large size_limit (value ∷ prices) ≡ None → certificate_or_refusal shares value prices ≡ Ok (certificate_over shares value prices)
+  pub made_of_both : first_too_large size_limit shares ≡ None → first_too_large size_limit (value ∷ prices) ≡ None
+      → certificate_or_refusal shares value prices ≡ Ok (certificate_over shares value prices)
   made_of_both none none_of_money =
       ap (λ o. small_or_refusal o (large_number size_limit (value ∷ prices)) (certificate_over shares value prices)) (none_large shares none)
       ∙ ap (λ o. small_or_refusal None o (certificate_over shares value prices)) (none_large (value ∷ prices) none_of_money)

@@ -1,5 +1,6 @@
 -- A line of a certificate that is written gives the fraction that it was written for.
-use Rattle.std.proofs.Common.{◌≡◌, ◌≢◌, ℕ, ◌-◌, ◌<◌, ◌≤◌, ◌^◌, ℤ, pos, nat_abs, arith, refl, ap, ap₂, ◌∙◌, List, [], ◌∷◌, ◌++◌, length, get_or, take, codes, All, true, false, cond, ◌==◌, nat_le, nat_lt, Some}
+use Rattle.std.proofs.Common.{◌≡◌, ◌≢◌, ℕ, ◌-◌, ◌<◌, ◌≤◌, ◌^◌, ℤ, pos, nat_abs, arith, refl, ap, ap₂, ◌∙◌, List, [], ◌∷◌, ◌++◌, length}
+use Rattle.std.proofs.Common.{get_or, take, codes, All, true, false, cond, ◌==◌, nat_le, nat_lt, Some}
 use Rattle.std.specs.Prelude.{decimal}
 use Rattle.std.specs.List.{slice_split, join_with_byte}
 use Rattle.std.specs.Option.{option_map}
@@ -14,8 +15,9 @@ use Rattle.nrm_text.proofs.Decimals.{is_whole-decimal, value_of-decimal}
 use Rattle.nrm_text.proofs.ReadBack as back
 use Rattle.nrm_lp.specs.Shape.{IsNumber}
 use Rattle.nrm_model.specs.Network.{NetworkValue, leg_named, product_named}
-use Rattle.nrm_dual.specs.Reading.{Written, written_by, written_in, the_value, of_product, of_leg, entry_at, entry_of_words, entry_of, is_over}
-use Rattle.nrm_dual.proofs.Sizes.{below_limit}
+use Rattle.nrm_dual.specs.Reading.{Written, written_by, written_in, the_value, of_product, of_leg, entry_at, entry_of_words, entry_of}
+use Rattle.nrm_dual.specs.Reading.{is_over}
+use Rattle.nrm_lp.proofs.Sizes.{below_limit}
 use Rattle.nrm_dual.proofs.SheetBack.{IsWritten}
 
 -- ---- the text of a fraction
@@ -75,7 +77,8 @@ joined_none c (word ∷ next ∷ more) other none =
     (All-cons (λ b. b ≢ c) 32 (join_with_byte 32 (next ∷ more)) other (joined_none c (next ∷ more) other (All-tail (HasNone c) word (next ∷ more) none)))
 
 -- the line of these words is read as these words
-pub line_back : (net : NetworkValue) (word : List ℕ) (more : List (List ℕ)) → All IsOneWord (word ∷ more) → entry_of net (join_with_byte 32 (word ∷ more)) ≡ entry_of_words net (word ∷ more)
+pub line_back : (net : NetworkValue) (word : List ℕ) (more : List (List ℕ)) → All IsOneWord (word ∷ more)
+    → entry_of net (join_with_byte 32 (word ∷ more)) ≡ entry_of_words net (word ∷ more)
 line_back net word more h =
     ap (λ l. entry_of_words net (slice_split (λ c. c == 32) l)) (no_return (join_with_byte 32 (word ∷ more)) (joined_none 13 (word ∷ more) (λ e. cc) (λ k d short. (h k d short).returns)))
     ∙ ap (entry_of_words net) (back.words word more (λ k d short. (h k d short).spaces))

@@ -1,5 +1,7 @@
 -- The text of a certificate is cut into its lines, and isn't long.
-use Rattle.std.proofs.Common.{◌≡◌, ◌≢◌, ℕ, zero, suc, ◌+◌, ◌*◌, ◌<◌, ◌≤◌, arith, refl, sym, ap, ◌∙◌, List, [], ◌∷◌, ◌++◌, map, length, get_or, flat_map, append_assoc, length-append, codes, AllPairs, IsTrue, true, not, cond, ◌==◌, bytes_eq, nat_le, ◌&&◌, Some}
+use Rattle.std.proofs.Common.{◌≡◌, ◌≢◌, ℕ, zero, suc, ◌+◌, ◌*◌, ◌<◌, ◌≤◌, arith, refl, sym, ap, ◌∙◌, List, [], ◌∷◌, ◌++◌, map, length}
+use Rattle.std.proofs.Common.{get_or, flat_map, append_assoc, length-append, codes, AllPairs, IsTrue, true, not, cond, ◌==◌, bytes_eq}
+use Rattle.std.proofs.Common.{nat_le, ◌&&◌, Some}
 use Rattle.std.specs.List.{list_all, position_from, range_with_len}
 use Rattle.std.proofs.lemmas.Bool.{ne_eqb, eqb-false, not-true, and_parts, leb-true}
 use Rattle.std.proofs.lemmas.List.{length-map, get_or-map, append-nil}
@@ -28,7 +30,8 @@ rows_cut row all rest none (suc n) a e =
     ∙ ap (λ lines. row a ∷ lines) (rows_cut row all rest none n (a + 1) (omega (arith, e)))
 
 -- a line, and rows of lines behind it
-pub text_cut : (line : List ℕ) (first second : ℕ → List ℕ) (m n : ℕ) → HasNone 10 line → ((j : ℕ) → j < m → HasNone 10 (first j)) → ((i : ℕ) → i < n → HasNone 10 (second i))
+pub text_cut : (line : List ℕ) (first second : ℕ → List ℕ) (m n : ℕ) → HasNone 10 line → ((j : ℕ) → j < m → HasNone 10 (first j))
+    → ((i : ℕ) → i < n → HasNone 10 (second i))
     → lines_of (((line ++ 10 ∷ []) ++ flat_map (λ j. first j ++ 10 ∷ []) (range_with_len 0 m)) ++ flat_map (λ i. second i ++ 10 ∷ []) (range_with_len 0 n))
     ≡ line ∷ (map first (range_with_len 0 m) ++ (map second (range_with_len 0 n) ++ []))
 text_cut line first second m n none none_first none_second =
@@ -41,14 +44,16 @@ text_cut line first second m n none none_first none_second =
     ∙ ap (λ lines. map first (range_with_len 0 m) ++ lines) (ap lines_of (sym (append-nil back)) ∙ rows_cut second n [] none_second n 0 (omega arith)))
 
 -- ---- how long it is
-rows_short : (row : ℕ → List ℕ) (all : ℕ) → ((j : ℕ) → j < all → length (row j) ≤ 100) → (n a : ℕ) → a + n ≡ all → length (flat_map row (range_with_len a n)) ≤ n * 100
+rows_short : (row : ℕ → List ℕ) (all : ℕ) → ((j : ℕ) → j < all → length (row j) ≤ 100) → (n a : ℕ) → a + n ≡ all
+    → length (flat_map row (range_with_len a n)) ≤ n * 100
 rows_short row all short zero a e = omega arith
 rows_short row all short (suc n) a e =
     let here : length (row a) ≤ 100 = short a (omega (arith, e)) in
     let rest : length (flat_map row (range_with_len (a + 1) n)) ≤ n * 100 = rows_short row all short n (a + 1) (omega (arith, e)) in
     omega (arith, here, rest, length-append (row a) (flat_map row (range_with_len (a + 1) n)))
 
-pub text_short : (line : List ℕ) (first second : ℕ → List ℕ) (m n : ℕ) → length line ≤ 100 → m ≤ 256 → n ≤ 64 → ((j : ℕ) → j < m → length (first j) ≤ 100) → ((i : ℕ) → i < n → length (second i) ≤ 100)
+pub text_short : (line : List ℕ) (first second : ℕ → List ℕ) (m n : ℕ) → length line ≤ 100 → m ≤ 256 → n ≤ 64
+    → ((j : ℕ) → j < m → length (first j) ≤ 100) → ((i : ℕ) → i < n → length (second i) ≤ 100)
     → length ((line ++ flat_map first (range_with_len 0 m)) ++ flat_map second (range_with_len 0 n)) ≤ 65536
 text_short line first second m n short few_first few_second short_first short_second =
     let front : List ℕ = flat_map first (range_with_len 0 m) in
@@ -60,7 +65,8 @@ text_short line first second m n short few_first few_second short_first short_se
 pub length-two_words : (kind text : List ℕ) → length (text_line (kind ∷ text ∷ [])) ≡ length kind + length text + 2
 length-two_words kind text = omega (arith, length-append (kind ++ 32 ∷ text) (10 ∷ []), length-append kind (32 ∷ text))
 
-pub length-three_words : (kind name text : List ℕ) → length (text_line (kind ∷ name ∷ text ∷ [])) ≡ length kind + length name + length text + 3
+pub length-three_words : (kind name text : List ℕ)
+    → length (text_line (kind ∷ name ∷ text ∷ [])) ≡ length kind + length name + length text + 3
 length-three_words kind name text =
     omega (arith, length-append (kind ++ 32 ∷ (name ++ 32 ∷ text)) (10 ∷ []), length-append kind (32 ∷ (name ++ 32 ∷ text)), length-append name (32 ∷ text))
 
@@ -83,7 +89,8 @@ pub word_leg : IsOneWord (codes "leg")
 word_leg = record { spaces = none_by 32 (codes "leg") refl; commas = none_by 44 (codes "leg") refl; returns = none_by 13 (codes "leg") refl; feeds = none_by 10 (codes "leg") refl }
 
 -- ---- where names differ, a thing is found by its name
-pub found_by_name : {X : Type 0} (name : X → List ℕ) (xs : List X) (d : X) (i k : ℕ) → i < length xs → AllPairs (λ a b. a ≢ b) (map name xs) → position_from (λ x. bytes_eq (name x) (name (get_or xs i d))) k xs ≡ Some (k + i)
+pub found_by_name : {X : Type 0} (name : X → List ℕ) (xs : List X) (d : X) (i k : ℕ) → i < length xs → AllPairs (λ a b. a ≢ b) (map name xs)
+    → position_from (λ x. bytes_eq (name x) (name (get_or xs i d))) k xs ≡ Some (k + i)
 found_by_name name [] d i k few apart = absurd (omega arith)
 found_by_name name (x ∷ xs) d zero k few apart =
     ap (λ b. cond b (Some k) (position_from (λ y. bytes_eq (name y) (name x)) (k + 1) xs)) ((bytes_eq-Decides (name x) (name x)).1 refl) ∙ ap Some (omega arith)

@@ -1,5 +1,6 @@
 -- The text of a certificate in lowest terms is read as that certificate.
-use Rattle.std.proofs.Common.{◌≡◌, ℕ, zero, suc, ◌*◌, ◌<◌, ◌≤◌, ◌^◌, ℤ, pos, nat_abs, arith, refl, sym, ap, ◌∙◌, subst, List, [], ◌∷◌, ◌++◌, map, length, get_or, codes, All, IsTrue, Some, Ok, Err}
+use Rattle.std.proofs.Common.{◌≡◌, ℕ, zero, suc, ◌*◌, ◌<◌, ◌≤◌, ◌^◌, ℤ, pos, nat_abs, arith, refl, sym, ap, ◌∙◌, subst, List, [], ◌∷◌, ◌++◌}
+use Rattle.std.proofs.Common.{map, length, get_or, codes, All, IsTrue, Some, Ok, Err}
 use Rattle.std.specs.Prelude.{if◌then◌else◌}
 use Rattle.std.specs.List.{join_with_byte, range_with_len}
 use Rattle.std.proofs.Math.Nat.{mul-le-mul_left, mul-pos, mul-one}
@@ -25,11 +26,12 @@ use Rattle.nrm_dual.specs.Refusals.{too_long}
 use Rattle.nrm_dual.specs.Reading.{Written, blank, after_lines, or_refusal, certificate_on, certificate_of}
 use Rattle.nrm_dual.specs.Texts.{value_line, product_line, leg_line, certificate_text}
 use Rattle.nrm_dual.specs.ReadBack.{IsLowest, WrittenIsRead}
-use Rattle.nrm_dual.proofs.Sizes.{below_limit}
+use Rattle.nrm_lp.proofs.Sizes.{below_limit}
 use Rattle.nrm_dual.proofs.SheetBack.{IsWritten, full_sheet, sheet_back}
 use Rattle.nrm_dual.proofs.WrittenFractions.{GivesBack, fraction_back, joined_none, line_back, value_entry, product_entry, leg_entry}
-use Rattle.nrm_dual.proofs.Filling.{sheet_filled}
-use Rattle.nrm_dual.proofs.WrittenLines.{text_cut, text_short, length-two_words, length-three_words, name_short, word_value, word_product, word_leg, found_by_name}
+use Rattle.nrm_dual.proofs.FilledSheet.{sheet_filled}
+use Rattle.nrm_dual.proofs.WrittenLines.{text_cut, text_short, length-two_words, length-three_words, name_short, word_value, word_product}
+use Rattle.nrm_dual.proofs.WrittenLines.{word_leg, found_by_name}
 
 -- a number of the list, or 0 past its end
 number_at : (ns : List ℤ) → All (IsNumber size_limit) ns → (j : ℕ) → IsNumber size_limit (get_or ns j (pos 0))

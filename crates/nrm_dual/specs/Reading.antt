@@ -1,6 +1,6 @@
 -- How a certificate is read: the lines of a file, in any order, give the value, an allocation for each product and a bid price for
 -- each leg, each of them once.
-use Rattle.std.specs.Prelude.{ℕ, suc, ◌*◌, ◌-◌, ◌^◌, ℤ, pos, Bool, ◌&&◌, ◌||◌, ◌==◌, List, [], ◌∷◌, length, map, set, get_or, replicate}
+use Rattle.std.specs.Prelude.{ℕ, suc, ◌*◌, ℤ, pos, Bool, ◌&&◌, ◌||◌, ◌==◌, List, [], ◌∷◌, length, map, set, get_or, replicate}
 use Rattle.std.specs.Prelude.{codes, bytes_eq, nat_lt, nat_le, Option, Some, None, Result, Ok, Err, if◌then◌else◌}
 use Rattle.std.specs.Option.{option_map}
 use Rattle.std.specs.List.{slice_split}
@@ -11,6 +11,7 @@ use Rattle.nrm_text.specs.Numbers.{is_whole, value_of}
 use Rattle.nrm_model.specs.Network.{NetworkValue, leg_named, product_named}
 use Rattle.nrm_model.specs.declared.limits.TheConstants.{MOST_CERTIFICATE_BYTES}
 use Rattle.nrm_stream.specs.Lines.{lines_of}
+use Rattle.nrm_dual.specs.declared.written.TheConstants.{GREATEST_NUMBER}
 use Rattle.nrm_lp.specs.declared.certificate.Certificate.{Certificate}
 use Rattle.nrm_dual.specs.Refusals.{CertRefusal, too_long, bad_line, large_line, no_value, no_product, no_leg, too_fine}
 
@@ -87,7 +88,7 @@ with_given sheet (of_leg i) fraction = record sheet { legs = set sheet.legs i (S
 
 -- whether a number exceeds the greatest that may be written
 abbrev pub is_over : Written → Bool
-is_over fraction = nat_lt (2 ^ 63 - 1) fraction.num || nat_lt (2 ^ 63 - 1) fraction.den
+is_over fraction = nat_lt GREATEST_NUMBER fraction.num || nat_lt GREATEST_NUMBER fraction.den
 
 -- the sheet after a line of this number: the line is of one of the forms, what it gives is new, and its numbers aren't too large
 abbrev pub after_entry : Sheet → ℕ → Entry → Option Written → Result Sheet CertRefusal

@@ -1,5 +1,5 @@
 //! The conditions behind the shape: for each of them how it fails at a product or a leg, and the least at which it does.
-#![tactic(auto, using(crate::proofs::Searches::found, crate::proofs::Searches::passed, crate::proofs::Searches::none_left))]
+#![tactic(auto, using(crate::proofs::LeastSearch::found, crate::proofs::LeastSearch::passed, crate::proofs::LeastSearch::none_left))]
 
 ghost use Rattle.std.specs.Prelude.{◌≡◌, ◌<◌, nat_abs, length};
 ghost use Rattle.nrm_lp.specs.Certified.{sizes};
@@ -7,7 +7,7 @@ ghost use Rattle.nrm_dual.specs.Conditions.{is_above_demand, is_above_capacity, 
 ghost use Rattle.nrm_dual.specs.Conditions.{is_accepted_below_bid_price, least};
 ghost use Rattle.nrm_dual.specs.Inner.Shapes.{HasItsShape};
 
-use crate::sums::{allotted, bound, cap, fare, load, price, price_sum};
+use crate::sums::{allotted, bound, cap, fare, load, price_sum};
 use nrm_lp::{Certificate, Program};
 
 /// The least product with more seats than its demand.
@@ -105,7 +105,8 @@ fn is_priced_with_seats_left(program: &Program, certificate: &Certificate, leg: 
     ensures { result ≡ is_priced_with_seats_left program.now (nat_abs certificate.now.q) (sizes certificate.now.x)
         (sizes certificate.now.p) leg }
 {
-    price(certificate, leg) > 0 && load(program, certificate, leg) < cap(program, certificate, leg)
+    certificate.bid_price(leg) > 0
+        && load(program, certificate, leg) < cap(program, certificate, leg)
 }
 
 fn is_rejected_above_bid_price(program: &Program, certificate: &Certificate, product: u16) -> bool

@@ -1,5 +1,5 @@
 //! What a line of a file gives a fraction for: the value, a product or a leg.
-ghost use Rattle.std.specs.Prelude.{◌≡◌, IfSome, MatchOption, None, Some, bytes_eq};
+ghost use Rattle.std.specs.Prelude.{◌≡◌, IfSome, MatchOption, None, Some};
 ghost use Rattle.std.specs.Option.{option_map};
 ghost use Rattle.nrm_model.specs.Limits.{IsNetwork};
 ghost use Rattle.nrm_dual.specs.Reading.{entry_at, entry_of, named_place, written_in};
@@ -7,7 +7,7 @@ ghost use Rattle.nrm_dual.specs.Inner.Sheets.{IsPlaceOf, meant};
 
 use nrm_model::Network;
 use nrm_stream::{split_once, without_carriage_return};
-use nrm_text::name_of;
+use nrm_text::{is_word, name_of};
 
 // The value, or a product or a leg by its number.
 #[derive(Clone, Copy)]
@@ -15,13 +15,6 @@ pub(crate) enum Place {
     Value,
     Product(u16),
     Leg(u8),
-}
-
-// Whether a word is this one.
-fn is_word(word: &[u8], wanted: &[u8]) -> bool
-    ensures { result ≡ bytes_eq word.now wanted.now }
-{
-    word == wanted
 }
 
 // The product or the leg of this name.

@@ -1,8 +1,8 @@
 //! Certificate files of a small network, worked by hand.
-use crate::{CertFault, read_certificate};
+use crate::{CertFault, Verdict, check, read_certificate};
 use nrm_lp::Certificate;
 use nrm_model::Network;
-use nrm_samples::two_legs_five_products;
+use nrm_samples::{two_legs_five_products, two_legs_five_products_program};
 use std::test::Fail;
 
 // Whether a certificate has these numbers.
@@ -13,8 +13,9 @@ fn is_certificate(read: &Certificate, q: i64, x: &[i64], den: i64, p: &[i64], va
 }
 
 #[test]
-fn files_are_read(rt: HostRuntime) -> Result<(), Fail> {
+fn files_are_read_and_checked(rt: HostRuntime) -> Result<(), Fail> {
     let net = two_legs_five_products(rt.alloc())?;
+    let program = two_legs_five_products_program(rt.alloc())?;
     let files = [
         b"value 4130/1\nproduct ABH 3/1\nproduct ABL 3/1\nproduct ACH 4/1\nproduct BCL 6/1\nproduct ACL 0/1\n\
           leg AB 150/1\nleg BC 80/1\n"
@@ -29,6 +30,7 @@ fn files_are_read(rt: HostRuntime) -> Result<(), Fail> {
     for file in files {
         let read = read_certificate(rt.alloc(), &net, file).expect(&rt, "a certificate");
         assert!(rt; is_certificate(&read, 1, &[12, 12, 16, 24, 0], 1, &[150, 80], 16520));
+        assert_eq!(rt; check(&program, &read), Verdict::Optimal);
     }
     Ok(())
 }
@@ -37,7 +39,8 @@ fn files_are_read(rt: HostRuntime) -> Result<(), Fail> {
 fn fractions_are_brought_over_one_denominator(rt: HostRuntime) -> Result<(), Fail> {
     let net = two_legs_five_products(rt.alloc())?;
     let halves =
-        b"value 4130/1\nproduct ABH 1/8\nproduct ABL 3/1\nproduct ACH 4/1\nproduct BCL 6/1\nproduct ACL 0/1\nleg AB 150/1\nleg BC 80/1\n";
+        b"value 4130/1\nproduct ABH 1/8\nproduct ABL 3/1\nproduct ACH 4/1\nproduct BCL 6/1\nproduct ACL 0/1\n\
+          leg AB 150/1\nleg BC 80/1\n";
     let read = read_certificate(rt.alloc(), &net, halves).expect(&rt, "a certificate");
     assert!(rt; is_certificate(&read, 2, &[1, 24, 32, 48, 0], 1, &[150, 80], 16520));
 

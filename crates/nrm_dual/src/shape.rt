@@ -1,5 +1,5 @@
 //! The first condition: lengths, denominators and the sizes of the numbers. The others read sizes alone.
-ghost use Rattle.std.specs.Prelude.{◌≡◌, ◌&&◌, ◌<◌, ◌^◌, ltb, eqb, nat_abs, length};
+ghost use Rattle.std.specs.Prelude.{◌≡◌, ◌&&◌, ◌<◌, ◌^◌, ◌==◌, nat_lt, nat_abs, length};
 ghost use Rattle.nrm_fraction.specs.Large.{size_limit};
 ghost use Rattle.nrm_lp.specs.Limits.{IsLimited};
 ghost use Rattle.nrm_dual.specs.Conditions.{are_small, has_shape, is_small};
@@ -20,7 +20,7 @@ pub(crate) fn has_shape(program: &Program, certificate: &Certificate) -> bool
 
 fn has_lengths(program: &Program, certificate: &Certificate) -> bool
     ensures lengths { result ≡
-        (eqb (length certificate.now.x) (length program.now.bounds) && eqb (length certificate.now.p) (length program.now.caps)) }
+        ((length certificate.now.x == length program.now.bounds) && (length certificate.now.p == length program.now.caps)) }
     ensures limits { IsLimited program.now }
 {
     certificate.x.as_slice().len() == program.bounds().len()
@@ -28,7 +28,7 @@ fn has_lengths(program: &Program, certificate: &Certificate) -> bool
 }
 
 fn has_denominators(certificate: &Certificate) -> bool
-    ensures { result ≡ (ltb 0 (nat_abs certificate.now.q) && ltb 0 (nat_abs certificate.now.den)) }
+    ensures { result ≡ (nat_lt 0 (nat_abs certificate.now.q) && nat_lt 0 (nat_abs certificate.now.den)) }
 {
     certificate.q != 0 && certificate.den != 0
 }

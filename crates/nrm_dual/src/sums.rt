@@ -1,6 +1,6 @@
 //! What the conditions compare: seats over `q`, money over `den`. Numbers of a certificate that has its shape are
 //! below 2^48, so that seats fit 64 bits and money 128.
-ghost use Rattle.std.specs.Prelude.{◌≡◌, ◌<◌, ◌≤◌, ◌*◌, ◌-◌, ◌^◌, nat_abs, length, get_or, All, []};
+ghost use Rattle.std.specs.Prelude.{◌≡◌, ◌<◌, ◌≤◌, ◌*◌, ◌-◌, ◌^◌, nat_abs, length, get_or, slice_index, All, []};
 ghost use Rattle.nrm_fraction.specs.Large.{size_limit};
 ghost use Rattle.nrm_lp.specs.Program.{cost, dot, load, price_sum, surplus};
 ghost use Rattle.nrm_lp.specs.Shape.{IsNumber};
@@ -13,27 +13,17 @@ use nrm_lp::{Certificate, Program};
 pub(crate) fn allotted(certificate: &Certificate, product: u16) -> u64
     requires within { product < length certificate.now.x }
     requires numbers { All (IsNumber size_limit) certificate.now.x }
-    ensures value { result ≡ get_or (sizes certificate.now.x) product 0 }
+    ensures value { result ≡ slice_index (sizes certificate.now.x) product }
     ensures limit { result < size_limit }
 {
     certificate.x.as_slice()[usize::from(product)].unsigned_abs()
-}
-
-/// The bid price of a leg, over `den`.
-pub(crate) fn price(certificate: &Certificate, leg: u8) -> u64
-    requires within { leg < length certificate.now.p }
-    requires numbers { All (IsNumber size_limit) certificate.now.p }
-    ensures value { result ≡ get_or (sizes certificate.now.p) leg 0 }
-    ensures limit { result < size_limit }
-{
-    certificate.p.as_slice()[usize::from(leg)].unsigned_abs()
 }
 
 /// The bound of a product, over `q`.
 pub(crate) fn bound(program: &Program, certificate: &Certificate, product: u16) -> u64
     requires shaped { HasItsShape program.now certificate.now }
     requires within { product < length program.now.bounds }
-    ensures { result ≡ nat_abs certificate.now.q * get_or program.now.bounds product 0 }
+    ensures { result ≡ nat_abs certificate.now.q * slice_index program.now.bounds product }
 {
     let bound = program.bounds()[usize::from(product)];
     certificate.q.unsigned_abs() * u64::from(bound)
@@ -43,7 +33,7 @@ pub(crate) fn bound(program: &Program, certificate: &Certificate, product: u16) 
 pub(crate) fn cap(program: &Program, certificate: &Certificate, leg: u8) -> u64
     requires shaped { HasItsShape program.now certificate.now }
     requires within { leg < length program.now.caps }
-    ensures { result ≡ nat_abs certificate.now.q * get_or program.now.caps leg 0 }
+    ensures { result ≡ nat_abs certificate.now.q * slice_index program.now.caps leg }
 {
     let cap = program.caps()[usize::from(leg)];
     certificate.q.unsigned_abs() * u64::from(cap)
@@ -53,7 +43,7 @@ pub(crate) fn cap(program: &Program, certificate: &Certificate, leg: u8) -> u64
 pub(crate) fn fare(program: &Program, certificate: &Certificate, product: u16) -> u128
     requires shaped { HasItsShape program.now certificate.now }
     requires within { product < length program.now.bounds }
-    ensures value { result ≡ nat_abs certificate.now.den * get_or program.now.fares product 0 }
+    ensures value { result ≡ nat_abs certificate.now.den * slice_index program.now.fares product }
     ensures limit { result < 2 ^ 75 }
 {
     let fare = program.fares()[usize::from(product)];
@@ -80,12 +70,7 @@ pub(crate) fn price_sum(program: &Program, certificate: &Certificate, product: u
     requires within { product < length program.now.bounds }
     ensures { result ≡ price_sum (sizes certificate.now.p) (get_or program.now.legs product []) }
 {
-    let mut sum = 0;
-    let legs = program.legs_of(product);
-    for leg in legs {
-        sum += u128::from(price(certificate, *leg));
-    }
-    sum
+    u128::from(certificate.price_sum(program.legs_of(product)))
 }
 
 /// The cost of the bid prices, over `den`: the caps at their prices, and the bounds at what each fare exceeds them by.
@@ -104,7 +89,7 @@ fn caps_cost(program: &Program, certificate: &Certificate) -> u128
     let mut sum = 0;
     for leg in 0..program.leg_count() {
         let cap = program.caps()[usize::from(leg)];
-        sum += u128::from(cap) * u128::from(price(certificate, leg));
+        sum += u128::from(cap) * u128::from(certificate.bid_price(leg));
     }
     sum
 }
@@ -125,8 +110,8 @@ fn bounds_cost(program: &Program, certificate: &Certificate) -> u128
 fn bound_cost(program: &Program, certificate: &Certificate, product: u16) -> u128
     requires shaped { HasItsShape program.now certificate.now }
     requires within { product < length program.now.bounds }
-    ensures value { result ≡ get_or program.now.bounds product 0 *
-        (nat_abs certificate.now.den * get_or program.now.fares product 0 - price_sum (sizes certificate.now.p)
+    ensures value { result ≡ slice_index program.now.bounds product *
+        (nat_abs certificate.now.den * slice_index program.now.fares product - price_sum (sizes certificate.now.p)
         (get_or program.now.legs product [])) }
     ensures limit { result ≤ 2 ^ 90 }
 {

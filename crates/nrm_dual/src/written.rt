@@ -10,7 +10,8 @@ use nrm_stream::split_once;
 use nrm_text::{NumberFault, read_whole};
 use std::marker::Model;
 
-const GREATEST: u64 = i64::MAX as u64;
+// The greatest number that may be written.
+const GREATEST_NUMBER: u64 = i64::MAX as u64;
 
 // A fraction as it is written. Its denominator is at least 1.
 #[derive(Clone, Copy)]
@@ -46,7 +47,10 @@ impl Written {
 fn written_by(num: &[u8], den: &[u8]) -> Result<Written, NumberFault>
     ensures { result ≡ fitting (written_by (num.now ∷ den.now ∷ [])) }
 {
-    match (read_whole(num, GREATEST), read_whole(den, GREATEST)) {
+    match (
+        read_whole(num, GREATEST_NUMBER),
+        read_whole(den, GREATEST_NUMBER),
+    ) {
         (Err(NumberFault::Off), _) | (_, Err(NumberFault::Off)) => Err(NumberFault::Off),
         (_, Ok(den)) if den == 0 => Err(NumberFault::Off),
         (Ok(num), Ok(den)) => Ok(Written { num, den }),

@@ -21,3 +21,4 @@ pub mod Named  -- whether a list of legs names one
 pub mod Certificates  -- a certificate that a reader can work out: two products and two legs, over five histories
 pub mod Facts  -- the facts of a path's tableaux, from those that each pivot keeps
 pub mod Positive  -- a pivot by the leaving rule keeps each row's list positive, and the value row's list rises
+pub mod Sizes  -- the sizes of numbers below a limit

@@ -1,5 +1,10 @@
 //! Certificates: an allocation and bid prices as whole numbers over two denominators, and the value.
-ghost use Rattle.std.specs.Prelude.{◌≡◌};
+ghost use Rattle.std.specs.Prelude.{◌≡◌, ◌<◌, ◌≤◌, ◌^◌, All, length, slice_index};
+ghost use Rattle.nrm_fraction.specs.Large.{size_limit};
+ghost use Rattle.nrm_lp.specs.Certified.{sizes};
+ghost use Rattle.nrm_lp.specs.Program.{price_sum};
+ghost use Rattle.nrm_lp.specs.Shape.{IsNumber};
+ghost use Rattle.nrm_lp.specs.declared.limits.TheConstants.{MOST_LEGS_OF_A_PRODUCT};
 
 use std::marker::Model;
 
@@ -47,4 +52,31 @@ pub struct Certificate {
     pub p: Numbers,
     /// The value, which is the cost of the bid prices in all histories: currency units, times `den`.
     pub value: i64,
+}
+
+impl Certificate {
+    /// The bid price of a leg, times `den`.
+    pub fn bid_price(&self, leg: u8) -> u64
+        requires prices { All (IsNumber size_limit) self.now.p }
+        requires leg { leg < length self.now.p }
+        ensures value { result ≡ slice_index (sizes self.now.p) leg }
+        ensures limit { result < size_limit }
+    {
+        self.p.as_slice()[usize::from(leg)].unsigned_abs()
+    }
+
+    /// The sum of the bid prices of a product's legs, times `den`.
+    pub fn price_sum(&self, legs: &[u8]) -> u64
+        requires prices { All (IsNumber size_limit) self.now.p }
+        requires legs { All (λ leg. leg < length self.now.p) legs.now }
+        requires few { length legs.now ≤ MOST_LEGS_OF_A_PRODUCT }
+        ensures sum { result ≡ price_sum (sizes self.now.p) legs.now }
+        ensures limit { result ≤ 2 ^ 50 }
+    {
+        let mut sum = 0;
+        for leg in legs {
+            sum += self.bid_price(*leg);
+        }
+        sum
+    }
 }

@@ -1,3 +1,2 @@
 -- What private functions serve.
-pub mod Leg
 pub mod Nests

@@ -1,5 +1,6 @@
 -- What is written of a leg and of a plan.
-use Rattle.std.specs.Prelude.{ℕ, ◌==◌, nat_abs, map, length, List, [], ◌∷◌, ◌++◌, flat_map, decimal, codes, Option, Some, None, if◌then◌else◌}
+use Rattle.std.specs.Prelude.{ℕ, ◌==◌, nat_abs, map, length, List, [], ◌∷◌, ◌++◌, flat_map, decimal, codes, Option, Some, None}
+use Rattle.std.specs.Prelude.{if◌then◌else◌}
 use Rattle.std.specs.List.{range_with_len}
 use Rattle.nrm_fraction.specs.Fraction.{◌over◌}
 use Rattle.nrm_text.specs.Fractions.{fraction_text}
@@ -20,13 +21,16 @@ use Rattle.nrm_dual.specs.Texts.{certificate_text}
 -- how a leg stands: its seats, those sold and those left
 abbrev pub leg_line : NetworkValue → List Booking → ℕ → List ℕ
 leg_line net bookings i =
-    text_line (codes "leg" ∷ (leg_of net i).name ∷ codes "seats" ∷ decimal (leg_of net i).seats ∷ codes "sold" ∷ decimal (sold_on (inventory_of net) bookings i)
-    ∷ codes "left" ∷ decimal (left_on (inventory_of net) bookings i) ∷ [])
+    text_line (codes "leg" ∷ (leg_of net i).name ∷ codes "seats" ∷ decimal (leg_of net i).seats
+    ∷ codes "sold" ∷ decimal (sold_on (inventory_of net) bookings i) ∷ codes "left" ∷ decimal (left_on (inventory_of net) bookings i) ∷ [])
 
--- the seats that a product has sold on a leg, and nothing where it has sold none
+-- a product on a leg with the seats that it has sold, and nothing if it has sold none
+abbrev pub sold_line : NetworkValue → ℕ → ℕ → ℕ → List ℕ
+sold_line net i j sold =
+    if sold == 0 then [] else text_line (codes "on" ∷ (leg_of net i).name ∷ (product_of net j).name ∷ decimal sold ∷ [])
+
 abbrev pub on_line : NetworkValue → List Booking → ℕ → ℕ → List ℕ
-on_line net bookings i j =
-    if sold_of bookings j == 0 then [] else text_line (codes "on" ∷ (leg_of net i).name ∷ (product_of net j).name ∷ decimal (sold_of bookings j) ∷ [])
+on_line net bookings i j = sold_line net i j (sold_of bookings j)
 
 -- the leg text: the leg's line, then each product on it with a seat sold, in file order
 abbrev pub leg_text : NetworkValue → List Booking → ℕ → List ℕ
@@ -35,7 +39,8 @@ leg_text net bookings i = leg_line net bookings i ++ flat_map (on_line net booki
 -- a product in a nest: its adjusted fare and its bucket
 abbrev pub nest_line : NetworkValue → Certificate → ℕ → ℕ → List ℕ
 nest_line net cert i j =
-    text_line (codes "nest" ∷ (leg_of net i).name ∷ (product_of net j).name ∷ fraction_text (adjusted_fare net cert i j over nat_abs cert.den) ∷ decimal (bucket_of net cert i j) ∷ [])
+    text_line (codes "nest" ∷ (leg_of net i).name ∷ (product_of net j).name
+    ∷ fraction_text (adjusted_fare net cert i j over nat_abs cert.den) ∷ decimal (bucket_of net cert i j) ∷ [])
 
 -- the protections of a leg, for each of its buckets but the last
 abbrev pub protect_line : NetworkValue → Certificate → ℕ → ℕ → List ℕ

@@ -12,13 +12,11 @@ ghost use Rattle.nrm_fraction.specs.Large.{size_limit};
 ghost use Rattle.nrm_lp.specs.Shape.{HasShape};
 ghost use Rattle.nrm_dual.specs.Texts.{certificate_text, leg_line, product_line, value_line};
 
+use crate::line::ROOM;
 use nrm_edge::{Failed, Sink, put_all};
 use nrm_lp::Certificate;
 use nrm_model::Network;
 use nrm_text::{Name, Text};
-
-// The most bytes of a line.
-const ROOM: usize = 112;
 
 // The line of a mean value.
 #[tactic(auto, using(nrm_text::proofs::Fractions::short_fraction))]
@@ -27,41 +25,25 @@ fn line_of_value(value: i64, den: u128) -> Text<ROOM>
     requires den_size { den < 2 ^ 126 }
     ensures { result ≡ text_line (codes "value" ∷ fraction_text (value over den) ∷ []) }
 {
-    let mut line = Text::new();
-    line.push_bytes(b"value ");
+    let mut line = Text::of_bytes(b"value ");
     line.push_fraction(i128::from(value), den);
     line.push_bytes(b"\n");
     line
 }
 
-// The line of a product that is allotted so much.
+// The line of what has this name, and its fraction.
 #[tactic(auto, using(nrm_text::proofs::Fractions::short_fraction))]
-fn line_of_product(name: &Name, allotted: i64, den: u128) -> Text<ROOM>
+fn line_of_named(kind: &[u8], name: &Name, num: i64, den: u128) -> Text<ROOM>
+    requires kind { length kind.now ≤ 10 }
     requires some { 1 ≤ den }
     requires den_size { den < 2 ^ 126 }
-    ensures { result ≡ text_line (codes "product" ∷ name.now ∷ fraction_text (allotted over den) ∷ []) }
+    ensures { result ≡ text_line (kind.now ∷ name.now ∷ fraction_text (num over den) ∷ []) }
 {
-    let mut line = Text::new();
-    line.push_bytes(b"product ");
+    let mut line = Text::of_bytes(kind);
+    line.push_bytes(b" ");
     line.push_name(name);
     line.push_bytes(b" ");
-    line.push_fraction(i128::from(allotted), den);
-    line.push_bytes(b"\n");
-    line
-}
-
-// The line of a leg at so much a seat.
-#[tactic(auto, using(nrm_text::proofs::Fractions::short_fraction))]
-fn line_of_leg(name: &Name, price: i64, den: u128) -> Text<ROOM>
-    requires some { 1 ≤ den }
-    requires den_size { den < 2 ^ 126 }
-    ensures { result ≡ text_line (codes "leg" ∷ name.now ∷ fraction_text (price over den) ∷ []) }
-{
-    let mut line = Text::new();
-    line.push_bytes(b"leg ");
-    line.push_name(name);
-    line.push_bytes(b" ");
-    line.push_fraction(i128::from(price), den);
+    line.push_fraction(i128::from(num), den);
     line.push_bytes(b"\n");
     line
 }
@@ -91,7 +73,8 @@ fn line_for_product(net: &Network, certificate: &Certificate, product: u16) -> T
     ensures { result ≡ product_line net.now certificate.now product }
 {
     let allotted = certificate.x.as_slice()[product as usize];
-    line_of_product(
+    line_of_named(
+        b"product",
         &net.product_at(product).name,
         allotted,
         over_histories(net, certificate.q),
@@ -105,7 +88,8 @@ fn line_for_leg(net: &Network, certificate: &Certificate, leg: u8) -> Text<ROOM>
     ensures { result ≡ leg_line net.now certificate.now leg }
 {
     let price = certificate.p.as_slice()[leg as usize];
-    line_of_leg(
+    line_of_named(
+        b"leg",
         &net.leg_at(leg).name,
         price,
         u128::from(certificate.den.unsigned_abs()),
@@ -119,8 +103,10 @@ fn put_allotted<K: Sink>(
     sink: &mut K,
 ) -> Result<(), Failed>
     requires { HasShape size_limit (length net.now.products) (length net.now.legs) certificate.now }
-    ensures whole { OnOk result (Appends (K.held sink.old) (K.held sink.new) (flat_map (product_line net.now certificate.now) (range_with_len 0 (length net.now.products)))) }
-    ensures cut { OnErr result (AppendsFront (K.held sink.old) (K.held sink.new) (flat_map (product_line net.now certificate.now) (range_with_len 0 (length net.now.products)))) }
+    ensures whole { OnOk result (Appends (K.held sink.old) (K.held sink.new)
+        (flat_map (product_line net.now certificate.now) (range_with_len 0 (length net.now.products)))) }
+    ensures cut { OnErr result (AppendsFront (K.held sink.old) (K.held sink.new)
+        (flat_map (product_line net.now certificate.now) (range_with_len 0 (length net.now.products)))) }
     ensures cause { HasCause (K.faults sink.old) (K.faults sink.new) result }
 {
     for product in 0..net.product_count() as u16 {
@@ -132,8 +118,10 @@ fn put_allotted<K: Sink>(
 // Puts the lines of the legs, in file order.
 fn put_prices<K: Sink>(net: &Network, certificate: &Certificate, sink: &mut K) -> Result<(), Failed>
     requires { HasShape size_limit (length net.now.products) (length net.now.legs) certificate.now }
-    ensures whole { OnOk result (Appends (K.held sink.old) (K.held sink.new) (flat_map (leg_line net.now certificate.now) (range_with_len 0 (length net.now.legs)))) }
-    ensures cut { OnErr result (AppendsFront (K.held sink.old) (K.held sink.new) (flat_map (leg_line net.now certificate.now) (range_with_len 0 (length net.now.legs)))) }
+    ensures whole { OnOk result (Appends (K.held sink.old) (K.held sink.new)
+        (flat_map (leg_line net.now certificate.now) (range_with_len 0 (length net.now.legs)))) }
+    ensures cut { OnErr result (AppendsFront (K.held sink.old) (K.held sink.new)
+        (flat_map (leg_line net.now certificate.now) (range_with_len 0 (length net.now.legs)))) }
     ensures cause { HasCause (K.faults sink.old) (K.faults sink.new) result }
 {
     for leg in 0..net.leg_count() as u8 {

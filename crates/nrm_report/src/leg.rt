@@ -5,47 +5,35 @@ ghost use Rattle.nrm_edge.specs.Causes.{HasCause};
 ghost use Rattle.nrm_edge.specs.Pieces.{AppendsFront};
 ghost use Rattle.nrm_text.specs.Words.{text_line};
 ghost use Rattle.nrm_model.specs.Inventory.{inventory_of, products_on};
-ghost use Rattle.nrm_report.specs.Inner.Leg.{sold_line};
-ghost use Rattle.nrm_report.specs.Texts.{leg_line, leg_text, on_line};
+ghost use Rattle.nrm_report.specs.Texts.{leg_line, leg_text, on_line, sold_line};
 
+use crate::line::{ROOM, names_on_leg};
 use nrm_book::Book;
 use nrm_edge::{Failed, Sink, put_all};
 use nrm_model::Network;
 use nrm_text::{Name, Text};
 
-// The most bytes of a line.
-const ROOM: usize = 96;
-
 // The line of a leg, from its numbers.
-#[tactic(auto, using(nrm_text::proofs::Decimals::short_decimal))]
 fn line_of_leg(name: &Name, seats: u16, sold: u16, left: u16) -> Text<ROOM>
-    ensures { result ≡ text_line (codes "leg" ∷ name.now ∷ codes "seats" ∷ decimal seats ∷ codes "sold" ∷ decimal sold ∷ codes "left" ∷ decimal left ∷ []) }
+    ensures { result
+        ≡ text_line (codes "leg" ∷ name.now ∷ codes "seats" ∷ decimal seats ∷ codes "sold" ∷ decimal sold
+        ∷ codes "left" ∷ decimal left ∷ []) }
 {
-    let mut line = Text::new();
-    line.push_bytes(b"leg ");
+    let mut line = Text::of_bytes(b"leg ");
     line.push_name(name);
-    line.push_bytes(b" seats ");
-    line.push_u64(u64::from(seats));
-    line.push_bytes(b" sold ");
-    line.push_u64(u64::from(sold));
-    line.push_bytes(b" left ");
-    line.push_u64(u64::from(left));
+    line.push_count(b"seats", u64::from(seats));
+    line.push_count(b"sold", u64::from(sold));
+    line.push_count(b"left", u64::from(left));
     line.push_bytes(b"\n");
     line
 }
 
 // The line of a product on a leg, with the seats that it has sold.
-#[tactic(auto, using(nrm_text::proofs::Decimals::short_decimal))]
 fn line_of_product(leg: &Name, product: &Name, sold: u16) -> Text<ROOM>
     ensures { result ≡ text_line (codes "on" ∷ leg.now ∷ product.now ∷ decimal sold ∷ []) }
 {
-    let mut line = Text::new();
-    line.push_bytes(b"on ");
-    line.push_name(leg);
-    line.push_bytes(b" ");
-    line.push_name(product);
-    line.push_bytes(b" ");
-    line.push_u64(u64::from(sold));
+    let mut line = names_on_leg(b"on", leg, product);
+    line.push_spaced(u64::from(sold));
     line.push_bytes(b"\n");
     line
 }
@@ -86,8 +74,10 @@ fn line_for_leg(net: &Network, book: &Book, leg: u8) -> Text<ROOM>
 fn put_products<K: Sink>(net: &Network, book: &Book, leg: u8, sink: &mut K) -> Result<(), Failed>
     requires book { book.now.inventory ≡ inventory_of net.now }
     requires leg { leg < length net.now.legs }
-    ensures whole { OnOk result (Appends (K.held sink.old) (K.held sink.new) (flat_map (on_line net.now book.now.bookings leg) (products_on (inventory_of net.now) leg))) }
-    ensures cut { OnErr result (AppendsFront (K.held sink.old) (K.held sink.new) (flat_map (on_line net.now book.now.bookings leg) (products_on (inventory_of net.now) leg))) }
+    ensures whole { OnOk result (Appends (K.held sink.old) (K.held sink.new)
+        (flat_map (on_line net.now book.now.bookings leg) (products_on (inventory_of net.now) leg))) }
+    ensures cut { OnErr result (AppendsFront (K.held sink.old) (K.held sink.new)
+        (flat_map (on_line net.now book.now.bookings leg) (products_on (inventory_of net.now) leg))) }
     ensures cause { HasCause (K.faults sink.old) (K.faults sink.new) result }
 {
     for (product, sold) in book.on_leg(leg) {

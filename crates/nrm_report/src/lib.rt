@@ -3,6 +3,7 @@
 
 mod certificate;
 mod leg;
+mod line;
 mod nests;
 mod plan;
 

@@ -185,7 +185,10 @@ fn plan_of_network_goes_out(
 #[test]
 fn writes_a_plan_with_its_nests(rt: HostRuntime) -> Result<(), Fail> {
     let text =
-        b"value 4130/1\nproduct ABH 3/1\nproduct ABL 3/1\nproduct ACH 4/1\nproduct BCL 6/1\nproduct ACL 0/1\nleg AB 150/1\nleg BC 80/1\nnest AB ABH 400/1 1\nnest AB ABL 150/1 2\nnest AB ACH 420/1 1\nnest AB ACL 149/1 2\nnest BC ACH 350/1 1\nnest BC BCL 80/1 3\nnest BC ACL 79/1 3\nprotect AB 7 10\nprotect BC 4 6\n";
+        b"value 4130/1\nproduct ABH 3/1\nproduct ABL 3/1\nproduct ACH 4/1\nproduct BCL 6/1\nproduct ACL 0/1\n\
+        leg AB 150/1\nleg BC 80/1\nnest AB ABH 400/1 1\nnest AB ABL 150/1 2\nnest AB ACH 420/1 1\n\
+        nest AB ACL 149/1 2\nnest BC ACH 350/1 1\nnest BC BCL 80/1 3\nnest BC ACL 79/1 3\nprotect AB 7 10\n\
+        protect BC 4 6\n";
     plan_goes_out(&rt, rt.alloc(), &[], true, text)?;
     Ok(())
 }
@@ -194,10 +197,13 @@ fn writes_a_plan_with_its_nests(rt: HostRuntime) -> Result<(), Fail> {
 #[test]
 fn each_line_of_a_nest_goes_out_in_one_put(rt: HostRuntime) -> Result<(), Fail> {
     let text =
-        b"value 4130/1\nproduct ABH 3/1\nproduct ABL 3/1\nproduct ACH 4/1\nproduct BCL 6/1\nproduct ACL 0/1\nleg AB 150/1\nleg BC 80/1\nnest AB ABH 400/1 1\n";
+        b"value 4130/1\nproduct ABH 3/1\nproduct ABL 3/1\nproduct ACH 4/1\nproduct BCL 6/1\nproduct ACL 0/1\n\
+        leg AB 150/1\nleg BC 80/1\nnest AB ABH 400/1 1\n";
     plan_goes_out(&rt, rt.alloc(), &[10], false, text)?;
     let text =
-        b"value 4130/1\nproduct ABH 3/1\nproduct ABL 3/1\nproduct ACH 4/1\nproduct BCL 6/1\nproduct ACL 0/1\nleg AB 150/1\nleg BC 80/1\nnest AB ABH 400/1 1\nnest AB ABL 150/1 2\nnest AB ACH 420/1 1\nnest AB ACL 149/1 2\nnest BC ACH 350/1 1\nnest BC BCL 80/1 3\nnest BC ACL 79/1 3\nprotect AB 7 10\n";
+        b"value 4130/1\nproduct ABH 3/1\nproduct ABL 3/1\nproduct ACH 4/1\nproduct BCL 6/1\nproduct ACL 0/1\n\
+        leg AB 150/1\nleg BC 80/1\nnest AB ABH 400/1 1\nnest AB ABL 150/1 2\nnest AB ACH 420/1 1\n\
+        nest AB ACL 149/1 2\nnest BC ACH 350/1 1\nnest BC BCL 80/1 3\nnest BC ACL 79/1 3\nprotect AB 7 10\n";
     plan_goes_out(&rt, rt.alloc(), &[17], false, text)?;
     Ok(())
 }

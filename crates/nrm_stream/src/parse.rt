@@ -1,6 +1,6 @@
 //! Commands as they are read: lower-case words with one space between each two, and one carriage return dropped at the
 //! end of the line.
-ghost use Rattle.std.specs.Prelude.{◌≡◌, ◌==◌, ◌∷◌, bytes_eq, codes, Some};
+ghost use Rattle.std.specs.Prelude.{◌≡◌, ◌==◌, ◌∷◌, codes, Some};
 ghost use Rattle.std.specs.List.{slice_split};
 ghost use Rattle.std.specs.Str.Lines.{strip_carriage_return};
 ghost use Rattle.std.specs.Option.{option_map_or};
@@ -11,17 +11,10 @@ ghost use Rattle.nrm_stream.specs.declared.command.Command.TheVariants as comman
 use crate::Command;
 use crate::cut::split_once;
 use nrm_model::{LAST_BOOKING, MOST_PARTY};
-use nrm_text::{Name, name_before, name_of, read_whole};
+use nrm_text::{Name, is_word, name_before, name_of, read_whole};
 
 // The last period that a line may name: two digits, whatever the network has.
 const LAST_PERIOD: u64 = 99;
-
-// Whether a word is this one.
-fn is_word(word: &[u8], wanted: &[u8]) -> bool
-    ensures { result ≡ bytes_eq word.now wanted.now }
-{
-    word == wanted
-}
 
 /// The line without one carriage return at its end.
 pub fn without_carriage_return(line: &[u8]) -> &[u8]

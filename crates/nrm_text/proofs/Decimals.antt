@@ -1,5 +1,6 @@
 -- Decimal text is a whole number, and its value is the number that was written.
-use Rattle.std.proofs.Common.{ℕ, zero, suc, ◌≡◌, ◌⊎◌, ◌+◌, ◌-◌, ◌*◌, ◌/◌, ◌%◌, ◌^◌, ◌<◌, ◌≤◌, true, false, ◌&&◌, ◌==◌, List, [], ◌∷◌, ◌++◌, length, get_or, Some, refl, ap, arith, inl, inr, nat_le, length-append}
+use Rattle.std.proofs.Common.{ℕ, zero, suc, ◌≡◌, ◌⊎◌, ◌+◌, ◌-◌, ◌*◌, ◌/◌, ◌%◌, ◌^◌, ◌<◌, ◌≤◌, true, false, ◌&&◌, ◌==◌, List, [], ◌∷◌, ◌++◌}
+use Rattle.std.proofs.Common.{length, get_or, Some, refl, ap, arith, inl, inr, nat_le, length-append}
 use Rattle.std.specs.Prelude.{decimal, fold}
 use Rattle.std.specs.List.{list_all}
 use Rattle.std.specs.Char.{is_ascii_digit}
@@ -12,7 +13,8 @@ digit-is : (d : ℕ) → d < 10 → is_ascii_digit (48 + d) ≡ true
 digit-is d few = let low : nat_le 48 (48 + d) ≡ true = grind arith in let high : nat_le (48 + d) 57 ≡ true = grind arith in rw (low, high) refl
 
 -- one more digit at the end
-fold-more : (a : ℕ) (ds : List ℕ) (c : ℕ) → fold (λ value c. value * 10 + (c - 48)) a (ds ++ c ∷ []) ≡ fold (λ value c. value * 10 + (c - 48)) a ds * 10 + (c - 48)
+fold-more : (a : ℕ) (ds : List ℕ) (c : ℕ)
+    → fold (λ value c. value * 10 + (c - 48)) a (ds ++ c ∷ []) ≡ fold (λ value c. value * 10 + (c - 48)) a ds * 10 + (c - 48)
 fold-more a [] c = refl
 fold-more a (d ∷ ds) c = fold-more (a * 10 + (d - 48)) ds c
 
@@ -29,7 +31,8 @@ writes-more n ds many (digits, value, some) =
     let all : list_all is_ascii_digit ((48 + n % 10) ∷ []) ≡ true = rw (digit-is (n % 10) last) refl in
     (rw (list_all-append is_ascii_digit ds ((48 + n % 10) ∷ []), digits, all) refl, rw (fold-more 0 ds (48 + n % 10), value) (omega arith), omega (arith, length-append ds ((48 + n % 10) ∷ [])))
 
-pub decimal-writes : (n : ℕ) → n < 2 ^ 64 → (list_all is_ascii_digit (decimal n) ≡ true) × (value_of (decimal n) ≡ n) × (0 < length (decimal n))
+pub decimal-writes : (n : ℕ) → n < 2 ^ 64
+    → (list_all is_ascii_digit (decimal n) ≡ true) × (value_of (decimal n) ≡ n) × (0 < length (decimal n))
 decimal-writes n small = decimal_by_steps Writes writes-one writes-more n small
 
 pub value_of-decimal : (n : ℕ) → n < 2 ^ 64 → value_of (decimal n) ≡ n

@@ -11,8 +11,8 @@ fold-grows a (d ∷ ds) = let more : a * 10 + (d - 48) ≤ fold (λ value c. val
     fold-grows (a * 10 + (d - 48)) ds in omega arith
 
 -- so the value of all digits is at least that of the first ones and the next
-pub value_of-above : (value i : ℕ) (digits : List ℕ) → i < length digits → fold (λ value c. value * 10 + (c - 48)) value (drop i digits)
-    ≡ value_of digits
+pub value_of-above : (value i : ℕ) (digits : List ℕ) → i < length digits
+    → fold (λ value c. value * 10 + (c - 48)) value (drop i digits) ≡ value_of digits
     → value * 10 + (get_or digits i 0 - 48) ≤ value_of digits
 value_of-above value i digits within so_far =
     let f : ℕ → ℕ → ℕ = λ value c. value * 10 + (c - 48) in

@@ -1,18 +1,16 @@
 //! Lines that are written: a text in an array of as much room as its writer asks for, so that writing one takes no memory.
 ghost use Rattle.std.specs.Prelude.{◌≡◌, ◌≤◌, ◌<◌, ◌^◌, ◌+◌, ◌++◌, [], ◌∷◌, length, take, decimal, unsigned_abs};
 ghost use Rattle.nrm_fraction.specs.Fraction.{◌over◌};
-ghost use Rattle.nrm_text.specs.Fractions.{sign_of, fraction_text};
+ghost use Rattle.nrm_text.specs.Fractions.{sign_of, signed_text, fraction_text};
+ghost use Rattle.nrm_text.specs.Words.{spaced};
 
 use crate::Name;
 use itoa::{Buffer, write_digits};
 use nrm_number::gcd;
 use std::marker::Model;
 
-/// The most bytes that a `Line` holds.
-pub const LINE_ROOM: usize = 512;
-
 /// A line of at most 512 bytes.
-pub type Line = Text<LINE_ROOM>;
+pub type Line = Text<512>;
 
 /// A text of at most `ROOM` bytes. Contracts see its bytes.
 #[derive(Drop)]
@@ -81,6 +79,17 @@ impl<const ROOM: usize> Text<ROOM> {
         }
     }
 
+    /// A text of these bytes.
+    pub fn of_bytes(bytes: &[u8]) -> Text<ROOM>
+        requires { length bytes.now ≤ ROOM }
+        ensures text { result ≡ bytes.now }
+        ensures length { length result ≡ length bytes.now }
+    {
+        let mut text = Text::new();
+        text.push_bytes(bytes);
+        text
+    }
+
     /// The bytes so far.
     pub fn bytes(&self) -> &[u8]
         ensures { result.now ≡ self.now }
@@ -140,6 +149,38 @@ impl<const ROOM: usize> Text<ROOM> {
         }
     }
 
+    /// Appends a whole number in decimal digits, with `-` before a negative one.
+    pub fn push_signed(&mut self, number: i128)
+        requires { length self.old + length (signed_text number) ≤ ROOM }
+        ensures text { self.new ≡ self.old ++ signed_text number }
+        ensures length { length self.new ≡ length self.old + length (signed_text number) }
+    {
+        self.push_sign(number);
+        self.push_whole(number.unsigned_abs());
+    }
+
+    /// Appends a space and a number, for which there is room for twenty digits.
+    #[tactic(auto, using(crate::proofs::Decimals::short_decimal))]
+    pub fn push_spaced(&mut self, number: u64)
+        requires { length self.old + 21 ≤ ROOM }
+        ensures text { self.new ≡ self.old ++ spaced (decimal number) }
+        ensures length { length self.new ≤ length self.old + 21 }
+    {
+        self.push_bytes(b" ");
+        self.push_u64(number);
+    }
+
+    /// Appends a word and a count, each behind a space.
+    pub fn push_count(&mut self, word: &[u8], count: u64)
+        requires { length self.old + length word.now + 22 ≤ ROOM }
+        ensures text { self.new ≡ self.old ++ spaced word.now ++ spaced (decimal count) }
+        ensures length { length self.new ≤ length self.old + length word.now + 22 }
+    {
+        self.push_bytes(b" ");
+        self.push_bytes(word);
+        self.push_spaced(count);
+    }
+
     // Appends the sign of the first number, then the second, `/` and the third.
     fn push_parts(&mut self, num: i128, top: u128, bottom: u128)
         requires { length self.old + (length (sign_of num) + length (decimal top) + 1 + length (decimal bottom)) ≤ ROOM }
@@ -181,6 +222,41 @@ mod tests {
         line.push_u64(0);
         line.push_bytes(b"\n");
         assert_eq!(rt; line.bytes(), b"ok 1000000000000 0\n".as_slice());
+    }
+
+    #[test]
+    fn a_text_begins_with_its_bytes(rt: HostRuntime) {
+        let mut line = Line::of_bytes(b"leg AB");
+        line.push_count(b"seats", 999);
+        line.push_count(b"sold", u64::MAX);
+        line.push_spaced(0);
+        assert_eq!(rt;
+            line.bytes(),
+            b"leg AB seats 999 sold 18446744073709551615 0".as_slice()
+        );
+    }
+
+    // Appends a number with its sign, and a space.
+    #[tactic(auto, using(crate::proofs::Fractions::short_signed))]
+    fn push_number(line: &mut Line, number: i128)
+        requires { length line.old + 41 ≤ 512 }
+        ensures { length line.new ≤ length line.old + 41 }
+    {
+        line.push_signed(number);
+        line.push_bytes(b" ");
+    }
+
+    #[test]
+    fn a_negative_number_has_a_sign(rt: HostRuntime) {
+        let mut line = Line::new();
+        push_number(&mut line, -281_474_976_710_656);
+        push_number(&mut line, 0);
+        push_number(&mut line, 17);
+        push_number(&mut line, i128::MIN);
+        push_number(&mut line, i128::MAX);
+        let text =
+            b"-281474976710656 0 17 -170141183460469231731687303715884105728 170141183460469231731687303715884105727 ";
+        assert_eq!(rt; line.bytes(), text.as_slice());
     }
 
     // The text of a name, if these bytes are one.

@@ -19,12 +19,20 @@ files_and_sink contents file_faults held sink_faults files sink =
 
 -- the sink alone, beside any files
 abbrev pub sink_beside : {K : Type 0} → (K → Option (List ℕ)) → (K → ℕ) → Option Folder → ℕ → K → FilesAndSink
-sink_beside held sink_faults folder faults sink = record { files = folder; held = held sink; file_faults = faults; sink_faults = sink_faults sink }
+sink_beside held sink_faults folder faults sink =
+    record { files = folder; held = held sink; file_faults = faults; sink_faults = sink_faults sink }
 
 -- and beside them a source that is left as it is
 abbrev pub with_source : FilesAndSink → Option (List ℕ) → ℕ → Outside
 with_source at coming faults =
-    record { files = at.files; coming = coming; held = at.held; file_faults = at.file_faults; source_faults = faults; sink_faults = at.sink_faults }
+    record {
+      files = at.files;
+      coming = coming;
+      held = at.held;
+      file_faults = at.file_faults;
+      source_faults = faults;
+      sink_faults = at.sink_faults;
+    }
 
 -- what a status says of the words, which counts stay, and that none falls
 pub record Does (asked : Option Job) (before after : Outside) (result : Status) : Type 0 where
@@ -34,4 +42,5 @@ pub record Does (asked : Option Job) (before after : Outside) (result : Status) 
 
 -- so it is of words that ask for a job, beside each source
 abbrev pub DoesBeside : Job → FilesAndSink → FilesAndSink → Status → Type 0
-DoesBeside job before after result = (coming : Option (List ℕ)) (faults : ℕ) → Does (Some job) (with_source before coming faults) (with_source after coming faults) result
+DoesBeside job before after result =
+    (coming : Option (List ℕ)) (faults : ℕ) → Does (Some job) (with_source before coming faults) (with_source after coming faults) result

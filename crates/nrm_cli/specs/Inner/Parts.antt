@@ -1,5 +1,6 @@
 -- What the parts of the top call promise one another.
-use Rattle.std.specs.Prelude.{ℕ, ◌≡◌, ◌≢◌, ◌+◌, ◌-◌, ◌≤◌, ◌⊎◌, List, [], length, Option, Some, None, Result, Ok, Err, MatchResult, IfSome, option_map, ⊤}
+use Rattle.std.specs.Prelude.{ℕ, ◌≡◌, ◌≢◌, ◌+◌, ◌-◌, ◌≤◌, ◌⊎◌, List, [], length, Option, Some, None, Result, Ok, Err, MatchResult, IfSome}
+use Rattle.std.specs.Prelude.{option_map, ⊤}
 use Rattle.std.specs.Io.KnownBytes.{Appends, Keeps}
 use Rattle.nrm_edge.specs.Causes.{Rose}
 use Rattle.nrm_edge.specs.Fetch.{Folder}
@@ -60,7 +61,8 @@ job_in (asked.Made mode number) = run_made mode number
 -- a line was put and its status answered, or the line was cut
 abbrev pub PutsLine : List ℕ → Status → Option (List ℕ) → Option (List ℕ) → ℕ → ℕ → Status → Type 0
 PutsLine line told held held' before now result =
-    ((result ≡ told) × Appends held held' line × (now ≡ before)) ⊎ ((result ≡ status.WriteFault) × AppendsCut held held' line × Rose before now)
+    ((result ≡ told) × Appends held held' line × (now ≡ before))
+    ⊎ ((result ≡ status.WriteFault) × AppendsCut held held' line × Rose before now)
 
 -- the line of a reason is put with a status, or there is none for want of memory
 abbrev pub PutsIfSome : Option (List ℕ) → Status → Option (List ℕ) → Option (List ℕ) → ℕ → ℕ → Status → Type 0
@@ -83,7 +85,8 @@ PutsReason reason held held' before now result = PutsIfSome (reason_line reason)
 abbrev pub OpensCertificate : NetworkValue → Option Folder → List ℕ → Result Certificate NoCertificate → Type 0
 OpensCertificate net files name (Ok given) = OnFile files name (λ file. certificate_under net file ≡ Ok given)
 OpensCertificate net files name (Err lacking.Absent) = OnFile files name (λ file. certificate_under net file ≡ Err no_certificate)
-OpensCertificate net files name (Err (lacking.Unread fault)) = OnFile files name (λ file. IfSome (refusal_of fault) (λ cause. certificate_under net file ≡ Err (refused_for cause)))
+OpensCertificate net files name (Err (lacking.Unread fault)) =
+    OnFile files name (λ file. IfSome (refusal_of fault) (λ cause. certificate_under net file ≡ Err (refused_for cause)))
 OpensCertificate net files name (Err lacking.Fault) = ⊤
 
 -- the files' count rose with a fault of the files, and else it stays
@@ -128,7 +131,8 @@ PutsPlan net m held held' before now result =
 
 -- what is put and answered where there is a certificate: the verdict on it, which is optimal only where the certificate shows that it
 -- is, and is never that it has another shape; or memory ran out
-pub record PutsFound (net : NetworkValue) (given : Certificate) (held held' : Option (List ℕ)) (before now : ℕ) (result : Status) : Type 0 where
+pub record PutsFound (net : NetworkValue) (given : Certificate) (held held' : Option (List ℕ))
+    (before now : ℕ) (result : Status) : Type 0 where
   pub found : Verdict
   pub verdict_is : verdict_on (opening_program net) given ≡ found
   pub shaped : found ≢ verdict.WrongShape
@@ -136,14 +140,17 @@ pub record PutsFound (net : NetworkValue) (given : Certificate) (held held' : Op
   pub puts : PutsLine (verdict_line net found) (status_of found) held held' before now result
 
 abbrev pub PutsVerdict : NetworkValue → Certificate → Option (List ℕ) → Option (List ℕ) → ℕ → ℕ → Status → Type 0
-PutsVerdict net given held held' before now result = ((result ≡ status.NoMemory) × Keeps held held' × (now ≡ before)) ⊎ PutsFound net given held held' before now result
+PutsVerdict net given held held' before now result =
+    ((result ≡ status.NoMemory) × Keeps held held' × (now ≡ before)) ⊎ PutsFound net given held held' before now result
 
 -- a certificate was opened for a network, and the verdict on it was put, or it was told why there is none
-pub record ChecksFile (net : NetworkValue) (files : Option Folder) (name : List ℕ) (held held' : Option (List ℕ)) (before now sunk sunk' : ℕ) (result : Status) : Type 0 where
+pub record ChecksFile (net : NetworkValue) (files : Option Folder) (name : List ℕ)
+    (held held' : Option (List ℕ)) (before now sunk sunk' : ℕ) (result : Status) : Type 0 where
   pub opened : Result Certificate NoCertificate
   pub opens : OpensCertificate net files name opened
   pub counts : CountsCertificate before now opened
-  pub puts : MatchResult opened (λ given. PutsVerdict net given held held' sunk sunk' result) (λ reason. PutsIfSome (lack_line net reason) (lack_status reason) held held' sunk sunk' result)
+  pub puts : MatchResult opened (λ given. PutsVerdict net given held held' sunk sunk' result)
+      (λ reason. PutsIfSome (lack_line net reason) (lack_status reason) held held' sunk sunk' result)
 
 -- the status that goes with the end of a session
 abbrev pub status_at : End → Status
@@ -165,7 +172,8 @@ rest_of making = commands_from (command_count - making.given) making.given makin
 pub record AnswersMade (old new : ControlValue) (commands : List Command) (counts : Counts) (last : Answered) : Type 0 where
   pub network : new.net ≡ old.net
   pub tellable : IsTellable new.net last
-  pub run : (s : SeatState) → StandsFor old s → (s' : SeatState) × (replies : List Reply) × StandsFor new s' × Run old.net s commands replies s' × MemorySuffices replies
+  pub run : (s : SeatState) → StandsFor old s → (s' : SeatState) × (replies : List Reply) × StandsFor new s'
+      × Run old.net s commands replies s' × MemorySuffices replies
       × (counts ≡ counts_from nothing_counted replies) × (last_of replies ≡ reply_in new last)
   pub kept : IsControl new
   pub few : total_of counts ≤ length commands

@@ -1,5 +1,5 @@
 use Rattle.std.proofs.Common.{◌<◌, subst}
-use Rattle.nrm_cli.proofs.Places.{legs-of, products-of}
+use Rattle.nrm_cli.proofs.ProgramOfNetwork.{legs-of, products-of}
 use Rattle.nrm_cli.proofs.certificate.line_of_verdict.Goals as goal
 
 pub product_at-requires : goal.product_at-requires

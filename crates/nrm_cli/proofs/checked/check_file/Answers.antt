@@ -7,8 +7,8 @@ use Rattle.nrm_cli.specs.declared.certificate.NoCertificate.{NoCertificate}
 use Rattle.nrm_cli.specs.declared.certificate.NoCertificate.TheVariants as lacks
 use Rattle.nrm_cli.specs.declared.status.Status.{Status}
 use Rattle.nrm_cli.specs.Jobs.{check_file as check_job}
-use Rattle.nrm_cli.proofs.Checking.{checked-ends, checked-failures}
-use Rattle.nrm_cli.proofs.Without.{opened-goes, without-failures, without-network}
+use Rattle.nrm_cli.proofs.CheckEnds.{checked-ends, checked-failures}
+use Rattle.nrm_cli.proofs.NoNetworkEnds.{opened-goes, without-failures, without-network}
 use Rattle.nrm_cli.proofs.checked.check_file.Goals as goal
 
 -- the certificate was opened over the same files, whose count had not risen

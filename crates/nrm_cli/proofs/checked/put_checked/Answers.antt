@@ -7,7 +7,7 @@ use Rattle.nrm_dual.specs.Conditions.{verdict_on}
 use Rattle.nrm_cli.specs.Ends.{status_of}
 use Rattle.nrm_cli.specs.Inner.Parts.{PutsLine}
 use Rattle.nrm_cli.specs.declared.status.Status.{Status}
-use Rattle.nrm_cli.proofs.Places.{shape-of-program}
+use Rattle.nrm_cli.proofs.ProgramOfNetwork.{shape-of-program}
 use Rattle.nrm_cli.proofs.checked.put_checked.Goals as goal
 
 pub returns-clause-puts : goal.returns-clause-puts

@@ -1,5 +1,5 @@
 use Rattle.std.proofs.Common.{◌∙◌, sym}
-use Rattle.nrm_cli.proofs.Making.{all-made, fewer-left, made-more}
+use Rattle.nrm_cli.proofs.MadeRuns.{all-made, fewer-left, made-more}
 use Rattle.nrm_cli.proofs.made.answer_all.Goals as goal
 
 pub loop-command-preserved : goal.loop-command-preserved

@@ -1,7 +1,7 @@
-use Rattle.std.proofs.Common.{List, ℕ, ◌≡◌, ◌++◌, ◌∷◌, [], ◌∙◌, ap, sym, codes, decimal}
+use Rattle.std.proofs.Common.{List, ℕ, ◌≡◌, ◌++◌, ◌∷◌, [], ◌∙◌, sym, codes, decimal}
 use Rattle.std.specs.List.{join_with_byte}
 use Rattle.nrm_gen.specs.MadeCommands.{command_count}
-use Rattle.nrm_cli.proofs.Making.{count-more, first-words}
+use Rattle.nrm_cli.proofs.MadeRuns.{count-more, first-words}
 use Rattle.nrm_cli.proofs.made.line_of_counts.Goals as goal
 
 pub returns-clause-text : goal.returns-clause-text
@@ -16,12 +16,12 @@ returns-clause-text c =
     let unknown : List (List ℕ) = cancelled ++ codes "unknown" ∷ decimal counts.unknown ∷ [] in
     let legs : List (List ℕ) = unknown ++ codes "legs" ∷ decimal counts.legs ∷ [] in
     let optimised : List (List ℕ) = legs ++ codes "optimised" ∷ decimal counts.optimised ∷ [] in
-    let first : c.push_bytes.new.self ≡ join_with_byte 32 (made ∷ lines) = c.push_bytes.ensures.text ∙ ap (λ (line : List ℕ). line ++ codes "made lines 10000") c.new-line.ensures.text ∙ sym first-words in
-    let e1 = count-more made lines (codes "ok") (decimal counts.sold) c.push_bytes.new.self c.push_count.new.line first c.push_count.ensures.text in
-    let e2 = count-more made ok (codes "no") (decimal counts.no_leg) c.push_count.new.line c.push_count-2.new.line e1 c.push_count-2.ensures.text in
-    let e3 = count-more made no (codes "fare") (decimal counts.no_fare) c.push_count-2.new.line c.push_count-3.new.line e2 c.push_count-3.ensures.text in
-    let e4 = count-more made fare (codes "cancelled") (decimal counts.cancelled) c.push_count-3.new.line c.push_count-4.new.line e3 c.push_count-4.ensures.text in
-    let e5 = count-more made cancelled (codes "unknown") (decimal counts.unknown) c.push_count-4.new.line c.push_count-5.new.line e4 c.push_count-5.ensures.text in
-    let e6 = count-more made unknown (codes "legs") (decimal counts.legs) c.push_count-5.new.line c.push_count-6.new.line e5 c.push_count-6.ensures.text in
-    let e7 = count-more made legs (codes "optimised") (decimal counts.optimised) c.push_count-6.new.line c.push_count-7.new.line e6 c.push_count-7.ensures.text in
-    count-more made optimised (codes "overflow") (decimal counts.overflow) c.push_count-7.new.line c.push_count-8.new.line e7 c.push_count-8.ensures.text
+    let first : c.of_bytes-line.result ≡ join_with_byte 32 (made ∷ lines) = c.of_bytes-line.ensures.text ∙ sym first-words in
+    let e1 = count-more made lines (codes "ok") counts.sold c.from.result c.of_bytes-line.result c.push_count.new.self first c.push_count.ensures.text c.from.ensures in
+    let e2 = count-more made ok (codes "no") counts.no_leg c.from-2.result c.push_count.new.self c.push_count-2.new.self e1 c.push_count-2.ensures.text c.from-2.ensures in
+    let e3 = count-more made no (codes "fare") counts.no_fare c.from-3.result c.push_count-2.new.self c.push_count-3.new.self e2 c.push_count-3.ensures.text c.from-3.ensures in
+    let e4 = count-more made fare (codes "cancelled") counts.cancelled c.from-4.result c.push_count-3.new.self c.push_count-4.new.self e3 c.push_count-4.ensures.text c.from-4.ensures in
+    let e5 = count-more made cancelled (codes "unknown") counts.unknown c.from-5.result c.push_count-4.new.self c.push_count-5.new.self e4 c.push_count-5.ensures.text c.from-5.ensures in
+    let e6 = count-more made unknown (codes "legs") counts.legs c.from-6.result c.push_count-5.new.self c.push_count-6.new.self e5 c.push_count-6.ensures.text c.from-6.ensures in
+    let e7 = count-more made legs (codes "optimised") counts.optimised c.from-7.result c.push_count-6.new.self c.push_count-7.new.self e6 c.push_count-7.ensures.text c.from-7.ensures in
+    count-more made optimised (codes "overflow") counts.overflow c.from-8.result c.push_count-7.new.self c.push_count-8.new.self e7 c.push_count-8.ensures.text c.from-8.ensures

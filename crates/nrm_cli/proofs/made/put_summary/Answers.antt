@@ -5,7 +5,7 @@ use Rattle.nrm_model.specs.Inventory.{inventory_of}
 use Rattle.nrm_text.specs.Words.{text_line}
 use Rattle.nrm_session.specs.Answering.{reply_in}
 use Rattle.nrm_cli.specs.Made.{hindsight_word, summary_words}
-use Rattle.nrm_cli.proofs.Making.{made-run}
+use Rattle.nrm_cli.proofs.MadeRuns.{made-run}
 use Rattle.nrm_cli.proofs.made.put_summary.Goals as goal
 
 pub returns-in-Some-clause-puts : goal.returns-in-Some-clause-puts

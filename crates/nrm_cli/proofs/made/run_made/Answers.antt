@@ -2,8 +2,8 @@ use Rattle.std.proofs.Common.{◌∙◌, ap, arith, refl}
 use Rattle.nrm_gen.proofs.OneByOne.{left-at-first}
 use Rattle.nrm_cli.specs.Inner.Parts.{rest_of}
 use Rattle.nrm_cli.specs.Jobs.{run_made as made_job}
-use Rattle.nrm_cli.proofs.Making.{summary-ends, summary-failures}
-use Rattle.nrm_cli.proofs.Planning.{unplanned-ends, unplanned-failures}
+use Rattle.nrm_cli.proofs.MadeRuns.{summary-ends, summary-failures}
+use Rattle.nrm_cli.proofs.PlanEnds.{unplanned-ends, unplanned-failures}
 use Rattle.nrm_cli.proofs.made.run_made.Goals as goal
 
 pub returns-in-Ok-start-clause-does : goal.returns-in-Ok-start-clause-does

@@ -1,7 +1,7 @@
 use Rattle.std.proofs.Common.{Ok, Err, refl}
 use Rattle.nrm_cli.specs.Jobs.{plan_file as plan_job}
-use Rattle.nrm_cli.proofs.Planning.{planned-ends, planned-failures}
-use Rattle.nrm_cli.proofs.Without.{opened-goes, without-failures, without-network}
+use Rattle.nrm_cli.proofs.PlanEnds.{planned-ends, planned-failures}
+use Rattle.nrm_cli.proofs.NoNetworkEnds.{opened-goes, without-failures, without-network}
 use Rattle.nrm_cli.proofs.planned.plan_file.Goals as goal
 
 pub returns-in-Ok-clause-does : goal.returns-in-Ok-clause-does

@@ -1,4 +1,4 @@
-use Rattle.nrm_cli.proofs.Unsent.{flushed-cut, put-cut}
+use Rattle.nrm_cli.proofs.CutTexts.{flushed-cut}
 use Rattle.nrm_report.specs.Texts.{plan_text}
 use Rattle.nrm_cli.proofs.planned.send_plan.Goals as goal
 

@@ -1,11 +1,11 @@
-use Rattle.std.proofs.Common.{Ok, Err, ℕ, List, Some, refl, subst, arith, ◌∙◌}
+use Rattle.std.proofs.Common.{Ok, Err, ℕ, List, Some, refl, subst, ◌∙◌}
 use Rattle.nrm_network.specs.Canonical.{canonical_file}
 use Rattle.nrm_cli.specs.Inner.Parts.{PutsLine}
 use Rattle.nrm_cli.specs.Jobs.{print_file as print_job}
 use Rattle.nrm_cli.specs.Tells.{printed}
 use Rattle.nrm_cli.specs.declared.status.Status.TheVariants as status
-use Rattle.nrm_cli.proofs.Telling.{told-done, told-ends}
-use Rattle.nrm_cli.proofs.Without.{opened-goes, without-failures, without-network}
+use Rattle.nrm_cli.proofs.ToldEnds.{told-done, told-ends}
+use Rattle.nrm_cli.proofs.NoNetworkEnds.{opened-goes, without-failures, without-network}
 use Rattle.nrm_cli.proofs.printed.print_file.Goals as goal
 
 pub returns-in-Err-clause-does : goal.returns-in-Err-clause-does

@@ -1,8 +1,8 @@
 use Rattle.std.proofs.Common.{Ok, Err, refl}
 use Rattle.nrm_cli.specs.Jobs.{run_file as run_job}
-use Rattle.nrm_cli.proofs.Planning.{unplanned-ends, unplanned-failures}
-use Rattle.nrm_cli.proofs.Serving.{served-ends, served-failures, served-goes}
-use Rattle.nrm_cli.proofs.Without.{opened-goes, without-failures, without-network}
+use Rattle.nrm_cli.proofs.PlanEnds.{unplanned-ends, unplanned-failures}
+use Rattle.nrm_cli.proofs.RunEnds.{served-ends, served-failures, served-goes}
+use Rattle.nrm_cli.proofs.NoNetworkEnds.{opened-goes, without-failures, without-network}
 use Rattle.nrm_cli.proofs.served.run_file.Goals as goal
 
 pub returns-in-Err-clause-does : goal.returns-in-Err-clause-does

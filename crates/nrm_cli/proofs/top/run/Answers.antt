@@ -8,8 +8,8 @@ use Rattle.nrm_session.proofs.Runs.{runs}
 use Rattle.nrm_session.proofs.Seats.{kept}
 use Rattle.nrm_session.proofs.Verdicts.{requests-answered}
 use Rattle.nrm_cli.proofs.OwnPasses.{optimal-pass, own-passes}
-use Rattle.nrm_cli.proofs.Complete.{completes, same-job-ends}
-use Rattle.nrm_cli.proofs.Passing.{planned-passes, taken-network}
+use Rattle.nrm_cli.proofs.CompleteJobs.{completes, same-job-ends}
+use Rattle.nrm_cli.proofs.PlannedPasses.{planned-passes, taken-network}
 use Rattle.nrm_cli.proofs.top.run.Goals as goal
 
 pub returns-clause-seats : goal.returns-clause-seats

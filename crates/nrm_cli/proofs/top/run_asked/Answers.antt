@@ -7,11 +7,12 @@ use Rattle.nrm_cli.specs.Tells.{usage}
 use Rattle.nrm_cli.specs.declared.status.Status.{Status}
 use Rattle.nrm_cli.specs.declared.status.Status.TheVariants as status
 use Rattle.nrm_cli.specs.declared.words.Asked.{Asked}
-use Rattle.nrm_cli.proofs.Telling.{told-counts, told-ends}
+use Rattle.nrm_cli.proofs.ToldEnds.{told-counts, told-ends}
 use Rattle.nrm_cli.proofs.top.run_asked.Goals as goal
 
 -- what holds of a job holds of the words that ask for it
-of-words : (asked known : Option Asked) (before after : Outside) (s : Status) → asked ≡ known → Does (option_map job_in known) before after s → Does (option_map job_in asked) before after s
+of-words : (asked known : Option Asked) (before after : Outside) (s : Status) → asked ≡ known
+    → Does (option_map job_in known) before after s → Does (option_map job_in asked) before after s
 of-words asked known before after s is ends = subst (λ (a : Option Asked). Does (option_map job_in a) before after s) (sym is) ends
 
 pub returns-in-Some-Print-clause-does : goal.returns-in-Some-Print-clause-does

@@ -6,8 +6,8 @@ use Rattle.nrm_lp.specs.Certified.{sizes}
 use Rattle.nrm_dual.specs.declared.verdict.Verdict.TheVariants.{WrongShape}
 use Rattle.nrm_dual.specs.Conditions.{has_shape, first_wrong}
 use Rattle.nrm_dual.specs.Named.{IsOfProgram}
-use Rattle.nrm_dual.proofs.Naming.{first_named}
-use Rattle.nrm_dual.proofs.Passing.{passing_certifies, shape_in, shape_out, wrong_elsewhere}
+use Rattle.nrm_dual.proofs.NamedIsThere.{first_named}
+use Rattle.nrm_dual.proofs.PassesCertify.{passing_certifies, shape_in, shape_out, wrong_elsewhere}
 use Rattle.nrm_dual.proofs.checking.check.Goals as goal
 
 pub first_wrong-requires : goal.first_wrong-requires

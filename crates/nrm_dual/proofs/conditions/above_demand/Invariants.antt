@@ -1,7 +1,7 @@
 use Rattle.std.proofs.Common.{◌≡◌, nat_abs, length}
 use Rattle.nrm_lp.specs.Certified.{sizes}
 use Rattle.nrm_dual.specs.Conditions.{is_above_demand}
-use Rattle.nrm_dual.proofs.Searches.{rest}
+use Rattle.nrm_dual.proofs.LeastSearch.{rest}
 use Rattle.nrm_dual.proofs.conditions.above_demand.Given as goal
 
 abbrev pub invariant-loop-product : goal.invariant-loop-product

@@ -1,7 +1,7 @@
 use Rattle.std.proofs.Common.{◌≡◌, nat_abs, length}
 use Rattle.nrm_lp.specs.Certified.{sizes}
 use Rattle.nrm_dual.specs.Conditions.{is_priced_with_seats_left}
-use Rattle.nrm_dual.proofs.Searches.{rest}
+use Rattle.nrm_dual.proofs.LeastSearch.{rest}
 use Rattle.nrm_dual.proofs.conditions.priced_with_seats_left.Given as goal
 
 abbrev pub invariant-loop-leg : goal.invariant-loop-leg

@@ -3,7 +3,7 @@ use Rattle.std.proofs.lemmas.Bool.{ltb-true}
 use Rattle.nrm_fraction.specs.Large.{size_limit}
 use Rattle.nrm_lp.specs.Closing.{certificate}
 use Rattle.nrm_lp.proofs.Certify.{certifies}
-use Rattle.nrm_dual.proofs.Passing.{certified_passes}
+use Rattle.nrm_dual.proofs.PassesCertify.{certified_passes}
 use Rattle.nrm_dual.proofs.laws.closings_pass.Goals as goal
 
 pub returns : goal.returns

@@ -1,4 +1,4 @@
-use Rattle.nrm_dual.proofs.Passing.{optimal_passes}
+use Rattle.nrm_dual.proofs.PassesCertify.{optimal_passes}
 use Rattle.nrm_dual.proofs.laws.optimal_passes.Goals as goal
 
 pub returns : goal.returns

@@ -3,7 +3,7 @@ use Rattle.std.proofs.Common.{◌∙◌, sym, ap, ◌≡◌, None}
 use Rattle.std.specs.Option.{option_map}
 use Rattle.nrm_dual.specs.Reading.{entry_at, written_in, named_place}
 use Rattle.nrm_dual.specs.Inner.Sheets.{meant}
-use Rattle.nrm_dual.proofs.Words.{value-entry, named-entry, many-entry}
+use Rattle.nrm_dual.proofs.LineWords.{value-entry, named-entry, many-entry}
 use Rattle.nrm_dual.proofs.place.place_in.Goals as goal
 
 pub returns-then-is_word : goal.returns-then-is_word

@@ -1,7 +1,7 @@
 use Rattle.std.proofs.Common.{◌∙◌, sym, ap}
 use Rattle.std.specs.Option.{option_map}
 use Rattle.nrm_dual.specs.Inner.Sheets.{meant}
-use Rattle.nrm_dual.proofs.Words.{no-place}
+use Rattle.nrm_dual.proofs.LineWords.{no-place}
 use Rattle.nrm_dual.proofs.place.place_named.Goals as goal
 
 pub returns-in_err-name-clause-place : goal.returns-in_err-name-clause-place

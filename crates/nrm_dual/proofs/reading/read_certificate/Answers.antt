@@ -3,7 +3,7 @@ use Rattle.std.proofs.Common.{◌≡◌, arith, Ok}
 use Rattle.nrm_stream.specs.Lines.{lines_of}
 use Rattle.nrm_dual.specs.Refusals.{AnswersCertificate}
 use Rattle.nrm_dual.specs.Reading.{after_lines, blank, certificate_of}
-use Rattle.nrm_dual.proofs.Naming.{answer_named}
+use Rattle.nrm_dual.proofs.NamedIsThere.{answer_named}
 use Rattle.nrm_dual.proofs.ReadAnswers.{file_answer, answer_shaped, lines_refuse}
 use Rattle.nrm_dual.proofs.TooFine.{err_answer}
 use Rattle.nrm_dual.specs.Inner.Sheets.{Refuses}
@@ -21,7 +21,8 @@ returns-clause-shaped c =
     answer_shaped c.args.net.now c.args.bytes.now c.certificate_on.result file
 
 -- the lines refuse the file
-refused : (c : goal.After-drop-sheet-inside-in_err-read_lines) → AnswersCertificate c.from_residual-in_err-read_lines.result (certificate_of c.args.net.now c.args.bytes.now)
+refused : (c : goal.After-drop-sheet-inside-in_err-read_lines)
+    → AnswersCertificate c.from_residual-in_err-read_lines.result (certificate_of c.args.net.now c.args.bytes.now)
 refused c =
     let lines : Refuses c.in_err-read_lines.field-0.0 (after_lines c.args.net.now (blank c.args.net.now) 1 (lines_of c.args.bytes.now)) = rw c.in_ok-sheet.ensures at c.in_err-read_lines.ensures.lines in
     err_answer c.from_residual-in_err-read_lines.result c.in_err-read_lines.field-0.0 (certificate_of c.args.net.now c.args.bytes.now) c.from_residual-in_err-read_lines.ensures.1

@@ -1,7 +1,7 @@
 use Rattle.std.proofs.Common.{◌≡◌, arith, get_or}
 use Rattle.std.proofs.lemmas.Grind.{common_steps}
 use Rattle.nrm_lp.specs.Certified.{sizes}
-use Rattle.nrm_dual.proofs.Sizes.{small_size}
+use Rattle.nrm_lp.proofs.Sizes.{small_size}
 use Rattle.nrm_dual.proofs.sums.allotted.Goals as goal
 
 pub returns-clause-limit : goal.returns-clause-limit

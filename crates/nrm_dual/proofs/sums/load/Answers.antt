@@ -4,7 +4,7 @@ use Rattle.std.proofs.lemmas.List.{length-map}
 use Rattle.nrm_lp.specs.Program.{load}
 use Rattle.nrm_lp.specs.Certified.{sizes}
 use Rattle.nrm_lp.proofs.Optimal.{lengths_are}
-use Rattle.nrm_dual.proofs.Adding.{load_named, load_unnamed, load_done}
+use Rattle.nrm_dual.proofs.SumSteps.{load_named, load_unnamed, load_done}
 use Rattle.nrm_dual.proofs.sums.load.Goals as goal
 use Rattle.nrm_dual.proofs.sums.load.Goals.{then-uses_leg, else-uses_leg}
 

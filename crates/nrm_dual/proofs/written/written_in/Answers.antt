@@ -3,7 +3,7 @@ use Rattle.std.specs.List.{slice_split}
 use Rattle.nrm_dual.specs.Reading.{written_by}
 use Rattle.nrm_dual.specs.Inner.Sheets.{fitting}
 use Rattle.nrm_stream.proofs.Cuts.{some-parts}
-use Rattle.nrm_dual.proofs.Words.{too-many-parts}
+use Rattle.nrm_dual.proofs.LineWords.{too-many-parts}
 use Rattle.nrm_dual.proofs.written.written_in.Goals as goal
 
 pub returns-in-Some-split_once : goal.returns-in-Some-split_once

@@ -6,8 +6,8 @@ use Rattle.std.proofs.lemmas.Map.Views.{All-turn}
 use Rattle.nrm_book.specs.Seats.{pairs_sold}
 use Rattle.nrm_edge.specs.Pieces.{AppendsFront}
 use Rattle.nrm_edge.proofs.Sent.{AppendsFront-after, AppendsFront-more, OnErr-holds}
-use Rattle.nrm_report.specs.Inner.Leg.{sold_line}
-use Rattle.nrm_report.proofs.Listed.{lines-on-leg, listed, listed-all, listed-more, listed-rest, within-on-leg}
+use Rattle.nrm_report.specs.Texts.{sold_line}
+use Rattle.nrm_report.proofs.EntryLines.{lines-on-leg, listed, listed-all, listed-more, listed-rest, within-on-leg}
 use Rattle.nrm_report.proofs.leg.put_products.Goals as goal
 
 pub put_product-requires-clause-product : goal.put_product-requires-clause-product

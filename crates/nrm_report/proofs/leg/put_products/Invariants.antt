@@ -1,6 +1,6 @@
 use Rattle.std.proofs.Common.{ℕ, ◌≡◌, Bor, flat_map}
 use Rattle.std.specs.Io.KnownBytes.{Appends}
-use Rattle.nrm_report.specs.Inner.Leg.{sold_line}
+use Rattle.nrm_report.specs.Texts.{sold_line}
 use Rattle.nrm_report.proofs.leg.put_products.Given as goal
 
 -- the lines of the products so far went out, and the count stands as it did

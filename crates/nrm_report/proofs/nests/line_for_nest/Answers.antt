@@ -7,7 +7,7 @@ use Rattle.nrm_model.specs.Network.{leg_of, product_of}
 use Rattle.nrm_fraction.specs.Large.{size_limit}
 use Rattle.nrm_virtual.specs.Buckets.{bucket_of}
 use Rattle.nrm_virtual.proofs.Prices.{prices-of_shape}
-use Rattle.nrm_report.proofs.Nested.{bucket-held, bucket-shown, number-read}
+use Rattle.nrm_report.proofs.NestLines.{bucket-held, bucket-shown, number-read}
 use Rattle.nrm_report.proofs.nests.line_for_nest.Goals as goal
 
 pub adjusted-fare-requires-clause-prices : goal.adjusted-fare-requires-clause-prices

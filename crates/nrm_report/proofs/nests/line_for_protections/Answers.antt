@@ -1,7 +1,6 @@
 use Rattle.std.proofs.Common.{ℕ, List, ◌≡◌, ◌∙◌, ◌++◌, [], ap, flat_map, get_or, length, refl, sym}
-use Rattle.std.specs.Prelude.{codes}
 use Rattle.nrm_model.specs.Network.{leg_of}
-use Rattle.nrm_report.proofs.Nested.{protections-held, protections-shown, word}
+use Rattle.nrm_report.proofs.NestLines.{protections-held, protections-shown, word}
 use Rattle.nrm_report.proofs.nests.line_for_protections.Goals as goal
 
 pub push_protections-requires-clause-nests : goal.push_protections-requires-clause-nests
@@ -14,7 +13,7 @@ pub returns : goal.returns
 returns c =
     let (cert, of) = c.requires.nested in
     let name : c.leg_at-row.result.now.name ≡ (leg_of c.args.net.now c.args.leg).name = rw (sym c.leg_at-row.ensures.leg) refl in
-    let front = c.push_bytes-2.ensures.text ∙ ap (λ (first : List ℕ). first ++ c.bytes.result.now) (c.push_bytes.ensures.text ∙ (λ n. c.new-line.ensures.text n ++ codes "protect ")) in
-    protections-shown c.args.net.now cert c.args.plan.now of c.args.leg c.requires.leg c.bytes.result.now c.push_protections.new.line c.push_bytes-3.new.self (c.bytes.ensures.bytes ∙ name)
+    let front = c.push_name.ensures.text ∙ ap (λ (first : List ℕ). first ++ c.leg_at-row.result.now.name) c.of_bytes-line.ensures.text in
+    protections-shown c.args.net.now cert c.args.plan.now of c.args.leg c.requires.leg c.leg_at-row.result.now.name c.push_protections.new.line c.push_bytes.new.self name
     (λ nests has. c.push_protections.ensures.text nests has ∙ ap (λ (first : List ℕ). first ++ flat_map word (get_or nests.protections c.args.leg [])) front)
-    c.push_bytes-3.ensures.text
+    c.push_bytes.ensures.text

@@ -8,7 +8,7 @@ use Rattle.nrm_edge.proofs.Sent.{AppendsFront-after, AppendsFront-more, OnErr-ho
 use Rattle.nrm_model.specs.Inventory.{inventory_of, products_on}
 use Rattle.nrm_dual.specs.Texts.{certificate_text}
 use Rattle.nrm_report.specs.Texts.{nest_line, nests_text, protect_line}
-use Rattle.nrm_report.proofs.Nested.{protections-lines}
+use Rattle.nrm_report.proofs.NestLines.{protections-lines}
 use Rattle.nrm_report.proofs.nests.nested_text.Goals as goal
 
 pub returns-in_err-certificate_text-clause-cut : goal.returns-in_err-certificate_text-clause-cut

@@ -2,7 +2,7 @@ use Rattle.std.proofs.Common.{ℕ, List, flat_map, length, arith}
 use Rattle.nrm_edge.proofs.Sent.{OnErr-holds}
 use Rattle.nrm_model.specs.Inventory.{inventory_of, products_on}
 use Rattle.nrm_report.specs.Texts.{nest_line}
-use Rattle.nrm_report.proofs.Numbered.{line-cut, line-sent}
+use Rattle.nrm_report.proofs.NumberedLines.{line-cut, line-sent}
 use Rattle.nrm_report.proofs.nests.put_nests.Goals as goal
 
 pub returns-in_err-put_nests_of_leg-clause-cut : goal.returns-in_err-put_nests_of_leg-clause-cut

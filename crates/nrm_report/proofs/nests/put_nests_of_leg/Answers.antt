@@ -3,7 +3,7 @@ use Rattle.std.proofs.KnownBytes.{Appends-trans}
 use Rattle.nrm_edge.specs.Pieces.{AppendsFront}
 use Rattle.nrm_edge.proofs.Sent.{AppendsFront-after, AppendsFront-more, OnErr-holds}
 use Rattle.nrm_report.specs.Texts.{nest_line}
-use Rattle.nrm_report.proofs.Products.{lines_of, lines_from, lines-products, lines-used, lines-unused, lines-all}
+use Rattle.nrm_report.proofs.ProductLines.{lines_of, lines_from, lines-products, lines-used, lines-unused, lines-all}
 use Rattle.nrm_report.proofs.nests.put_nests_of_leg.Goals as goal
 use Rattle.nrm_report.proofs.nests.put_nests_of_leg.Goals.{then-uses_leg+in_ok-put_nest, else-uses_leg}
 

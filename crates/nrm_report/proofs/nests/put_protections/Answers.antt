@@ -3,7 +3,7 @@ use Rattle.std.specs.Io.KnownBytes.{Appends}
 use Rattle.nrm_edge.specs.Pieces.{AppendsFront}
 use Rattle.nrm_edge.proofs.Sent.{OnErr-holds}
 use Rattle.nrm_report.specs.Inner.Nests.{protections_line}
-use Rattle.nrm_report.proofs.Numbered.{line-cut, line-sent}
+use Rattle.nrm_report.proofs.NumberedLines.{line-cut, line-sent}
 use Rattle.nrm_report.proofs.nests.put_protections.Goals as goal
 
 pub returns-in_err-put_all-clause-cut : goal.returns-in_err-put_all-clause-cut

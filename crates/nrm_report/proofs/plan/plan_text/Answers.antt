@@ -1,6 +1,6 @@
 use Rattle.std.proofs.Common.{◌≡◌, ◌∙◌, Some, sym}
 use Rattle.nrm_plan.proofs.Plans.{plan-shape}
-use Rattle.nrm_report.proofs.Nested.{nested-plan}
+use Rattle.nrm_report.proofs.NestLines.{nested-plan}
 use Rattle.nrm_report.proofs.plan.plan_text.Goals as goal
 
 pub certificate_text-requires : goal.certificate_text-requires

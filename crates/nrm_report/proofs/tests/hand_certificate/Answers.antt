@@ -2,7 +2,7 @@ use Rattle.std.proofs.Common.{◌≡◌, ◌∙◌, ◌∷◌, [], List, refl}
 use Rattle.std.specs.Prelude.{ℤ, pos}
 use Rattle.nrm_fraction.specs.Large.{size_limit}
 use Rattle.nrm_lp.specs.Shape.{HasShape}
-use Rattle.nrm_dual.proofs.Passing.{shape_out}
+use Rattle.nrm_dual.proofs.PassesCertify.{shape_out}
 use Rattle.nrm_samples.specs.Programs.{two_legs_five_products_program}
 use Rattle.nrm_report.proofs.tests.hand_certificate.Goals as goal
 

@@ -1,4 +1,4 @@
-use Rattle.std.proofs.Common.{◌≡◌, ap, sym, length, arith}
+use Rattle.std.proofs.Common.{ap, sym, length, arith}
 use Rattle.std.proofs.lemmas.Fmt.{decimal_digit}
 use Rattle.nrm_text.proofs.Decimals.{digits-of_power}
 use Rattle.nrm_text.proofs.line.digit_count.Goals as goal

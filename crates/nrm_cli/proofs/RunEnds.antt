@@ -14,7 +14,7 @@ use Rattle.nrm_cli.specs.Ends.{Ends, Failures, Starts, stream_limit}
 use Rattle.nrm_cli.specs.Jobs.{run_file}
 use Rattle.nrm_cli.specs.Inner.Parts.{status_at}
 use Rattle.nrm_cli.specs.Tells.{Opens}
-use Rattle.nrm_cli.proofs.Replies.{run-stops, run-writes}
+use Rattle.nrm_cli.proofs.SessionRuns.{run-stops, run-writes}
 
 -- the source and the sink of what stands outside
 abbrev pub streams_of : Outside → Streams
@@ -53,14 +53,16 @@ module _ (mode : Mode) (file : List ℕ) (net : NetworkValue) (start new : Contr
           record { starts = starts; taken = taken; output = output; took = took; writes_it = (long, run-writes start new net (whole_commands (take stream_limit taken)) output begun refines); wrote = wrote }
 
 -- and which counts stay
-pub served-failures : (before after : Outside) → after.file_faults ≡ before.file_faults → (e : End) → CountsFaults (streams_of before) (streams_of after) e → Failures (status_at e) before after
+pub served-failures : (before after : Outside) → after.file_faults ≡ before.file_faults → (e : End)
+    → CountsFaults (streams_of before) (streams_of after) e → Failures (status_at e) before after
 served-failures before after files end.Done (took, sank) = record { files = files; source = took; sink = sank }
 served-failures before after files end.ReadFault (rose, later, sank) = (files, sank)
 served-failures before after files end.WriteFault (rose, later, took) = (took, inl files)
 served-failures before after files end.TooLong (took, sank) = record { files = files; source = took; sink = sank }
 
 -- and no count falls
-pub served-goes : (before after : Outside) → after.files ≡ before.files → after.file_faults ≡ before.file_faults → (e : End) → CountsFaults (streams_of before) (streams_of after) e → Goes before after
+pub served-goes : (before after : Outside) → after.files ≡ before.files → after.file_faults ≡ before.file_faults → (e : End)
+    → CountsFaults (streams_of before) (streams_of after) e → Goes before after
 served-goes before after same files end.Done (took, sank) = record { files = same; file_faults = omega (arith, files); source_faults = omega (arith, took); sink_faults = omega (arith, sank) }
 served-goes before after same files end.ReadFault (rose, later, sank) = record { files = same; file_faults = omega (arith, files); source_faults = later; sink_faults = omega (arith, sank) }
 served-goes before after same files end.WriteFault (rose, later, took) = record { files = same; file_faults = omega (arith, files); source_faults = omega (arith, took); sink_faults = later }

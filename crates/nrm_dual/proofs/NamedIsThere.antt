@@ -1,5 +1,6 @@
 -- A product or a leg that is named is one of the program's, or of the network's.
-use Rattle.std.proofs.Common.{◌≡◌, ℕ, zero, suc, ◌+◌, ◌<◌, ℤ, arith, refl, ap, ◌∙◌, subst, List, [], ◌∷◌, length, Bool, true, false, cond, eqb, nat_lt, Option, Some, None, Result, Ok, Err}
+use Rattle.std.proofs.Common.{◌≡◌, ℕ, zero, suc, ◌+◌, ◌<◌, ℤ, arith, refl, ap, ◌∙◌, subst, List, [], ◌∷◌, length, Bool, true, false, cond}
+use Rattle.std.proofs.Common.{eqb, nat_lt, Option, Some, None, Result, Ok, Err}
 use Rattle.std.specs.Prelude.{IfErr, ⊤, if◌then◌else◌}
 use Rattle.std.proofs.lemmas.Option.{none-some, same_Some}
 use Rattle.nrm_model.specs.Network.{NetworkValue}
@@ -7,9 +8,12 @@ use Rattle.nrm_stream.specs.Lines.{lines_of}
 use Rattle.nrm_fraction.specs.Large.{large_number, size_limit}
 use Rattle.nrm_lp.specs.declared.certificate.Certificate.{Certificate}
 use Rattle.nrm_lp.specs.Program.{ProgramValue, cost}
-use Rattle.nrm_dual.specs.Conditions.{first_wrong, is_above_demand, is_above_capacity, is_priced_with_seats_left, is_rejected_above_bid_price, is_accepted_below_bid_price, least, or_leg, or_product}
+use Rattle.nrm_dual.specs.Conditions.{first_wrong, is_above_demand, is_above_capacity, is_priced_with_seats_left}
+use Rattle.nrm_dual.specs.Conditions.{is_rejected_above_bid_price, is_accepted_below_bid_price, least, or_leg, or_product}
 use Rattle.nrm_dual.specs.Named.{IsOfNetwork, IsOfProgram}
-use Rattle.nrm_dual.specs.Reading.{Entry, Sheet, Written, after_entry, after_line, after_lines, allocation_in, blank, certificate_of, certificate_on, certificate_over, entry_of, first_missing, given, is_over, or_refusal, prices_in, small_or_refusal, value_in, whole_or_refusal, with_given}
+use Rattle.nrm_dual.specs.Reading.{Entry, Sheet, Written, after_entry, after_line, after_lines, allocation_in, blank, certificate_of}
+use Rattle.nrm_dual.specs.Reading.{certificate_on, certificate_over, entry_of, first_missing, given, is_over, or_refusal, prices_in}
+use Rattle.nrm_dual.specs.Reading.{small_or_refusal, value_in, whole_or_refusal, with_given}
 use Rattle.nrm_dual.specs.Refusals.{AnswersCertificate, CertRefusal, too_long, bad_line, large_line, no_value, no_product, no_leg, too_fine}
 use Rattle.nrm_dual.specs.declared.fault.CertFault.{CertFault}
 use Rattle.nrm_dual.specs.declared.fault.CertFault.TheVariants as fault
@@ -33,14 +37,16 @@ least_within test k (suc n) i e = go (test k) (least_within test (suc k) n i) e
     go true later e = omega (arith, same_Some k i e)
     go false later e = omega (arith, later e)
 
-product_named : (a : ProgramValue) (test : ℕ → Bool) (later : Verdict) → IsOfProgram a later → IsOfProgram a (or_product (least test 0 (length a.bounds)) later)
+product_named : (a : ProgramValue) (test : ℕ → Bool) (later : Verdict) → IsOfProgram a later
+    → IsOfProgram a (or_product (least test 0 (length a.bounds)) later)
 product_named a test later h = go (least test 0 (length a.bounds)) (λ j e. omega (arith, least_within test 0 (length a.bounds) j e))
   where
     go : (o : Option ℕ) → ((j : ℕ) → o ≡ Some j → j < length a.bounds) → IsOfProgram a (or_product o later)
     go None within = h
     go (Some j) within = within j refl
 
-leg_named : (a : ProgramValue) (test : ℕ → Bool) (later : Verdict) → IsOfProgram a later → IsOfProgram a (or_leg (least test 0 (length a.caps)) later)
+leg_named : (a : ProgramValue) (test : ℕ → Bool) (later : Verdict) → IsOfProgram a later
+    → IsOfProgram a (or_leg (least test 0 (length a.caps)) later)
 leg_named a test later h = go (least test 0 (length a.caps)) (λ i e. omega (arith, least_within test 0 (length a.caps) i e))
   where
     go : (o : Option ℕ) → ((i : ℕ) → o ≡ Some i → i < length a.caps) → IsOfProgram a (or_leg o later)
@@ -72,7 +78,8 @@ missing_within k [] i e = absurd (none-some i e)
 missing_within k (None ∷ more) i e = omega (arith, same_Some k i e)
 missing_within k (Some fraction ∷ more) i e = omega (arith, missing_within (suc k) more i e)
 
-line_named : (net : NetworkValue) (sheet : Sheet) (number : ℕ) (entry : Option Entry) (f : CertRefusal) → after_line sheet number entry ≡ Err f → IsNamed net f
+line_named : (net : NetworkValue) (sheet : Sheet) (number : ℕ) (entry : Option Entry) (f : CertRefusal)
+    → after_line sheet number entry ≡ Err f → IsNamed net f
 line_named net sheet number None f e = subst (IsNamed net) (err_same {A = Sheet} (bad_line number) f e) tt
 line_named net sheet number (Some entry) f e = go (given sheet entry.place) e
   where
@@ -84,7 +91,8 @@ line_named net sheet number (Some entry) f e = go (given sheet entry.place) e
     go (Some before) e = subst (IsNamed net) (err_same {A = Sheet} (bad_line number) f e) tt
     go None e = by (is_over entry.fraction) e
 
-sheet_named : (net : NetworkValue) (sheet : Sheet) → IsSheetOf net sheet → (f : CertRefusal) → certificate_on net sheet ≡ Err f → IsNamed net f
+sheet_named : (net : NetworkValue) (sheet : Sheet) → IsSheetOf net sheet → (f : CertRefusal) → certificate_on net sheet ≡ Err f
+    → IsNamed net f
 sheet_named net sheet h f e =
     on sheet.value (first_missing 0 sheet.products) (first_missing 0 sheet.legs)
     (λ j e. omega (arith, missing_within 0 sheet.products j e, h.products)) (λ i e. omega (arith, missing_within 0 sheet.legs i e, h.legs)) e
@@ -104,7 +112,8 @@ sheet_named net sheet h f e =
     on (Some value) None (Some i) j_within i_within e = subst (IsNamed net) (err_same {A = Certificate} (no_leg i) f e) (i_within i refl)
     on (Some value) None None j_within i_within e = small (large_number size_limit (allocation_in net sheet)) (large_number size_limit (value_in net sheet ∷ prices_in sheet)) e
 
-lines_named : (net : NetworkValue) (sheet : Sheet) (number : ℕ) (lines : List (List ℕ)) → IsSheetOf net sheet → (f : CertRefusal) → or_refusal (after_lines net sheet number lines) (certificate_on net) ≡ Err f → IsNamed net f
+lines_named : (net : NetworkValue) (sheet : Sheet) (number : ℕ) (lines : List (List ℕ)) → IsSheetOf net sheet → (f : CertRefusal)
+    → or_refusal (after_lines net sheet number lines) (certificate_on net) ≡ Err f → IsNamed net f
 lines_named net sheet number [] h f e = sheet_named net sheet h f e
 lines_named net sheet number (line ∷ more) h f e = go (after_line sheet number (entry_of net line)) refl (λ next places rest. lines_named net next (suc number) more places f rest) e
   where
@@ -120,7 +129,8 @@ file_named net bytes f e = go (nat_lt 65536 (length bytes)) e
     go true e = subst (IsNamed net) (err_same {A = Certificate} too_long f e) tt
     go false e = lines_named net (blank net) 1 (lines_of bytes) (blank_places net) f e
 
-pub answer_named : (net : NetworkValue) (bytes : List ℕ) (result : Result Certificate CertFault) → AnswersCertificate result (certificate_of net bytes) → IfErr result (IsOfNetwork net)
+pub answer_named : (net : NetworkValue) (bytes : List ℕ) (result : Result Certificate CertFault)
+    → AnswersCertificate result (certificate_of net bytes) → IfErr result (IsOfNetwork net)
 answer_named net bytes (Ok certificate) read = tt
 answer_named net bytes (Err fault.NoMemory) read = tt
 answer_named net bytes (Err fault.Long) read = tt

@@ -1,5 +1,6 @@
 -- The lines of the products on a leg, as a loop over its entries puts them.
-use Rattle.std.proofs.Common.{ℕ, ◌≡◌, ◌∙◌, ◌<◌, All, List, [], ◌∷◌, ◌++◌, Option, Some, None, flat_map, length, map, sym, ap, arith, append-nil, append_assoc}
+use Rattle.std.proofs.Common.{ℕ, ◌≡◌, ◌∙◌, ◌<◌, All, List, [], ◌∷◌, ◌++◌, Option, Some, None, flat_map, length, map, sym, ap, arith}
+use Rattle.std.proofs.Common.{append-nil, append_assoc}
 use Rattle.std.specs.Iterator.{Yields}
 use Rattle.std.specs.List.{range_with_len}
 use Rattle.std.specs.Map.Iter.{TakesFirst}
@@ -15,8 +16,7 @@ use Rattle.nrm_model.specs.Network.{NetworkValue}
 use Rattle.nrm_book.specs.Bookings.{sold_of}
 use Rattle.nrm_book.specs.Seats.{pairs_sold}
 use Rattle.nrm_book.specs.declared.booking.Booking.{Booking}
-use Rattle.nrm_report.specs.Inner.Leg.{sold_line}
-use Rattle.nrm_report.specs.Texts.{on_line}
+use Rattle.nrm_report.specs.Texts.{on_line, sold_line}
 
 module _ {A X : Type 0} (shows : A → X) (line : X → List ℕ) where
   -- the lines of the entries so far, and of one more
@@ -27,7 +27,8 @@ module _ {A X : Type 0} (shows : A → X) (line : X → List ℕ) where
   listed-more xs x = flat_map-append (λ x. line (shows x)) xs (x ∷ []) ∙ ap (λ more. listed xs ++ more) (append-nil (line (shows x)))
 
   -- those so far, that of one more, and those to come are the lines of all
-  pub listed-rest : (all : List X) (xs : List A) (s t u : List X) (r : Option A) (x : A) → s ≡ all → Yields (TakesFirst shows) s xs t → r ≡ Some x → TakesFirst shows t r u
+  pub listed-rest : (all : List X) (xs : List A) (s t u : List X) (r : Option A) (x : A) → s ≡ all → Yields (TakesFirst shows) s xs t
+      → r ≡ Some x → TakesFirst shows t r u
       → flat_map line all ≡ (listed xs ++ line (shows x)) ++ flat_map line u
   listed-rest all xs s t u r x start yields is step =
       let entries = sym start ∙ rest_so_far shows xs s t yields ∙ ap (λ left. map shows xs ++ left) (rest_more shows t u r x is step) in
@@ -35,7 +36,8 @@ module _ {A X : Type 0} (shows : A → X) (line : X → List ℕ) where
       ∙ sym (append_assoc (listed xs) (line (shows x)) (flat_map line u))
 
   -- at the end those so far are all
-  pub listed-all : (all : List X) (xs : List A) (s t u : List X) (r : Option A) → s ≡ all → Yields (TakesFirst shows) s xs t → r ≡ None → TakesFirst shows t r u → listed xs ≡ flat_map line all
+  pub listed-all : (all : List X) (xs : List A) (s t u : List X) (r : Option A) → s ≡ all → Yields (TakesFirst shows) s xs t → r ≡ None
+      → TakesFirst shows t r u → listed xs ≡ flat_map line all
   listed-all all xs s t u r start yields is step =
       sym (flat_map-map line shows xs) ∙ ap (flat_map line) (iter_end shows all xs s t u r start yields is step).0
 

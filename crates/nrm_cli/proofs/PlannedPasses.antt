@@ -55,12 +55,14 @@ module _ (net : NetworkValue) (plan : PlanValue) (is : IsOpeningPlan net mode.Bi
       (subst (λ (k : ℕ). HasCertificate net (inventory_of net).seats k plan.mode plan.certificate) is.period_is
       (subst (λ (left : List ℕ). HasCertificate net left plan.period plan.mode plan.certificate) is.left_is is.planned.certificate))
 
-  closing-of : (cert : Option Certificate) → IsSolved net (inventory_of net).seats 1 cert → (c : Certificate) × (cert ≡ Some c) × IsClosing (opening_program net) c
+  closing-of : (cert : Option Certificate) → IsSolved net (inventory_of net).seats 1 cert
+      → (c : Certificate) × (cert ≡ Some c) × IsClosing (opening_program net) c
   closing-of None missing = absurd missing
   closing-of (Some c) closes = (c, refl, closes)
 
   -- so its text is read as a certificate at which no condition fails
-  pub text-passes : IsNetwork net → (c : Certificate) × (certificate_under net (Some (plan_text net plan)) ≡ Ok c) × (verdict_on (opening_program net) c ≡ Optimal)
+  pub text-passes : IsNetwork net
+      → (c : Certificate) × (certificate_under net (Some (plan_text net plan)) ≡ Ok c) × (verdict_on (opening_program net) c ≡ Optimal)
   text-passes limits =
       let (c, has, (n, t, closes, made)) = closing-of plan.certificate solved in
       let (reads, passes) = own-passes net limits n t closes in
@@ -104,7 +106,8 @@ module _ (file : List ℕ) (before after : Outside) (files : Folder) (told : bef
   of-told s text done (file_fault job is names rose) = cc
 
 -- the text that was written is the one that is told
-written : (held text told : List ℕ) (before after : Option (List ℕ)) → before ≡ Some held → after ≡ Some (held ++ text) → Appends before after told → text ≡ told
+written : (held text told : List ℕ) (before after : Option (List ℕ)) → before ≡ Some held → after ≡ Some (held ++ text)
+    → Appends before after told → text ≡ told
 written held text told before after was is wrote =
     let appended : held ++ text ≡ held ++ told = rw (was, is) at wrote in
     append_cancel_left held text told appended
@@ -122,7 +125,8 @@ was-planned contents text w = by w.ends
         let (net, plan, gives, is, same) = of-told w.file w.before w.after w.files w.told status.Done t.text refl t.tells in
         (net, plan, subst (λ (c : Option (List ℕ)). network_under c ≡ Ok net) w.network_file gives, is, written w.held text t.text w.before.held w.after.held w.held_before w.held_after t.wrote ∙ same)
 
-pub planned-passes : (asked : Option Job) (before after : Outside) (s : Status) → Completes asked before after s → PlannedPasses asked before after s
+pub planned-passes : (asked : Option Job) (before after : Outside) (s : Status) → Completes asked before after s
+    → PlannedPasses asked before after s
 planned-passes asked before after s completes file name text files asks told holds was no_file no_sink =
     let (net, plan, gives, is, same) = was-planned (files file) text was in
     let (c, reads, passes) = text-passes net plan is (taken-network (files file) net gives) in

@@ -1,5 +1,6 @@
 -- Lines that are put for one number after another.
-use Rattle.std.proofs.Common.{ℕ, zero, suc, ◌≡◌, ◌∙◌, ◌+◌, ◌-◌, ◌<◌, List, ◌∷◌, ◌++◌, Option, flat_map, refl, ap, sym, subst, arith, append-nil, zero-add}
+use Rattle.std.proofs.Common.{ℕ, zero, suc, ◌≡◌, ◌∙◌, ◌+◌, ◌-◌, ◌<◌, List, ◌∷◌, ◌++◌, Option, flat_map, refl, ap, sym, subst, arith}
+use Rattle.std.proofs.Common.{append-nil, zero-add}
 use Rattle.std.specs.List.{range_with_len}
 use Rattle.std.proofs.lemmas.Grind.{flat_map-append}
 use Rattle.std.proofs.KnownBytes.{Appends-trans}
@@ -19,7 +20,8 @@ range-split a (suc m) n =
     rw (count, start) (ap (λ (more : List ℕ). a ∷ more) (range-split (a + 1) m n))
 
 -- the lines of the first numbers, and then those of the others
-split : (line : ℕ → List ℕ) (m n : ℕ) → flat_map line (range_with_len 0 (m + n)) ≡ flat_map line (range_with_len 0 m) ++ flat_map line (range_with_len m n)
+split : (line : ℕ → List ℕ) (m n : ℕ)
+    → flat_map line (range_with_len 0 (m + n)) ≡ flat_map line (range_with_len 0 m) ++ flat_map line (range_with_len m n)
 split line m n =
     let start : 0 + m ≡ m = zero-add m in
     ap (flat_map line) (range-split 0 m n)
@@ -39,12 +41,14 @@ all-lines line j n below =
     ∙ ap (λ (first : List ℕ). first ++ flat_map line (range_with_len (j + 1) (n - (j + 1)))) (one-more line j)
 
 -- the first lines went out, and then one line
-pub line-sent : (a b c : Option (List ℕ)) (line : ℕ → List ℕ) (j : ℕ) → Appends a b (flat_map line (range_with_len 0 j)) → Appends b c (line j)
+pub line-sent : (a b c : Option (List ℕ)) (line : ℕ → List ℕ) (j : ℕ) → Appends a b (flat_map line (range_with_len 0 j))
+    → Appends b c (line j)
     → Appends a c (flat_map line (range_with_len 0 (j + 1)))
 line-sent a b c line j first next = subst (Appends a c) (sym (one-more line j)) (Appends-trans a b c (flat_map line (range_with_len 0 j)) (line j) first next)
 
 -- the first lines went out, and then a front of one line: a front of all lines
-pub line-cut : (a b c : Option (List ℕ)) (line : ℕ → List ℕ) (j n : ℕ) → j < n → Appends a b (flat_map line (range_with_len 0 j)) → AppendsFront b c (line j)
+pub line-cut : (a b c : Option (List ℕ)) (line : ℕ → List ℕ) (j n : ℕ) → j < n → Appends a b (flat_map line (range_with_len 0 j))
+    → AppendsFront b c (line j)
     → AppendsFront a c (flat_map line (range_with_len 0 n))
 line-cut a b c line j n below first front =
     let so_far : List ℕ = flat_map line (range_with_len 0 j) in

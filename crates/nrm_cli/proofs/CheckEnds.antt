@@ -14,13 +14,14 @@ use Rattle.nrm_opening.specs.Refusals.{file_fault_line}
 use Rattle.nrm_cli.specs.Certificates.{LacksCertificate, certificate_under, lacking_line, no_certificate, refused_for, verdict_line}
 use Rattle.nrm_cli.specs.Ends.{Ends, Failures, FilesFailedBefore, status_of}
 use Rattle.nrm_cli.specs.Jobs.{check_file}
-use Rattle.nrm_cli.specs.Inner.Parts.{ChecksFile, CountsCertificate, OpensCertificate, PutsIfSome, PutsLine, PutsVerdict, lack_line, lack_status}
+use Rattle.nrm_cli.specs.Inner.Parts.{ChecksFile, CountsCertificate, OpensCertificate, PutsIfSome, PutsLine, PutsVerdict, lack_line}
+use Rattle.nrm_cli.specs.Inner.Parts.{lack_status}
 use Rattle.nrm_cli.specs.Tells.{Gives, Lacks, Opens, Tells, lacking, optimal, wrong, file_fault}
 use Rattle.nrm_cli.specs.declared.certificate.NoCertificate.{NoCertificate}
 use Rattle.nrm_cli.specs.declared.certificate.NoCertificate.TheVariants as lacks
 use Rattle.nrm_cli.specs.declared.status.Status.{Status}
 use Rattle.nrm_cli.specs.declared.status.Status.TheVariants as status
-use Rattle.nrm_cli.proofs.Telling.{told-ends}
+use Rattle.nrm_cli.proofs.ToldEnds.{told-ends}
 
 -- ---- the end of a check whose first file gave a network
 module _ (file certificate : List ℕ) (before after : Outside) (net : NetworkValue) (opens : Opens (Some (check_file file certificate)) (check_file file certificate) before net) (left : LeftStream before after) where
@@ -33,14 +34,17 @@ module _ (file certificate : List ℕ) (before after : Outside) (net : NetworkVa
   abbrev Puts : List ℕ → Status → Status → Type 0
   Puts text goes s = PutsLine text goes before.held after.held before.sink_faults after.sink_faults s
 
-  gives : (given : Certificate) → OnFile before.files certificate (λ contents. certificate_under net contents ≡ Ok given) → Gives (Some (check_file file certificate)) before net given
+  gives : (given : Certificate) → OnFile before.files certificate (λ contents. certificate_under net contents ≡ Ok given)
+      → Gives (Some (check_file file certificate)) before net given
   gives given on = record { file = file; certificate = certificate; opens = opens; answered = on }
 
-  lacks-so : (reason : LacksCertificate) → OnFile before.files certificate (λ contents. certificate_under net contents ≡ Err reason) → Lacks (Some (check_file file certificate)) before net reason
+  lacks-so : (reason : LacksCertificate) → OnFile before.files certificate (λ contents. certificate_under net contents ≡ Err reason)
+      → Lacks (Some (check_file file certificate)) before net reason
   lacks-so reason on = record { file = file; certificate = certificate; opens = opens; answered = on }
 
   -- a verdict is told with its status
-  verdict-told : (given : Certificate) (found : Verdict) → Gives (Some (check_file file certificate)) before net given → verdict_on (opening_program net) given ≡ found
+  verdict-told : (given : Certificate) (found : Verdict) → Gives (Some (check_file file certificate)) before net given
+      → verdict_on (opening_program net) given ≡ found
       → found ≢ verdict.WrongShape → (found ≡ verdict.Optimal → Certifies size_limit (opening_program net) given) → IsTold (status_of found) (verdict_line net found)
   verdict-told given verdict.Optimal g is shaped shows = optimal net given g is (shows refl)
   verdict-told given verdict.WrongShape g is shaped shows = absurd (shaped refl)
@@ -54,7 +58,8 @@ module _ (file certificate : List ℕ) (before after : Outside) (net : NetworkVa
   found-ends given s on (inr v) =
       told-ends (Some (check_file file certificate)) before after (status_of v.found) s (verdict_line net v.found) (verdict-told given v.found (gives given on) v.verdict_is v.shaped v.optimal) v.puts left
 
-  unread-ends : (o : Option CertRefusal) (s : Status) → OnFile before.files certificate (λ contents. IfSome o (λ cause. certificate_under net contents ≡ Err (refused_for cause)))
+  unread-ends : (o : Option CertRefusal) (s : Status)
+      → OnFile before.files certificate (λ contents. IfSome o (λ cause. certificate_under net contents ≡ Err (refused_for cause)))
       → PutsIfSome (option_map (λ cause. lacking_line net (refused_for cause)) o) status.Refused before.held after.held before.sink_faults after.sink_faults s → IsEnd s
   unread-ends None s on (is, kept, same) = rw is (kept, left)
   unread-ends (Some cause) s on puts =
@@ -68,13 +73,15 @@ module _ (file certificate : List ℕ) (before after : Outside) (net : NetworkVa
   lacks-ends lacks.Fault s on counts puts =
       told-ends (Some (check_file file certificate)) before after status.FileFault s file_fault_line (file_fault (check_file file certificate) refl tt counts.1) puts left
 
-  by-opened : (opened : Result Certificate NoCertificate) (s : Status) → OpensCertificate net before.files certificate opened → CountsCertificate before.file_faults after.file_faults opened
+  by-opened : (opened : Result Certificate NoCertificate) (s : Status) → OpensCertificate net before.files certificate opened
+      → CountsCertificate before.file_faults after.file_faults opened
       → MatchResult opened (λ given. PutsVerdict net given before.held after.held before.sink_faults after.sink_faults s)
       (λ reason. PutsIfSome (lack_line net reason) (lack_status reason) before.held after.held before.sink_faults after.sink_faults s) → IsEnd s
   by-opened (Ok given) s on counts puts = found-ends given s on puts
   by-opened (Err reason) s on counts puts = lacks-ends reason s on counts puts
 
-  pub checked-ends : (s : Status) → ChecksFile net before.files certificate before.held after.held before.file_faults after.file_faults before.sink_faults after.sink_faults s → IsEnd s
+  pub checked-ends : (s : Status)
+      → ChecksFile net before.files certificate before.held after.held before.file_faults after.file_faults before.sink_faults after.sink_faults s → IsEnd s
   checked-ends s checks = by-opened checks.opened s checks.opens checks.counts checks.puts
 
 -- ---- and which counts stay
@@ -84,14 +91,16 @@ module _ (before after : Outside) (net : NetworkValue) (source : after.source_fa
   line-failures text goes s (inl (is, wrote, same)) whole cut = rw is (whole same)
   line-failures text goes s (inr (is, front, rose)) whole cut = rw is (source, cut front)
 
-  quiet : (found : Verdict) → after.file_faults ≡ before.file_faults → after.sink_faults ≡ before.sink_faults → Failures (status_of found) before after
+  quiet : (found : Verdict) → after.file_faults ≡ before.file_faults → after.sink_faults ≡ before.sink_faults
+      → Failures (status_of found) before after
   quiet verdict.Optimal files sink = record { files = files; source = source; sink = sink }
   quiet verdict.WrongShape files sink = record { files = files; source = source; sink = sink }
   quiet (verdict.WrongProduct j) files sink = record { files = files; source = source; sink = sink }
   quiet (verdict.WrongLeg i) files sink = record { files = files; source = source; sink = sink }
   quiet verdict.WrongValue files sink = record { files = files; source = source; sink = sink }
 
-  if-some-failures : (o : Option (List ℕ)) (goes s : Status) → PutsIfSome o goes before.held after.held before.sink_faults after.sink_faults s
+  if-some-failures : (o : Option (List ℕ)) (goes s : Status)
+      → PutsIfSome o goes before.held after.held before.sink_faults after.sink_faults s
       → (after.sink_faults ≡ before.sink_faults → Failures goes before after) → (after.sink_faults ≡ before.sink_faults → Failures status.NoMemory before after) → after.file_faults ≡ before.file_faults → Failures s before after
   if-some-failures None goes s (is, kept, same) whole none files = rw is (none same)
   if-some-failures (Some text) goes s puts whole none files = line-failures text goes s puts whole (λ front. inl files)
@@ -104,12 +113,14 @@ module _ (before after : Outside) (net : NetworkValue) (source : after.source_fa
       if-some-failures (lack_line net (lacks.Unread fault)) status.Refused s puts (λ sink. record { files = counts; source = source; sink = sink }) (λ sink. record { files = counts; source = source; sink = sink }) counts
   lacks-failures lacks.Fault s counts puts = line-failures file_fault_line status.FileFault s puts (λ sink. (source, sink)) (λ front. inr (counts.1, front))
 
-  by-opened-failures : (opened : Result Certificate NoCertificate) (s : Status) → CountsCertificate before.file_faults after.file_faults opened
+  by-opened-failures : (opened : Result Certificate NoCertificate) (s : Status)
+      → CountsCertificate before.file_faults after.file_faults opened
       → MatchResult opened (λ given. PutsVerdict net given before.held after.held before.sink_faults after.sink_faults s)
       (λ reason. PutsIfSome (lack_line net reason) (lack_status reason) before.held after.held before.sink_faults after.sink_faults s) → Failures s before after
   by-opened-failures (Ok given) s counts (inl (is, kept, same)) = rw is (record { files = counts; source = source; sink = same })
   by-opened-failures (Ok given) s counts (inr v) = line-failures (verdict_line net v.found) (status_of v.found) s v.puts (λ sink. quiet v.found counts sink) (λ front. inl counts)
   by-opened-failures (Err reason) s counts puts = lacks-failures reason s counts puts
 
-  pub checked-failures : (certificate : List ℕ) (s : Status) → ChecksFile net before.files certificate before.held after.held before.file_faults after.file_faults before.sink_faults after.sink_faults s → Failures s before after
+  pub checked-failures : (certificate : List ℕ) (s : Status)
+      → ChecksFile net before.files certificate before.held after.held before.file_faults after.file_faults before.sink_faults after.sink_faults s → Failures s before after
   checked-failures certificate s checks = by-opened-failures checks.opened s checks.counts checks.puts

@@ -1,5 +1,6 @@
 -- Words of a line and of a fraction: too many of them, and words that are no name.
-use Rattle.std.proofs.Common.{ℕ, suc, ◌≡◌, ◌∙◌, ◌+◌, ◌<◌, ◌≤◌, List, [], ◌∷◌, length, get_or, Some, None, refl, sym, ap, arith, Bool, true, false, IsTrue, bytes_eq, inl, inr}
+use Rattle.std.proofs.Common.{ℕ, suc, ◌≡◌, ◌∙◌, ◌+◌, ◌<◌, ◌≤◌, List, [], ◌∷◌, length, get_or, Some, None, refl, sym, ap, arith, Bool, true}
+use Rattle.std.proofs.Common.{false, IsTrue, bytes_eq, inl, inr}
 use Rattle.std.specs.Prelude.{◌==◌, codes, if◌then◌else◌}
 use Rattle.std.specs.Option.{option_map}
 use Rattle.std.specs.List.{position_from, slice_split}
@@ -18,7 +19,8 @@ pub too-many-parts : (num den : List ℕ) (more : List (List ℕ)) → 1 ≤ len
 too-many-parts num den [] some = absurd (omega arith)
 too-many-parts num den (further ∷ more) some = refl
 
-pub too-many-words : (net : NetworkValue) (kind name fraction : List ℕ) (more : List (List ℕ)) → 1 ≤ length more → entry_of_words net (kind ∷ name ∷ fraction ∷ more) ≡ None
+pub too-many-words : (net : NetworkValue) (kind name fraction : List ℕ) (more : List (List ℕ)) → 1 ≤ length more
+    → entry_of_words net (kind ∷ name ∷ fraction ∷ more) ≡ None
 too-many-words net kind name fraction [] some = absurd (omega arith)
 too-many-words net kind name fraction (further ∷ more) some = refl
 
@@ -59,11 +61,13 @@ module _ (net : NetworkValue) (line kept kind rest : List ℕ) (are : kept ≡ s
   words : slice_split (λ c. c == 32) (strip_carriage_return line) ≡ kind ∷ slice_split (λ c. c == 32) rest
   words = ap (slice_split (λ c. c == 32)) (sym are) ∙ first
 
-  pub value-entry : slice_split (λ c. c == 32) rest ≡ rest ∷ [] → bytes_eq kind (codes "value") ≡ true → entry_of net line ≡ entry_at (Some the_value) (written_in rest)
+  pub value-entry : slice_split (λ c. c == 32) rest ≡ rest ∷ [] → bytes_eq kind (codes "value") ≡ true
+      → entry_of net line ≡ entry_at (Some the_value) (written_in rest)
   value-entry second is =
       ap (entry_of_words net) (words ∙ ap (λ more. kind ∷ more) second) ∙ rw is refl
 
-  pub named-entry : (name fraction : List ℕ) → slice_split (λ c. c == 32) rest ≡ name ∷ slice_split (λ c. c == 32) fraction → slice_split (λ c. c == 32) fraction ≡ fraction ∷ []
+  pub named-entry : (name fraction : List ℕ) → slice_split (λ c. c == 32) rest ≡ name ∷ slice_split (λ c. c == 32) fraction
+      → slice_split (λ c. c == 32) fraction ≡ fraction ∷ []
       → entry_of net line ≡ entry_at (named_place net kind name) (written_in fraction)
   named-entry name fraction second third = ap (entry_of_words net) (words ∙ ap (λ more. kind ∷ more) (second ∙ ap (λ more. name ∷ more) third))
 

@@ -1,5 +1,6 @@
 -- A certificate at which no condition fails shows what it should, and one that shows it fails none.
-use Rattle.std.proofs.Common.{Option, Some, None, ◌≢◌, ◌≡◌, ℕ, ◌*◌, ◌<◌, ℤ, pos, negsuc, nat_abs, arith, refl, ap, ◌∙◌, List, [], ◌∷◌, length, All, Bool, true, false, cond, ◌&&◌, eqb, ltb, lt-ltb, eq-eqb}
+use Rattle.std.proofs.Common.{Option, Some, None, ◌≢◌, ◌≡◌, ℕ, ◌*◌, ◌<◌, ℤ, pos, negsuc, nat_abs, arith, refl, ap, ◌∙◌, List, [], ◌∷◌}
+use Rattle.std.proofs.Common.{length, All, Bool, true, false, cond, ◌&&◌, eqb, ltb, lt-ltb, eq-eqb}
 use Rattle.std.proofs.lemmas.Bool.{ltb-true, eqb-true, false≢true, and_parts}
 use Rattle.std.proofs.lemmas.List.{length-map}
 use Rattle.std.proofs.lemmas.List.Elements.{All-nil, All-cons, All-head, All-tail}
@@ -12,9 +13,11 @@ use Rattle.nrm_lp.proofs.Audited.{optimal_certify}
 use Rattle.nrm_lp.proofs.Slackness.{meets_if, product_tight, leg_tight}
 use Rattle.nrm_dual.specs.declared.verdict.Verdict.{Verdict}
 use Rattle.nrm_dual.specs.declared.verdict.Verdict.TheVariants.{Optimal, WrongShape, WrongValue}
-use Rattle.nrm_dual.specs.Conditions.{is_above_demand, is_above_capacity, is_priced_with_seats_left, is_rejected_above_bid_price, is_accepted_below_bid_price, least, is_small, are_small, has_shape, or_product, or_leg, first_wrong, first_failing}
+use Rattle.nrm_dual.specs.Conditions.{is_above_demand, is_above_capacity, is_priced_with_seats_left, is_rejected_above_bid_price}
+use Rattle.nrm_dual.specs.Conditions.{is_accepted_below_bid_price, least, is_small, are_small, has_shape, or_product, or_leg, first_wrong}
+use Rattle.nrm_dual.specs.Conditions.{first_failing}
 use Rattle.nrm_dual.specs.Laws.{OptimalPasses}
-use Rattle.nrm_dual.proofs.Failing.{Holds, conditions_hold, meet_passes, both_true}
+use Rattle.nrm_dual.proofs.NoneFails.{Holds, conditions_hold, meet_passes, both_true}
 
 wrong_shape : WrongShape ≡ Optimal → ⊥
 wrong_shape e = cc
@@ -121,7 +124,8 @@ module _ (a : ProgramValue) (ok : IsProgram a) (q : ℕ) (x : List ℕ) (d : ℕ
     worth = ap (λ v. v * q) h.value_is ∙ omega (arith, meeting);
   }
 
-pub passing_certifies : (limit : ℕ) (a : ProgramValue) → IsProgram a → (c : Certificate) → first_failing limit a c ≡ Optimal → Certifies limit a c
+pub passing_certifies : (limit : ℕ) (a : ProgramValue) → IsProgram a → (c : Certificate) → first_failing limit a c ≡ Optimal
+    → Certifies limit a c
 passing_certifies limit a ok c e = go (has_shape limit a c) refl e
   where
     go : (b : Bool) → has_shape limit a c ≡ b → cond b (first_wrong a (nat_abs c.q) (sizes c.x) (nat_abs c.den) (sizes c.p) (nat_abs c.value)) WrongShape ≡ Optimal → Certifies limit a c

@@ -15,39 +15,45 @@ use Rattle.nrm_cli.specs.Inner.Parts.{PutsLine, PutsPlan, PutsUnplanned}
 use Rattle.nrm_cli.specs.Tells.{Opens, overflow, planned}
 use Rattle.nrm_cli.specs.declared.status.Status.{Status}
 use Rattle.nrm_cli.specs.declared.status.Status.TheVariants as status
-use Rattle.nrm_cli.proofs.Telling.{told-ends}
+use Rattle.nrm_cli.proofs.ToldEnds.{told-ends}
 
 -- what lacks a plan lacks a start
-pub start-fault : (net : NetworkValue) (m : Mode) (why : SolveFault) → IsPlanFault net m (inventory_of net).seats 1 why → IsStartFault net m why
+pub start-fault : (net : NetworkValue) (m : Mode) (why : SolveFault) → IsPlanFault net m (inventory_of net).seats 1 why
+    → IsStartFault net m why
 start-fault net m (fault.Overflow pivots number) is = is
 start-fault net m fault.NoMemory is = tt
 
 module _ (job : Job) (m : Mode) (net : NetworkValue) (before after : Outside) (has : mode_of_job job ≡ Some m) (opens : Opens (Some job) job before net) (left : LeftStream before after) where
   -- ---- no plan
-  ran-out : (s : Status) → PutsUnplanned fault.NoMemory before.held after.held before.sink_faults after.sink_faults s → Ends (Some job) before after s
+  ran-out : (s : Status) → PutsUnplanned fault.NoMemory before.held after.held before.sink_faults after.sink_faults s
+      → Ends (Some job) before after s
   ran-out s (told, kept, same) = rw told (kept, left)
 
-  pub unplanned-ends : (why : SolveFault) (s : Status) → IsStartFault net m why → PutsUnplanned why before.held after.held before.sink_faults after.sink_faults s → Ends (Some job) before after s
+  pub unplanned-ends : (why : SolveFault) (s : Status) → IsStartFault net m why
+      → PutsUnplanned why before.held after.held before.sink_faults after.sink_faults s → Ends (Some job) before after s
   unplanned-ends fault.NoMemory s is puts = ran-out s puts
   unplanned-ends (fault.Overflow pivots number) s (n, large, counted) puts =
       told-ends (Some job) before after status.Overflow s (overflow_line (told_pivots n) number) (overflow job m net n number has opens large)
       (subst (λ (k : ℕ). PutsLine (overflow_line k number) status.Overflow before.held after.held before.sink_faults after.sink_faults s) counted puts) left
 
 -- and which counts stay
-pub unplanned-failures : (before after : Outside) → after.file_faults ≡ before.file_faults → after.source_faults ≡ before.source_faults → (why : SolveFault) (s : Status)
+pub unplanned-failures : (before after : Outside) → after.file_faults ≡ before.file_faults → after.source_faults ≡ before.source_faults
+    → (why : SolveFault) (s : Status)
     → PutsUnplanned why before.held after.held before.sink_faults after.sink_faults s → Failures s before after
 unplanned-failures before after files source fault.NoMemory s (is, kept, same) = rw is (record { files = files; source = source; sink = same })
 unplanned-failures before after files source (fault.Overflow pivots number) s (inl (is, wrote, same)) = rw is (record { files = files; source = source; sink = same })
 unplanned-failures before after files source (fault.Overflow pivots number) s (inr (is, front, rose)) = rw is (source, inl files)
 
 -- ---- the plan's text, or none
-pub planned-ends : (m : Mode) (file : List ℕ) (net : NetworkValue) (before after : Outside) → Opens (Some (plan_file m file)) (plan_file m file) before net → LeftStream before after
+pub planned-ends : (m : Mode) (file : List ℕ) (net : NetworkValue) (before after : Outside)
+    → Opens (Some (plan_file m file)) (plan_file m file) before net → LeftStream before after
     → (s : Status) → PutsPlan net m before.held after.held before.sink_faults after.sink_faults s → Ends (Some (plan_file m file)) before after s
 planned-ends m file net before after opens left s (inl (plan, is, puts)) =
     told-ends (Some (plan_file m file)) before after status.Done s (plan_text net plan) (planned m file net plan opens is) puts left
 planned-ends m file net before after opens left s (inr (why, is, puts)) = unplanned-ends (plan_file m file) m net before after refl opens left why s (start-fault net m why is) puts
 
-pub planned-failures : (m : Mode) (net : NetworkValue) (before after : Outside) → after.file_faults ≡ before.file_faults → after.source_faults ≡ before.source_faults
+pub planned-failures : (m : Mode) (net : NetworkValue) (before after : Outside) → after.file_faults ≡ before.file_faults
+    → after.source_faults ≡ before.source_faults
     → (s : Status) → PutsPlan net m before.held after.held before.sink_faults after.sink_faults s → Failures s before after
 planned-failures m net before after files source s (inl (plan, for, inl (is, wrote, same))) = rw is (record { files = files; source = source; sink = same })
 planned-failures m net before after files source s (inl (plan, for, inr (is, front, rose))) = rw is (source, inl files)

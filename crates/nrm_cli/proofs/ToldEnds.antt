@@ -9,10 +9,12 @@ use Rattle.nrm_cli.specs.declared.status.Status.{Status}
 use Rattle.nrm_cli.specs.declared.status.Status.TheVariants as status
 
 module _ (asked : Option Job) (before after : Outside) where
-  told : (s : Status) (text : List ℕ) → Tells asked before after s text → Wrote before after text → LeftStream before after → Told asked before after s
+  told : (s : Status) (text : List ℕ) → Tells asked before after s text → Wrote before after text → LeftStream before after
+      → Told asked before after s
   told s text tells wrote left = record { text = text; tells = tells; wrote = wrote; left = left }
 
-  whole : (s : Status) (text : List ℕ) → Tells asked before after s text → Wrote before after text → LeftStream before after → Ends asked before after s
+  whole : (s : Status) (text : List ℕ) → Tells asked before after s text → Wrote before after text → LeftStream before after
+      → Ends asked before after s
   whole s text (usage none) wrote left = told s text (usage none) wrote left
   whole s text (refused refusal why) wrote left = told s text (refused refusal why) wrote left
   whole s text (lacking net reason why) wrote left = told s text (lacking net reason why) wrote left
@@ -35,6 +37,7 @@ module _ (asked : Option Job) (before after : Outside) where
   told-counts goes s text files source (inl (is, wrote, same)) quiet = rw is (quiet (record { files = files; source = source; sink = same }))
   told-counts goes s text files source (inr (is, front, rose)) quiet = rw is (source, inl files)
 
-pub told-done : (before after : Outside) (s : Status) (text : List ℕ) → after.file_faults ≡ before.file_faults → after.source_faults ≡ before.source_faults
+pub told-done : (before after : Outside) (s : Status) (text : List ℕ) → after.file_faults ≡ before.file_faults
+    → after.source_faults ≡ before.source_faults
     → PutsLine text status.Done before.held after.held before.sink_faults after.sink_faults s → Failures s before after
 told-done before after s text files source puts = told-counts None before after status.Done s text files source puts (λ quiet. quiet)

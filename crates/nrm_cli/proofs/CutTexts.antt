@@ -5,10 +5,12 @@ use Rattle.std.specs.Io.KnownBytes.{Appends, Keeps}
 use Rattle.std.proofs.KnownBytes.{Appends-kept}
 use Rattle.nrm_edge.specs.Pieces.{AppendsCut, AppendsFront}
 
-pub flushed-cut : {T E : Type 0} (held held' held'' : Option (List ℕ)) (text : List ℕ) (result : Result T E) → Appends held held' text → Keeps held' held'' → OnErr result (AppendsCut held held'' text)
+pub flushed-cut : {T E : Type 0} (held held' held'' : Option (List ℕ)) (text : List ℕ) (result : Result T E) → Appends held held' text
+    → Keeps held' held'' → OnErr result (AppendsCut held held'' text)
 flushed-cut held held' held'' text (Ok value) wrote stays = tt
 flushed-cut held held' held'' text (Err error) wrote stays = inr (Appends-kept held held' held'' text wrote stays)
 
-pub put-cut : {T E : Type 0} (held held' : Option (List ℕ)) (text : List ℕ) (result : Result T E) → OnErr result (AppendsFront held held' text) → OnErr result (AppendsCut held held' text)
+pub put-cut : {T E : Type 0} (held held' : Option (List ℕ)) (text : List ℕ) (result : Result T E)
+    → OnErr result (AppendsFront held held' text) → OnErr result (AppendsCut held held' text)
 put-cut held held' text (Ok value) front = tt
 put-cut held held' text (Err error) front = inl front

@@ -1,6 +1,8 @@
 -- Where the words are good, the files are told and the file is valid, and nothing failed, the job is done.
-use Rattle.std.proofs.Common.{ℕ, ℤ, ◌≡◌, ◌≤◌, ◌++◌, List, length, Option, Some, None, Result, Ok, Err, ◌≢◌, refl, ap, sym, ◌∙◌, inl, inr, arith, append-nil, length-append, subst}
+use Rattle.std.proofs.Common.{ℕ, ℤ, ◌≡◌, ◌≤◌, ◌++◌, List, length, Option, Some, None, Result, Ok, Err, ◌≢◌, refl, ap, sym, ◌∙◌, inl, inr}
+use Rattle.std.proofs.Common.{arith, append-nil, length-append, subst}
 use Rattle.std.specs.Io.KnownBytes.{Consumes, IsAtEnd}
+use Rattle.std.proofs.lemmas.Option.{none-some, same_Some}
 use Rattle.nrm_edge.specs.Fetch.{Folder}
 use Rattle.nrm_model.specs.declared.mode.Mode.{Mode}
 use Rattle.nrm_model.specs.Inventory.{inventory_of}
@@ -14,19 +16,21 @@ use Rattle.nrm_network.specs.Canonical.{canonical_file}
 use Rattle.nrm_plan.specs.Plans.{IsOpeningPlan, OpeningOverflows, PlanValue}
 use Rattle.nrm_plan.proofs.Plans.{one-plan}
 use Rattle.nrm_report.specs.Texts.{plan_text}
-use Rattle.nrm_opening.specs.Outside.{Outside, OnFile, FilesFailed, SourceFailed, SinkFailed, Wrote}
+use Rattle.nrm_opening.specs.Outside.{Outside, OnFile, Wrote}
 use Rattle.nrm_opening.specs.Refusals.{Refusal, network_under}
 use Rattle.nrm_control.specs.State.{opening}
 use Rattle.nrm_stream.specs.Commands.{commands_of}
 use Rattle.nrm_session.specs.Run.{output_of}
 use Rattle.nrm_session.proofs.Runs.{runs}
 use Rattle.nrm_cli.specs.Certificates.{LacksCertificate, certificate_under, verdict_line}
-use Rattle.nrm_cli.specs.Jobs.{Job, run_file, plan_file, check_file, print_file, run_made, HasNetwork, NamesFile, TakesStream, mode_of_job, overflow_line, told_pivots}
+use Rattle.nrm_cli.specs.Jobs.{Job, run_file, plan_file, check_file, print_file, run_made, HasNetwork, NamesFile, TakesStream, mode_of_job}
+use Rattle.nrm_cli.specs.Jobs.{overflow_line, told_pivots}
 use Rattle.nrm_gen.specs.MadeCommands.{made_commands}
 use Rattle.nrm_gen.specs.MadeNetwork.{made_network}
 use Rattle.nrm_cli.specs.Made.{MadeRun, summary_line}
 use Rattle.nrm_cli.specs.Ends.{Completes, CompletesJob, Ends, NothingHinders, OrRanOut, RanOut, RunWrites, Starts, TellsOverflow, status_of}
-use Rattle.nrm_cli.specs.Tells.{Gives, GivesNetwork, Lacks, Opens, Reads, Refuses, RefusesNetwork, Tells, usage, refused, lacking, optimal, wrong, planned, overflow, summed, printed, file_fault}
+use Rattle.nrm_cli.specs.Tells.{Gives, GivesNetwork, Lacks, Opens, Reads, Refuses, RefusesNetwork, Tells, usage, refused, lacking, optimal}
+use Rattle.nrm_cli.specs.Tells.{wrong, planned, overflow, summed, printed, file_fault}
 use Rattle.nrm_cli.specs.declared.status.Status.{Status}
 use Rattle.nrm_cli.specs.declared.status.Status.TheVariants as status
 
@@ -41,27 +45,34 @@ no-more stream taken None consumed = absurd consumed
 no-more stream taken (Some left) consumed = rw consumed (grind (arith, length-append taken left))
 
 -- what is told of the files holds of them
-on-told : (told : Option Folder) (files : Folder) (name : List ℕ) (P : Option (List ℕ) → Type 0) → told ≡ Some files → OnFile told name P → P (files name)
+on-told : (told : Option Folder) (files : Folder) (name : List ℕ) (P : Option (List ℕ) → Type 0) → told ≡ Some files → OnFile told name P
+    → P (files name)
 on-told told files name P is on = rw is at on
 
 -- what a file gives is one network, and it isn't refused
-on-file : (told : Option Folder) (file : List ℕ) (net given : NetworkValue) → (files : Folder) × (told ≡ Some files) × (network_under (files file) ≡ Ok net) → OnFile told file (λ f. network_under f ≡ Ok given) → given ≡ net
+on-file : (told : Option Folder) (file : List ℕ) (net given : NetworkValue)
+    → (files : Folder) × (told ≡ Some files) × (network_under (files file) ≡ Ok net) → OnFile told file (λ f. network_under f ≡ Ok given)
+    → given ≡ net
 on-file told file net given (files, is, gives) on =
     let same : Ok given ≡ Ok net = sym (on-told told files file (λ f. network_under f ≡ Ok given) is on) ∙ gives in cc
 
-file-taken : (told : Option Folder) (file : List ℕ) (net : NetworkValue) (refusal : Refusal) → (files : Folder) × (told ≡ Some files) × (network_under (files file) ≡ Ok net) → OnFile told file (λ f. network_under f ≡ Err refusal) → ⊥
+file-taken : (told : Option Folder) (file : List ℕ) (net : NetworkValue) (refusal : Refusal)
+    → (files : Folder) × (told ≡ Some files) × (network_under (files file) ≡ Ok net) → OnFile told file (λ f. network_under f ≡ Err refusal)
+    → ⊥
 file-taken told file net refusal (files, is, gives) on =
     let same : Err refusal ≡ Ok net = sym (on-told told files file (λ f. network_under f ≡ Err refusal) is on) ∙ gives in cc
 
 -- so it is of a job
-gives-for : (job : Job) (told : Option Folder) (net given : NetworkValue) → HasNetwork job told net → GivesNetwork job told given → given ≡ net
+gives-for : (job : Job) (told : Option Folder) (net given : NetworkValue) → HasNetwork job told net → GivesNetwork job told given
+    → given ≡ net
 gives-for (run_file m file) told net given has gives = on-file told file net given has gives
 gives-for (plan_file m file) told net given has gives = on-file told file net given has gives
 gives-for (check_file file certificate) told net given has gives = on-file told file net given has gives
 gives-for (print_file file) told net given has gives = on-file told file net given has gives
 gives-for (run_made m number) told net given has gives = gives ∙ sym has
 
-refuses-for : (job : Job) (told : Option Folder) (net : NetworkValue) (refusal : Refusal) → HasNetwork job told net → RefusesNetwork job told refusal → ⊥
+refuses-for : (job : Job) (told : Option Folder) (net : NetworkValue) (refusal : Refusal) → HasNetwork job told net
+    → RefusesNetwork job told refusal → ⊥
 refuses-for (run_file m file) told net refusal has on = file-taken told file net refusal has on
 refuses-for (plan_file m file) told net refusal has on = file-taken told file net refusal has on
 refuses-for (check_file file certificate) told net refusal has on = file-taken told file net refusal has on
@@ -81,7 +92,8 @@ some-made net plan number =
     (summary_line net replies last, record { replies = replies; last = last; run = run; suffices = suffices; summary = refl })
 
 -- want of memory is one of the ends that a good job may have
-ran-complete : (job : Job) (net : NetworkValue) (before after : Outside) → RanOut (Some job) before after → CompletesJob job net before after status.NoMemory
+ran-complete : (job : Job) (net : NetworkValue) (before after : Outside) → RanOut (Some job) before after
+    → CompletesJob job net before after status.NoMemory
 ran-complete (run_file m file) net before after (kept, left) = (
   (λ n number large. inr (refl, kept)),
   (λ plan stream planned coming short. let (output, writes) = some-run net plan stream in (output, writes, inr (refl, kept))),
@@ -145,7 +157,8 @@ module _ (asked : Option Job) (before after : Outside) (job : Job) (net : Networ
   wrong-status verdict.WrongValue other = refl
 
   -- a certificate that is the second file's was judged
-  judged : (s : Status) (given-net : NetworkValue) (given : Certificate) (found : Verdict) → Gives asked before given-net given → verdict_on (opening_program given-net) given ≡ found → s ≡ status_of found
+  judged : (s : Status) (given-net : NetworkValue) (given : Certificate) (found : Verdict) → Gives asked before given-net given
+      → verdict_on (opening_program given-net) given ≡ found → s ≡ status_of found
       → Wrote before after (verdict_line given-net found) → CompletesJob job net before after s
   judged s given-net given found gives is goes wrote =
       subst (Complete s) (same-job (check_file gives.file gives.certificate) gives.opens.0) (λ files shown is-told reads.
@@ -163,31 +176,28 @@ module _ (asked : Option Job) (before after : Outside) (job : Job) (net : Networ
   started st = subst (λ (n : NetworkValue). IsOpeningPlan n st.mode st.plan) (same-net (run_file st.mode st.file) st.net st.opens) st.planned
 
   -- the line of a program that is Large
-  large-told : (m : Mode) (n : ℕ) (number : ℤ) → OpeningOverflows net m n number → Wrote before after (overflow_line (told_pivots n) number) → TellsOverflow net m before after status.Overflow
+  large-told : (m : Mode) (n : ℕ) (number : ℤ) → OpeningOverflows net m n number → Wrote before after (overflow_line (told_pivots n) number)
+      → TellsOverflow net m before after status.Overflow
   large-told m n number large wrote = λ n' number' large'.
       let (count, same) = (one-plan net m (inventory_of net).seats 1).overflow n n' number number' large large' in
       inl (refl, subst (λ (text : List ℕ). Wrote before after text) (λ i. overflow_line (told_pivots (sym count i)) (sym same i)) wrote)
 
-  none-some : (m : Mode) → None ≡ Some m → ⊥
-  none-some m e = cc
-
-  mode-same : (x y : Mode) → Some x ≡ Some y → x ≡ y
-  mode-same x y e = cc
-
-  complete-large : (other : Job) (m : Mode) (n : ℕ) (number : ℤ) → mode_of_job other ≡ Some m → OpeningOverflows net m n number → Wrote before after (overflow_line (told_pivots n) number) → CompletesJob other net before after status.Overflow
+  complete-large : (other : Job) (m : Mode) (n : ℕ) (number : ℤ) → mode_of_job other ≡ Some m → OpeningOverflows net m n number
+      → Wrote before after (overflow_line (told_pivots n) number) → CompletesJob other net before after status.Overflow
   complete-large (run_file k file) m n number has large wrote =
-      let own = subst (λ (mode : Mode). OpeningOverflows net mode n number) (sym (mode-same k m has)) large in
+      let own = subst (λ (mode : Mode). OpeningOverflows net mode n number) (sym (same_Some k m has)) large in
       (large-told k n number own wrote, (λ plan stream planned coming short. absurd ((one-plan net k (inventory_of net).seats 1).apart plan n number planned own)))
   complete-large (plan_file k file) m n number has large wrote =
-      let own = subst (λ (mode : Mode). OpeningOverflows net mode n number) (sym (mode-same k m has)) large in
+      let own = subst (λ (mode : Mode). OpeningOverflows net mode n number) (sym (same_Some k m has)) large in
       (large-told k n number own wrote, (λ plan planned. absurd ((one-plan net k (inventory_of net).seats 1).apart plan n number planned own)))
   complete-large (check_file file certificate) m n number has large wrote = absurd (none-some m has)
   complete-large (print_file file) m n number has large wrote = absurd (none-some m has)
   complete-large (run_made k made) m n number has large wrote =
-      let own = subst (λ (mode : Mode). OpeningOverflows net mode n number) (sym (mode-same k m has)) large in
+      let own = subst (λ (mode : Mode). OpeningOverflows net mode n number) (sym (same_Some k m has)) large in
       (large-told k n number own wrote, (λ plan planned. absurd ((one-plan net k (inventory_of net).seats 1).apart plan n number planned own)))
 
-  complete-told : (s : Status) (text : List ℕ) → Tells asked before after s text → Wrote before after text → CompletesJob job net before after s
+  complete-told : (s : Status) (text : List ℕ) → Tells asked before after s text → Wrote before after text
+      → CompletesJob job net before after s
   complete-told s text (usage none) wrote = let no : None ≡ Some job = sym none ∙ asks in cc
   complete-told s text (refused refusal why) wrote = absurd (not-refused refusal why)
   complete-told s text (lacking given-net reason r) wrote =
@@ -254,7 +264,8 @@ module _ (asked : Option Job) (before after : Outside) (job : Job) (net : Networ
   complete status.Overflow t = complete-told status.Overflow t.text t.tells t.wrote
 
 -- what holds of a job holds of the words that ask for it
-pub same-job-ends : (asked known : Option Job) (before after : Outside) (s : Status) → asked ≡ known → Ends asked before after s → Ends known before after s
+pub same-job-ends : (asked known : Option Job) (before after : Outside) (s : Status) → asked ≡ known → Ends asked before after s
+    → Ends known before after s
 same-job-ends asked known before after s is ends = subst (λ (a : Option Job). Ends a before after s) is ends
 
 -- so what each status says gives completeness

@@ -1,12 +1,14 @@
 -- What the conditions after the shape say where none fails, and that none fails where an allocation and bid prices meet.
-use Rattle.std.proofs.Common.{◌≡◌, ℕ, zero, suc, ◌+◌, ◌*◌, ◌<◌, ◌≤◌, ◌⊎◌, inl, inr, arith, refl, sym, ap, ◌∙◌, List, [], length, get_or, Bool, true, false, cond, ◌&&◌, eqb, Option, Some, None, le-ltb, lt-ltb, eq-eqb}
+use Rattle.std.proofs.Common.{◌≡◌, ℕ, zero, suc, ◌+◌, ◌*◌, ◌<◌, ◌≤◌, ◌⊎◌, inl, inr, arith, refl, sym, ap, ◌∙◌, List, [], length, get_or}
+use Rattle.std.proofs.Common.{Bool, true, false, cond, ◌&&◌, eqb, Option, Some, None, le-ltb, lt-ltb, eq-eqb}
 use Rattle.std.proofs.lemmas.Bool.{ltb-true, ltb-false, eqb-true, false≢true}
 use Rattle.std.proofs.lemmas.Option.{none-some}
 use Rattle.nrm_lp.specs.Program.{ProgramValue, load, price_sum, cost}
 use Rattle.nrm_lp.specs.Certified.{Meet}
 use Rattle.nrm_dual.specs.declared.verdict.Verdict.{Verdict}
 use Rattle.nrm_dual.specs.declared.verdict.Verdict.TheVariants.{Optimal, WrongProduct, WrongLeg, WrongValue}
-use Rattle.nrm_dual.specs.Conditions.{least, or_product, or_leg, is_above_demand, is_above_capacity, is_priced_with_seats_left, is_rejected_above_bid_price, is_accepted_below_bid_price, first_wrong}
+use Rattle.nrm_dual.specs.Conditions.{least, or_product, or_leg, is_above_demand, is_above_capacity, is_priced_with_seats_left}
+use Rattle.nrm_dual.specs.Conditions.{is_rejected_above_bid_price, is_accepted_below_bid_price, first_wrong}
 
 pub both_true : (b c : Bool) → b ≡ true → c ≡ true → (b && c) ≡ true
 both_true true c e f = f
@@ -80,7 +82,8 @@ pub record Holds (a : ProgramValue) (q : ℕ) (x : List ℕ) (d : ℕ) (p : List
   pub within : (j : ℕ) → j < length a.bounds → get_or x j 0 ≤ q * get_or a.bounds j 0
   pub seats : (i : ℕ) → i < length a.caps → load i a.legs x ≤ q * get_or a.caps i 0
   pub full : (i : ℕ) → i < length a.caps → 0 < get_or p i 0 → q * get_or a.caps i 0 ≤ load i a.legs x
-  pub unmet : (j : ℕ) → j < length a.bounds → get_or x j 0 < q * get_or a.bounds j 0 → d * get_or a.fares j 0 ≤ price_sum p (get_or a.legs j [])
+  pub unmet : (j : ℕ) → j < length a.bounds → get_or x j 0 < q * get_or a.bounds j 0
+      → d * get_or a.fares j 0 ≤ price_sum p (get_or a.legs j [])
   pub used : (j : ℕ) → j < length a.bounds → 0 < get_or x j 0 → price_sum p (get_or a.legs j []) ≤ d * get_or a.fares j 0
   pub value_is : value ≡ cost a d p
 

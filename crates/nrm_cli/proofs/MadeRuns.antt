@@ -1,10 +1,11 @@
 -- The commands of a maker are answered one after another, and their replies counted.
-use Rattle.std.proofs.Common.{ℕ, suc, ◌≡◌, ◌≢◌, ◌∙◌, ◌+◌, ◌-◌, ◌≤◌, ◌<◌, ◌++◌, ◌∷◌, [], List, Option, Some, None, Bool, codes, decimal, drop, if◌then◌else◌, length, refl, sym, ap, subst, arith, inl, inr, append-nil, append_assoc, length-append}
+use Rattle.std.proofs.Common.{ℕ, suc, ◌≡◌, ◌≢◌, ◌∙◌, ◌+◌, ◌-◌, ◌≤◌, ◌<◌, ◌++◌, ◌∷◌, [], List, Option, Some, None, Bool, codes, decimal}
+use Rattle.std.proofs.Common.{drop, if◌then◌else◌, length, refl, sym, ap, subst, arith, inl, inr, append-nil, append_assoc, length-append}
 use Rattle.std.proofs.lemmas.Bool.{cases_lt, le-ltb, lt-ltb}
 use Rattle.std.proofs.lemmas.List.Elements.{All-nil, All-cons, All-append}
 use Rattle.std.specs.Fmt.{digits}
 use Rattle.std.specs.List.{join_with_byte}
-use Rattle.nrm_text.specs.Words.{text_line}
+use Rattle.nrm_text.specs.Words.{spaced, text_line}
 use Rattle.nrm_model.specs.Inventory.{inventory_of}
 use Rattle.nrm_model.specs.declared.mode.Mode.{Mode}
 use Rattle.nrm_model.specs.Network.{NetworkValue}
@@ -32,12 +33,13 @@ use Rattle.nrm_cli.specs.Tells.{summed}
 use Rattle.nrm_cli.specs.Inner.Parts.{AnswersMade, HasBegun, PutsSummary, rest_of, total_of}
 use Rattle.nrm_cli.specs.declared.status.Status.{Status}
 use Rattle.nrm_cli.specs.declared.status.Status.TheVariants as status
-use Rattle.nrm_cli.proofs.Replies.{opened}
-use Rattle.nrm_cli.proofs.Telling.{told-ends}
+use Rattle.nrm_cli.proofs.SessionRuns.{opened}
+use Rattle.nrm_cli.proofs.ToldEnds.{told-ends}
 use Rattle.nrm_cli.specs.declared.counts.Counts.{Counts}
 
 -- ---- one reply more
-counts-more : (c : Counts) (replies : List Reply) (reply : Reply) → counts_from c (replies ++ reply ∷ []) ≡ counted (counts_from c replies) (last_of replies)
+counts-more : (c : Counts) (replies : List Reply) (reply : Reply)
+    → counts_from c (replies ++ reply ∷ []) ≡ counted (counts_from c replies) (last_of replies)
 counts-more c [] reply = refl
 counts-more c (first ∷ []) reply = refl
 counts-more c (first ∷ second ∷ more) reply = counts-more (counted c first) (second ∷ more) reply
@@ -54,33 +56,17 @@ pub record FrontMade (old now : ControlValue) (at_first left : Making) (counts :
   pub together : front ++ rest_of left ≡ rest_of at_first
   pub next : now.next ≤ old.next + length front
   pub given : length front ≤ left.given
-  pub within : left.given ≤ 10000
-
-pub none-made : (old : ControlValue) (at_first : Making) (counts : Counts) → IsControl old → at_first.given ≤ 10000 → counts ≡ nothing_counted → FrontMade old old at_first at_first counts answered.Bad
-none-made old at_first counts kept within new = record {
-  front = [];
-  answers = record {
-    network = refl;
-    tellable = tt;
-    run = λ s stands. (s, [], stands, refl, All-nil (λ reply. reply ≢ memory), new, refl);
-    kept = kept;
-    few = rw new (omega arith);
-  };
-  together = refl;
-  next = omega arith;
-  given = omega arith;
-  within = within;
-}
+  pub within : left.given ≤ command_count
 
 -- the command that the maker gives is the first of those that it still has
 taken : (left : Making) (command : Command) → next_of left ≡ Some command
-    → (left.given < 10000) × (rest_of left ≡ command ∷ rest_of (after_next left)) × ((after_next left).given ≡ suc left.given)
-taken left command is = elim (cases_lt left.given 10000) [
+    → (left.given < command_count) × (rest_of left ≡ command ∷ rest_of (after_next left)) × ((after_next left).given ≡ suc left.given)
+taken left command is = elim (cases_lt left.given command_count) [
   | inl few ↦
       let after : Making = record { state = (command_at (suc left.given) left.state).1; given = suc left.given } in
-      (few, given-first left command (sym is), ap (λ (b : Bool). (if b then after else left).given) (lt-ltb left.given 10000 few))
+      (few, given-first left command (sym is), ap (λ (b : Bool). (if b then after else left).given) (lt-ltb left.given command_count few))
   | inr all ↦
-      let none : next_of left ≡ None = ap (λ (b : Bool). if b then Some (command_at (suc left.given) left.state).0 else None) (le-ltb left.given 10000 all) in
+      let none : next_of left ≡ None = ap (λ (b : Bool). if b then Some (command_at (suc left.given) left.state).0 else None) (le-ltb left.given command_count all) in
       absurd (cc (none, is))
 ]
 
@@ -141,7 +127,8 @@ no-command : (given : Option Command) → ((command : Command) → given ≡ Som
 no-command None other = refl
 no-command (Some command) other = absurd (other command refl)
 
-pub all-made : (old now : ControlValue) (at_first left : Making) (counts : Counts) (last : Answered) → FrontMade old now at_first left counts last
+pub all-made : (old now : ControlValue) (at_first left : Making) (counts : Counts) (last : Answered)
+    → FrontMade old now at_first left counts last
     → ((command : Command) → next_of left ≡ Some command → ⊥) → AnswersMade old now (rest_of at_first) counts last
 all-made old now at_first left counts last made no_more =
     let none = given-none left (no-command (next_of left) no_more) in
@@ -149,7 +136,8 @@ all-made old now at_first left counts last made no_more =
     subst (λ (commands : List Command). AnswersMade old now commands counts last) whole made.answers
 
 -- there are fewer left
-pub fewer-left : (left after : Making) (command : Command) → next_of left ≡ Some command → after ≡ after_next left → 10000 - after.given < 10000 - left.given
+pub fewer-left : (left after : Making) (command : Command) → next_of left ≡ Some command → after ≡ after_next left
+    → command_count - after.given < command_count - left.given
 fewer-left left after command gives goes =
     let (few, rest, given) = taken left command gives in
     omega (arith, few, given, ap (λ (m : Making). m.given) goes)
@@ -180,16 +168,19 @@ joined-more first (second ∷ more) word digits =
     ∙ append_assoc first (32 ∷ (rest ++ 32 ∷ word)) (32 ∷ digits)
     ∙ ap (λ (line : List ℕ). first ++ 32 ∷ line) (joined-more second more word digits)
 
-pub count-more : (first : List ℕ) (words : List (List ℕ)) (word digits line line' : List ℕ) → line ≡ join_with_byte 32 (first ∷ words) → line' ≡ (line ++ 32 ∷ word) ++ 32 ∷ digits
-    → line' ≡ join_with_byte 32 ((first ∷ words) ++ word ∷ digits ∷ [])
-count-more first words word digits line line' is goes = goes ∙ ap (λ (l : List ℕ). (l ++ 32 ∷ word) ++ 32 ∷ digits) is ∙ joined-more first words word digits
+pub count-more : (first : List ℕ) (words : List (List ℕ)) (word : List ℕ) (count pushed : ℕ) (line line' : List ℕ)
+    → line ≡ join_with_byte 32 (first ∷ words)
+    → line' ≡ line ++ spaced word ++ spaced (decimal pushed) → pushed ≡ count → line' ≡ join_with_byte 32 ((first ∷ words) ++ word ∷ decimal count ∷ [])
+count-more first words word count pushed line line' is goes same =
+    goes ∙ (λ i. is i ++ spaced word ++ spaced (decimal (same i))) ∙ joined-more first words word (decimal count)
 
--- the space after the word is put with it
-pub spaced-more : (first : List ℕ) (words : List (List ℕ)) (word digits line line' : List ℕ) → line ≡ join_with_byte 32 (first ∷ words) → line' ≡ (line ++ (32 ∷ word ++ 32 ∷ [])) ++ digits
-    → line' ≡ join_with_byte 32 ((first ∷ words) ++ word ∷ digits ∷ [])
-spaced-more first words word digits line line' is goes =
-    count-more first words word digits line line' is
-    (goes ∙ append_assoc line (32 ∷ word ++ 32 ∷ []) digits ∙ ap (λ (l : List ℕ). line ++ 32 ∷ l) (append_assoc word (32 ∷ []) digits) ∙ sym (append_assoc line (32 ∷ word) (32 ∷ digits)))
+-- and a word more after the word for it, which is put with the space behind it
+word-more : (first : List ℕ) (words : List (List ℕ)) (word next line line' : List ℕ) → line ≡ join_with_byte 32 (first ∷ words)
+    → line' ≡ (line ++ (32 ∷ word ++ 32 ∷ [])) ++ next
+    → line' ≡ join_with_byte 32 ((first ∷ words) ++ word ∷ next ∷ [])
+word-more first words word next line line' is goes =
+    goes ∙ append_assoc line (32 ∷ word ++ 32 ∷ []) next ∙ ap (λ (l : List ℕ). line ++ 32 ∷ l) (append_assoc word (32 ∷ []) next) ∙ sym (append_assoc line (32 ∷ word) (32 ∷ next))
+    ∙ ap (λ (l : List ℕ). (l ++ 32 ∷ word) ++ 32 ∷ next) is ∙ joined-more first words word next
 
 -- the first words
 pub first-words : join_with_byte 32 (codes "made" ∷ codes "lines" ∷ decimal command_count ∷ []) ≡ codes "made lines 10000"
@@ -197,18 +188,18 @@ unfolding digits
 first-words = refl
 
 -- and the whole line, piece by piece
-pub line-is : (counts : Counts) (revenue : ℕ) (hindsight a b d e f line : List ℕ) → a ≡ join_with_byte 32 (count_words counts)
-    → b ≡ a ++ codes " revenue " → d ≡ b ++ decimal revenue → e ≡ d ++ codes " hindsight " → f ≡ e ++ hindsight → line ≡ f ++ 10 ∷ []
+pub line-is : (counts : Counts) (revenue : ℕ) (hindsight a b d e line : List ℕ) → a ≡ join_with_byte 32 (count_words counts)
+    → b ≡ a ++ spaced (codes "revenue") ++ spaced (decimal revenue) → d ≡ b ++ codes " hindsight " → e ≡ d ++ hindsight → line ≡ e ++ 10 ∷ []
     → line ≡ text_line (summary_words counts revenue hindsight)
-line-is counts revenue hindsight a b d e f line counted_is b_is d_is e_is f_is line_is =
+line-is counts revenue hindsight a b d e line counted_is b_is d_is e_is line_is =
     let rest : List (List ℕ) = drop 1 (count_words counts) in
-    let first : d ≡ join_with_byte 32 (count_words counts ++ codes "revenue" ∷ decimal revenue ∷ []) =
-    spaced-more (codes "made") rest (codes "revenue") (decimal revenue) a d counted_is (d_is ∙ ap (λ (l : List ℕ). l ++ decimal revenue) b_is) in
+    let first : b ≡ join_with_byte 32 (count_words counts ++ codes "revenue" ∷ decimal revenue ∷ []) = count-more (codes "made") rest (codes "revenue") revenue revenue a b counted_is b_is refl in
     line_is ∙ ap (λ (l : List ℕ). l ++ 10 ∷ [])
-    (spaced-more (codes "made") (rest ++ codes "revenue" ∷ decimal revenue ∷ []) (codes "hindsight") hindsight d f first (f_is ∙ ap (λ (l : List ℕ). l ++ hindsight) e_is))
+    (word-more (codes "made") (rest ++ codes "revenue" ∷ decimal revenue ∷ []) (codes "hindsight") hindsight b e first (e_is ∙ ap (λ (l : List ℕ). l ++ hindsight) d_is))
 
 -- ---- how a made run ends
-pub summary-ends : (m : Mode) (number : ℕ) (net : NetworkValue) (plan : PlanValue) (before after : Outside) (s : Status) → net ≡ made_network number → IsOpeningPlan net m plan → LeftStream before after
+pub summary-ends : (m : Mode) (number : ℕ) (net : NetworkValue) (plan : PlanValue) (before after : Outside) (s : Status)
+    → net ≡ made_network number → IsOpeningPlan net m plan → LeftStream before after
     → PutsSummary net plan number before.held after.held before.sink_faults after.sink_faults s → Ends (Some (run_made m number)) before after s
 summary-ends m number net plan before after s made opens left (inl (is, kept, same)) = rw is (kept, left)
 summary-ends m number net plan before after s made opens left (inr (text, run, puts)) =
@@ -216,7 +207,8 @@ summary-ends m number net plan before after s made opens left (inr (text, run, p
     (summed m number plan text refl (subst (λ (n : NetworkValue). IsOpeningPlan n m plan) made opens) (subst (λ (n : NetworkValue). MadeRun n plan number text) made run)) puts left
 
 -- and which counts stay
-pub summary-failures : (net : NetworkValue) (plan : PlanValue) (number : ℕ) (before after : Outside) (s : Status) → after.file_faults ≡ before.file_faults → after.source_faults ≡ before.source_faults
+pub summary-failures : (net : NetworkValue) (plan : PlanValue) (number : ℕ) (before after : Outside) (s : Status)
+    → after.file_faults ≡ before.file_faults → after.source_faults ≡ before.source_faults
     → PutsSummary net plan number before.held after.held before.sink_faults after.sink_faults s → Failures s before after
 summary-failures net plan number before after s files source (inl (is, kept, same)) = rw is (record { files = files; source = source; sink = same })
 summary-failures net plan number before after s files source (inr (text, run, inl (is, wrote, same))) = rw is (record { files = files; source = source; sink = same })

@@ -1,5 +1,6 @@
 -- The lines of a certificate, one after the other, fill a blank sheet.
-use Rattle.std.proofs.Common.{◌≡◌, ℕ, zero, suc, ◌+◌, ◌<◌, arith, refl, sym, ap, ap₂, ◌∙◌, List, [], ◌∷◌, ◌++◌, map, length, get_or, set, replicate, append_assoc, false, Option, Some, None, Ok, Err}
+use Rattle.std.proofs.Common.{◌≡◌, ℕ, zero, suc, ◌+◌, ◌<◌, arith, refl, sym, ap, ap₂, ◌∙◌, List, [], ◌∷◌, ◌++◌, map, length, get_or, set}
+use Rattle.std.proofs.Common.{replicate, append_assoc, false, Option, Some, None, Ok, Err}
 use Rattle.std.specs.Prelude.{if◌then◌else◌}
 use Rattle.std.specs.List.{range_with_len}
 use Rattle.std.proofs.Math.Seq.{get_or-append_seam, set-append_seam}
@@ -7,14 +8,16 @@ use Rattle.std.proofs.lemmas.List.{append-nil}
 use Rattle.std.proofs.lemmas.List.FromFn.{length-map-range_with_len, map-range_with_len_more}
 use Rattle.nrm_model.specs.Network.{NetworkValue}
 use Rattle.nrm_dual.specs.Refusals.{large_line}
-use Rattle.nrm_dual.specs.Reading.{Written, Place, the_value, of_product, of_leg, Entry, entry_of, Sheet, blank, given, with_given, is_over, after_entry, after_line, after_lines, or_refusal}
+use Rattle.nrm_dual.specs.Reading.{Written, Place, the_value, of_product, of_leg, Entry, entry_of, Sheet, blank, given, with_given, is_over}
+use Rattle.nrm_dual.specs.Reading.{after_entry, after_line, after_lines, or_refusal}
 use Rattle.nrm_dual.proofs.SheetBack.{full_sheet}
 
 abbrev pub entry_for : Place → Written → Entry
 entry_for place w = record { place = place; fraction = w }
 
 -- a line that gives a fraction for a place that has none
-line_given : (net : NetworkValue) (sheet : Sheet) (number : ℕ) (line : List ℕ) (more : List (List ℕ)) (place : Place) (w : Written) → entry_of net line ≡ Some (entry_for place w) → given sheet place ≡ None → is_over w ≡ false
+line_given : (net : NetworkValue) (sheet : Sheet) (number : ℕ) (line : List ℕ) (more : List (List ℕ)) (place : Place) (w : Written)
+    → entry_of net line ≡ Some (entry_for place w) → given sheet place ≡ None → is_over w ≡ false
     → after_lines net sheet number (line ∷ more) ≡ after_lines net (with_given sheet place w) (suc number) more
 line_given net sheet number line more place w entry none fits =
     ap (λ e. or_refusal (after_line sheet number e) (λ next. after_lines net next (suc number) more)) entry

@@ -13,17 +13,20 @@ use Rattle.nrm_cli.specs.Inner.Parts.{PutsReason}
 use Rattle.nrm_cli.specs.Tells.{RefusesNetwork, refused, file_fault}
 use Rattle.nrm_cli.specs.declared.status.Status.{Status}
 use Rattle.nrm_cli.specs.declared.status.Status.TheVariants as status
-use Rattle.nrm_cli.proofs.Telling.{told-ends}
+use Rattle.nrm_cli.proofs.ToldEnds.{told-ends}
 
 -- nothing was written and the stream was left
-ran-out : (job : Job) (before after : Outside) (s : Status) → PutsReason none.NoMemory before.held after.held before.sink_faults after.sink_faults s → LeftStream before after → Ends (Some job) before after s
+ran-out : (job : Job) (before after : Outside) (s : Status)
+    → PutsReason none.NoMemory before.held after.held before.sink_faults after.sink_faults s → LeftStream before after
+    → Ends (Some job) before after s
 ran-out job before after s (told, kept, same) left = rw told (kept, left)
 
 -- a job whose network is that of a file is refused as the file is
 abbrev pub IsOfFile : Job → List ℕ → Type 0
 IsOfFile job file = (files : Option Folder) (refusal : Refusal) → OnFile files file (λ contents. network_under contents ≡ Err refusal) → RefusesNetwork job files refusal
 
-pub without-network : (job : Job) (file : List ℕ) → NamesFile job → IsOfFile job file → (before after : Outside) (reason : NoNetwork) (s : Status)
+pub without-network : (job : Job) (file : List ℕ) → NamesFile job → IsOfFile job file
+    → (before after : Outside) (reason : NoNetwork) (s : Status)
     → OpensFile before.files file (Err reason) → CountsOpening before.file_faults after.file_faults (Err reason)
     → PutsReason reason before.held after.held before.sink_faults after.sink_faults s → LeftStream before after → Ends (Some job) before after s
 without-network job name names of_file before after none.Absent s file counts puts left =
@@ -35,7 +38,8 @@ without-network job name names of_file before after none.Fault s file counts put
 without-network job name names of_file before after none.NoMemory s file counts puts left = ran-out job before after s puts left
 
 -- and which counts stay
-pub without-failures : (before after : Outside) (reason : NoNetwork) (s : Status) → CountsOpening before.file_faults after.file_faults (Err reason)
+pub without-failures : (before after : Outside) (reason : NoNetwork) (s : Status)
+    → CountsOpening before.file_faults after.file_faults (Err reason)
     → PutsReason reason before.held after.held before.sink_faults after.sink_faults s → after.source_faults ≡ before.source_faults → Failures s before after
 without-failures before after none.Absent s counts (inl (is, wrote, same)) source = rw is (record { files = counts; source = source; sink = same })
 without-failures before after none.Absent s counts (inr (is, front, rose)) source = rw is (source, inl counts)
@@ -53,7 +57,8 @@ opened-later before now (Err (none.Refused row cause)) same = omega (arith, same
 opened-later before now (Err none.Fault) rose = rose.0
 opened-later before now (Err none.NoMemory) same = omega (arith, same)
 
-pub opened-goes : (before after : Outside) (opened : Result NetworkValue NoNetwork) → CountsOpening before.file_faults after.file_faults opened → after.files ≡ before.files
+pub opened-goes : (before after : Outside) (opened : Result NetworkValue NoNetwork)
+    → CountsOpening before.file_faults after.file_faults opened → after.files ≡ before.files
     → after.source_faults ≡ before.source_faults → before.sink_faults ≤ after.sink_faults → Goes before after
 opened-goes before after opened counts stays source later =
     record { files = stays; file_faults = opened-later before.file_faults after.file_faults opened counts; source_faults = omega (arith, source); sink_faults = later }
