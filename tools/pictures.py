@@ -4,6 +4,11 @@ Colours are those of Okabe and Ito, which colour-blind readers tell apart; each 
 """
 import os
 
+from nrm_tools import no_tool
+
+if __name__ == "__main__":
+    no_tool(__doc__)
+
 import matplotlib
 
 matplotlib.use("Agg")

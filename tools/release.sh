@@ -6,24 +6,28 @@
 # FOLDER/nrm-VERSION gets the program, which is built first if need be, its man page, LICENSE, CHANGELOG.md, the two pages for who
 # operates it, tools/resume.py, which goes on after a cut, VERSION, which says the version and the commit, and SHA256SUMS of
 # all of them: `sha256sum -c SHA256SUMS` there sees that they are as they were made. It is made of what is committed: where
-# something isn't, or the folder is there, nothing is made, and the status is 1.
+# something isn't, or the folder is there, nothing is made, and the status is 1; it is 2 where the words ask for nothing.
 set -euo pipefail
 top=$(dirname "$(dirname "$(readlink -f "${BASH_SOURCE[0]}")")")
 
 stop() {
   echo "release.sh: $1" >&2
-  exit 1
+  exit "${2-1}"
 }
 
-[ $# = 1 ] || stop "usage: tools/release.sh FOLDER"
+case ${1-} in
+  -h | --help) sed '1d; /^[^#]/,$d; s/^# \?//' "${BASH_SOURCE[0]}" && exit ;;
+  -*) stop "usage: tools/release.sh FOLDER" 2 ;;
+esac
+[ $# = 1 ] || stop "usage: tools/release.sh FOLDER" 2
 version=$(<"$top/VERSION")
 made=$1/nrm-$version
 [ ! -e "$made" ] || stop "$made is there already"
+commit=$(git -C "$top" rev-parse HEAD 2>/dev/null) || stop "$top is no git repository, or git isn't there: which commit it is can't be told"
 [ -z "$(git -C "$top" status --porcelain)" ] || stop "$top has changes that aren't committed: \`git status\` tells them"
-commit=$(git -C "$top" rev-parse HEAD)
 
 "$top/nrm" print "$top/examples/two-legs/network.csv" >/dev/null || stop "there is no program to put into it"
-mkdir -p "$made/tools"
+mkdir -p "$made/tools" || stop "$made can't be made"
 install -m 755 "$top/crates/nrm/out/nrm" "$made/nrm"
 install -m 644 "$top/docs/nrm.1" "$top/LICENSE" "$top/CHANGELOG.md" "$top/docs/operating.md" "$top/docs/commands.md" "$made"
 install -m 755 "$top/tools/resume.py" "$made/tools"

@@ -48,8 +48,8 @@ def replayed(rows, history, seed, words):
         with open(path, "w", encoding="ascii") as file:
             file.write(text_of(rows_without(rows, history)))
         for mode in MODES:
-            last = replies(words, mode, path, stream)[-1].decode().split()
-            if last[0] != "hindsight":
+            last = b"".join(replies(words, mode, path, stream)[-1:]).decode("latin-1").split()
+            if last[0:1] != ["hindsight"] or len(last) != 4:
                 raise Stop(f"`run {mode}` without history {history} has no bound: {' '.join(last)}")
             told.append(int(last[3]))
     return Fraction(last[1]), told
