@@ -195,6 +195,34 @@ def explain_tells_every_row_with_its_line_and_how_to_mend_it(tools):
         want_in(out, f", {wanted}\n")
 
 
+KINDS_SPELT_OTHERWISE = """#sep=;
+Art;Name;Seats
+Periods,1,1
+Leg,A,5
+ leg,B,5
+prodcut,P,5,A,B
+demand,P,1,4
+product;Q;5;A
+LEG,A,6
+"""
+
+
+@test
+def explain_takes_a_row_for_the_kind_that_it_seems_to_be(tools):
+    """So that no other row is told for its fault."""
+    out, _, status = tools.ran("explain.py", tools.file("kinds.csv", KINDS_SPELT_OTHERWISE))
+    want(re.findall("^refused row (.*)", out, re.M), ["1 why 1 kind", "2 why 1 kind", "3 why 1 kind", "4 why 1 kind", "5 why 1 kind",
+                                                      "6 why 1 kind", "8 why 1 kind", "9 why 1 kind"])
+    want(re.findall("^        (.{12})", out, re.M), ["a file has n", "a file has n", "write period", "write leg, i", "write leg, i", "it is none o",
+                                                    "the fields a", "write leg, i"])
+    out = tools.ran("explain.py", tools.file("heads.csv", "Period,Legs\nleg,A,5\nproduct,P,5,A\n"))[0]
+    want(re.findall("^refused row (.*)", out, re.M), ["1 why 1 kind"])
+    out = tools.ran("explain.py", tools.file("heads.csv", "Period,Legs\nperiods,1,1\nleg,A,5\nproduct,P,5,A\n"))[0]
+    want(re.findall("^refused row (.*)", out, re.M), ["1 why 1 kind"])
+    out = tools.ran("explain.py", tools.file("heads.csv", "Leg,Name\nleg,A,5\nproduct,P,5,A\n"))[0]
+    want(re.findall("^refused row (.*)", out, re.M), ["1 why 1 kind", "2 why 2 order"])
+
+
 def spoilt(fields, draw):
     """A row with one fault."""
     kind, *rest = fields

@@ -82,11 +82,14 @@ class Reading:
     def __init__(self, rows):
         self.rows = rows
         self.legs, self.products, self.demands = {}, {}, {}
-        self.first_periods = next((row for row in rows if row.fields[0] == "periods"), None)
+        is_periods = [lambda row: row.fields[0] == "periods", lambda row: kind_meant(row.fields[0]) == "periods"]
+        self.first_periods = next((row for it in is_periods for row in rows if it(row)), None)
         self.histories, self.periods = self.sizes()
         self.known_rows = 0  # those of a known kind
-        self.lines_of_names = {kind: {row.fields[1]: row.line for row in reversed(rows) if row.fields[0] == kind and row.fields[1:]}
-                               for kind in ("leg", "product")}
+        self.lines_of_names = {"leg": {}, "product": {}}
+        for row in reversed(rows):
+            if row.fields[1:]:
+                self.lines_of_names.get(kind_meant(row.fields[0]), {})[row.fields[1]] = row.line
 
     def sizes(self):
         """The histories and the periods, or None where the row that says them doesn't say them well."""
@@ -111,8 +114,9 @@ class Reading:
 
     def take(self, row):
         """Makes known what a row makes, be it refused or not."""
-        kind, *rest = row.fields
-        self.known_rows += kind in SHAPES
+        word, *rest = row.fields
+        self.known_rows += word in SHAPES
+        kind = kind_meant(word)  # one that is spelt otherwise makes its name known too
         if kind == "leg" and rest:
             self.legs.setdefault(rest[0], row.line)
         elif kind == "product" and rest:
@@ -134,8 +138,8 @@ class Reading:
     def fault_of_shape(self, row):
         kind, count = row.fields[0], len(row.fields)
         if kind not in SHAPES:
-            return Fault(1, 0, how_to_mend_a_kind(row))
-        if kind != "periods" and not self.known_rows:
+            return Fault(1, 0, how_to_mend_a_kind(row.fields, not self.known_rows))
+        if kind != "periods" and not self.known_rows and not (self.first_periods and self.first_periods.number < row.number):
             there = f"move up line {self.first_periods.line}" if self.first_periods else f"add {SHAPES['periods']} above"
             return Fault(2, 0, f"the row of periods comes first: {there}")
         if kind == "periods" and row is not self.first_periods:
@@ -212,31 +216,37 @@ class Reading:
         return f"no row makes a {kind} of this name" + (f"; is it {close[0]} of line {made[close[0]]}?" if close else ": add it above")
 
 
+def kind_meant(text):
+    """The kind of row that a first field says, or seems to be meant to say; else None."""
+    text = text.strip().lower()
+    return text if text in SHAPES else next(iter(difflib.get_close_matches(text, SHAPES, 1)), None)
+
+
 def is_no_csv(text):
     """Whether a first field shows that the whole file is something else than rows with commas in UTF-8."""
     return "\0" in text or text.startswith(("\\xff\\xfe", "\\xfe\\xff", "PK\x03")) or re.match(r"periods *[;\t|]", text) is not None
 
 
-def how_to_mend_a_kind(row):
-    text = row.fields[0]
+def how_to_mend_a_kind(fields, is_above_all):
+    """What is said of a row of no kind; whether it is above all that have one shows a heading row."""
+    text, kind = fields[0], kind_meant(fields[0])
     if text.startswith("PK\x03"):
         return "it is a spreadsheet's own file (.xlsx, .ods): save it as CSV, with commas and in UTF-8"
     if "\0" in text or text.startswith(("\\xff\\xfe", "\\xfe\\xff")):
         return "it is UTF-16, or no text: save it as UTF-8, or `iconv -f UTF-16 -t UTF-8 FILE > NEW`"
-    if is_no_csv(text):
+    if re.match(rf"({'|'.join(SHAPES)}) *[;\t|]", text):
         return "the fields are kept apart by another sign: save it with commas, or `tr ';' ',' < FILE > NEW`, with '\\t' for tabs"
     if "\ufeff" in text:
         return "there is a byte order mark that isn't at the start of the file, or twice: delete it"
-    if not any(row.fields):
+    if not any(fields):
         return "the row is empty: delete it, or `sed 's/,*\\r*$//' FILE > NEW`, since a blank line is no row"
-    if text.strip().lower() in SHAPES:
-        return f"write {text.strip().lower()}, in lower case and without blanks"
+    if kind == text.strip().lower():
+        return f"write {kind}, in lower case and without blanks"
     if text.startswith("#"):
         return "a file has no remarks: delete the line"
-    if row.number == 1:
+    if is_above_all and not kind:
         return "a file has no heading row: delete it; the first row is " + SHAPES["periods"]
-    close = difflib.get_close_matches(text.strip().lower(), SHAPES, 1)
-    return f"it is none of periods, leg, product and demand{f': write {close[0]}' if close else ''}"
+    return f"it is none of periods, leg, product and demand{f': write {kind}' if kind else ''}"
 
 
 def faulty_names(row):
