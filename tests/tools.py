@@ -195,6 +195,13 @@ def explain_tells_every_row_with_its_line_and_how_to_mend_it(tools):
         want_in(out, f", {wanted}\n")
 
 
+@test
+def explain_tells_a_padded_row_once(tools):
+    out = tools.ran("explain.py", tools.file("padded.csv", "periods,1,1\nleg,A,5\nproduct,P,5,A,,,\nproduct,,5,A\nproduct,,5,A\n"))[0]
+    want(re.findall("^    line (.*)", out, re.M), [f"3, field {it}, leg {it - 3}: ''" for it in (5, 6, 7)] +
+         ["4, field 2, the name: ''", "5, field 2, the name: ''"])
+
+
 KINDS_SPELT_OTHERWISE = """#sep=;
 Art;Name;Seats
 Periods,1,1

@@ -131,8 +131,7 @@ class Reading:
             return [fault]
         faults = [*faulty_names(row), *self.faulty_numbers(row)]
         at_fault = {it.field for it in faults}
-        faults += self.taken_names(row)
-        faults += [it for it in self.missing_names(row) if it.field not in at_fault]
+        faults += [it for some in (self.taken_names(row), self.missing_names(row)) for it in some if it.field not in at_fault]
         return faults or list(faulty_lists(row))
 
     def fault_of_shape(self, row):
