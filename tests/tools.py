@@ -808,6 +808,9 @@ def tools_that_run_the_program_tell_where_it_is_another(tools):
     for wrong, sentence in ((refused, "ended with status 3: refused row 2 why 5 name; `tools/explain.py` tells"), (tools.folder, "status 9: file fault")):
         want_in(tools.stopped("resume.py", wrong, "bid", stream, kept, *program), sentence)
     want_in(tools.stopped("resume.py", network, "bid", "/proc/self/mem", kept, *program), "/proc/self/mem: Input/output error")
+    other = tools.file("other", "no A\n")
+    want_in(tools.stopped("resume.py", network, "bid", stream, other, *program), "line 1: 'no A\\n' was kept, and the program answers 'ok 1\\n'")
+    want_in(tools.stopped("split.py", network, stream), f"{stream} is a file, and a folder is wanted")
 
 
 @test

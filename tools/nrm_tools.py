@@ -111,6 +111,14 @@ def forget_output():
     os.dup2(os.open(os.devnull, os.O_WRONLY), 1)
 
 
+def make_folder(path):
+    """Makes the folder at a path if it isn't there."""
+    try:
+        os.makedirs(path, exist_ok=True)
+    except FileExistsError:
+        raise Stop(f"{path} is a file, and a folder is wanted")
+
+
 def bytes_in(path, most=-1):
     """The bytes of the file at a path, or the first of them."""
     try:

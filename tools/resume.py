@@ -86,6 +86,7 @@ class Session:
 
 
 def parted(number, kept, reply):
+    kept, reply = (it.decode("latin-1") for it in (kept, reply))
     raise Stop(f"line {number}: {kept!r} was kept, and the program answers {reply!r}")
 
 

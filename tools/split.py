@@ -15,7 +15,7 @@ not written; the status is then 1.
 import os
 from collections import defaultdict
 
-from nrm_tools import MOST_LEGS, MOST_PRODUCTS, Network, end, parser, text_of
+from nrm_tools import MOST_LEGS, MOST_PRODUCTS, Network, end, make_folder, parser, text_of
 
 MOST_TOLD = 10  # products that hold a part together
 
@@ -66,7 +66,7 @@ def tell_too_large(network, legs, products):
 
 def split(network, folder):
     """Writes the parts of a timetable into a folder, and tells them. It gives whether each part was written."""
-    os.makedirs(folder, exist_ok=True)
+    make_folder(folder)
     number, too_large = 0, 0
     with open(os.path.join(folder, "parts.csv"), "w", encoding="ascii") as list_of_products:
         list_of_products.write(text_of([["product", "file"]]))
