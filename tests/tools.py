@@ -905,8 +905,9 @@ def release_has_what_an_operator_needs(tools):
     want_in((TOP / "docs" / "nrm.1").read_text(), f'"nrm {version}"')
     want_in((TOP / "CHANGELOG.md").read_text(), f"\n## {version}\n")
     clone, made = tools.folder / "clone", tools.folder / "out" / f"nrm-{version}"
-    if not (TOP / ".git").exists() or subprocess.run(["git", "clone", "-q", TOP, clone], stderr=subprocess.DEVNULL).returncode:
-        print("this is no git repository: no release made")
+    if not shutil.which("rt") or not (TOP / ".git").exists() or subprocess.run(
+            ["git", "clone", "-q", TOP, clone], stderr=subprocess.DEVNULL).returncode:
+        print("this is no git repository, or there is no kit: no release made")
         return
     words = [clone / "tools" / "release.sh", tools.folder / "out"]
     built = clone / "crates" / "nrm" / "out" / "nrm"
@@ -916,9 +917,12 @@ def release_has_what_an_operator_needs(tools):
     done = subprocess.run([words[0], tools.file("no-folder", "")], capture_output=True, text=True)
     want((done.returncode, "release.sh: " in done.stderr), (1, True), done.stderr)
     want(subprocess.run(words, stdout=subprocess.DEVNULL).returncode, 0, "release.sh")
-    want(sorted(str(it.relative_to(made)) for it in made.rglob("*") if it.is_file()),
-         ["CHANGELOG.md", "LICENSE", "SHA256SUMS", "VERSION", "commands.md", "nrm", "nrm.1", "operating.md", "tools/nrm_tools.py",
-          "tools/resume.py"])
+    files = sorted(str(it.relative_to(made)) for it in made.rglob("*") if it.is_file())
+    want([it for it in files if not it.startswith("licences/")],
+         ["CHANGELOG.md", "LICENSE", "SHA256SUMS", "VERSION", "commands.md", "nrm", "nrm.1", "operating.md", "tools/explain.py",
+          "tools/nrm_tools.py", "tools/resume.py"])
+    want({it.partition("-")[0] for it in files if it.startswith("licences/")} >=
+         {f"licences/{it}" for it in ("csv", "indexmap", "itoa", "memchr", "ryu", "serde", "thiserror")}, True, files)
     want(subprocess.run(["sha256sum", "--quiet", "-c", "SHA256SUMS"], cwd=made).returncode, 0, "sha256sum")
     stream, kept = tools.file("stream", "book ZV-Y 1\nbook ZV-Y 1\n"), tools.file("kept", "ok 1\nok")
     done = subprocess.run([sys.executable, "-B", made / "tools" / "resume.py", EXAMPLES / "log" / "network.csv", "first", stream, kept],

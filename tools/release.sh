@@ -4,9 +4,10 @@
 #     tools/release.sh FOLDER
 #
 # FOLDER/nrm-VERSION gets the program, which is built first if need be, its man page, LICENSE, CHANGELOG.md, the two pages for who
-# operates it, tools/resume.py, which goes on after a cut, VERSION, which says the version and the commit, and SHA256SUMS of
-# all of them: `sha256sum -c SHA256SUMS` there sees that they are as they were made. It is made of what is committed: where
-# something isn't, or the folder is there, nothing is made, and the status is 1; it is 2 where the words ask for nothing.
+# operates it, tools/resume.py, which goes on after a cut, tools/explain.py, which tells why a file is refused, VERSION, which says
+# the version and the commit, licences/ of the kit's crates that the program has code of, and SHA256SUMS of all of them:
+# `sha256sum -c SHA256SUMS` there sees that they are as they were made. It is made of what is committed, with the kit's `rt` on the
+# path: where something isn't, or the folder is there, nothing is made, and the status is 1; it is 2 where the words ask for nothing.
 set -euo pipefail
 top=$(dirname "$(dirname "$(readlink -f "${BASH_SOURCE[0]}")")")
 
@@ -27,11 +28,17 @@ commit=$(git -C "$top" rev-parse HEAD 2>/dev/null) || stop "$top is no git repos
 [ -z "$(git -C "$top" status --porcelain)" ] || stop "$top has changes that aren't committed: \`git status\` tells them"
 
 "$top/nrm" print "$top/examples/two-legs/network.csv" >/dev/null || stop "there is no program to put into it"
-mkdir -p "$made/tools" || stop "$made can't be made"
+start=$(rt doc 2>/dev/null) || stop "the kit's \`rt\` isn't on the path, and its crates have licences to be handed on"
+mkdir -p "$made/tools" "$made/licences" || stop "$made can't be made"
 install -m 755 "$top/crates/nrm/out/nrm" "$made/nrm"
 install -m 644 "$top/docs/nrm.1" "$top/LICENSE" "$top/CHANGELOG.md" "$top/docs/operating.md" "$top/docs/commands.md" "$made"
-install -m 755 "$top/tools/resume.py" "$made/tools"
+install -m 755 "$top/tools/resume.py" "$top/tools/explain.py" "$made/tools"
 install -m 644 "$top/tools/nrm_tools.py" "$made/tools"
+for crate in csv indexmap itoa thiserror memchr ryu serde; do  # the last three are those that csv stands on
+  for licence in "$(dirname "$start")/rattle/$crate"/LICENSE*; do
+    install -m 644 "$licence" "$made/licences/$crate-$(basename "$licence")"
+  done
+done
 echo "$version, of commit $commit" >"$made/VERSION"
 (cd "$made" && find . -type f ! -name SHA256SUMS -printf '%P\n' | LC_ALL=C sort | xargs sha256sum >SHA256SUMS)
 echo "$made"
