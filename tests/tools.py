@@ -220,8 +220,8 @@ def explain_takes_a_row_for_the_kind_that_it_seems_to_be(tools):
     out, _, status = tools.ran("explain.py", tools.file("kinds.csv", KINDS_SPELT_OTHERWISE))
     want(re.findall("^refused row (.*)", out, re.M), ["1 why 1 kind", "2 why 1 kind", "3 why 1 kind", "4 why 1 kind", "5 why 1 kind",
                                                       "6 why 1 kind", "8 why 1 kind", "9 why 1 kind"])
-    want(re.findall("^        (.{12})", out, re.M), ["a file has n", "a file has n", "write period", "write leg, i", "write leg, i", "it is none o",
-                                                    "the fields a", "write leg, i"])
+    want(re.findall("^        (.{12})", out, re.M), ["a file has n", "a file has n", "write period", "write leg, i", "write leg, i",
+                                                    "it is none o", "the fields a", "write leg, i"])
     out = tools.ran("explain.py", tools.file("heads.csv", "Period,Legs\nleg,A,5\nproduct,P,5,A\n"))[0]
     want(re.findall("^refused row (.*)", out, re.M), ["1 why 1 kind"])
     out = tools.ran("explain.py", tools.file("heads.csv", "Period,Legs\nperiods,1,1\nleg,A,5\nproduct,P,5,A\n"))[0]
@@ -291,6 +291,30 @@ def explain_tells_every_line_of_a_certificate(tools):
     told = [it for it in out.splitlines() if it.startswith("refused")]
     want((told, status), (["refused certificate line 1", "refused certificate line 3", "refused certificate line 4",
                            f"refused certificate no {rest[-1].rpartition(' ')[0]}"], 3))
+
+
+LINES_AT_FAULT = [  # of a certificate's lines, what is put in their place, and a part of the advice
+    ("\ufeffvalue 4130,5", "write `value` and a fraction, without the byte order mark before it, as 3/2"),
+    ("product abh 3/1", "write `product ABH 3/1`"),
+    ("product ABL 3/1 ", "write `product ABL 3/1`"), ("product;ACH;4", "write `product ACH 4/1`"), ("", "no blank lines and no remarks"),
+    ("# seats", "no blank lines and no remarks"), ("product BCL 06/01", "write `product BCL 6/1`"),
+    ("product ACL", "write `product ACL` and a fraction"),
+    ("product ACL 0/0", "write `product ACL` and a fraction"), ("LEG AB 150/1", "write `leg AB 150/1`"), ("leg CD 1/1", "it is none of"),
+    ("leg BC 80.00", "a decimal is to be"), ("nest AB ABH 400/1 1", "under davn"), ("protect AB 5", "under davn")]
+
+
+@test
+def explain_tells_how_to_mend_a_line(tools):
+    """And of no line that it is missing which stands there with a fault."""
+    network, text = EXAMPLES / "certificate" / "network.csv", "\r\n".join(line for line, _ in LINES_AT_FAULT) + "\r\n"
+    out, _, status = tools.ran("explain.py", network, tools.file("cert", text))
+    found = out.splitlines()
+    want((found[:-2:2], status), ([f"refused certificate line {at}" for at, _ in enumerate(LINES_AT_FAULT, 1)], 3))
+    for told, (_, advice) in zip(found[1::2], LINES_AT_FAULT):
+        want_in(told, advice)
+    out = tools.ran("explain.py", network, tools.file("cert", text.encode("utf-16")))[0]
+    want_in(out, "iconv -f UTF-16")
+    want(out.count("refused"), 2)  # the line, and that no row is
 
 
 # log.py
@@ -395,9 +419,11 @@ def log_leaves_out_rows(tools):
     few = tools.told("log.py", tools.file("few.csv", heads + text[0] + text[3]), *words)
     log = tools.file("log.csv", (heads + "".join(text)).encode("utf-16"))
     want(tools.told("log.py", log, *words, "--without", "state", "cancelled", "VOID"), few)
-    out, err, status = tools.ran("log.py", log, *words, "--without", "state", "cancelled", "--without", "seats", "5", "--without", "state", "x")
+    without = ["--without", "state", "cancelled", "--without", "seats", "5", "--without", "state", "x"]
+    out, err, status = tools.ran("log.py", log, *words, *without)
     want((out, status), (few, 0))
-    for told in ("left out 1, with cancelled in state\n", "left out 1, with 5 in seats\n", "left out 0, with x in state; there stands booked\n"):
+    for told in ("left out 1, with cancelled in state\n", "left out 1, with 5 in seats\n",
+                 "left out 0, with x in state; there stands booked\n"):
         want_in(err, f"log.py: rows {told}")
 
 
@@ -422,7 +448,8 @@ def log_goes_on_to_a_timetable_that_is_too_large(tools):
     want((out.count("\n"), status), (301, 0))
     want_in(err, "log.py: a network file takes 256 products: with its legs and fares `tools/split.py` cuts it into files\n")
     want(re.findall("^product,.*", err, re.M), sorted(f"product,P{it}," for it in range(300)))
-    rows = [["periods", 1, 1], *[["leg", f"L{it}", 9] for it in range(100)], *[["product", f"P{it}", 50 + it, f"L{it % 100}"] for it in range(300)]]
+    rows = [["periods", 1, 1], *[["leg", f"L{it}", 9] for it in range(100)],
+            *[["product", f"P{it}", 50 + it, f"L{it % 100}"] for it in range(300)]]
     path = tools.file("timetable.csv", tools.told("log.py", *words, "--network", tools.file("rows.csv", text_of(rows))))
     tools.told("split.py", path, "parts")
     parts = list((tools.folder / "parts").glob("part-*.csv"))
@@ -486,7 +513,8 @@ def log_refuses_with_a_sentence(tools):
     log = tools.file("log.csv", "Booked on,Departure,Fare product,Seats\n2025-03-01,2025-03-07,new_one,1\n")
     want_in(tools.stopped("log.py", log, *LOG_COLUMNS, "--cuts", "7", "--network", path), "NEW-ONE, which stands for 'new_one'")
     for wrong in ("", "leg,A,1\n", b"\xff\xff"):
-        want_in(tools.stopped("log.py", log, *LOG_COLUMNS, "--cuts", "7", "--network", tools.file("rows.csv", wrong)), "has no row of a product")
+        rows = tools.file("rows.csv", wrong)
+        want_in(tools.stopped("log.py", log, *LOG_COLUMNS, "--cuts", "7", "--network", rows), "has no row of a product")
     want_in(tools.stopped("log.py", log, *LOG_COLUMNS, "--cuts", "7", "--network", ""), "No such file")
     for names, sentence in (("A,a\n", "its first row is to be `name,stands for`"), ("", "its first row is to be"),
                             ("name,stands for\nA,a\nA,b\n", "line 3 is to have a name of its own"),
@@ -641,10 +669,11 @@ def lp_makes_a_certificate_of_fractions(tools):
     want(made, tools.told("lp.py", network, "--solution", tools.file("other", WRITTEN_BY_GLPSOL)))
     few = tools.file("few.csv", "periods,1,1\nleg,A,2\nleg,B,5\nproduct,P,7,A,B\nproduct,Q,5,A\ndemand,P,1,1\n")
     zeros = "status OPTIMAL\n\tValue = 7\nVARS:\np1 = 1\nREDUCED COST:\np1 = 7\np2 = 5\nPI:\nSLACK:\nl1 = 1\nl2 = 4\n"
-    want(tools.told("lp.py", few, "--solution", tools.file("solution", zeros)), "value 7/1\nproduct P 1/1\nproduct Q 0/1\nleg A 0/1\nleg B 0/1\n")
-    for old, new, sentence in (("p4", "p5", "isn't an optimal one"), ("l4", "l6", "isn't an optimal one"), ("806", "807", "another network"),
-                               ("status OPTIMAL", "status UNSOLVED", "isn't an optimal one"), ("97/3", "97/0", "has a line that"),
-                               ("97/3", "many", "has a line that")):
+    want(tools.told("lp.py", few, "--solution", tools.file("solution", zeros)),
+         "value 7/1\nproduct P 1/1\nproduct Q 0/1\nleg A 0/1\nleg B 0/1\n")
+    for old, new, sentence in (("p4", "p5", "isn't an optimal one"), ("l4", "l6", "isn't an optimal one"),
+                               ("status OPTIMAL", "status UNSOLVED", "isn't an optimal one"), ("806", "807", "another network"),
+                               ("97/3", "97/0", "has a line that"), ("97/3", "many", "has a line that")):
         wrong = tools.file("wrong", WRITTEN_BY_ESOLVER.replace(old, new))
         want_in(tools.stopped("lp.py", network, "--solution", wrong), sentence)
 
@@ -792,24 +821,27 @@ def tools_tell_what_a_terminal_cant_show(tools):
     with open(path, "wb") as file:
         file.write("periods,1,1\nleg,Zürich,1\n".encode())
     for form, shown_text in (("utf-8", "Zürich"), ("ascii", "Z\\xfcrich")):
-        done = subprocess.run([sys.executable, "-B", TOOLS / "explain.py", path], capture_output=True, env={**os.environ, "PYTHONIOENCODING": form})
+        done = subprocess.run([sys.executable, "-B", TOOLS / "explain.py", path], capture_output=True,
+                              env={**os.environ, "PYTHONIOENCODING": form})
         want((done.returncode, done.stderr), (3, b""))
         want_in(done.stdout.decode(), f"the name: {shown_text}\n")
 
 
 @test
 def tools_that_run_the_program_tell_where_it_is_another(tools):
-    network, stream, kept = tools.file("few.csv", "periods,2,1\nleg,A,1\nproduct,P,5,A\n"), tools.file("stream", "book P 1\n"), tools.file("kept", "")
+    network = tools.file("few.csv", "periods,2,1\nleg,A,1\nproduct,P,5,A\n")
+    stream, kept, other = tools.file("stream", "book P 1\n"), tools.file("kept", ""), tools.file("other", "no A\n")
     for script, sentences in (("", ("0 replies", "has no bound")), ("awk '{ print \"ok 1\" }'", ("don't fit the lines", "has no bound"))):
         program = ["--program", "sh", tools.file("script", script)]
         want_in(tools.stopped("season.py", network, stream, *program), sentences[0])
         want_in(tools.stopped("replay.py", network, *program), sentences[1])
     refused, program = tools.file("refused.csv", "periods,1,1\nleg,a,1\n"), ["--program", *tools.program]
-    for wrong, sentence in ((refused, "ended with status 3: refused row 2 why 5 name; `tools/explain.py` tells"), (tools.folder, "status 9: file fault")):
+    for wrong, sentence in ((refused, "ended with status 3: refused row 2 why 5 name; `tools/explain.py` tells"),
+                            (tools.folder, "status 9: file fault")):
         want_in(tools.stopped("resume.py", wrong, "bid", stream, kept, *program), sentence)
     want_in(tools.stopped("resume.py", network, "bid", "/proc/self/mem", kept, *program), "/proc/self/mem: Input/output error")
-    other = tools.file("other", "no A\n")
-    want_in(tools.stopped("resume.py", network, "bid", stream, other, *program), "line 1: 'no A\\n' was kept, and the program answers 'ok 1\\n'")
+    want_in(tools.stopped("resume.py", network, "bid", stream, other, *program),
+            "line 1: 'no A\\n' was kept, and the program answers 'ok 1\\n'")
     want_in(tools.stopped("split.py", network, stream), f"{stream} is a file, and a folder is wanted")
 
 
@@ -834,7 +866,8 @@ def season_says_which_python_has_no_matplotlib(tools):
     words = [TOOLS / "season.py", *words_of_tools(tools)["season.py"]]
     for python, wanted in ((sys.executable, f"since {sys.executable}, "), ("/usr/bin/python3", "Debian's package is python3-matplotlib\n")):
         if os.path.exists(python):
-            done = subprocess.run([python, "-B", *words], cwd=tools.folder, capture_output=True, text=True, env=tools.blind(), timeout=SECONDS)
+            done = subprocess.run([python, "-B", *words], cwd=tools.folder, capture_output=True, text=True, env=tools.blind(),
+                                  timeout=SECONDS)
             want(done.returncode, 0, done.stderr)
             want_in(done.stderr, wanted)
 
@@ -847,7 +880,8 @@ def scripts_of_bench_name_themselves_and_give_no_traceback(tools):
         want_in(tools.told(path, "--help"), f"usage: bench/{name}")
         for words, status, wanted in (([tools.folder / "none"], 1, f"{name}: there is no program {tools.folder}/none\n"),
                                       ([tools.folder], 1, f"{name}: there is no program {tools.folder}\n"),
-                                      ([TOP / "README.md"], 1, "there is no program"), ([shutil.which("false")], 1, "` ended with status 1\n"), (["--none"], 2, "usage: ")):
+                                      ([TOP / "README.md"], 1, "there is no program"), (["--none"], 2, "usage: "),
+                                      ([shutil.which("false")], 1, "` ended with status 1\n")):
             out, err, ended = tools.ran(path, *words)
             want((ended, "Traceback" in err, err.startswith((f"{name}: ", "usage: "))), (status, False, True), err)
             want_in(err, wanted)
@@ -883,6 +917,24 @@ def tools_find_the_program_on_the_path(tools):
             (tools.folder / "elsewhere" / "nrm").symlink_to(tools.folder / "bin" / "nrm")
         done = subprocess.run(words, cwd=tools.folder, env={**os.environ, "PATH": path}, capture_output=True, text=True, timeout=SECONDS)
         want((done.returncode, wanted in done.stdout + done.stderr), (status, True), done.stdout + done.stderr)
+
+
+def headings_of(path):
+    """The anchors of a document's headings."""
+    return {re.sub(r"[^\w -]", "", it.lower()).replace(" ", "-") for it in re.findall(r"^#+ (.*)", path.read_text(), re.M)}
+
+
+@test
+def documents_link_to_what_is_there(tools):
+    links = 0
+    for path in [*TOP.glob("*.md"), *(TOP / "docs").glob("*.md")]:
+        for link in re.findall(r"\]\(([^)#:]*(?:#[^)]*)?)\)", path.read_text()):
+            file, _, heading = link.partition("#")
+            linked = path.parent / file if file else path
+            if not linked.exists() or heading and heading not in headings_of(linked):
+                raise Wrong(f"{path.name}: there is no {link}")
+            links += 1
+    want(links > 100, True, f"{links} links")
 
 
 @test

@@ -221,9 +221,14 @@ def kind_meant(text):
     return text if text in SHAPES else next(iter(difflib.get_close_matches(text, SHAPES, 1)), None)
 
 
+def is_no_text(text):
+    """Whether a line or a field shows that a file is UTF-16 or no text."""
+    return "\0" in text or text.startswith(("\\xff\\xfe", "\\xfe\\xff"))
+
+
 def is_no_csv(text):
     """Whether a first field shows that the whole file is something else than rows with commas in UTF-8."""
-    return "\0" in text or text.startswith(("\\xff\\xfe", "\\xfe\\xff", "PK\x03")) or re.match(r"periods *[;\t|]", text) is not None
+    return is_no_text(text) or text.startswith("PK\x03") or re.match(r"periods *[;\t|]", text) is not None
 
 
 def how_to_mend_a_kind(fields, is_above_all):
@@ -231,7 +236,7 @@ def how_to_mend_a_kind(fields, is_above_all):
     text, kind = fields[0], kind_meant(fields[0])
     if text.startswith("PK\x03"):
         return "it is a spreadsheet's own file (.xlsx, .ods): save it as CSV, with commas and in UTF-8"
-    if "\0" in text or text.startswith(("\\xff\\xfe", "\\xfe\\xff")):
+    if is_no_text(text):
         return "it is UTF-16, or no text: save it as UTF-8, or `iconv -f UTF-16 -t UTF-8 FILE > NEW`"
     if re.match(rf"({'|'.join(SHAPES)}) *[;\t|]", text):
         return "the fields are kept apart by another sign: save it with commas, or `tr ';' ',' < FILE > NEW`, with '\\t' for tabs"
@@ -325,29 +330,50 @@ def faults_of_certificate(data, network):
         text = line.removesuffix(b"\r").decode("utf-8", "backslashreplace")
         what, _, last = text.rpartition(" ")
         found = FRACTION.fullmatch(last)
-        tried.add(what)
         if what not in wanted or what in given or not found:
-            yield f"refused certificate line {number}", f"line {number}: {shown(text)}: {how_to_mend_a_line(what, last, wanted, given)}"
+            yield f"refused certificate line {number}", f"line {number}: {shown(text)}: {how_to_mend_a_line(text, wanted, given)}"
+            if is_no_text(text):
+                return  # what is wrong with the file as a whole is told once
+            tried.add(line_meant(text, wanted)[0])
         elif any(len(it) > 19 or int(it) > GREATEST for it in found.groups()):
             yield f"refused certificate line {number} large", f"line {number}: {shown(text)}: no number is above {GREATEST}"
             given[what] = None
         else:
             given[what] = Fraction(*map(int, found.groups()))
     for what in wanted:
-        if what not in tried:
+        if what not in given and what not in tried:
             yield f"refused certificate no {what}", f"there is no line `{what}` with a fraction: add `{what} 0/1` if it is 0"
     if given.keys() >= set(wanted) and None not in given.values() and is_too_fine(given, network):
         yield "refused certificate too fine", "its fractions have no common denominator below 2^48: use simpler ones"
 
 
-def how_to_mend_a_line(what, last, wanted, given):
-    if what in given:
-        return "it was given above: delete one of the two"
-    if what not in wanted:
-        close = difflib.get_close_matches(what, wanted, 1) if what.startswith(("value", "product", "leg")) else []
+def line_meant(text, wanted):
+    """What a line seems to be meant to be of, else None, and the rest of it."""
+    kind, *words = re.split(r"[\s,;]+", text.strip("\ufeff \t,;"))
+    names = 0 if kind.lower() == "value" else 1
+    what = " ".join([kind.lower(), *map(str.upper, words[:names])])
+    return what if what in wanted else None, " ".join(words[names:])
+
+
+def how_to_mend_a_line(text, wanted, given):
+    if is_no_text(text):
+        return "it is UTF-16, or no text: save it as UTF-8, or `iconv -f UTF-16 -t UTF-8 FILE > NEW`"
+    if not text.strip() or text.startswith("#"):
+        return "a certificate has no blank lines and no remarks: delete the line"
+    if text.startswith(("nest ", "protect ")):
+        return "it is of a plan under davn: `grep -v -e ^nest -e ^protect FILE > NEW` leaves the certificate"
+    what, rest = line_meant(text, wanted)
+    if what is None:
+        words = text.rpartition(" ")[0]
+        close = difflib.get_close_matches(words, wanted, 1) if words.startswith(("value", "product", "leg")) else []
         guess = f"; is it `{close[0]}`?" if close else ""
         return f"it is none of `value`, `product NAME` and `leg NAME`, one blank and a fraction{guess}"
-    return f"a fraction is wanted, as 3/2{f': write {last}/1' if WHOLE.fullmatch(last) else ' or 0/1'}"
+    if what in given:
+        return "it was given above: delete one of the two"
+    mark = ", without the byte order mark before it" if text.startswith("\ufeff") else ""
+    if found := re.fullmatch(r"0*(\d+)(?:/0*([1-9]\d*))?", rest):
+        return f"write `{what} {found[1]}/{found[2] or 1}`{mark}"
+    return f"write `{what}` and a fraction{mark}, as 3/2: a decimal is to be the fraction that it stands for"
 
 
 def is_too_fine(given, network):
