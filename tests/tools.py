@@ -6,7 +6,7 @@
 `tools/explain.py` is given the files of the cases of `tests/run.py`: where one is refused, the first line that it tells and its
 status must be those that the case wants, and where one is printed it must refuse nothing. The other tests are the functions below
 it, of which PATTERN picks those with it in their name. With no --program it is the script `nrm` at the top of the repository.
-What needs a program that isn't installed, `glpsol` or a kit that builds, is told and left out. What fails is told; the last line is
+What needs a program that isn't installed, `glpsol`, `esolver` or `rt`, is told and left out. What fails is told; the last line is
 `N passed, M failed`.
 """
 import argparse
@@ -581,6 +581,14 @@ def split_parts_are_worth_the_whole(tools):
     path = tools.file("timetable.csv", text_of(rows))
     tools.told("split.py", path, "parts")
     want(sum(value_of(tools, it) for it in (tools.folder / "parts").glob("part-*.csv")), value_of(tools, path))
+
+
+@test
+def split_names_what_is_of_an_earlier_run(tools):
+    for sizes, wanted in (([2, 3, 4], []), ([2, 3], ["part-3.csv"]), ([2, 3, 1], [])):
+        rows, _ = made_timetable(random.Random(5), sizes)
+        out = tools.told("split.py", tools.file("timetable.csv", text_of(rows)), "parts")
+        want(re.findall("^parts/(.*): not of this timetable", out, re.M), wanted)
 
 
 @test
