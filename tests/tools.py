@@ -516,6 +516,8 @@ def log_refuses_with_a_sentence(tools):
         rows = tools.file("rows.csv", wrong)
         want_in(tools.stopped("log.py", log, *LOG_COLUMNS, "--cuts", "7", "--network", rows), "has no row of a product")
     want_in(tools.stopped("log.py", log, *LOG_COLUMNS, "--cuts", "7", "--network", ""), "No such file")
+    book = tools.file("log.xlsx", b"PK\x03\x04\x14\0")
+    want_in(tools.stopped("log.py", book, *LOG_COLUMNS, "--cuts", "7"), "log.xlsx is a spreadsheet's own file: save it as CSV")
     for names, sentence in (("A,a\n", "its first row is to be `name,stands for`"), ("", "its first row is to be"),
                             ("name,stands for\nA,a\nA,b\n", "line 3 is to have a name of its own"),
                             ("name,stands for\nA,a\nB,a\n", "line 3 is to have"), ("name,stands for\nb,a\n", "line 2 is to have"),

@@ -58,6 +58,7 @@ MONTH_FIRST = re.compile(r"([A-Za-z]{3})[a-z]*[ .]+(\d{1,2}),? +(\d{4})")
 EITHER_WAY = re.compile(r"(\d{1,2})([/-])(\d{1,2})\2(\d{4})")
 SHORT_YEAR = re.compile(r"\d{1,2}([./-]) ?\d{1,2}\1 ?\d{2}")
 MOST_TOLD = 20  # rows that can't be read
+OF_A_SPREADSHEET = (b"PK\x03\x04", b"\xd0\xcf\x11\xe0")  # how .xlsx and .ods begin, and .xls
 
 
 # The log
@@ -67,6 +68,8 @@ def text_in(path):
     """The text of the log, or of the list of names, at a path."""
     csv.field_size_limit(2**31 - 1)
     data = bytes_in(path)
+    if data.startswith(OF_A_SPREADSHEET):
+        raise Stop(f"{path} is a spreadsheet's own file: save it as CSV, or `soffice --headless --convert-to csv {path}`")
     if data.startswith((b"\xff\xfe", b"\xfe\xff")):
         return data.decode("utf-16", "replace")
     try:
