@@ -7,9 +7,9 @@
 LOG has a row of headings and below it a row for each request: the day of departure, the day on which it was made, what was
 asked for, and how many seats, 1 where no column says so. COLUMN is a heading, in capitals or not; what was asked for may stand in
 several, such as the flight and the class, which are then joined. Rows above the headings are passed over, and so are other
-columns and empty rows. Fields are kept apart by commas, semicolons, tabs or bars, and may stand
-in quotes. The file may be in UTF-8, in UTF-16 with its mark, or else in Windows-1252. --without status cancelled leaves out the
-rows with that text, or one of several, in that column, in capitals or not; it may be said of more columns than one.
+columns and empty rows. Fields are kept apart by commas, semicolons, tabs or bars, and may stand in quotes. The file may be in
+UTF-8, in UTF-16 with its mark, or else in Windows-1252. --without status cancelled leaves out the rows that have that text, or one
+of several, in that column, in capitals or not; it may be said of more columns than one.
 
 SEASONS. Each day of departure is a season, and so a history: they are numbered from the earliest. With --weekday fri they are the
 Fridays alone, with --last N the N latest; a file takes 32.
@@ -27,10 +27,9 @@ it is too long, and a name of its own. --names FILE writes the list, `name,stand
 in it stay, and new ones are added. So better ones may be written into it.
 
 What is written is the demand, as rows `demand`, with the row of periods above them. With --network FILE, which has rows of legs
-and products, it is the whole network file: the demand and the periods of FILE are replaced. It may have more legs and products
-than a network file takes: `tools/split.py` cuts it. What is still to be done, such as
-the products to which FILE has no row, is told on standard error. A log that has a row that can't be read is refused: the first
-20 such rows are told, and how many more there are.
+and products, it is the whole network file: the demand and the periods of FILE are replaced. If these are more than a network file
+takes, `tools/split.py` cuts it. What is still to be done, such as the products to which FILE has no row, is told on standard
+error. A log that has a row that can't be read is refused: the first 20 such rows are told, and how many more there are.
 """
 import csv
 import datetime

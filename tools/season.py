@@ -83,15 +83,18 @@ class Season:
         if len(told) != len(stream.asked):
             raise Stop(f"there are {len(told)} replies to {len(stream.asked)} lines")
         try:
-            for (number, line, put_in), reply in zip(stream.asked, told):
-                reply = reply.decode("latin-1").splitlines()
-                if put_in:
-                    self.look(number, line, reply)
-                else:
-                    self.follow(line.split(" "), reply[0].split(" "))
-                    self.course.append(self.sold[leg])
+            for asked, reply in zip(stream.asked, told):
+                self.take(*asked, reply.decode("latin-1").splitlines(), leg)
         except (LookupError, ValueError):
             raise Stop("the replies don't fit the lines")
+
+    def take(self, number, line, put_in, reply, leg):
+        """Takes the reply to a line."""
+        if put_in:
+            self.look(number, line, reply)
+        else:
+            self.follow(line.split(" "), reply[0].split(" "))
+            self.course.append(self.sold[leg])
 
     def look(self, number, line, reply):
         """Takes the reply to a line that was put in."""
