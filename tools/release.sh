@@ -29,15 +29,17 @@ commit=$(git -C "$top" rev-parse HEAD 2>/dev/null) || stop "$top is no git repos
 
 "$top/nrm" print "$top/examples/two-legs/network.csv" >/dev/null || stop "there is no program to put into it"
 start=$(rt doc 2>/dev/null) || stop "the kit's \`rt\` isn't on the path, and its crates have licences to be handed on"
+licences=("$(dirname "$start")"/rattle/{csv,indexmap,itoa,thiserror,memchr,ryu,serde}/LICENSE*)  # the last three are for csv
+for licence in "${licences[@]}"; do
+  [ -f "$licence" ] || stop "there is no $licence, which is to be handed on"
+done
 mkdir -p "$made/tools" "$made/licences" || stop "$made can't be made"
 install -m 755 "$top/crates/nrm/out/nrm" "$made/nrm"
 install -m 644 "$top/docs/nrm.1" "$top/LICENSE" "$top/CHANGELOG.md" "$top/docs/operating.md" "$top/docs/commands.md" "$made"
 install -m 755 "$top/tools/resume.py" "$top/tools/explain.py" "$made/tools"
 install -m 644 "$top/tools/nrm_tools.py" "$made/tools"
-for crate in csv indexmap itoa thiserror memchr ryu serde; do  # the last three are those that csv stands on
-  for licence in "$(dirname "$start")/rattle/$crate"/LICENSE*; do
-    install -m 644 "$licence" "$made/licences/$crate-$(basename "$licence")"
-  done
+for licence in "${licences[@]}"; do
+  install -m 644 "$licence" "$made/licences/$(basename "$(dirname "$licence")")-$(basename "$licence")"
 done
 echo "$version, of commit $commit" >"$made/VERSION"
 (cd "$made" && find . -type f ! -name SHA256SUMS -printf '%P\n' | LC_ALL=C sort | xargs sha256sum >SHA256SUMS)
