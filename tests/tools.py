@@ -845,6 +845,7 @@ def tools_that_run_the_program_tell_where_it_is_another(tools):
         program = ["--program", "sh", tools.file("script", script)]
         want_in(tools.stopped("season.py", network, stream, *program), sentences[0])
         want_in(tools.stopped("replay.py", network, *program), sentences[1])
+        want(tools.ran("replay.py", network, *program)[0], "")  # and no heads of a table
     refused, program = tools.file("refused.csv", "periods,1,1\nleg,a,1\n"), ["--program", *tools.program]
     for wrong, sentence in ((refused, "ended with status 3: refused row 2 why 5 name; `tools/explain.py` tells"),
                             (tools.folder, "status 9: file fault")):
