@@ -16,7 +16,9 @@ import time
 
 import networks
 
-TOP = os.path.dirname(os.path.dirname(os.path.abspath(__file__)))
+sys.path.insert(0, os.path.join(os.path.dirname(os.path.dirname(os.path.abspath(__file__))), "tools"))
+from nrm_tools import built, end, parser
+
 RUNS = 9
 STANDING = [100, 10_000, 60_000]
 LINES = 100_000
@@ -54,7 +56,9 @@ def timed(program, folder, path):
 
 
 def main():
-    program = os.path.abspath(sys.argv[1]) if len(sys.argv) > 1 else os.path.join(TOP, "crates", "nrm", "out", "nrm")
+    words = parser(__doc__)
+    words.add_argument("program", nargs="?")
+    program = built(words.parse_args().program)
     legs = [(f"L{n:02}", 999) for n in range(LEGS)]
     products = [(f"P{j:03}", 100 + j, [f"L{j % LEGS:02}"]) for j in range(PRODUCTS)]
     with tempfile.TemporaryDirectory() as folder:
@@ -74,4 +78,5 @@ def main():
                 print(f"{kind}, {standing:,} standing: {cost * 1e6:.2f} microseconds a line")
 
 
-main()
+if __name__ == "__main__":
+    end(main)

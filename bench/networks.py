@@ -1,5 +1,6 @@
 """Networks for the clock, each made from a fixed seed."""
 import random
+import sys
 
 
 def hub():
@@ -62,3 +63,7 @@ class Network:
         with open(path, "w") as file:
             for row in rows:
                 print(*row, sep=",", file=file)
+
+
+if __name__ == "__main__":
+    sys.exit(f"networks.py: no tool, but a part of the scripts beside it: {__doc__}")

@@ -1,15 +1,15 @@
 #!/usr/bin/env python3
-"""How long it takes to plan by bid prices, beside a solver of linear programs.
+"""How long it takes to plan by bid prices, beside other solvers of linear programs.
 
     bench/plan.py [PROGRAM] [--before PROGRAM]
 
-`nrm plan bid FILE` runs on four networks, and `glpsol`, where it is installed (Debian's glpk-utils), on their linear programs:
-exactly and in floating point; with --before another build of `nrm` too. They are whole processes, which take turns, so that
-what else the machine does falls on each. Of each, the least of nine runs, and how many times as long as it the program takes;
-and whether the values agree. The pivots are counted by `tests/reference.py`; a pivot's time is what `plan bid` takes longer than
-`plan first`, which reads the file and solves nothing, shared among them. Last, `gen davn 1`, which solves five programs.
+`nrm plan bid FILE` runs on four networks, and on their linear programs those of these that are installed: `glpsol` (Debian's
+glpk-utils), exactly and in floating point, and `esolver` (Debian's qsopt-ex), which is exact; with --before another build of `nrm`
+too. They are whole processes, which take turns, so that what else the machine does falls on each. Of each, the least of nine
+runs, and how many times as long as it the program takes; and whether the values agree. The pivots are counted by
+`tests/reference.py`; a pivot's time is what `plan bid` takes longer than `plan first`, which reads the file and solves nothing,
+shared among them. Last, `gen davn 1`, which solves five programs.
 """
-import argparse
 import importlib.util
 import os
 import re
@@ -23,7 +23,13 @@ from fractions import Fraction
 import networks
 
 TOP = os.path.dirname(os.path.dirname(os.path.abspath(__file__)))
+sys.path.insert(0, os.path.join(TOP, "tools"))
+from nrm_tools import Stop, built, end, parser
+
 RUNS = 9
+SOLVERS = {"glpsol --exact": ["glpsol", "--exact", "--lp", "PROGRAM"], "glpsol": ["glpsol", "--lp", "PROGRAM"],
+           "esolver": ["esolver", "-L", "PROGRAM"]}
+VALUE = {"glpsol": ("-o", r"Objective: .* = (\S+)"), "esolver": ("-O", r"Value = (\S+)")}  # the option for a file, and the value in it
 
 
 def reference():
@@ -51,7 +57,7 @@ def write_program(folder):
 
 def timed(words, folder):
     begun = time.perf_counter()
-    subprocess.run(words, cwd=folder, stdin=subprocess.DEVNULL, stdout=subprocess.DEVNULL, check=True)
+    subprocess.run(words, cwd=folder, stdin=subprocess.DEVNULL, stdout=subprocess.DEVNULL, stderr=subprocess.DEVNULL, check=True)
     return time.perf_counter() - begun
 
 
@@ -61,14 +67,21 @@ def least_of(commands, folder):
 
 
 def value_of_plan(program, folder, histories):
-    out = subprocess.run([program, "plan", "bid", "NETWORK"], cwd=folder, capture_output=True, check=True).stdout.decode()
-    return histories * Fraction(out.split()[1])
+    out = subprocess.run([program, "plan", "bid", "NETWORK"], cwd=folder, capture_output=True, check=True).stdout
+    found = re.match(rb"value (\d+/[1-9]\d*)\n", out)
+    if not found:
+        raise Stop(f"`{program} plan bid` writes no plan")
+    return histories * Fraction(found[1].decode())
 
 
 def value_of_solver(words, folder):
-    subprocess.run(words + ["-o", "SOLVED"], cwd=folder, stdout=subprocess.DEVNULL, check=True)
+    option, value = VALUE[words[0]]
+    timed([words[0], option, "SOLVED", *words[1:]], folder)
     with open(os.path.join(folder, "SOLVED")) as file:
-        return float(re.search(r"Objective: .* = (\S+)", file.read())[1])
+        found = re.search(value, file.read())
+    if not found:
+        raise Stop(f"`{' '.join(words)}` writes no value")
+    return Fraction(found[1])
 
 
 def compared(name, network, programs, rules, folder):
@@ -78,9 +91,7 @@ def compared(name, network, programs, rules, folder):
     commands = {"nrm plan bid": [own, "plan", "bid", "NETWORK"], "nrm plan first": [own, "plan", "first", "NETWORK"]}
     if before:
         commands["the build before"] = [before, "plan", "bid", "NETWORK"]
-    if shutil.which("glpsol"):
-        commands["glpsol --exact"] = ["glpsol", "--exact", "--lp", "PROGRAM"]
-        commands["glpsol"] = ["glpsol", "--lp", "PROGRAM"]
+    commands.update({it: words for it, words in SOLVERS.items() if shutil.which(words[0])})
     value = value_of_plan(own, folder, network.histories)
     pivots = pivots_of(os.path.join(folder, "NETWORK"), rules)
     print(f"{name}: legs {len(network.legs)}, products {len(network.products)}, histories {network.histories}, "
@@ -90,16 +101,16 @@ def compared(name, network, programs, rules, folder):
     print(f"    nrm plan bid: {whole * 1e3:.1f} ms, of which {reading * 1e3:.1f} without solving; "
           f"{pivots} pivots, {(whole - reading) / pivots * 1e6:.1f} microseconds each")
     for it, other in least.items():
-        agrees = it.startswith("the") or abs(value_of_solver(commands[it], folder) - value) <= 1e-6 * max(1, value)
+        agrees = it not in SOLVERS or abs(value_of_solver(commands[it], folder) - value) <= 1e-6 * max(1, value)
         print(f"    {it}: {other * 1e3:.1f} ms, ratio {whole / other:.2f}{'' if agrees else ', and another value'}")
 
 
 def main():
-    words = argparse.ArgumentParser()
-    words.add_argument("program", nargs="?", default=os.path.join(TOP, "crates", "nrm", "out", "nrm"))
-    words.add_argument("--before")
+    words = parser(__doc__)
+    words.add_argument("program", nargs="?")
+    words.add_argument("--before", metavar="PROGRAM")
     given = words.parse_args()
-    programs = [it and os.path.abspath(it) for it in (given.program, given.before)]
+    programs = [built(given.program), given.before and built(given.before)]
     rules = reference()
     for name, network in (("hub", networks.hub()), ("limits", networks.limits()), ("random legs", networks.random_legs()),
                           ("long path", networks.long_path())):
@@ -108,4 +119,5 @@ def main():
     print(f"gen davn 1: {least_of({'gen': [programs[0], 'gen', 'davn', '1']}, '.')['gen'] * 1e3:.1f} ms")
 
 
-main()
+if __name__ == "__main__":
+    end(main)

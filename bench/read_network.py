@@ -15,7 +15,9 @@ import sys
 import tempfile
 import time
 
-TOP = os.path.dirname(os.path.dirname(os.path.abspath(__file__)))
+sys.path.insert(0, os.path.join(os.path.dirname(os.path.dirname(os.path.abspath(__file__))), "tools"))
+from nrm_tools import built, end, parser
+
 RUNS = 15
 
 
@@ -42,7 +44,9 @@ def timed(program, words, folder):
 
 
 def main():
-    programs = [os.path.abspath(p) for p in sys.argv[1:]] or [os.path.join(TOP, "crates", "nrm", "out", "nrm")]
+    words = parser(__doc__)
+    words.add_argument("program", nargs="*")
+    programs = [built(it) for it in words.parse_args().program] or [built()]
     with tempfile.TemporaryDirectory() as folder:
         path = os.path.join(folder, "NETWORK")
         network(path)
@@ -54,4 +58,5 @@ def main():
                 print(f"{program} {' '.join(words)}: least {least:.1f} ms, middle {middle:.1f} ms")
 
 
-main()
+if __name__ == "__main__":
+    end(main)

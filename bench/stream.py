@@ -13,18 +13,21 @@ as they are sent.
 With --limit it is also sent 4 GiB in lines of a mebibyte, as many as it takes; the same and one byte more, which is too long; and
 the same with one byte more in front, so that the last line has no end within the limit.
 """
-import argparse
+import contextlib
 import os
 import random
 import shutil
 import subprocess
+import sys
 import tempfile
 import threading
 import time
 
 import networks
 
-TOP = os.path.dirname(os.path.dirname(os.path.abspath(__file__)))
+sys.path.insert(0, os.path.join(os.path.dirname(os.path.dirname(os.path.abspath(__file__))), "tools"))
+from nrm_tools import Stop, built, end, parser
+
 RUNS = 5
 LINES, FEWER_LINES = 1_000_000, 20_000
 MODES = ["first", "bid", "davn"]
@@ -55,12 +58,9 @@ def lines(network, count):
 
 def send(end, pieces):
     """Sends pieces, until there are no more or nobody takes them."""
-    with end:
-        try:
-            for piece in pieces:
-                end.write(piece)
-        except BrokenPipeError:
-            pass
+    with contextlib.suppress(BrokenPipeError), end:
+        for piece in pieces:
+            end.write(piece)
 
 
 def pieces_of(stream, size):
@@ -78,7 +78,8 @@ def timed(words, path, size):
         if size is not None:
             given.close()
             feeder.start()
-        assert process.wait() == 0
+        if status := process.wait():
+            raise subprocess.CalledProcessError(status, words)
         return time.perf_counter() - begun
 
 
@@ -98,7 +99,10 @@ def most_memory(words, made):
     threading.Thread(target=send, args=(os.fdopen(os.dup(process.stdin.fileno()), "wb"), made)).start()
     last = b""
     while b"hindsight " not in last:
-        last = last[-20:] + os.read(process.stdout.fileno(), MEBIBYTE)
+        piece = os.read(process.stdout.fileno(), MEBIBYTE)
+        if not piece:
+            raise Stop(f"`{' '.join(words)}` ended before its last reply")
+        last = last[-20:] + piece
     with open(f"/proc/{process.pid}/status") as status:
         most = next(row.split()[1] for row in status if row.startswith("VmHWM"))
     process.communicate()
@@ -115,7 +119,9 @@ def at_the_limit(words, before, after, status, replies):
     out = process.stdout.read()
     seconds = time.perf_counter() - begun
     feeder.join()
-    assert (process.wait(), out) == (status, replies * b"bad\n"), (process.returncode, len(out))
+    if (process.wait(), out) != (status, replies * b"bad\n"):
+        raise Stop(f"`{' '.join(words)}` ended with status {process.returncode} and {len(out)} bytes of replies, and not with {status} and "
+                   f"{replies} replies")
     return f"{seconds:.1f} s, status {status} after the replies to {replies:,} lines"
 
 
@@ -147,11 +153,11 @@ def tell_limit(words):
 
 
 def main():
-    parser = argparse.ArgumentParser(usage=__doc__)
-    parser.add_argument("program", nargs="?", default=os.path.join(TOP, "crates", "nrm", "out", "nrm"))
-    parser.add_argument("--limit", action="store_true")
-    given = parser.parse_args()
-    network = networks.hub()
+    words = parser(__doc__)
+    words.add_argument("program", nargs="?")
+    words.add_argument("--limit", action="store_true")
+    given = words.parse_args()
+    program, network = built(given.program), networks.hub()
     with tempfile.TemporaryDirectory() as folder:
         file, stream, fewer = (os.path.join(folder, name) for name in ("NETWORK", "STREAM", "FEWER"))
         network.write(file)
@@ -159,7 +165,7 @@ def main():
             with open(path, "w") as out:
                 out.writelines(lines(network, count))
             print(f"{count:,} lines have {os.path.getsize(path):,} bytes")
-        runs = {f"nrm run {mode}": [os.path.abspath(given.program), "run", mode, file] for mode in MODES}
+        runs = {f"nrm run {mode}": [program, "run", mode, file] for mode in MODES}
         tell_times(runs | {"awk": ["awk", '{print "ok " NR}']}, lambda size: fewer if size == 1 else stream)
         tell_calls(runs["nrm run bid"], lambda size: fewer if size == 1 else stream, folder)
         for run, words in runs.items():
@@ -168,4 +174,5 @@ def main():
             tell_limit(runs["nrm run first"])
 
 
-main()
+if __name__ == "__main__":
+    end(main)

@@ -6,7 +6,7 @@
 `tools/explain.py` is given the files of the cases of `tests/run.py`: where one is refused, the first line that it tells and its
 status must be those that the case wants, and where one is printed it must refuse nothing. The other tests are the functions below
 it, of which PATTERN picks those with it in their name. With no --program it is the script `nrm` at the top of the repository.
-What needs a program that isn't installed, `glpsol` or a kit that builds, is told and left out. What fails is told; the last line is
+What needs a program that isn't installed, `glpsol`, `esolver` or `rt`, is told and left out. What fails is told; the last line is
 `N passed, M failed`.
 """
 import argparse
@@ -195,6 +195,41 @@ def explain_tells_every_row_with_its_line_and_how_to_mend_it(tools):
         want_in(out, f", {wanted}\n")
 
 
+@test
+def explain_tells_a_padded_row_once(tools):
+    out = tools.ran("explain.py", tools.file("padded.csv", "periods,1,1\nleg,A,5\nproduct,P,5,A,,,\nproduct,,5,A\nproduct,,5,A\n"))[0]
+    want(re.findall("^    line (.*)", out, re.M), [f"3, field {it}, leg {it - 3}: ''" for it in (5, 6, 7)] +
+         ["4, field 2, the name: ''", "5, field 2, the name: ''"])
+
+
+KINDS_SPELT_OTHERWISE = """#sep=;
+Art;Name;Seats
+Periods,1,1
+Leg,A,5
+ leg,B,5
+prodcut,P,5,A,B
+demand,P,1,4
+product;Q;5;A
+LEG,A,6
+"""
+
+
+@test
+def explain_takes_a_row_for_the_kind_that_it_seems_to_be(tools):
+    """So that no other row is told for its fault."""
+    out, _, status = tools.ran("explain.py", tools.file("kinds.csv", KINDS_SPELT_OTHERWISE))
+    want(re.findall("^refused row (.*)", out, re.M), ["1 why 1 kind", "2 why 1 kind", "3 why 1 kind", "4 why 1 kind", "5 why 1 kind",
+                                                      "6 why 1 kind", "8 why 1 kind", "9 why 1 kind"])
+    want(re.findall("^        (.{12})", out, re.M), ["a file has n", "a file has n", "write period", "write leg, i", "write leg, i",
+                                                    "it is none o", "the fields a", "write leg, i"])
+    out = tools.ran("explain.py", tools.file("heads.csv", "Period,Legs\nleg,A,5\nproduct,P,5,A\n"))[0]
+    want(re.findall("^refused row (.*)", out, re.M), ["1 why 1 kind"])
+    out = tools.ran("explain.py", tools.file("heads.csv", "Period,Legs\nperiods,1,1\nleg,A,5\nproduct,P,5,A\n"))[0]
+    want(re.findall("^refused row (.*)", out, re.M), ["1 why 1 kind"])
+    out = tools.ran("explain.py", tools.file("heads.csv", "Leg,Name\nleg,A,5\nproduct,P,5,A\n"))[0]
+    want(re.findall("^refused row (.*)", out, re.M), ["1 why 1 kind", "2 why 2 order"])
+
+
 def spoilt(fields, draw):
     """A row with one fault."""
     kind, *rest = fields
@@ -258,6 +293,30 @@ def explain_tells_every_line_of_a_certificate(tools):
                            f"refused certificate no {rest[-1].rpartition(' ')[0]}"], 3))
 
 
+LINES_AT_FAULT = [  # of a certificate's lines, what is put in their place, and a part of the advice
+    ("\ufeffvalue 4130,5", "write `value` and a fraction, without the byte order mark before it, as 3/2"),
+    ("product abh 3/1", "write `product ABH 3/1`"),
+    ("product ABL 3/1 ", "write `product ABL 3/1`"), ("product;ACH;4", "write `product ACH 4/1`"), ("", "no blank lines and no remarks"),
+    ("# seats", "no blank lines and no remarks"), ("product BCL 06/01", "write `product BCL 6/1`"),
+    ("product ACL", "write `product ACL` and a fraction"),
+    ("product ACL 0/0", "write `product ACL` and a fraction"), ("LEG AB 150/1", "write `leg AB 150/1`"), ("leg CD 1/1", "it is none of"),
+    ("leg BC 80.00", "a decimal is to be"), ("nest AB ABH 400/1 1", "under davn"), ("protect AB 5", "under davn")]
+
+
+@test
+def explain_tells_how_to_mend_a_line(tools):
+    """And of no line that it is missing which stands there with a fault."""
+    network, text = EXAMPLES / "certificate" / "network.csv", "\r\n".join(line for line, _ in LINES_AT_FAULT) + "\r\n"
+    out, _, status = tools.ran("explain.py", network, tools.file("cert", text))
+    found = out.splitlines()
+    want((found[:-2:2], status), ([f"refused certificate line {at}" for at, _ in enumerate(LINES_AT_FAULT, 1)], 3))
+    for told, (_, advice) in zip(found[1::2], LINES_AT_FAULT):
+        want_in(told, advice)
+    out = tools.ran("explain.py", network, tools.file("cert", text.encode("utf-16")))[0]
+    want_in(out, "iconv -f UTF-16")
+    want(out.count("refused"), 2)  # the line, and that no row is
+
+
 # log.py
 
 
@@ -309,6 +368,9 @@ def log_reads_every_form_to_the_same_rows(tools):
     log, cuts = MadeLog(7), [60, 30, 7]
     forms = {"iso": log.text("%Y-%m-%d"), "basic": log.text("%Y%m%d"), "with a time": log.text("%Y-%m-%dT%H:%M:%S"),
              "points": log.text("%d.%m.%Y", ";", "\r\n"), "slashes": log.text("%d/%m/%Y %H:%M", "\t"),
+             "year first": log.text("%Y/%m/%d"), "year and points": log.text("%Y. %m. %d."), "weekday": log.text("%a %d.%m.%Y, %H:%M"),
+             "English": log.text("%B %d, %Y %I:%M %p"), "stamp": log.text("%Y%m%d%H%M%S"), "digits": log.text("%Y-%m-%d-%H.%M.%S"),
+             "hour": log.text("%d/%m/%Y %Hh%M"), "point time": log.text("%d.%m.%Y %H.%M"),
              "month first": log.text("%m/%d/%Y", "|"), "airline": log.text("%d%b%y"), "month": log.text("%d-%b-%Y"),
              "title": log.text("%Y-%m-%d", above="Export of today\n\n,,,\n"),
              "mark": b"\xef\xbb\xbf" + log.text("%d.%m.%Y", ";").encode(), "UTF-16": log.text("%d.%m.%Y", ";").encode("utf-16"),
@@ -348,6 +410,54 @@ def log_joins_columns_to_a_product(tools):
 
 
 @test
+def log_leaves_out_rows(tools):
+    """Those that were cancelled, as a column says, in a file that `grep` doesn't read."""
+    heads = "Made;Day;Product;Seats;;State\r\n"
+    rows = [("lh 1", "2", "booked"), ("Cancelled 7", "3", " CANCELLED "), ("lh 1", "5", "Void"), ("Cancelled 7", "1", "booked")]
+    text = [f'2025-03-01 10:20;"2025-03-07";"{product}";{seats};;"{state}"\r\n' for product, seats, state in rows]
+    words = ["--departs", "day", "--booked", "made", "--product", "product", "--seats", "seats", "--cuts", "3"]
+    few = tools.told("log.py", tools.file("few.csv", heads + text[0] + text[3]), *words)
+    log = tools.file("log.csv", (heads + "".join(text)).encode("utf-16"))
+    want(tools.told("log.py", log, *words, "--without", "state", "cancelled", "VOID"), few)
+    without = ["--without", "state", "cancelled", "--without", "seats", "5", "--without", "state", "x"]
+    out, err, status = tools.ran("log.py", log, *words, *without)
+    want((out, status), (few, 0))
+    for told in ("left out 1, with cancelled in state\n", "left out 1, with 5 in seats\n",
+                 "left out 0, with x in state; there stands booked\n"):
+        want_in(err, f"log.py: rows {told}")
+
+
+@test
+def log_takes_a_list_of_names_that_was_written_anew(tools):
+    """As a spreadsheet writes it, with semicolons; the names are those that a person chose."""
+    log = tools.file("log.csv", "Made,Day,Product\n2025-03-01,2025-03-07,Zürich-Genève flex\n2025-03-01,2025-03-07,new one\n")
+    words = [log, "--departs", "day", "--booked", "made", "--product", "product", "--cuts", "3", "--names", "names.csv"]
+    for form in ("utf-8-sig", "cp1252", "utf-16"):
+        tools.file("names.csv", "name;stands for\r\nZRH-GVE-F;Zürich-Genève flex\r\n".encode(form))
+        want(tools.told("log.py", *words), "periods,1,2\ndemand,NEW-ONE,1,1,0\ndemand,ZRH-GVE-F,1,1,0\n")
+    want((tools.folder / "names.csv").read_text(), "name,stands for\nNEW-ONE,new one\nZRH-GVE-F,Zürich-Genève flex\n")
+
+
+@test
+def log_goes_on_to_a_timetable_that_is_too_large(tools):
+    """A log of more products than a file takes, whose rows are completed and then cut."""
+    made = [f"2025-03-0{1 + it % 7},2025-03-07,P{it},{1 + it % 3}\n" for it in range(300)]
+    log = tools.file("log.csv", "Booked on,Departure,Fare product,Seats\n" + "".join(made))
+    words = [log, *LOG_COLUMNS, "--cuts", "3"]
+    out, err, status = tools.ran("log.py", *words)
+    want((out.count("\n"), status), (301, 0))
+    want_in(err, "log.py: a network file takes 256 products: with its legs and fares `tools/split.py` cuts it into files\n")
+    want(re.findall("^product,.*", err, re.M), sorted(f"product,P{it}," for it in range(300)))
+    rows = [["periods", 1, 1], *[["leg", f"L{it}", 9] for it in range(100)],
+            *[["product", f"P{it}", 50 + it, f"L{it % 100}"] for it in range(300)]]
+    path = tools.file("timetable.csv", tools.told("log.py", *words, "--network", tools.file("rows.csv", text_of(rows))))
+    tools.told("split.py", path, "parts")
+    parts = list((tools.folder / "parts").glob("part-*.csv"))
+    want(sum(sum(map(network.demand_in_all, network.fare)) for network in map(Network.read, parts)), sum(1 + it % 3 for it in range(300)))
+    want(len(parts), 100)
+
+
+@test
 def log_takes_the_latest_seasons(tools):
     log = MadeLog(5, seasons=40)
     path = tools.file("log.csv", log.text("%Y-%m-%d"))
@@ -373,7 +483,12 @@ def log_takes_the_seasons_of_a_weekday(tools):
 
 REFUSED_LOGS = [  # the log's rows, more words, and a part of the sentence
     ("2025-03-08,2025-03-07,P,1\n", [], "line 2: it was made on 2025-03-08, after its departure on 2025-03-07"),
-    ("2025-03-01,07.03.25,P,1\n", [], "'07.03.25' is no date that is known; write it as 2025-03-07"),
+    ("2025-03-01,07.03.25,P,1\n", [], "'07.03.25' has a year of two digits; write it as 2025-03-07"),
+    ("2025-03-01,7 Nivose 2025,P,1\n", [], "'7 Nivose 2025' is no date that is known; write it as 2025-03-07"),
+    ("Total,,,4\n", [], "line 2: it has no day of departure"), (",2025-03-07,P,4\n", [], "line 2: it has no day on which it was made"),
+    ("2025-03-01,2025-03-07,P,1\n", ["--without", "seats"], "wants a column and one text or more"),
+    ("2025-03-01,2025-03-07,P,1\n", ["--without", "state", "x"], "has no column state; its headings are"),
+    ("2025-03-01,2025-03-07,P,1\n", ["--without", "seats", "2", "1"], "has no request below its headings"),
     ("2025-02-29,2025-03-07,P,1\n", [], "'2025-02-29' is no date"),
     ("45717,45723,P,1\n", [], "'45723' is no date"),
     ("03/04/2025,05/04/2025,P,1\n", [], "05/04/2025 can be read with the day or the month first; say --dates dmy"),
@@ -386,8 +501,7 @@ REFUSED_LOGS = [  # the log's rows, more words, and a part of the sentence
     ("2025-03-01,2025-03-07,P,1\n", ["--cuts", ",".join(map(str, range(40, 20, -1)))], "21 periods, and a network file takes 16"),
     ("2025-03-01,2025-03-07,P,1\n", ["--last", "33"], "takes 1 to 32 histories"),
     ("2025-03-01,2025-03-07,P,1\n", ["--seats", "Pax"], "has no column Pax; its headings are Booked on, Departure, Fare product, Seats"),
-    ("2025-03-01,2025-03-07,P,1000\n", [], "P was asked for 1000 seats for 2025-03-07, and a row of demand takes 999"),
-    ("".join(f"2025-03-01,2025-03-07,P{it},1\n" for it in range(257)), [], "257 products, and a network file takes 256")]
+    ("2025-03-01,2025-03-07,P,1000\n", [], "P was asked for 1000 seats for 2025-03-07, and a row of demand takes 999")]
 
 
 @test
@@ -398,8 +512,16 @@ def log_refuses_with_a_sentence(tools):
     path = tools.file("rows.csv", "periods,1,1\nleg,A,1\nproduct,P,5,A\n")
     log = tools.file("log.csv", "Booked on,Departure,Fare product,Seats\n2025-03-01,2025-03-07,new_one,1\n")
     want_in(tools.stopped("log.py", log, *LOG_COLUMNS, "--cuts", "7", "--network", path), "NEW-ONE, which stands for 'new_one'")
-    for names, sentence in (("A,a\n", "is no list of names"), ("name,stands for\nA,a\nA,b\n", "is no list of names"),
-                            (b"name,stands for\nA,\xff\n", "has other bytes")):
+    for wrong in ("", "leg,A,1\n", b"\xff\xff"):
+        rows = tools.file("rows.csv", wrong)
+        want_in(tools.stopped("log.py", log, *LOG_COLUMNS, "--cuts", "7", "--network", rows), "has no row of a product")
+    want_in(tools.stopped("log.py", log, *LOG_COLUMNS, "--cuts", "7", "--network", ""), "No such file")
+    book = tools.file("log.xlsx", b"PK\x03\x04\x14\0")
+    want_in(tools.stopped("log.py", book, *LOG_COLUMNS, "--cuts", "7"), "log.xlsx is a spreadsheet's own file: save it as CSV")
+    for names, sentence in (("A,a\n", "its first row is to be `name,stands for`"), ("", "its first row is to be"),
+                            ("name,stands for\nA,a\nA,b\n", "line 3 is to have a name of its own"),
+                            ("name,stands for\nA,a\nB,a\n", "line 3 is to have"), ("name,stands for\nb,a\n", "line 2 is to have"),
+                            ("name,stands for\nB\n", "line 2 is to have")):
         want_in(tools.stopped("log.py", log, *LOG_COLUMNS, "--cuts", "7", "--names", tools.file("names.csv", names)), sentence)
 
 
@@ -464,6 +586,14 @@ def split_parts_are_worth_the_whole(tools):
 
 
 @test
+def split_names_what_is_of_an_earlier_run(tools):
+    for sizes, wanted in (([2, 3, 4], []), ([2, 3], ["part-3.csv"]), ([2, 3, 1], [])):
+        rows, _ = made_timetable(random.Random(5), sizes)
+        out = tools.told("split.py", tools.file("timetable.csv", text_of(rows)), "parts")
+        want(re.findall("^parts/(.*): not of this timetable", out, re.M), wanted)
+
+
+@test
 def split_names_what_is_too_large(tools):
     rows, legs = made_timetable(random.Random(6), [65, 3])
     out, _, status = tools.ran("split.py", tools.file("timetable.csv", text_of(rows)), "parts")
@@ -520,7 +650,42 @@ def lp_makes_a_certificate_of_a_solution(tools):
     want_in(tools.stopped("lp.py", other, "--solution", solution), "the solution of another network")
     for wrong in (WRITTEN_BY_GLPSOL.replace("f f", "i i"), WRITTEN_BY_GLPSOL.replace("bas 4", "bas 5"), "", "s\n"):
         want_in(tools.stopped("lp.py", network, "--solution", tools.file("wrong", wrong)), "isn't an optimal one")
-    want_in(tools.stopped("lp.py", network, "--solution", tools.file("wrong", WRITTEN_BY_GLPSOL.replace("0.6", "many"))), "doesn't write")
+    want_in(tools.stopped("lp.py", network, "--solution", tools.file("wrong", WRITTEN_BY_GLPSOL.replace("0.6", "many"))), "has a line that")
+    want_in(tools.stopped("lp.py", network, "--solution", ""), "No such file")
+
+
+WRITTEN_BY_ESOLVER = """status = OPTIMAL
+status OPTIMAL
+\tValue = 806/3
+VARS:
+p1 = 2/3
+p2 = 2/3
+p3 = 2/3
+p4 = 2/3
+REDUCED COST:
+PI:
+l1 = 97/3
+l2 = 103/3
+l3 = 100/3
+l4 = 103/3
+SLACK:
+"""
+
+
+@test
+def lp_makes_a_certificate_of_fractions(tools):
+    network, solution = tools.file("thirds.csv", WITH_THIRDS), tools.file("solution", WRITTEN_BY_ESOLVER)
+    made = tools.told("lp.py", network, "--solution", solution)
+    want(made, tools.told("lp.py", network, "--solution", tools.file("other", WRITTEN_BY_GLPSOL)))
+    few = tools.file("few.csv", "periods,1,1\nleg,A,2\nleg,B,5\nproduct,P,7,A,B\nproduct,Q,5,A\ndemand,P,1,1\n")
+    zeros = "status OPTIMAL\n\tValue = 7\nVARS:\np1 = 1\nREDUCED COST:\np1 = 7\np2 = 5\nPI:\nSLACK:\nl1 = 1\nl2 = 4\n"
+    want(tools.told("lp.py", few, "--solution", tools.file("solution", zeros)),
+         "value 7/1\nproduct P 1/1\nproduct Q 0/1\nleg A 0/1\nleg B 0/1\n")
+    for old, new, sentence in (("p4", "p5", "isn't an optimal one"), ("l4", "l6", "isn't an optimal one"),
+                               ("status OPTIMAL", "status UNSOLVED", "isn't an optimal one"), ("806", "807", "another network"),
+                               ("97/3", "97/0", "has a line that"), ("97/3", "many", "has a line that")):
+        wrong = tools.file("wrong", WRITTEN_BY_ESOLVER.replace(old, new))
+        want_in(tools.stopped("lp.py", network, "--solution", wrong), sentence)
 
 
 @test
@@ -531,20 +696,20 @@ def lp_takes_decimals_for_the_fractions_that_they_stand_for(tools):
 
 
 @test
-def lp_makes_certificates_of_what_glpsol_finds(tools):
-    if not shutil.which("glpsol"):
-        print("glpsol isn't installed: no certificate made of what it finds")
-        return
+def lp_makes_certificates_of_what_solvers_find(tools):
     paths = [*sorted(EXAMPLES.glob("*/network.csv")), tools.file("thirds.csv", WITH_THIRDS),
              *[tools.file(f"made-{it}.csv", text_of(made_timetable(random.Random(it), [6, 9])[0])) for it in range(4)]]
-    for path in paths:
-        tools.file("program.lp", tools.told("lp.py", path))
-        done = subprocess.run(["glpsol", "--exact", "--lp", "program.lp", "-w", "solution"], cwd=tools.folder, capture_output=True)
-        want(done.returncode, 0, "glpsol")
-        certificate = tools.file("certificate", tools.told("lp.py", path, "--solution", "solution"))
-        want(tools.nrm("check", path, certificate), "optimal\n", f"nrm check {path}")
-        want(tools.told("audit.py", path, certificate).splitlines()[-1], "optimal", f"audit.py {path}")
-    print(f"{len(paths)} certificates made of what glpsol finds")
+    for words in (["glpsol", "--exact", "--lp", "program.lp", "-w", "solution"], ["esolver", "-O", "solution", "program.lp"]):
+        if not shutil.which(words[0]):
+            print(f"{words[0]} isn't installed: no certificate made of what it finds")
+            continue
+        for path in paths:
+            tools.file("program.lp", tools.told("lp.py", path))
+            want(subprocess.run(words, cwd=tools.folder, capture_output=True).returncode, 0, words[0])
+            certificate = tools.file("certificate", tools.told("lp.py", path, "--solution", "solution"))
+            want(tools.nrm("check", path, certificate), "optimal\n", f"nrm check {path}")
+            want(tools.told("audit.py", path, certificate).splitlines()[-1], "optimal", f"audit.py {path}")
+        print(f"{len(paths)} certificates made of what {words[0]} finds")
 
 
 # season.py, replay.py, resume.py
@@ -651,13 +816,87 @@ def tools_end_quietly_where_nobody_reads(tools):
                                    env=tools.blind())
         os.close(writing)
         err = process.communicate(timeout=SECONDS)[1].decode()
-        err = "".join(it for it in err.splitlines(keepends=True) if not it.startswith(("log.py: ", "season.py: no pictures")))
+        err = "".join(it for it in err.splitlines(keepends=True) if not it.startswith(("log.py: ", "product,", "season.py: no pictures")))
         want((process.returncode, err), (128 + signal.SIGPIPE, ""), name)
         with open("/dev/full", "wb") as full:
             done = subprocess.run([sys.executable, "-B", TOOLS / name, *words], cwd=tools.folder, stdout=full, stderr=subprocess.PIPE,
                                   env=tools.blind())
         found = done.returncode, b"Traceback" in done.stderr, b"No space left" in done.stderr
         want(found, (5 if name == "audit.py" else 1, False, True), name)
+
+
+@test
+def tools_tell_what_a_terminal_cant_show(tools):
+    path = os.path.join(os.fsencode(tools.folder), b"\xff\xc3\xbc.csv")
+    with open(path, "wb") as file:
+        file.write("periods,1,1\nleg,Zürich,1\n".encode())
+    for form, shown_text in (("utf-8", "Zürich"), ("ascii", "Z\\xfcrich")):
+        done = subprocess.run([sys.executable, "-B", TOOLS / "explain.py", path], capture_output=True,
+                              env={**os.environ, "PYTHONIOENCODING": form})
+        want((done.returncode, done.stderr), (3, b""))
+        want_in(done.stdout.decode(), f"the name: {shown_text}\n")
+
+
+@test
+def tools_that_run_the_program_tell_where_it_is_another(tools):
+    network = tools.file("few.csv", "periods,2,1\nleg,A,1\nproduct,P,5,A\n")
+    stream, kept, other = tools.file("stream", "book P 1\n"), tools.file("kept", ""), tools.file("other", "no A\n")
+    for script, sentences in (("", ("0 replies", "has no bound")), ("awk '{ print \"ok 1\" }'", ("don't fit the lines", "has no bound"))):
+        program = ["--program", "sh", tools.file("script", script)]
+        want_in(tools.stopped("season.py", network, stream, *program), sentences[0])
+        want_in(tools.stopped("replay.py", network, *program), sentences[1])
+        want(tools.ran("replay.py", network, *program)[0], "")  # and no heads of a table
+    refused, program = tools.file("refused.csv", "periods,1,1\nleg,a,1\n"), ["--program", *tools.program]
+    for wrong, sentence in ((refused, "ended with status 3: refused row 2 why 5 name; `tools/explain.py` tells"),
+                            (tools.folder, "status 9: file fault")):
+        want_in(tools.stopped("resume.py", wrong, "bid", stream, kept, *program), sentence)
+    want_in(tools.stopped("resume.py", network, "bid", "/proc/self/mem", kept, *program), "/proc/self/mem: Input/output error")
+    want_in(tools.stopped("resume.py", network, "bid", stream, other, *program),
+            "line 1: 'no A\\n' was kept, and the program answers 'ok 1\\n'")
+    want_in(tools.stopped("split.py", network, stream), f"{stream} is a file, and a folder is wanted")
+
+
+@test
+def tools_name_the_file_that_cant_be_read(tools):
+    for name, words in words_of_tools(tools).items():
+        out, err, status = tools.ran(name, "/proc/self/mem", *words[1:])
+        want(("Traceback" in err, status), (False, 9 if name in ("audit.py", "explain.py") else 1), name)
+        want_in(out + err, "file fault" if name == "audit.py" else "/proc/self/mem")
+
+
+@test
+def parts_of_tools_say_that_they_are_none(tools):
+    for path in (TOOLS / "nrm_tools.py", TOOLS / "pictures.py", TOP / "bench" / "networks.py"):
+        for words in ([], ["--help"]):
+            out, err, status = tools.ran(path, *words)
+            want((out, err.startswith(f"{path.name}: no tool, but a part of "), status), ("", True, 1), err)
+
+
+@test
+def season_says_which_python_has_no_matplotlib(tools):
+    words = [TOOLS / "season.py", *words_of_tools(tools)["season.py"]]
+    for python, wanted in ((sys.executable, f"since {sys.executable}, "), ("/usr/bin/python3", "Debian's package is python3-matplotlib\n")):
+        if os.path.exists(python):
+            done = subprocess.run([python, "-B", *words], cwd=tools.folder, capture_output=True, text=True, env=tools.blind(),
+                                  timeout=SECONDS)
+            want(done.returncode, 0, done.stderr)
+            want_in(done.stderr, wanted)
+
+
+@test
+def scripts_of_bench_name_themselves_and_give_no_traceback(tools):
+    """With what is no program, or is none that plans."""
+    for name in ("bookings.py", "plan.py", "read_network.py", "stream.py"):
+        path = TOP / "bench" / name
+        want_in(tools.told(path, "--help"), f"usage: bench/{name}")
+        for words, status, wanted in (([tools.folder / "none"], 1, f"{name}: there is no program {tools.folder}/none\n"),
+                                      ([tools.folder], 1, f"{name}: there is no program {tools.folder}\n"),
+                                      ([TOP / "README.md"], 1, "there is no program"), (["--none"], 2, "usage: "),
+                                      ([shutil.which("false")], 1, "` ended with status 1\n")):
+            out, err, ended = tools.ran(path, *words)
+            want((ended, "Traceback" in err, err.startswith((f"{name}: ", "usage: "))), (status, False, True), err)
+            want_in(err, wanted)
+    want_in(tools.ran(TOP / "bench" / "plan.py", shutil.which("true"))[1], "plan bid` writes no plan")
 
 
 @test
@@ -691,6 +930,37 @@ def tools_find_the_program_on_the_path(tools):
         want((done.returncode, wanted in done.stdout + done.stderr), (status, True), done.stdout + done.stderr)
 
 
+def headings_of(path):
+    """The anchors of a document's headings."""
+    return {re.sub(r"[^\w -]", "", it.lower()).replace(" ", "-") for it in re.findall(r"^#+ (.*)", path.read_text(), re.M)}
+
+
+@test
+def documents_link_to_what_is_there(tools):
+    links = 0
+    for path in [*TOP.glob("*.md"), *(TOP / "docs").glob("*.md")]:
+        for link in re.findall(r"\]\(([^)#:]*(?:#[^)]*)?)\)", path.read_text()):
+            file, _, heading = link.partition("#")
+            linked = path.parent / file if file else path
+            if not linked.exists() or heading and heading not in headings_of(linked):
+                raise Wrong(f"{path.name}: there is no {link}")
+            links += 1
+    want(links > 100, True, f"{links} links")
+
+
+@test
+def release_begins_nothing_where_no_folder_is_named(tools):
+    for words, status, wanted in ((["--help"], 0, "    tools/release.sh FOLDER\n"), (["-x"], 2, "usage: "), ([], 2, "usage: "),
+                                  (["a", "b"], 2, "usage: ")):
+        done = subprocess.run([TOOLS / "release.sh", *words], cwd=tools.folder, capture_output=True, text=True, timeout=SECONDS)
+        want((done.returncode, wanted in done.stdout + done.stderr), (status, True), done.stdout + done.stderr)
+    elsewhere = tools.folder / "elsewhere"
+    shutil.copytree(TOOLS, elsewhere / "tools")
+    (elsewhere / "VERSION").write_text("v1\n")
+    done = subprocess.run([elsewhere / "tools" / "release.sh", "out"], cwd=tools.folder, capture_output=True, text=True, timeout=SECONDS)
+    want((done.returncode, "release.sh: " in done.stderr, "no git repository" in done.stderr), (1, True, True), done.stderr)
+
+
 @test
 def release_has_what_an_operator_needs(tools):
     """From a clone whose built program is one that runs the program of the tests."""
@@ -698,18 +968,24 @@ def release_has_what_an_operator_needs(tools):
     want_in((TOP / "docs" / "nrm.1").read_text(), f'"nrm {version}"')
     want_in((TOP / "CHANGELOG.md").read_text(), f"\n## {version}\n")
     clone, made = tools.folder / "clone", tools.folder / "out" / f"nrm-{version}"
-    if not (TOP / ".git").exists() or subprocess.run(["git", "clone", "-q", TOP, clone], stderr=subprocess.DEVNULL).returncode:
-        print("this is no git repository: no release made")
+    if not shutil.which("rt") or not (TOP / ".git").exists() or subprocess.run(
+            ["git", "clone", "-q", TOP, clone], stderr=subprocess.DEVNULL).returncode:
+        print("this is no git repository, or there is no kit: no release made")
         return
     words = [clone / "tools" / "release.sh", tools.folder / "out"]
     built = clone / "crates" / "nrm" / "out" / "nrm"
     built.parent.mkdir(exist_ok=True)
     built.write_text('#!/bin/sh\nexec %s "$@"\n' % " ".join(f"'{it}'" for it in tools.program))
     built.chmod(0o755)
+    done = subprocess.run([words[0], tools.file("no-folder", "")], capture_output=True, text=True)
+    want((done.returncode, "release.sh: " in done.stderr), (1, True), done.stderr)
     want(subprocess.run(words, stdout=subprocess.DEVNULL).returncode, 0, "release.sh")
-    want(sorted(str(it.relative_to(made)) for it in made.rglob("*") if it.is_file()),
-         ["CHANGELOG.md", "LICENSE", "SHA256SUMS", "VERSION", "commands.md", "nrm", "nrm.1", "operating.md", "tools/nrm_tools.py",
-          "tools/resume.py"])
+    files = sorted(str(it.relative_to(made)) for it in made.rglob("*") if it.is_file())
+    want([it for it in files if not it.startswith("licences/")],
+         ["CHANGELOG.md", "LICENSE", "SHA256SUMS", "VERSION", "commands.md", "nrm", "nrm.1", "operating.md", "tools/explain.py",
+          "tools/nrm_tools.py", "tools/resume.py"])
+    want({it.partition("-")[0] for it in files if it.startswith("licences/")} >=
+         {f"licences/{it}" for it in ("csv", "indexmap", "itoa", "memchr", "ryu", "serde", "thiserror")}, True, files)
     want(subprocess.run(["sha256sum", "--quiet", "-c", "SHA256SUMS"], cwd=made).returncode, 0, "sha256sum")
     stream, kept = tools.file("stream", "book ZV-Y 1\nbook ZV-Y 1\n"), tools.file("kept", "ok 1\nok")
     done = subprocess.run([sys.executable, "-B", made / "tools" / "resume.py", EXAMPLES / "log" / "network.csv", "first", stream, kept],

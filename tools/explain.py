@@ -82,11 +82,14 @@ class Reading:
     def __init__(self, rows):
         self.rows = rows
         self.legs, self.products, self.demands = {}, {}, {}
-        self.first_periods = next((row for row in rows if row.fields[0] == "periods"), None)
+        is_periods = [lambda row: row.fields[0] == "periods", lambda row: kind_meant(row.fields[0]) == "periods"]
+        self.first_periods = next((row for it in is_periods for row in rows if it(row)), None)
         self.histories, self.periods = self.sizes()
         self.known_rows = 0  # those of a known kind
-        self.lines_of_names = {kind: {row.fields[1]: row.line for row in reversed(rows) if row.fields[0] == kind and row.fields[1:]}
-                               for kind in ("leg", "product")}
+        self.lines_of_names = {"leg": {}, "product": {}}
+        for row in reversed(rows):
+            if row.fields[1:]:
+                self.lines_of_names.get(kind_meant(row.fields[0]), {})[row.fields[1]] = row.line
 
     def sizes(self):
         """The histories and the periods, or None where the row that says them doesn't say them well."""
@@ -111,8 +114,9 @@ class Reading:
 
     def take(self, row):
         """Makes known what a row makes, be it refused or not."""
-        kind, *rest = row.fields
-        self.known_rows += kind in SHAPES
+        word, *rest = row.fields
+        self.known_rows += word in SHAPES
+        kind = kind_meant(word)  # one that is spelt otherwise makes its name known too
         if kind == "leg" and rest:
             self.legs.setdefault(rest[0], row.line)
         elif kind == "product" and rest:
@@ -127,15 +131,14 @@ class Reading:
             return [fault]
         faults = [*faulty_names(row), *self.faulty_numbers(row)]
         at_fault = {it.field for it in faults}
-        faults += self.taken_names(row)
-        faults += [it for it in self.missing_names(row) if it.field not in at_fault]
+        faults += [it for some in (self.taken_names(row), self.missing_names(row)) for it in some if it.field not in at_fault]
         return faults or list(faulty_lists(row))
 
     def fault_of_shape(self, row):
         kind, count = row.fields[0], len(row.fields)
         if kind not in SHAPES:
-            return Fault(1, 0, how_to_mend_a_kind(row))
-        if kind != "periods" and not self.known_rows:
+            return Fault(1, 0, how_to_mend_a_kind(row.fields, not self.known_rows))
+        if kind != "periods" and not self.known_rows and not (self.first_periods and self.first_periods.number < row.number):
             there = f"move up line {self.first_periods.line}" if self.first_periods else f"add {SHAPES['periods']} above"
             return Fault(2, 0, f"the row of periods comes first: {there}")
         if kind == "periods" and row is not self.first_periods:
@@ -212,31 +215,42 @@ class Reading:
         return f"no row makes a {kind} of this name" + (f"; is it {close[0]} of line {made[close[0]]}?" if close else ": add it above")
 
 
+def kind_meant(text):
+    """The kind of row that a first field says, or seems to be meant to say; else None."""
+    text = text.strip().lower()
+    return text if text in SHAPES else next(iter(difflib.get_close_matches(text, SHAPES, 1)), None)
+
+
+def is_no_text(text):
+    """Whether a line or a field shows that a file is UTF-16 or no text."""
+    return "\0" in text or text.startswith(("\\xff\\xfe", "\\xfe\\xff"))
+
+
 def is_no_csv(text):
     """Whether a first field shows that the whole file is something else than rows with commas in UTF-8."""
-    return "\0" in text or text.startswith(("\\xff\\xfe", "\\xfe\\xff", "PK\x03")) or re.match(r"periods *[;\t|]", text) is not None
+    return is_no_text(text) or text.startswith("PK\x03") or re.match(r"periods *[;\t|]", text) is not None
 
 
-def how_to_mend_a_kind(row):
-    text = row.fields[0]
+def how_to_mend_a_kind(fields, is_above_all):
+    """What is said of a row of no kind; whether it is above all that have one shows a heading row."""
+    text, kind = fields[0], kind_meant(fields[0])
     if text.startswith("PK\x03"):
         return "it is a spreadsheet's own file (.xlsx, .ods): save it as CSV, with commas and in UTF-8"
-    if "\0" in text or text.startswith(("\\xff\\xfe", "\\xfe\\xff")):
+    if is_no_text(text):
         return "it is UTF-16, or no text: save it as UTF-8, or `iconv -f UTF-16 -t UTF-8 FILE > NEW`"
-    if is_no_csv(text):
+    if re.match(rf"({'|'.join(SHAPES)}) *[;\t|]", text):
         return "the fields are kept apart by another sign: save it with commas, or `tr ';' ',' < FILE > NEW`, with '\\t' for tabs"
     if "\ufeff" in text:
         return "there is a byte order mark that isn't at the start of the file, or twice: delete it"
-    if not any(row.fields):
+    if not any(fields):
         return "the row is empty: delete it, or `sed 's/,*\\r*$//' FILE > NEW`, since a blank line is no row"
-    if text.strip().lower() in SHAPES:
-        return f"write {text.strip().lower()}, in lower case and without blanks"
+    if kind == text.strip().lower():
+        return f"write {kind}, in lower case and without blanks"
     if text.startswith("#"):
         return "a file has no remarks: delete the line"
-    if row.number == 1:
+    if is_above_all and not kind:
         return "a file has no heading row: delete it; the first row is " + SHAPES["periods"]
-    close = difflib.get_close_matches(text.strip().lower(), SHAPES, 1)
-    return f"it is none of periods, leg, product and demand{f': write {close[0]}' if close else ''}"
+    return f"it is none of periods, leg, product and demand{f': write {kind}' if kind else ''}"
 
 
 def faulty_names(row):
@@ -316,29 +330,50 @@ def faults_of_certificate(data, network):
         text = line.removesuffix(b"\r").decode("utf-8", "backslashreplace")
         what, _, last = text.rpartition(" ")
         found = FRACTION.fullmatch(last)
-        tried.add(what)
         if what not in wanted or what in given or not found:
-            yield f"refused certificate line {number}", f"line {number}: {shown(text)}: {how_to_mend_a_line(what, last, wanted, given)}"
+            yield f"refused certificate line {number}", f"line {number}: {shown(text)}: {how_to_mend_a_line(text, wanted, given)}"
+            if is_no_text(text):
+                return  # what is wrong with the file as a whole is told once
+            tried.add(line_meant(text, wanted)[0])
         elif any(len(it) > 19 or int(it) > GREATEST for it in found.groups()):
             yield f"refused certificate line {number} large", f"line {number}: {shown(text)}: no number is above {GREATEST}"
             given[what] = None
         else:
             given[what] = Fraction(*map(int, found.groups()))
     for what in wanted:
-        if what not in tried:
+        if what not in given and what not in tried:
             yield f"refused certificate no {what}", f"there is no line `{what}` with a fraction: add `{what} 0/1` if it is 0"
     if given.keys() >= set(wanted) and None not in given.values() and is_too_fine(given, network):
         yield "refused certificate too fine", "its fractions have no common denominator below 2^48: use simpler ones"
 
 
-def how_to_mend_a_line(what, last, wanted, given):
-    if what in given:
-        return "it was given above: delete one of the two"
-    if what not in wanted:
-        close = difflib.get_close_matches(what, wanted, 1) if what.startswith(("value", "product", "leg")) else []
+def line_meant(text, wanted):
+    """What a line seems to be meant to be of, else None, and the rest of it."""
+    kind, *words = re.split(r"[\s,;]+", text.strip("\ufeff \t,;"))
+    names = 0 if kind.lower() == "value" else 1
+    what = " ".join([kind.lower(), *map(str.upper, words[:names])])
+    return what if what in wanted else None, " ".join(words[names:])
+
+
+def how_to_mend_a_line(text, wanted, given):
+    if is_no_text(text):
+        return "it is UTF-16, or no text: save it as UTF-8, or `iconv -f UTF-16 -t UTF-8 FILE > NEW`"
+    if not text.strip() or text.startswith("#"):
+        return "a certificate has no blank lines and no remarks: delete the line"
+    if text.startswith(("nest ", "protect ")):
+        return "it is of a plan under davn: `grep -v -e ^nest -e ^protect FILE > NEW` leaves the certificate"
+    what, rest = line_meant(text, wanted)
+    if what is None:
+        words = text.rpartition(" ")[0]
+        close = difflib.get_close_matches(words, wanted, 1) if words.startswith(("value", "product", "leg")) else []
         guess = f"; is it `{close[0]}`?" if close else ""
         return f"it is none of `value`, `product NAME` and `leg NAME`, one blank and a fraction{guess}"
-    return f"a fraction is wanted, as 3/2{f': write {last}/1' if WHOLE.fullmatch(last) else ' or 0/1'}"
+    if what in given:
+        return "it was given above: delete one of the two"
+    mark = ", without the byte order mark before it" if text.startswith("\ufeff") else ""
+    if found := re.fullmatch(r"0*(\d+)(?:/0*([1-9]\d*))?", rest):
+        return f"write `{what} {found[1]}/{found[2] or 1}`{mark}"
+    return f"write `{what}` and a fraction{mark}, as 3/2: a decimal is to be the fraction that it stands for"
 
 
 def is_too_fine(given, network):

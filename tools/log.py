@@ -2,13 +2,14 @@
 """From a log of requests, as a reservation system exports it, to the demand rows of a network file.
 
     tools/log.py LOG --departs COLUMN --booked COLUMN --product COLUMN.. [--seats COLUMN] --cuts DAYS,DAYS..
-                 [--network FILE] [--names FILE] [--weekday DAY] [--last N] [--dates dmy|mdy] > NEW
+                 [--without COLUMN TEXT..] [--network FILE] [--names FILE] [--weekday DAY] [--last N] [--dates dmy|mdy] > NEW
 
 LOG has a row of headings and below it a row for each request: the day of departure, the day on which it was made, what was
 asked for, and how many seats, 1 where no column says so. COLUMN is a heading, in capitals or not; what was asked for may stand in
 several, such as the flight and the class, which are then joined. Rows above the headings are passed over, and so are other
-columns and empty rows. Fields are kept apart by commas, semicolons, tabs or bars, and may stand
-in quotes. The file may be in UTF-8, in UTF-16 with its mark, or else in Windows-1252.
+columns and empty rows. Fields are kept apart by commas, semicolons, tabs or bars, and may stand in quotes. The file may be in
+UTF-8, in UTF-16 with its mark, or else in Windows-1252. --without status cancelled leaves out the rows that have that text, or one
+of several, in that column, in capitals or not; it may be said of more columns than one.
 
 SEASONS. Each day of departure is a season, and so a history: they are numbered from the earliest. With --weekday fri they are the
 Fridays alone, with --last N the N latest; a file takes 32.
@@ -16,18 +17,19 @@ Fridays alone, with --last N the N latest; a file takes 32.
 PERIODS. --cuts 60,30,7 makes four: more than 60 days before departure, up to 60, up to 30, and up to 7, the day itself among them.
 A file takes 16.
 
-DATES. 2025-03-07, 20250307; 7.3.2025 and 07.03.2025, the day first; 7MAR2025, 07-Mar-2025 and 7 March 2025, in English, and 07MAR25. A
-time behind it is passed over. 07/03/2025 and 07-03-2025 are read one way in a log: as another of its dates shows, since no month is
-above 12, or as --dates says, dmy for the day first or mdy for the month first. Where neither does, the log is refused.
+DATES. 2025-03-07, 2025/03/07, 2025.03.07 and 20250307; 7.3.2025 and 07.03.2025, the day first; in English 7MAR2025, 07-Mar-2025,
+7 March 2025, March 7, 2025, and 07MAR25. A weekday before it and a time behind it are passed over. 07/03/2025 and 07-03-2025 are
+read one way in a log: as another of its dates shows, since no month is above 12, or as --dates says, dmy for the day first or mdy
+for the month first. Where neither does, the log is refused. So is a year of two digits behind a month in digits, as in 07.03.25.
 
 NAMES. A product whose text is no name of a network file gets one: in capitals, `-` for all but letters and digits, shorter where
 it is too long, and a name of its own. --names FILE writes the list, `name,stands for`; where FILE is there already the names
-in it stay, and new ones are added.
+in it stay, and new ones are added. So better ones may be written into it.
 
 What is written is the demand, as rows `demand`, with the row of periods above them. With --network FILE, which has rows of legs
-and products, it is the whole network file: the demand and the periods of FILE are replaced. What is still to be done, such as
-the products to which FILE has no row, is told on standard error. A log that has a row that can't be read is refused: the first
-20 such rows are told, and how many more there are.
+and products, it is the whole network file: the demand and the periods of FILE are replaced. If these are more than a network file
+takes, `tools/split.py` cuts it. What is still to be done, such as the products to which FILE has no row, is told on standard
+error. A log that has a row that can't be read is refused: the first 20 such rows are told, and how many more there are.
 """
 import csv
 import datetime
@@ -38,28 +40,35 @@ import re
 import sys
 from collections import Counter
 
-from nrm_tools import MOST_HISTORIES, MOST_PERIODS, MOST_PRODUCTS, MOST_SEATS, NAME, Stop, end, named, parser, rows_in, text_of
+from nrm_tools import (LONGEST_NAME, MOST_HISTORIES, MOST_PERIODS, MOST_PRODUCTS, MOST_SEATS, NAME, Stop, bytes_in, end, named,
+                       parser, rows_in, text_of)
 
 SEPARATORS = [",", ";", "\t", "|"]
 MOST_ABOVE = 100  # rows above the headings
 WEEKDAYS = ["mon", "tue", "wed", "thu", "fri", "sat", "sun"]
 MONTHS = ["JAN", "FEB", "MAR", "APR", "MAY", "JUN", "JUL", "AUG", "SEP", "OCT", "NOV", "DEC"]
-TIME = re.compile(r"(?:T| +)\d{1,2}:\d{2}.*")
-ISO = re.compile(r"(\d{4})-?(\d{2})-?(\d{2})")
+TIME = re.compile(r"(?:(?:T|,? +)\d{1,2}(?::\d{2}.*|h\d{2}|\.\d{2}(?:\.\d{2})?)|-\d{2}\.\d{2}\.\d{2}(?:\.\d+)?)$")
+WEEKDAY = re.compile(r"[^\W\d_]{2,10}[.,]* +(?=\d)")  # in any language, before the date
+YEAR_FIRST = re.compile(r"(\d{4})([-/.]) ?(\d{1,2})\2 ?(\d{1,2})\.?")
+DIGITS = re.compile(r"(\d{4})(\d{2})(\d{2})(?:\d{4}(?:\d{2})?)?")  # and the time
 WITH_POINTS = re.compile(r"(\d{1,2})\. ?(\d{1,2})\. ?(\d{4})")
 WITH_MONTH = re.compile(r"(\d{1,2})[- .]*([A-Za-z]{3})[a-z]*[- .,]*(\d{4}|\d{2})")
+MONTH_FIRST = re.compile(r"([A-Za-z]{3})[a-z]*[ .]+(\d{1,2}),? +(\d{4})")
 EITHER_WAY = re.compile(r"(\d{1,2})([/-])(\d{1,2})\2(\d{4})")
+SHORT_YEAR = re.compile(r"\d{1,2}([./-]) ?\d{1,2}\1 ?\d{2}")
 MOST_TOLD = 20  # rows that can't be read
+OF_A_SPREADSHEET = (b"PK\x03\x04", b"\xd0\xcf\x11\xe0")  # how .xlsx and .ods begin, and .xls
 
 
 # The log
 
 
 def text_in(path):
-    """The text of the log at a path."""
+    """The text of the log, or of the list of names, at a path."""
     csv.field_size_limit(2**31 - 1)
-    with open(path, "rb") as file:
-        data = file.read()
+    data = bytes_in(path)
+    if data.startswith(OF_A_SPREADSHEET):
+        raise Stop(f"{path} is a spreadsheet's own file: save it as CSV, or `soffice --headless --convert-to csv {path}`")
     if data.startswith((b"\xff\xfe", b"\xfe\xff")):
         return data.decode("utf-16", "replace")
     try:
@@ -117,11 +126,18 @@ def places_of(columns, fields):
     return [headings.index(it) for it in wanted]
 
 
+def without_time(text):
+    """A date without the weekday before it and the time behind it."""
+    text = TIME.sub("", text)
+    weekday = WEEKDAY.match(text)
+    return text[weekday.end():] if weekday else text
+
+
 class Dates:
     """Reads the dates of a log, of which those that can be read two ways are all read the same way."""
 
     def __init__(self, texts, order=None):
-        twofold = [found for found in (EITHER_WAY.fullmatch(TIME.sub("", it)) for it in texts) if found]
+        twofold = [found for found in (EITHER_WAY.fullmatch(without_time(it)) for it in texts) if found]
         self.order = order or (self.order_shown_by(twofold) if twofold else None)
 
     @staticmethod
@@ -136,8 +152,12 @@ class Dates:
 
     def day(self, text):
         """The day that a text says; a ValueError where it says none."""
-        text = TIME.sub("", text)
-        if found := ISO.fullmatch(text):
+        if (found := MONTH_FIRST.fullmatch(TIME.sub("", text))) and found[1].upper() in MONTHS:
+            return datetime.date(int(found[3]), MONTHS.index(found[1].upper()) + 1, int(found[2]))
+        text = without_time(text)
+        if found := YEAR_FIRST.fullmatch(text):
+            return datetime.date(int(found[1]), int(found[3]), int(found[4]))
+        if found := DIGITS.fullmatch(text):
             return datetime.date(*map(int, found.groups()))
         if found := WITH_POINTS.fullmatch(text):
             return datetime.date(int(found[3]), int(found[2]), int(found[1]))
@@ -154,8 +174,8 @@ class Request:
     what is wrong with a row."""
 
     def __init__(self, dates, departs, booked, product, seats):
-        self.departs = day_of(dates, departs)
-        self.days = (self.departs - day_of(dates, booked)).days
+        self.departs = day_of(dates, departs, "of departure")
+        self.days = (self.departs - day_of(dates, booked, "on which it was made")).days
         if self.days < 0:
             raise ValueError(f"it was made on {booked}, after its departure on {departs}")
         if not product:
@@ -165,16 +185,34 @@ class Request:
         self.product, self.seats = product, int(re.match("[0-9]+", seats)[0])
 
 
-def day_of(dates, text):
+def day_of(dates, text, which):
+    if not text:
+        raise ValueError(f"it has no day {which}")
     try:
         return dates.day(text)
     except ValueError:
-        raise ValueError(f"{text!r} is no date that is known; write it as 2025-03-07") from None
+        why = "has a year of two digits" if SHORT_YEAR.fullmatch(without_time(text)) else "is no date that is known"
+        raise ValueError(f"{text!r} {why}; write it as 2025-03-07") from None
 
 
-def requests_in(path, departs, booked, product, seats=None, order=None):
+def rows_kept(rows, without):
+    """The rows of a log without those that have one of some texts in a column; these columns are the last. Told is how many are
+    left out."""
+    kept = rows
+    for at, (column, *texts) in enumerate(without, -len(without)):
+        unwanted = {it.strip().lower() for it in texts}
+        there = dict.fromkeys(fields[at] for _, fields in kept)
+        kept, before = [it for it in kept if it[1][at].lower() not in unwanted], len(kept)
+        told = "" if len(kept) < before else f"; there stands {', '.join(list(there)[:MOST_TOLD])}"
+        tell(f"rows left out {before - len(kept)}, with {' or '.join(texts)} in {column}{told}")
+    return kept
+
+
+def requests_in(path, departs, booked, product, seats=None, order=None, without=()):
     """The requests of the log at a path, whose columns have these headings; those of the product are a list."""
-    rows = Log(path, [departs, booked, *product, *([seats] if seats else [])]).rows
+    columns = [departs, booked, *product, *([seats] if seats else [])]
+    rows = rows_kept(Log(path, [*columns, *[column for column, *_ in without]]).rows, without)
+    rows = [(line, fields[:len(columns)]) for line, fields in rows]
     dates = Dates((text for _, fields in rows for text in fields[:2]), order)
     requests, wrong = [], []
     for line, fields in rows:
@@ -212,9 +250,6 @@ class Demand:
             if it.departs in history:
                 self.seats[it.product, history[it.departs], 1 + sum(it.days <= cut for cut in cuts)] += it.seats
         self.products = sorted({product for product, _, _ in self.seats})
-        if len(self.products) > MOST_PRODUCTS:
-            raise Stop(f"the log has {len(self.products)} products, and a network file takes {MOST_PRODUCTS}: make a log of fewer, such as "
-                       "those of one day, one hub or one line; `tools/split.py` says which legs and products belong together")
 
     def rows(self, names):
         """The rows of demand, the products in the order of their names."""
@@ -246,13 +281,18 @@ def cuts_of(text):
 
 def names_in(path):
     """The names of a list at a path, by what they stand for; none where there is no list yet."""
-    if not path or not os.path.exists(path):
+    if path is None or not os.path.exists(path):
         return {}
-    with open(path, encoding="utf-8-sig", newline="") as file:
-        rows = [row for row in csv.reader(file) if row]
-    names = {row[1]: row[0] for row in rows[1:] if len(row) == 2 and NAME.fullmatch(row[0])}
-    if rows[:1] != [["name", "stands for"]] or len(set(names.values())) != len(rows) - 1:
-        raise Stop(f"{path} is no list of names: `name,stands for` and below it a row for each, with a name of its own")
+    text, names = text_in(path), {}
+    reader = csv.reader(io.StringIO(text, newline=""), delimiter=";" if text.startswith("name;") else ",")
+    if next(reader, None) != ["name", "stands for"]:
+        raise Stop(f"{path} is no list of names: its first row is to be `name,stands for`")
+    for row in filter(None, reader):
+        name, *stands_for = row
+        if len(stands_for) != 1 or not NAME.fullmatch(name) or name in names.values() or stands_for[0] in names:
+            raise Stop(f"{path} is no list of names: line {reader.line_num} is to have a name of its own, of 1 to {LONGEST_NAME} of A-Z, "
+                       "0-9 and -, and one text that it stands for")
+        names[stands_for[0]] = name
     return names
 
 
@@ -270,6 +310,8 @@ def completed(path, demand, names):
     """The rows of the network file at a path, with the periods and the demand of the log."""
     rows = [row.fields for row in rows_in(path)]
     there = {row[1] for row in rows if row[0] == "product" and row[1:]}
+    if not there:
+        raise Stop(f"{path} has no row of a product that can be read: `tools/explain.py {path}` tells what is wrong with it")
     missing = [f"{names[it]}, which stands for {it!r}" for it in demand.products if names[it] not in there]
     if missing:
         raise Stop("\n    ".join([f"{path} has no row for these products of the log; add one for each, or take them out of the log",
@@ -288,6 +330,8 @@ def tell_what_is_made(demand, names, requests, path):
     left_out = len({it.departs for it in requests}) - len(days)
     tell(f"seasons {len(days)}, from {days[0]} to {days[-1]}{f', others left out {left_out}' if left_out else ''}; "
          f"periods {demand.periods}; products {len(demand.products)}; seats {sum(demand.seats.values())}")
+    if len(demand.products) > MOST_PRODUCTS:
+        tell(f"a network file takes {MOST_PRODUCTS} products: with its legs and fares `tools/split.py` cuts it into files")
     made = [text for text in demand.products if names[text] != text]
     if path:
         tell(f"names made {len(made)}; {path} lists what they stand for")
@@ -299,8 +343,8 @@ def tell_what_is_made(demand, names, requests, path):
 def tell_what_is_to_do(demand, names):
     tell("below the row of periods, add the legs, one row leg,NAME,SEATS for each, and then for each product "
          "product,NAME,FARE,LEG.. with its fare and its one to four legs:")
-    for text in sorted(demand.products, key=names.get):
-        tell(f"    product,{names[text]},")
+    for name in sorted(names[it] for it in demand.products):
+        print(f"product,{name},", file=sys.stderr)
 
 
 def main():
@@ -311,6 +355,7 @@ def main():
     words.add_argument("--product", metavar="COLUMN", required=True, nargs="+")
     words.add_argument("--seats", metavar="COLUMN")
     words.add_argument("--cuts", metavar="DAYS", required=True)
+    words.add_argument("--without", metavar=("COLUMN", "TEXT"), nargs="+", action="append", default=[])
     words.add_argument("--network", metavar="FILE")
     words.add_argument("--names", metavar="FILE")
     words.add_argument("--weekday", choices=WEEKDAYS)
@@ -319,18 +364,20 @@ def main():
     given = words.parse_args()
     if given.last is not None and not 1 <= given.last <= MOST_HISTORIES:
         raise Stop(f"--last {given.last}: a network file takes 1 to {MOST_HISTORIES} histories")
+    if any(len(it) < 2 for it in given.without):
+        raise Stop("--without wants a column and one text or more, as --without status cancelled")
     cuts, known = cuts_of(given.cuts), names_in(given.names)
-    requests = requests_in(given.log, given.departs, given.booked, given.product, given.seats, given.dates)
+    requests = requests_in(given.log, given.departs, given.booked, given.product, given.seats, given.dates, given.without)
     demand = Demand(requests, cuts, given.weekday, given.last)
     names = named(demand.products, known)
-    if given.names:
+    if given.names is not None:
         write_names(given.names, names)
     above = [["periods", len(demand.departures), demand.periods]]
-    if given.network:
+    if given.network is not None:
         above = completed(given.network, demand, names)
     rows = [*above, *demand.rows(names)]
     tell_what_is_made(demand, names, requests, given.names)
-    if not given.network:
+    if given.network is None:
         tell_what_is_to_do(demand, names)
     print(text_of(rows), end="")
 

@@ -4,10 +4,10 @@
     tools/lp.py NETWORK [--solution FILE]
 
 Without --solution it writes the program in the LP format of CPLEX; with it, the certificate of the solution that `glpsol -w`
-wrote into FILE, for `nrm check` and `tools/audit.py`:
+or `esolver -O` (of QSopt_ex) wrote into FILE, for `nrm check` and `tools/audit.py`:
 
     tools/lp.py NETWORK > PROGRAM.lp
-    glpsol --exact --lp PROGRAM.lp -w SOLUTION
+    glpsol --exact --lp PROGRAM.lp -w SOLUTION        or    esolver -O SOLUTION PROGRAM.lp
     tools/lp.py NETWORK --solution SOLUTION > CERTIFICATE
 
 The program is that of period 1 with every seat left, which `nrm plan bid` solves and `nrm check` compares with. It stands for
@@ -16,14 +16,14 @@ demand in all histories. So its value is `N` times the plan's `value`, which is 
 the plan's; and its marginals of the legs are bid prices as they stand. Names may hold what the format doesn't allow, so
 products are `p1`, `p2` and on, and legs `l1`, `l2`, in the order of the file; a remark beside each says which it is.
 
-A solver writes decimals. Each becomes the simplest fraction that it stands for, 0.333333333333333 becomes 1/3; whether these
-are the right ones the check says, which is exact. The value is what the seats bring at the fares, and must be the solver's. A
-leg without a product isn't in the program, and has price 0.
+`esolver` writes fractions, `glpsol` decimals. Of these each becomes the simplest fraction that it stands for, 0.333333333333333
+becomes 1/3; whether they are the right ones the check says, which is exact. The value is what the seats bring at the fares, and
+must be the solver's. A leg without a product isn't in the program, and has price 0.
 """
 import re
 from fractions import Fraction
 
-from nrm_tools import Network, Stop, end, parser
+from nrm_tools import Network, Stop, bytes_in, end, parser
 
 DIGITS = 15  # that glpsol writes of a number
 
@@ -58,20 +58,37 @@ def fraction(text):
 
 
 class Solution:
-    """The value, the seats of each product and the price of each leg, as `glpsol -w` wrote them."""
+    """The value, the seats of each product and the price of each leg, as a solver wrote them."""
 
-    def __init__(self, network, lines):
+    def __init__(self, network, text):
+        self.legs, self.products = legs_in(network), list(network.fare)
+        self.value, seats, prices = (self.of_esolver if "\nVARS:\n" in text else self.of_glpsol)(text)
+        self.seats, self.price = dict(zip(self.products, seats)), dict(zip(self.legs, prices))
+
+    def is_none(self):
+        return Stop(f"the solution isn't an optimal one, as `glpsol -w` or `esolver -O` writes it, of a program with {len(self.legs)} legs "
+                    f"and {len(self.products)} products; --interior and integer programs give none that is exact")
+
+    def of_glpsol(self, text):
+        """The numbers that `glpsol -w` wrote: those of rows and columns in their order."""
         found = {"s": [], "i": [], "j": []}
-        for words in map(str.split, lines):
+        for words in map(str.split, text.splitlines()):
             if words[0:1] != ["c"]:
                 found.setdefault(words[0] if words else "", []).append(words[1:])
-        legs = legs_in(network)
-        if [it[:5] for it in found["s"]] != [["bas", str(len(legs)), str(len(network.fare)), "f", "f"]]:
-            raise Stop(f"the solution isn't an optimal one, as `glpsol -w` writes it, of a program with {len(legs)} legs and "
-                       f"{len(network.fare)} products; --interior and integer programs give none that is exact")
-        self.value = Fraction(found["s"][0][5])
-        self.price = dict(zip(legs, [fraction(it[3]) for it in found["i"]]))
-        self.seats = dict(zip(network.fare, [fraction(it[2]) for it in found["j"]]))
+        if [it[:5] for it in found["s"]] != [["bas", str(len(self.legs)), str(len(self.products)), "f", "f"]]:
+            raise self.is_none()
+        return Fraction(found["s"][0][5]), [fraction(it[2]) for it in found["j"]], [fraction(it[3]) for it in found["i"]]
+
+    def of_esolver(self, text):
+        """The numbers that `esolver -O` wrote: under each title those that aren't 0, by their names."""
+        head, *parts = re.split(r"^([A-Z ]+):\n", text, flags=re.M)
+        under = {title: dict(re.findall(r"^(\w+) = (.*)$", part, re.M)) for title, part in zip(parts[::2], parts[1::2])}
+        seats, prices = under["VARS"], under.get("PI", {})
+        products, legs = [f"p{number}" for number, _ in enumerate(self.products, 1)], [f"l{number}" for number in self.legs.values()]
+        value = re.search(r"^status OPTIMAL\n\s*Value = (\S+)$", head, re.M)
+        if not value or not (seats.keys() <= set(products) and prices.keys() <= set(legs)):
+            raise self.is_none()
+        return Fraction(value[1]), [Fraction(seats.get(it, 0)) for it in products], [Fraction(prices.get(it, 0)) for it in legs]
 
 
 def certificate(network, solution):
@@ -92,17 +109,16 @@ def written(number):
 def main():
     words = parser(__doc__)
     words.add_argument("network")
-    words.add_argument("--solution", metavar="FILE", help="what `glpsol -w` wrote")
+    words.add_argument("--solution", metavar="FILE", help="what `glpsol -w` or `esolver -O` wrote")
     given = words.parse_args()
     network = Network.read(given.network)
-    if not given.solution:
+    if given.solution is None:
         print(*program(network), sep="\n")
         return
-    with open(given.solution, encoding="ascii", errors="replace") as file:
-        try:
-            solution = Solution(network, file)
-        except (ValueError, IndexError):
-            raise Stop(f"{given.solution} has a line that `glpsol -w` doesn't write")
+    try:
+        solution = Solution(network, bytes_in(given.solution).decode("ascii", "replace"))
+    except (ValueError, IndexError, ZeroDivisionError):
+        raise Stop(f"{given.solution} has a line that neither `glpsol -w` nor `esolver -O` writes")
     print(*certificate(network, solution), sep="\n")
 
 

@@ -1,5 +1,7 @@
 """What the tools share: how they begin and end, how a network file is read, and which reply belongs to which line.
 
+The scripts of `bench/` begin and end by it too.
+
 An analyst's own script may import it too, with the folder of this file on Python's path:
 
     from nrm_tools import Network, program, replies
@@ -20,6 +22,7 @@ import unicodedata
 from pathlib import Path
 
 TOP = Path(__file__).resolve().parent.parent
+BUILT = TOP / "crates" / "nrm" / "out" / "nrm"
 MODES = ["first", "bid", "davn"]
 MOST_HISTORIES, MOST_PERIODS, MOST_LEGS, MOST_PRODUCTS, MOST_SEATS = 32, 16, 64, 256, 999
 LONGEST_FILE = 4_194_304
@@ -55,18 +58,33 @@ def program(words=None):
     """The words that run `nrm`: those given, else the `nrm` above this folder, else the one on the path."""
     if words:
         return words
-    here, built = TOP / "nrm", TOP / "crates" / "nrm" / "out" / "nrm"
-    is_there = here.exists() and (built.exists() or bool(shutil.which("rt")) or not (TOP / "crates.txt").exists())
+    here = TOP / "nrm"
+    is_there = here.exists() and (BUILT.exists() or bool(shutil.which("rt")) or not (TOP / "crates.txt").exists())
     found = str(here) if is_there else shutil.which("nrm") or (str(here) if here.exists() else None)
     if not found:
         raise Stop(f"there is no `nrm`, neither in {TOP} nor on the path; --program says which to run")
     return [found]
 
 
+def built(path=None):
+    """The path of a built program: the one that is given, else the one that the sources are built into."""
+    found = os.path.abspath(path or BUILT)
+    if not (os.path.isfile(found) and os.access(found, os.X_OK)):
+        raise Stop(f"there is no program {found}{'' if path else '; `./nrm` builds it'}")
+    return found
+
+
+def no_tool(manual):
+    """Ends a run of a file that is no tool, but a part of some, with the first line of what it says of itself."""
+    sys.exit(f"{os.path.basename(sys.argv[0])}: no tool, but a part of some: {manual.splitlines()[0]}")
+
+
 def end(main):
     """Runs a tool and ends with its status. A user's mistake, a closed pipe and Ctrl-C are told in a line, or not at all."""
     name, status = os.path.basename(sys.argv[0]), 1
     try:
+        if sys.stdout:
+            sys.stdout.reconfigure(errors="backslashreplace")  # a name or a field may hold what the terminal can't show
         status = main() or 0
         if sys.stdout:
             sys.stdout.flush()
@@ -80,8 +98,8 @@ def end(main):
     except BrokenPipeError:
         forget_output()
         status = 128 + signal.SIGPIPE
-    except UnicodeDecodeError as fault:
-        print(f"{name}: a file that is to be text in {fault.encoding} has other bytes at place {fault.start}", file=sys.stderr)
+    except subprocess.CalledProcessError as fault:
+        print(f"{name}: `{' '.join(map(str, fault.cmd))}` ended with status {fault.returncode}", file=sys.stderr)
     except OSError as fault:
         print(f"{name}: {f'{fault.filename}: ' if fault.filename else ''}{fault.strerror or fault}", file=sys.stderr)
         forget_output()
@@ -91,6 +109,23 @@ def end(main):
 def forget_output():
     """Nothing more is written: what is left would be told as a fault once again."""
     os.dup2(os.open(os.devnull, os.O_WRONLY), 1)
+
+
+def make_folder(path):
+    """Makes the folder at a path if it isn't there."""
+    try:
+        os.makedirs(path, exist_ok=True)
+    except FileExistsError:
+        raise Stop(f"{path} is a file, and a folder is wanted")
+
+
+def bytes_in(path, most=-1):
+    """The bytes of the file at a path, or the first of them."""
+    try:
+        with open(path, "rb") as file:
+            return file.read(most)
+    except OSError as fault:
+        raise Stop(f"{path}: {fault.strerror}")
 
 
 # The network file
@@ -141,8 +176,7 @@ def record_at(data, at):
 
 def rows_in(path):
     """The rows of the network file at a path."""
-    with open(path, "rb") as file:
-        return list(rows_of(file.read()))
+    return list(rows_of(bytes_in(path)))
 
 
 def text_of(rows):
@@ -258,11 +292,20 @@ def replies_of(lines):
         yield reply
 
 
+def unanswered(mode, network, status, told):
+    """A Stop for a run of the program that ended with a status, and with what it told."""
+    last = told.rstrip("\n").rpartition("\n")[2]
+    advice = "; `tools/explain.py` tells every row of a network file that is refused" if status == 3 else ""
+    return Stop(f"`run {mode} {network}` ended with status {status}{f': {last}' if last else ''}{advice}")
+
+
 def replies(words, mode, network, stream):
     """The replies to the lines of a stream, one each, by a run of the program on the network file at a path."""
     done = subprocess.run([*words, "run", mode, network], input=stream, stdout=subprocess.PIPE)
     if done.returncode:
-        last = done.stdout.decode("latin-1").rstrip("\n").rpartition("\n")[2]
-        advice = "; `tools/explain.py` tells every row of a network file that is refused" if done.returncode == 3 else ""
-        raise Stop(f"`run {mode} {network}` ended with status {done.returncode}{f': {last}' if last else ''}{advice}")
+        raise unanswered(mode, network, done.returncode, done.stdout.decode("latin-1"))
     return list(replies_of(io.BytesIO(done.stdout)))
+
+
+if __name__ == "__main__":
+    no_tool(__doc__)

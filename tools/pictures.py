@@ -4,6 +4,11 @@ Colours are those of Okabe and Ito, which colour-blind readers tell apart; each 
 """
 import os
 
+from nrm_tools import make_folder, no_tool
+
+if __name__ == "__main__":
+    no_tool(__doc__)
+
 import matplotlib
 
 matplotlib.use("Agg")
@@ -164,7 +169,7 @@ def refused(seasons):
 
 def drawn(network, stream, seasons, leg, folder):
     """Draws all, and gives the paths of the files."""
-    os.makedirs(folder, exist_ok=True)
+    make_folder(folder)
     with matplotlib.rc_context(SETTINGS):
         figures = {"bid-prices": bid_prices(network, stream, seasons), "seats": seats(network, stream, seasons, leg),
                    "revenue": revenue(stream, seasons)}

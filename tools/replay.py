@@ -48,8 +48,8 @@ def replayed(rows, history, seed, words):
         with open(path, "w", encoding="ascii") as file:
             file.write(text_of(rows_without(rows, history)))
         for mode in MODES:
-            last = replies(words, mode, path, stream)[-1].decode().split()
-            if last[0] != "hindsight":
+            last = b"".join(replies(words, mode, path, stream)[-1:]).decode("latin-1").split()
+            if last[0:1] != ["hindsight"] or len(last) != 4:
                 raise Stop(f"`run {mode}` without history {history} has no bound: {' '.join(last)}")
             told.append(int(last[3]))
     return Fraction(last[1]), told
@@ -64,12 +64,13 @@ def main():
     histories = Network.read(given.network).histories
     if histories < 2:
         raise Stop("it takes two histories, one to play and one to know")
-    rows = [row.fields for row in rows_in(given.network)]
+    rows, words_of_nrm = [row.fields for row in rows_in(given.network)], program(given.program)
     line = "{:>8}{:>12}" + "{:>12}{:>6}" * 3
-    print(line.format("history", "bound", *[it for mode in MODES for it in (mode, "")]).rstrip())
     sums, bounds = [0, 0, 0], 0
     for history in range(1, histories + 1):
-        bound, told = replayed(rows, history, given.seed, program(given.program))
+        bound, told = replayed(rows, history, given.seed, words_of_nrm)
+        if history == 1:
+            print(line.format("history", "bound", *[it for mode in MODES for it in (mode, "")]).rstrip())
         print(row(line, history, bound, told))
         sums, bounds = [a + b for a, b in zip(sums, told)], bounds + bound
     print(row(line, "all", bounds, sums))

@@ -22,12 +22,14 @@ import subprocess
 import sys
 import threading
 
-from nrm_tools import MODES, Stop, add_program, end, parser, program, replies_of
+from nrm_tools import MODES, Stop, add_program, bytes_in, end, parser, program, replies_of, unanswered
 
 PIECE = 65_536
 WANTED = b"memory\n"
 WANTED_MEMORY = re.compile(WANTED)
 CHANGED_SOMETHING = re.compile(rb"(ok|no|cancelled|optimised) ")
+NO_REPLY = re.compile(rb"refused |usage: |file fault|overflow after ")  # what is written where no line is answered
+
 
 def replies_kept(given):
     """The replies that were kept; the last one may be cut."""
@@ -84,6 +86,7 @@ class Session:
 
 
 def parted(number, kept, reply):
+    kept, reply = (it.decode("latin-1") for it in (kept, reply))
     raise Stop(f"line {number}: {kept!r} was kept, and the program answers {reply!r}")
 
 
@@ -92,6 +95,8 @@ def line_to_go_on_at(given):
     session, number, size = Session(given), 0, 0
     with open(given.replies, "rb") as kept:
         for number, reply in enumerate(session.replies(), 1):
+            if number == 1 and NO_REPLY.match(reply):
+                raise unanswered(given.mode, given.network, session.process.wait(), reply.decode("latin-1"))
             front = kept.read(len(reply))
             if front != reply:
                 if not (reply.startswith(front) or WANTED.startswith(front) and not kept.read(1)):
@@ -132,9 +137,9 @@ def main():
     add_program(words)
     given = words.parse_args()
     given.program = program(given.program)
-    os.stat(given.network)  # what isn't there is told before anything is run
+    os.stat(given.network)  # what isn't there, or can't be read, is told before anything is run
     for path in (given.stream, given.replies):
-        open(path, "rb").close()
+        bytes_in(path, 1)
     number, size = line_to_go_on_at(given)
     print(f"go on at line {number}; {size} bytes of whole replies stand before it", file=sys.stderr if given.go_on else sys.stdout)
     return go_on(given, number) if given.go_on else 0

@@ -21,7 +21,10 @@ import re
 import sys
 from fractions import Fraction
 
-from nrm_tools import MODES, Network, Stop, add_program, end, parser, program, replies
+from nrm_tools import MODES, Network, Stop, add_program, bytes_in, end, parser, program, replies
+
+
+DEBIANS_PYTHON = "/usr/bin/python3"
 
 
 class Stream:
@@ -79,13 +82,19 @@ class Season:
         self.sold, self.course = {it: 0 for it in network.seats}, [0]
         if len(told) != len(stream.asked):
             raise Stop(f"there are {len(told)} replies to {len(stream.asked)} lines")
-        for (number, line, put_in), reply in zip(stream.asked, told):
-            reply = reply.decode("latin-1").splitlines()
-            if put_in:
-                self.look(number, line, reply)
-            else:
-                self.follow(line.split(" "), reply[0].split(" "))
-                self.course.append(self.sold[leg])
+        try:
+            for asked, reply in zip(stream.asked, told):
+                self.take(*asked, reply.decode("latin-1").splitlines(), leg)
+        except (LookupError, ValueError):
+            raise Stop("the replies don't fit the lines")
+
+    def take(self, number, line, put_in, reply, leg):
+        """Takes the reply to a line."""
+        if put_in:
+            self.look(number, line, reply)
+        else:
+            self.follow(line.split(" "), reply[0].split(" "))
+            self.course.append(self.sold[leg])
 
     def look(self, number, line, reply):
         """Takes the reply to a line that was put in."""
@@ -171,8 +180,7 @@ def main():
     add_program(words)
     given = words.parse_args()
     network = Network.read(given.network)
-    with open(given.stream, "rb") as file:
-        stream = Stream(file.read(), network)
+    stream = Stream(bytes_in(given.stream), network)
     leg = given.leg or leg_most_asked_for(network, stream)
     if leg not in network.seats:
         raise Stop(f"there is no leg {leg}")
@@ -182,8 +190,9 @@ def main():
     try:
         import pictures
     except ImportError:
-        print(f"season.py: no pictures, since {sys.executable}, the Python that was asked, has no matplotlib; Debian's "
-              f"python3-matplotlib is for /usr/bin/python3: /usr/bin/python3 {' '.join(sys.argv)}", file=sys.stderr)
+        advice = ("Debian's package is python3-matplotlib" if sys.executable == DEBIANS_PYTHON else
+                  f"Debian's python3-matplotlib is for {DEBIANS_PYTHON}: {DEBIANS_PYTHON} {' '.join(sys.argv)}")
+        print(f"season.py: no pictures, since {sys.executable}, the Python that was asked, has no matplotlib; {advice}", file=sys.stderr)
         return
     print()
     for path in pictures.drawn(network, stream, seasons, leg, given.out):

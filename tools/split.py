@@ -7,15 +7,17 @@ TIMETABLE is written like a network file, but may have any number of legs and pr
 together, and so do those that products join to them in their turn: what is sold on such a part is worth the same whatever happens
 in another. Each part becomes a file of its own, FOLDER/part-1.csv and so on in the order of their first legs, with its products,
 their demand and the row of periods; FOLDER/parts.csv says of each product in which file it is, so that a request goes to the
-right session. A line for each part is told. A leg without a product is in no file, and told.
+right session. A line for each part is told. A leg without a product is in no file, and told; and so is a part of an earlier run
+that is still in the folder.
 
 A part with more than 64 legs or 256 products is told too, with its legs and the products without which it would fall apart, and
 not written; the status is then 1.
 """
+import glob
 import os
 from collections import defaultdict
 
-from nrm_tools import MOST_LEGS, MOST_PRODUCTS, Network, end, parser, text_of
+from nrm_tools import MOST_LEGS, MOST_PRODUCTS, Network, end, make_folder, parser, text_of
 
 MOST_TOLD = 10  # products that hold a part together
 
@@ -66,7 +68,7 @@ def tell_too_large(network, legs, products):
 
 def split(network, folder):
     """Writes the parts of a timetable into a folder, and tells them. It gives whether each part was written."""
-    os.makedirs(folder, exist_ok=True)
+    make_folder(folder)
     number, too_large = 0, 0
     with open(os.path.join(folder, "parts.csv"), "w", encoding="ascii") as list_of_products:
         list_of_products.write(text_of([["product", "file"]]))
@@ -83,7 +85,14 @@ def split(network, folder):
                     file.write(text_of(rows_of_part(network, legs, products)))
                 list_of_products.write(text_of([[it, name] for it in products]))
                 print(f"{os.path.join(folder, name)}: legs {len(legs)}, the first {legs[0]}; products {len(products)}")
+    tell_of_earlier_runs(folder, number)
     return not too_large
+
+
+def tell_of_earlier_runs(folder, number):
+    written = {os.path.join(folder, f"part-{it}.csv") for it in range(1, number + 1)}
+    for path in sorted(set(glob.glob(os.path.join(glob.escape(folder), "part-*.csv"))) - written):
+        print(f"{path}: not of this timetable; it was there before")
 
 
 def main():
