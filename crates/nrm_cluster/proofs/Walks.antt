@@ -1,0 +1,99 @@
+-- Steps of the loops over a piece.
+use Rattle.std.proofs.Common.{◌≡◌, ℕ, zero, suc, ◌+◌, ◌*◌, ◌-◌, ◌<◌, ◌≤◌, Bool, true, false, arith, refl, sym, ap, ap₂, ◌∙◌, slice_index, List, [], ◌∷◌, ◌++◌, get_or, drop, sum, length}
+use Rattle.std.proofs.lemmas.List.{append-nil, append_assoc, drop_more, drop_all}
+use Rattle.std.proofs.lemmas.List.Sums.{sum_by-cons}
+use Rattle.std.proofs.lemmas.Bool.{le-leb, lt-leb}
+use Rattle.nrm_cluster.specs.Points.{PointsValue}
+use Rattle.nrm_cluster.specs.Divisions.{weight_from, first_within, centre_of, IsDivision, centres_from, cuts_from}
+use Rattle.nrm_cluster.proofs.Medians.{heavy, middle-is}
+
+first-here-in : (test : ℕ → Bool) (m k : ℕ) → test k ≡ true → first_within test (suc m) k ≡ k
+first-here-in test m k e = rw (e, first_within) refl
+
+first-next-in : (test : ℕ → Bool) (m k : ℕ) → test k ≡ false → first_within test (suc m) k ≡ first_within test m (k + 1)
+first-next-in test m k e = rw (e, first_within) refl
+
+first-here : (test : ℕ → Bool) (n k : ℕ) → k < n → test k ≡ true → first_within test (n - k) k ≡ first_within test n 0 → k ≡ first_within test n 0
+first-here test n k few e h = sym (ap (λ m. first_within test m k) left ∙ first-here-in test (n - (k + 1)) k e) ∙ h
+  where
+    left : n - k ≡ suc (n - (k + 1))
+    left = omega arith
+
+first-next : (test : ℕ → Bool) (n k : ℕ) → k < n → test k ≡ false → first_within test (n - k) k ≡ first_within test n 0 → first_within test (n - (k + 1)) (k + 1) ≡ first_within test n 0
+first-next test n k few e h = sym (ap (λ m. first_within test m k) left ∙ first-next-in test (n - (k + 1)) k e) ∙ h
+  where
+    left : n - k ≡ suc (n - (k + 1))
+    left = omega arith
+
+-- the weight of one value more
+pub weight-next : (p : PointsValue) (a k s w : ℕ) → s ≡ weight_from p a k → w ≡ slice_index p.weights (a + k) → s + w ≡ weight_from p a (k + 1)
+weight-next p a k s w e g = ap₂ (λ x y. x + y) e g ∙ ap (weight_from p a) one
+  where
+    one : suc k ≡ k + 1
+    one = omega arith
+
+pub centre-found : (p : PointsValue) (a n k whole upto : ℕ) → k < n → whole ≡ weight_from p a n → upto ≡ weight_from p a (k + 1) → whole ≤ 2 * upto → first_within (heavy p a n) (n - k) k ≡ first_within (heavy p a n) n 0 → slice_index p.values (a + k) ≡ centre_of p a n
+centre-found p a n k whole upto few e g h so-far =
+    ap (λ i. slice_index p.values (a + i)) (first-here (heavy p a n) n k few (le-leb (weight_from p a n) (2 * weight_from p a (k + 1)) (omega arith)) so-far)
+
+pub centre-later : (p : PointsValue) (a n k whole upto : ℕ) → k < n → whole ≡ weight_from p a n → upto ≡ weight_from p a (k + 1) → 2 * upto < whole → first_within (heavy p a n) (n - k) k ≡ first_within (heavy p a n) n 0 → first_within (heavy p a n) (n - (k + 1)) (k + 1) ≡ first_within (heavy p a n) n 0
+centre-later p a n k whole upto few e g h so-far = first-next (heavy p a n) n k few (lt-leb (weight_from p a n) (2 * weight_from p a (k + 1)) (omega arith)) so-far
+
+pub centre-somewhere : (p : PointsValue) (a n k : ℕ) → 0 < n → n ≤ k → k ≤ n → first_within (heavy p a n) (n - k) k ≡ first_within (heavy p a n) n 0 → ⊥
+centre-somewhere p a zero k some h g so-far = omega arith
+centre-somewhere p a (suc n) k some h g so-far =
+    let none : suc n - k ≡ 0 = omega arith in
+    let there = (middle-is p a n).within in
+    omega (arith, ap (λ m. first_within (heavy p a (suc n)) m k) none)
+
+-- ---- a list that is made piece by piece
+pub record IsListing (made : ℕ → List ℕ → List ℕ) (p : PointsValue) (lengths : List ℕ) (k a : ℕ) (items : List ℕ) : Type 0 where
+  pub whole : a + sum (drop k lengths) ≡ length p.values
+  pub joined : items ++ made a (drop k lengths) ≡ made 0 lengths
+
+piece-there : (p : PointsValue) (lengths : List ℕ) (k : ℕ) → IsDivision (length p.values) lengths → k < length lengths → 0 < get_or lengths k 0
+piece-there p lengths k is few = is.some k 0 few
+
+sum-next : (lengths : List ℕ) (k : ℕ) → k < length lengths → sum (drop k lengths) ≡ get_or lengths k 0 + sum (drop (k + 1) lengths)
+sum-next lengths k few = ap sum (drop_more lengths k 0 few) ∙ sum_by-cons (λ x. x) (get_or lengths k 0) (drop (k + 1) lengths)
+
+pub piece-within : (made : ℕ → List ℕ → List ℕ) (p : PointsValue) (lengths : List ℕ) (k a : ℕ) (items : List ℕ) → k < length lengths → IsListing made p lengths k a items → a + get_or lengths k 0 ≤ length p.values
+piece-within made p lengths k a items few is = omega (arith, is.whole, sum-next lengths k few)
+
+pub centres-more : (p : PointsValue) (lengths : List ℕ) (k a : ℕ) (items more : List ℕ) (c : ℕ) → k < length lengths → IsListing (centres_from p) p lengths k a items → c ≡ centre_of p a (get_or lengths k 0) → more ≡ items ++ c ∷ []
+    → IsListing (centres_from p) p lengths (k + 1) (a + get_or lengths k 0) more
+centres-more p lengths k a items more c few is e g = record {
+  whole = omega (arith, is.whole, sum-next lengths k few);
+  joined =
+      ap (λ ls. ls ++ centres_from p (a + get_or lengths k 0) (drop (k + 1) lengths)) g
+      ∙ append_assoc items (c ∷ []) (centres_from p (a + get_or lengths k 0) (drop (k + 1) lengths))
+      ∙ ap (λ x. items ++ x ∷ centres_from p (a + get_or lengths k 0) (drop (k + 1) lengths)) e
+      ∙ ap (λ ls. items ++ centres_from p a ls) (sym (drop_more lengths k 0 few))
+      ∙ is.joined;
+}
+
+pub cuts-more : (p : PointsValue) (lengths : List ℕ) (k a : ℕ) (items more : List ℕ) (v : ℕ) → k + 1 < length lengths → IsListing (cuts_from p) p lengths k a items → v ≡ slice_index p.values (a + get_or lengths k 0 - 1) → more ≡ items ++ v ∷ []
+    → IsListing (cuts_from p) p lengths (k + 1) (a + get_or lengths k 0) more
+cuts-more p lengths k a items more v few is e g = record {
+  whole = omega (arith, is.whole, sum-next lengths k (omega arith));
+  joined =
+      ap (λ ls. ls ++ cuts_from p (a + get_or lengths k 0) (drop (k + 1) lengths)) g
+      ∙ append_assoc items (v ∷ []) (cuts_from p (a + get_or lengths k 0) (drop (k + 1) lengths))
+      ∙ ap (λ x. items ++ x ∷ cuts_from p (a + get_or lengths k 0) (drop (k + 1) lengths)) e
+      ∙ ap (λ ls. items ++ slice_index p.values (a + get_or lengths k 0 - 1) ∷ cuts_from p (a + get_or lengths k 0) ls) next
+      ∙ ap (λ ls. items ++ cuts_from p a (get_or lengths k 0 ∷ ls)) (sym next)
+      ∙ ap (λ ls. items ++ cuts_from p a ls) (sym (drop_more lengths k 0 (omega arith)))
+      ∙ is.joined;
+}
+  where
+    next : drop (k + 1) lengths ≡ get_or lengths (k + 1) 0 ∷ drop (k + 1 + 1) lengths
+    next = drop_more lengths (k + 1) 0 few
+
+pub centres-all : (p : PointsValue) (lengths : List ℕ) (k a : ℕ) (items : List ℕ) → length lengths ≤ k → IsListing (centres_from p) p lengths k a items → items ≡ centres_from p 0 lengths
+centres-all p lengths k a items all is = sym (append-nil items) ∙ ap (λ ls. items ++ centres_from p a ls) (sym (drop_all k lengths all)) ∙ is.joined
+
+pub cuts-all : (p : PointsValue) (lengths : List ℕ) (k a : ℕ) (items : List ℕ) → length lengths - 1 ≡ k → 0 < length lengths → IsListing (cuts_from p) p lengths k a items → items ≡ cuts_from p 0 lengths
+cuts-all p lengths k a items all some is = sym (append-nil items) ∙ ap (λ ls. items ++ cuts_from p a ls) (sym last) ∙ is.joined
+  where
+    last : drop k lengths ≡ get_or lengths k 0 ∷ []
+    last = drop_more lengths k 0 (omega arith) ∙ ap (λ ls. get_or lengths k 0 ∷ ls) (drop_all (k + 1) lengths (omega arith))

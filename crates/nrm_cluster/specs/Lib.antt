@@ -1,0 +1,4 @@
+pub mod Divisions
+pub mod Inner
+pub mod Laws
+pub mod Points

@@ -1,0 +1,120 @@
+//! The table of best divisions: a column for each number of values that are left, with a cell for each number of pieces. A
+//! column is made of those before it, by each first piece that there may be.
+ghost use Rattle.std.specs.Prelude.{◌≡◌, ◌==◌, ◌+◌, ◌<◌, ◌≤◌, ◌^◌, All, IfOk, ℕ, false, get_or, length};
+ghost use Rattle.nrm_cluster.specs.Points.{ArePoints, points};
+ghost use Rattle.nrm_cluster.specs.Inner.Cells.{AreColumns, IsColumn, IsSmall, cheaper_of, columns_in, led_of};
+
+use crate::pieces::cost;
+use std::alloc::{AllocError, Global};
+
+/// The best division of what is left: whether there is one, its cost and its first length.
+#[derive(Clone, Copy, Debug)]
+pub(crate) struct Cell {
+    pub(crate) there: bool,
+    pub(crate) cost: u64,
+    pub(crate) first: u16,
+}
+
+/// The cell of no division.
+pub(crate) const NONE: Cell = Cell {
+    there: false,
+    cost: 0,
+    first: 0,
+};
+
+/// The cheaper of two cells, the first one if they cost the same.
+pub(crate) fn cheaper(one: Cell, other: Cell) -> Cell
+    ensures { result ≡ cheaper_of one other }
+{
+    if other.there && (!one.there || other.cost < one.cost) {
+        other
+    } else {
+        one
+    }
+}
+
+// A piece of this cost and length in front of what a cell tells.
+fn led(cost: u64, first: u16, rest: Cell) -> Cell
+    requires cost { cost < 2 ^ 58 }
+    requires small { IsSmall rest }
+    ensures { result ≡ led_of cost first rest }
+{
+    if rest.there {
+        Cell {
+            there: true,
+            cost: cost + rest.cost,
+            first,
+        }
+    } else {
+        rest
+    }
+}
+
+// One more first piece, of this cost and length, in front of each division of the rest: a cell that it makes cheaper is
+// replaced.
+fn add_first(column: &mut [Cell], cost: u64, first: u16, rest: &[Cell])
+    requires cost { cost < 2 ^ 58 }
+    requires same { length rest.now ≡ length column.old }
+    requires small { All IsSmall rest.now }
+    ensures long { length column.new ≡ length column.old }
+    ensures none { (d : Cell) → get_or column.new 0 d ≡ get_or column.old 0 d }
+    ensures cells { (k : ℕ) (d : Cell) → k + 1 < length column.old
+        → get_or column.new (k + 1) d ≡ cheaper_of (get_or column.old (k + 1) d) (led_of cost first (get_or rest.now k d)) }
+{
+    for k in 1..column.len() {
+        column[k] = cheaper(column[k], led(cost, first, rest[k - 1]));
+    }
+}
+
+// A column with no division, but for that of nothing into no piece if no value is left.
+fn blank(alloc: Global, groups: u8, left: usize) -> Result<Vec<Cell>, AllocError>
+    ensures long { IfOk result (λ column. length column.items ≡ groups + 1) }
+    ensures first { IfOk result (λ column. (d : Cell) → get_or column.items 0 d ≡ record { there = left == 0; cost = 0; first = 0 }) }
+    ensures cells { IfOk result (λ column. (k : ℕ) (d : Cell) → k < groups → (get_or column.items (k + 1) d).there ≡ false) }
+{
+    let mut column = vec![in alloc; NONE; usize::from(groups) + 1]?;
+    column[0].there = left == 0;
+    Ok(column)
+}
+
+// The column of as many values left as there are columns before it.
+fn next_column(
+    alloc: Global,
+    values: &[u32],
+    weights: &[u32],
+    groups: u8,
+    columns: &[Vec<Cell>],
+) -> Result<Vec<Cell>, AllocError>
+    requires points { ArePoints (points values.now weights.now) }
+    requires left { length columns.now ≤ length values.now }
+    requires columns { AreColumns (points values.now weights.now) groups (columns_in columns.now) }
+    ensures { IfOk result (λ column. IsColumn (points values.now weights.now) groups (length columns.now) column.items) }
+{
+    let left = columns.len();
+    let mut column = blank(alloc, groups, left)?;
+    for before in 0..left {
+        let first = before + 1;
+        let cost = cost(values, weights, values.len() - left, first);
+        add_first(&mut column, cost, first as u16, &columns[left - first]);
+    }
+    Ok(column)
+}
+
+/// The columns if no value is left, one and so on, up to all.
+pub(crate) fn columns(
+    alloc: Global,
+    values: &[u32],
+    weights: &[u32],
+    groups: u8,
+) -> Result<Vec<Vec<Cell>>, AllocError>
+    requires points { ArePoints (points values.now weights.now) }
+    ensures count { IfOk result (λ columns. length columns.items ≡ length values.now + 1) }
+    ensures columns { IfOk result (λ columns. AreColumns (points values.now weights.now) groups (columns_in columns.items)) }
+{
+    let mut columns = Vec::new(alloc);
+    for _ in 0..values.len() + 1 {
+        let next = next_column(alloc, values, weights, groups, &columns)?;
+        columns.push(next)?;
+    }
+    Ok(columns)
+}

@@ -1,0 +1,5 @@
+pub mod Classes
+pub mod Inner
+pub mod Laws
+pub mod Policies
+pub mod Table
