@@ -9,8 +9,8 @@ use Rattle.nrm_dual.specs.Conditions.{verdict_on}
 use Rattle.nrm_dual.specs.Refusals.{CertRefusal, refusal_of}
 use Rattle.nrm_dual.specs.declared.verdict.Verdict.{Verdict}
 use Rattle.nrm_dual.specs.declared.verdict.Verdict.TheVariants as verdict
-use Rattle.nrm_opening.specs.Outside.{LeftStream, OnFile, Outside, WroteCut}
-use Rattle.nrm_opening.specs.Refusals.{file_fault_line}
+use Rattle.nrm_outside.specs.Outside.{LeftStream, OnFile, Outside, WroteCut}
+use Rattle.nrm_outside.specs.Refusals.{file_fault_line}
 use Rattle.nrm_cli.specs.Certificates.{LacksCertificate, certificate_under, lacking_line, no_certificate, refused_for, verdict_line}
 use Rattle.nrm_cli.specs.Ends.{Ends, Failures, FilesFailedBefore, status_of}
 use Rattle.nrm_cli.specs.Jobs.{check_file}

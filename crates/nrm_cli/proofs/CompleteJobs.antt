@@ -16,8 +16,8 @@ use Rattle.nrm_network.specs.Canonical.{canonical_file}
 use Rattle.nrm_plan.specs.Plans.{IsOpeningPlan, OpeningOverflows, PlanValue}
 use Rattle.nrm_plan.proofs.Plans.{one-plan}
 use Rattle.nrm_report.specs.Texts.{plan_text}
-use Rattle.nrm_opening.specs.Outside.{Outside, OnFile, Wrote}
-use Rattle.nrm_opening.specs.Refusals.{Refusal, network_under}
+use Rattle.nrm_outside.specs.Outside.{Outside, OnFile, Wrote}
+use Rattle.nrm_outside.specs.Refusals.{Refusal, network_under}
 use Rattle.nrm_control.specs.State.{opening}
 use Rattle.nrm_stream.specs.Commands.{commands_of}
 use Rattle.nrm_session.specs.Run.{output_of}

@@ -16,7 +16,7 @@ use Rattle.nrm_stream.specs.Commands.{commands_of}
 use Rattle.nrm_session.specs.Replies.{Reply, bad, unknown, sold, no_leg, no_fare, cancelled, optimised_none, overflow, hindsight_told, leg_told, plan_told}
 use Rattle.nrm_dual.specs.Refusals.{too_long, bad_line, large_line, no_value, no_product, no_leg, too_fine}
 use Rattle.nrm_dual.specs.declared.verdict.Verdict.TheVariants as verdict
-use Rattle.nrm_opening.specs.Outside.{Outside, FilesFailed, SourceFailed, SinkFailed}
+use Rattle.nrm_outside.specs.Outside.{Outside, FilesFailed, SourceFailed, SinkFailed}
 use Rattle.nrm_cli.specs.Certificates.{lacking_line, no_certificate, refused_for, verdict_line}
 use Rattle.nrm_cli.specs.Ends.{Completes, CompletesJob, Ends, Failures, OrRanOut, RunWrites, status_of, stream_limit}
 use Rattle.nrm_cli.specs.Jobs.{job_of, run_file, plan_file, check_file, print_file, run_made, usage_line, overflow_line, told_pivots}
@@ -26,7 +26,7 @@ use Rattle.nrm_cli.specs.declared.counts.Counts.{Counts}
 use Rattle.nrm_cli.specs.Numbers.{number_of}
 use Rattle.nrm_cli.specs.declared.status.Status.{Status}
 use Rattle.nrm_cli.specs.declared.status.Status.TheVariants as status
-use Rattle.nrm_opening.specs.Refusals.{network_under, refusal_line, no_file, at_row, file_fault_line}
+use Rattle.nrm_outside.specs.Refusals.{network_under, refusal_line, no_file, at_row, file_fault_line}
 
 abbrev pub two_legs : NetworkValue
 two_legs = record {

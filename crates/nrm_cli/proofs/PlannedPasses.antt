@@ -21,8 +21,8 @@ use Rattle.nrm_network.specs.declared.fault.Why.{Why}
 use Rattle.nrm_network.proofs.ReadNetwork.{read-is-network}
 use Rattle.nrm_plan.specs.Plans.{HasCertificate, IsOpeningPlan, IsSolved, PlanValue}
 use Rattle.nrm_report.specs.Texts.{plan_text, text_of_plan}
-use Rattle.nrm_opening.specs.Outside.{Outside}
-use Rattle.nrm_opening.specs.Refusals.{Refusal, network_in, network_under}
+use Rattle.nrm_outside.specs.Outside.{Outside}
+use Rattle.nrm_outside.specs.Refusals.{Refusal, network_in, network_under}
 use Rattle.nrm_cli.specs.Certificates.{certificate_under, verdict_line}
 use Rattle.nrm_cli.specs.Ends.{Completes, Ends, OrRanOut, status_of}
 use Rattle.nrm_cli.specs.Jobs.{Job, run_file, plan_file, check_file, print_file, run_made}

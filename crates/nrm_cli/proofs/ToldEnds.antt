@@ -1,6 +1,6 @@
 -- A text that is told ends the call as it is defined, whole or cut.
 use Rattle.std.proofs.Common.{ℕ, ◌≡◌, List, Option, None, inl, inr}
-use Rattle.nrm_opening.specs.Outside.{NothingFailed, Outside, Wrote, LeftStream}
+use Rattle.nrm_outside.specs.Outside.{NothingFailed, Outside, Wrote, LeftStream}
 use Rattle.nrm_cli.specs.Ends.{Ends, Failures}
 use Rattle.nrm_cli.specs.Jobs.{Job}
 use Rattle.nrm_cli.specs.Inner.Parts.{PutsLine}

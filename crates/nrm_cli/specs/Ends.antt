@@ -18,9 +18,9 @@ use Rattle.nrm_dual.specs.declared.verdict.Verdict.{Verdict}
 use Rattle.nrm_dual.specs.declared.verdict.Verdict.TheVariants as verdict
 use Rattle.nrm_plan.specs.Plans.{IsOpeningPlan, OpeningOverflows, PlanValue}
 use Rattle.nrm_report.specs.Texts.{plan_text}
-use Rattle.nrm_opening.specs.Outside.{Outside, FilesFailed, SourceFailed, SinkFailed, NothingFailed, Wrote, WroteCut, WroteNothing}
-use Rattle.nrm_opening.specs.Outside.{LeftStream}
-use Rattle.nrm_opening.specs.Refusals.{file_fault_line}
+use Rattle.nrm_outside.specs.Outside.{Outside, FilesFailed, SourceFailed, SinkFailed, NothingFailed, Wrote, WroteCut, WroteNothing}
+use Rattle.nrm_outside.specs.Outside.{LeftStream}
+use Rattle.nrm_outside.specs.Refusals.{file_fault_line}
 use Rattle.nrm_cli.specs.Certificates.{certificate_under, verdict_line}
 use Rattle.nrm_cli.specs.Jobs.{Job, run_file, plan_file, check_file, print_file, run_made, HasNetwork, NamesFile, TakesStream}
 use Rattle.nrm_cli.specs.Jobs.{overflow_line, told_pivots}

@@ -8,7 +8,7 @@ use Rattle.nrm_text.specs.Words.{text_line}
 use Rattle.nrm_model.specs.Network.{NetworkValue}
 use Rattle.nrm_model.specs.declared.mode.Mode.{Mode}
 use Rattle.nrm_model.specs.declared.mode.Mode.TheVariants as mode
-use Rattle.nrm_opening.specs.Refusals.{network_under}
+use Rattle.nrm_outside.specs.Refusals.{network_under}
 use Rattle.nrm_gen.specs.MadeNetwork.{made_network}
 use Rattle.nrm_cli.specs.declared.words.TheConstants.{LAST_MADE}
 

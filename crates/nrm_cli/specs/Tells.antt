@@ -15,8 +15,8 @@ use Rattle.nrm_plan.specs.Plans.{IsOpeningPlan, OpeningOverflows, PlanValue}
 use Rattle.nrm_report.specs.Texts.{plan_text}
 use Rattle.nrm_edge.specs.Fetch.{Folder}
 use Rattle.nrm_gen.specs.MadeNetwork.{made_network}
-use Rattle.nrm_opening.specs.Outside.{Outside, OnFile, FilesFailed, Wrote, WroteCut, LeftStream}
-use Rattle.nrm_opening.specs.Refusals.{Refusal, network_under, refusal_line, file_fault_line}
+use Rattle.nrm_outside.specs.Outside.{Outside, OnFile, FilesFailed, Wrote, WroteCut, LeftStream}
+use Rattle.nrm_outside.specs.Refusals.{Refusal, network_under, refusal_line, file_fault_line}
 use Rattle.nrm_cli.specs.Certificates.{LacksCertificate, certificate_under, lacking_line, verdict_line}
 use Rattle.nrm_cli.specs.Jobs.{Job, run_file, plan_file, check_file, print_file, run_made, mode_of_job, NamesFile, usage_line}
 use Rattle.nrm_cli.specs.Jobs.{overflow_line, told_pivots}

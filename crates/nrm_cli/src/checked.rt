@@ -15,7 +15,7 @@ use nrm_dual::{Verdict, check};
 use nrm_edge::{Files, Sink};
 use nrm_lp::Certificate;
 use nrm_model::Network;
-use nrm_opening::open_network;
+use nrm_outside::open_network;
 use std::alloc::Global;
 
 // The status that goes with a verdict.

@@ -14,7 +14,7 @@ use crate::Status;
 use crate::put::{put_reason, put_unplanned};
 use nrm_edge::{Failed, Files, Sink};
 use nrm_model::{Mode, Network};
-use nrm_opening::open_network;
+use nrm_outside::open_network;
 use nrm_plan::Plan;
 use nrm_report::plan_text;
 use std::alloc::Global;

@@ -7,7 +7,7 @@ use crate::Status;
 use crate::put::{put_line, put_reason};
 use nrm_edge::{Files, Sink};
 use nrm_network::print;
-use nrm_opening::open_network;
+use nrm_outside::open_network;
 use std::alloc::Global;
 
 /// Writes the canonical file of a network.

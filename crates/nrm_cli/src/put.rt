@@ -9,7 +9,7 @@ ghost use Rattle.nrm_cli.specs.Inner.Parts.{PutsLine, PutsReason, PutsUnplanned,
 
 use crate::Status;
 use nrm_edge::{Failed, Sink, put_all};
-use nrm_opening::NoNetwork;
+use nrm_outside::NoNetwork;
 use nrm_simplex::SolveFault;
 use nrm_text::Line;
 

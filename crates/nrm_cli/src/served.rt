@@ -1,7 +1,7 @@
 //! Serves the stream: the controller of a network file answers each line.
 ghost use Rattle.std.specs.Prelude.{◌≡◌, ◌≤◌, Some};
 ghost use Rattle.nrm_session.specs.Serving.{CountsFaults, Serves, streams};
-ghost use Rattle.nrm_opening.specs.Outside.{outside};
+ghost use Rattle.nrm_outside.specs.Outside.{outside};
 ghost use Rattle.nrm_cli.specs.Ends.{SentOn, stream_limit};
 ghost use Rattle.nrm_cli.specs.Inner.Does.{Does};
 ghost use Rattle.nrm_cli.specs.Jobs.{run_file as run_job};
@@ -12,7 +12,7 @@ use crate::put::{put_reason, put_unplanned};
 use nrm_control::Controller;
 use nrm_edge::{Files, Sink, Source};
 use nrm_model::{MOST_STREAM_BYTES, Mode};
-use nrm_opening::open_network;
+use nrm_outside::open_network;
 use nrm_session::{End, serve};
 use std::alloc::Global;
 

@@ -5,7 +5,7 @@ ghost use Rattle.nrm_session.specs.Hindsight.{HindsightBounds};
 ghost use Rattle.nrm_session.specs.LastPlan.{PrintedPricesAreOptimal};
 ghost use Rattle.nrm_session.specs.Laws.{EachListHasARun, OtherLinesNeedNoMemory, PlansAreKept, RepliesAreDetermined, RunsHaveFirstParts};
 ghost use Rattle.nrm_session.specs.Laws.{SeatsAreKept, StatesAreDetermined};
-ghost use Rattle.nrm_opening.specs.Outside.{outside};
+ghost use Rattle.nrm_outside.specs.Outside.{outside};
 ghost use Rattle.nrm_cli.specs.Call.{Call};
 ghost use Rattle.nrm_cli.specs.Ends.{SentOn};
 ghost use Rattle.nrm_cli.specs.Jobs.{job_of};

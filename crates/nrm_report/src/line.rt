@@ -4,8 +4,8 @@ ghost use Rattle.nrm_text.specs.Words.{spaced};
 
 use nrm_text::{Name, Text};
 
-/// The most bytes of a line. The longest is that of the protections of a leg.
-pub(crate) const ROOM: usize = 320;
+/// The most bytes of a line, but for that of the protections of a leg. The longest is that of a product on a leg with its fare.
+pub(crate) const ROOM: usize = 144;
 
 /// A word, and the names of a leg and of a product on it.
 pub(crate) fn names_on_leg(word: &[u8], leg: &Name, product: &Name) -> Text<ROOM>

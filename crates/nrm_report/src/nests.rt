@@ -26,6 +26,9 @@ use nrm_plan::Plan;
 use nrm_text::{Name, Text};
 use nrm_virtual::adjusted;
 
+// The most bytes of the line of the protections of a leg.
+const PROTECTIONS_ROOM: usize = 320;
+
 // The line of a product on a leg, from its numbers.
 #[tactic(auto, using(nrm_text::proofs::Fractions::short_fraction))]
 fn line_of_nest(leg: &Name, product: &Name, fare: i128, den: u128, bucket: u8) -> Text<ROOM>
@@ -135,7 +138,7 @@ fn put_nests<K: Sink>(
 }
 
 // Appends the protections of a leg, for each of so many buckets.
-fn push_protections(line: &mut Text<ROOM>, plan: &Plan, leg: u8, buckets: u8)
+fn push_protections(line: &mut Text<PROTECTIONS_ROOM>, plan: &Plan, leg: u8, buckets: u8)
     requires nests { (nests : NestsValue) × (plan.now.nests ≡ Some nests) × (leg < length nests.protections)
         × (length (get_or nests.protections leg []) ≡ buckets) }
     requires few { buckets ≤ MOST_THRESHOLDS }
@@ -150,7 +153,7 @@ fn push_protections(line: &mut Text<ROOM>, plan: &Plan, leg: u8, buckets: u8)
 }
 
 // The line of a leg's protections, for each of its buckets but the last.
-fn line_for_protections(net: &Network, plan: &Plan, leg: u8) -> Text<ROOM>
+fn line_for_protections(net: &Network, plan: &Plan, leg: u8) -> Text<PROTECTIONS_ROOM>
     requires nested { (cert : Cert) × IsNested net.now cert plan.now }
     requires leg { leg < length net.now.legs }
     ensures { result ≡ protections_line net.now plan.now leg }

@@ -21,11 +21,11 @@ use Rattle.nrm_dual.specs.Named.{IsOfNetwork}
 use Rattle.nrm_dual.specs.Refusals.{refusal_of}
 use Rattle.nrm_dual.specs.declared.verdict.Verdict.{Verdict}
 use Rattle.nrm_dual.specs.declared.verdict.Verdict.TheVariants as verdict
-use Rattle.nrm_opening.specs.Opening.{reason_line}
-use Rattle.nrm_opening.specs.Outside.{OnFile}
-use Rattle.nrm_opening.specs.Refusals.{file_fault_line}
-use Rattle.nrm_opening.specs.declared.opening.NoNetwork.{NoNetwork}
-use Rattle.nrm_opening.specs.declared.opening.NoNetwork.TheVariants as none
+use Rattle.nrm_outside.specs.NetworkFile.{reason_line}
+use Rattle.nrm_outside.specs.Outside.{OnFile}
+use Rattle.nrm_outside.specs.Refusals.{file_fault_line}
+use Rattle.nrm_outside.specs.declared.network_file.NoNetwork.{NoNetwork}
+use Rattle.nrm_outside.specs.declared.network_file.NoNetwork.TheVariants as none
 use Rattle.nrm_cli.specs.Certificates.{certificate_under, lacking_line, no_certificate, refused_for, verdict_line}
 use Rattle.nrm_hindsight.specs.Requests.{tallies_of}
 use Rattle.nrm_control.specs.Standing.{ControlValue, IsControl, StandsFor}

@@ -3,8 +3,8 @@ use Rattle.nrm_edge.specs.declared.files.FileFault.{FileFault}
 use Rattle.nrm_edge.specs.declared.files.FileFault.TheVariants as files
 use Rattle.nrm_network.specs.declared.fault.NetFault.{NetFault}
 use Rattle.nrm_network.specs.declared.fault.NetFault.TheVariants as file
-use Rattle.nrm_opening.specs.declared.opening.NoNetwork.{NoNetwork}
-use Rattle.nrm_opening.specs.declared.opening.NoNetwork.TheVariants as none
+use Rattle.nrm_outside.specs.declared.network_file.NoNetwork.{NoNetwork}
+use Rattle.nrm_outside.specs.declared.network_file.NoNetwork.TheVariants as none
 
 abbrev pub reason_of_files : FileFault → NoNetwork
 reason_of_files files.Failed = none.Fault

@@ -3,8 +3,8 @@
 #![tactic(auto)]
 
 mod line;
-mod opening;
+mod network_file;
 #[cfg(test)]
 mod tests;
 
-pub use opening::{NoNetwork, open_network};
+pub use network_file::{NoNetwork, open_network};

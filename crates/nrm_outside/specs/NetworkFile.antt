@@ -1,12 +1,12 @@
--- What the opening of a network file answers.
+-- What is answered to the name of a network file.
 use Rattle.std.specs.Prelude.{ℕ, ◌≡◌, ◌≤◌, List, Option, Some, None, Result, Ok, Err, ⊤}
 use Rattle.nrm_edge.specs.Causes.{Rose}
 use Rattle.nrm_edge.specs.Fetch.{Folder}
 use Rattle.nrm_model.specs.Network.{NetworkValue}
-use Rattle.nrm_opening.specs.Outside.{OnFile}
-use Rattle.nrm_opening.specs.Refusals.{no_file, at_row, network_under, refusal_line, file_fault_line}
-use Rattle.nrm_opening.specs.declared.opening.NoNetwork.{NoNetwork}
-use Rattle.nrm_opening.specs.declared.opening.NoNetwork.TheVariants as none
+use Rattle.nrm_outside.specs.Outside.{OnFile}
+use Rattle.nrm_outside.specs.Refusals.{no_file, at_row, network_under, refusal_line, file_fault_line}
+use Rattle.nrm_outside.specs.declared.network_file.NoNetwork.{NoNetwork}
+use Rattle.nrm_outside.specs.declared.network_file.NoNetwork.TheVariants as none
 
 -- the network of the file of this name, where the files are told, or why there is none; a fault of the files tells nothing of
 -- them, and want of memory is free
@@ -18,12 +18,12 @@ OpensFile files name (Err none.Fault) = ⊤
 OpensFile files name (Err none.NoMemory) = ⊤
 
 -- the count of faults rose with a fault of the files, and else it stays
-abbrev pub CountsOpening : ℕ → ℕ → Result NetworkValue NoNetwork → Type 0
-CountsOpening before now (Ok net) = now ≡ before
-CountsOpening before now (Err none.Absent) = now ≡ before
-CountsOpening before now (Err (none.Refused row cause)) = now ≡ before
-CountsOpening before now (Err none.Fault) = (before ≤ now) × Rose before now
-CountsOpening before now (Err none.NoMemory) = now ≡ before
+abbrev pub CountsFetch : ℕ → ℕ → Result NetworkValue NoNetwork → Type 0
+CountsFetch before now (Ok net) = now ≡ before
+CountsFetch before now (Err none.Absent) = now ≡ before
+CountsFetch before now (Err (none.Refused row cause)) = now ≡ before
+CountsFetch before now (Err none.Fault) = (before ≤ now) × Rose before now
+CountsFetch before now (Err none.NoMemory) = now ≡ before
 
 -- what is written of a reason: the line of a refusal or of a fault of the files, and nothing for want of memory
 abbrev pub reason_line : NoNetwork → Option (List ℕ)

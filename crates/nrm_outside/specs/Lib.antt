@@ -1,4 +1,4 @@
 pub mod Faults
-pub mod Opening
+pub mod NetworkFile
 pub mod Outside
 pub mod Refusals

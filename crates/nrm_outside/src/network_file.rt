@@ -1,6 +1,6 @@
 //! From a file's name to its network.
 ghost use Rattle.std.specs.Prelude.{◌≡◌};
-ghost use Rattle.nrm_opening.specs.Opening.{CountsOpening, OpensFile};
+ghost use Rattle.nrm_outside.specs.NetworkFile.{CountsFetch, OpensFile};
 
 use nrm_edge::{Fetched, FileFault, Files};
 use nrm_model::{MOST_NETWORK_BYTES, Network};
@@ -22,7 +22,7 @@ pub enum NoNetwork {
 
 impl From<FileFault> for NoNetwork {
     ghost use Rattle.std.specs.Prelude.{◌≡◌};
-    ghost use Rattle.nrm_opening.specs.Faults.{reason_of_files};
+    ghost use Rattle.nrm_outside.specs.Faults.{reason_of_files};
 
     ghost from_gives = { λ fault reason. reason ≡ reason_of_files fault };
 
@@ -36,7 +36,7 @@ impl From<FileFault> for NoNetwork {
 
 impl From<NetFault> for NoNetwork {
     ghost use Rattle.std.specs.Prelude.{◌≡◌};
-    ghost use Rattle.nrm_opening.specs.Faults.{reason_of_network};
+    ghost use Rattle.nrm_outside.specs.Faults.{reason_of_network};
 
     ghost from_gives = { λ fault reason. reason ≡ reason_of_network fault };
 
@@ -58,7 +58,7 @@ pub fn open_network<F: Files>(
     name: &str,
 ) -> Result<Network, NoNetwork>
     ensures opens { OpensFile (F.contents files.old) name.now result }
-    ensures counts { CountsOpening (F.faults files.old) (F.faults files.new) result }
+    ensures counts { CountsFetch (F.faults files.old) (F.faults files.new) result }
     ensures stays { F.contents files.new ≡ F.contents files.old }
 {
     match files.fetch(alloc, name, MOST_NETWORK_BYTES)? {
