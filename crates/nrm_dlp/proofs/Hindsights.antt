@@ -12,7 +12,7 @@ use Rattle.nrm_dlp.specs.Hindsight.{AreTallies, HindsightOverflows, IsHindsight}
 use Rattle.nrm_dlp.specs.Laws.{EachHasAHindsight, HindsightsAreDetermined, HindsightsAreLimited}
 use Rattle.nrm_dlp.specs.Programs.{hindsight_program}
 use Rattle.nrm_model.proofs.Inventories.{seats-are, seats-count}
-use Rattle.nrm_dlp.proofs.Closings.{closes-or-not, closing-apart, closing-once, overflow-once}
+use Rattle.nrm_simplex.proofs.Closings.{closes-or-not, closing-apart, closing-once, overflow-once}
 use Rattle.nrm_dlp.proofs.Limited.{made-limited}
 
 -- ---- within the limits

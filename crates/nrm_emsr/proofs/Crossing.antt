@@ -7,8 +7,8 @@ use Rattle.nrm_number.proofs.Integers.{ring_ℤ, *ℤ-pos-lt, *ℤ-pos-lt_cancel
 use Rattle.nrm_number.proofs.Ring.{solve, v0, v1, v2}
 use Rattle.nrm_number.proofs.Ring.Expr.{◌⊗◌, e1}
 use Rattle.nrm_fraction.specs.Fraction.{Fraction, ◌over◌, ◌*ᶠ◌, less, whole}
-use Rattle.nrm_fraction.proofs.Field.{IsValue_whole, below_from, below_to}
-use Rattle.nrm_fraction.proofs.Tests.{less_if, less_true}
+use Rattle.nrm_fraction.proofs.Field.{IsValue_whole}
+use Rattle.nrm_fraction.proofs.Tests.{less-is}
 use Rattle.nrm_fraction.proofs.Values.{IsValue, IsValue_over, IsValue_product, IsValue_turn}
 use Rattle.std.specs.List.{count_by, range_with_len}
 use Rattle.std.specs.List.Sorted.{IsPermutation}
@@ -45,12 +45,6 @@ cancelled x y d some =
     same-test (int_lt (x *ℤ pos d) (y *ℤ pos d)) (int_lt x y)
     (λ h. lt-if x y (*ℤ-pos-lt_cancel x y d (lt-true (x *ℤ pos d) (y *ℤ pos d) h)))
     (λ h. lt-if (x *ℤ pos d) (y *ℤ pos d) (*ℤ-pos-lt x y d some (lt-true x y h)))
-
-less-is : (x y : Fraction) (n m : ℤ) (d e : ℕ) → IsValue x n d → IsValue y m e → less x y ≡ int_lt (n *ℤ pos e) (m *ℤ pos d)
-less-is x y n m d e v w =
-    same-test (less x y) (int_lt (n *ℤ pos e) (m *ℤ pos d))
-    (λ h. lt-if (n *ℤ pos e) (m *ℤ pos d) (below_to x y n m d e v w (less_true x y h)))
-    (λ h. less_if x y (below_from x y n m d e v w (lt-true (n *ℤ pos e) (m *ℤ pos d) h)))
 
 spread : (x : ℤ) (w d : ℕ) → x *ℤ pos (1 * (w * d)) ≡ (x *ℤ pos w) *ℤ pos d
 spread x w d = solve ring_ℤ (x ∷ pos w ∷ pos d ∷ []) (v0 ⊗ (e1 ⊗ (v1 ⊗ v2))) (v0 ⊗ v1 ⊗ v2) refl

@@ -18,7 +18,7 @@ use Rattle.nrm_lp.specs.Shape.{HasShape}
 use Rattle.nrm_simplex.specs.Solving.{IsClosing}
 use Rattle.nrm_simplex.proofs.Walk.{closing_certifies}
 use Rattle.nrm_dlp.specs.Programs.{program_at}
-use Rattle.nrm_dlp.proofs.Closings.{closes-or-not, closing-apart, closing-once, overflow-once}
+use Rattle.nrm_simplex.proofs.Closings.{closes-or-not, closing-apart, closing-once, overflow-once}
 use Rattle.nrm_dlp.proofs.Limited.{limited}
 use Rattle.nrm_virtual.specs.Table.{TableValue, nest_of}
 use Rattle.nrm_emsr.specs.Protections.{protections_of}
