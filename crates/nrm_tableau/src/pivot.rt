@@ -8,6 +8,7 @@ ghost use Rattle.nrm_fraction.specs.Large.{first_large, large_number, size_limit
 ghost use Rattle.nrm_fraction.specs.Rows.{at, combine as combined, number_at, unit_row};
 ghost use Rattle.nrm_lp.specs.Overflow.{rows_but};
 ghost use Rattle.nrm_fraction.specs.Fault.{IsFault};
+ghost use Rattle.nrm_tableau.specs.declared.row_set.TheConstants.{MOST_ROWS};
 ghost use Rattle.nrm_tableau.specs.RowSets.{IsNoughtBut, row_bit};
 
 use crate::row_set::RowSet;
@@ -38,7 +39,7 @@ pub(crate) fn combine_others(
     changed: &mut RowSet,
 ) -> Result<(), RowFault>
     requires within { row < length rows.old }
-    requires most { length rows.old ≤ 320 }
+    requires most { length rows.old ≤ MOST_ROWS }
     requires before { col < length unit.now }
     requires widths { All (λ other. length other ≡ length unit.now) rows.old }
     requires noughts { IsNoughtBut touched.now (length rows.old) (λ other. at (get_or rows.old other []) col) }
@@ -73,7 +74,7 @@ fn combine_each(
     touched: &RowSet,
     changed: &mut RowSet,
 ) -> Result<(), RowFault>
-    requires most { first + length rows.old ≤ 320 }
+    requires most { first + length rows.old ≤ MOST_ROWS }
     requires before { col < length unit.now }
     requires widths { All (λ row. length row ≡ length unit.now) rows.old }
     requires noughts { (k : ℕ) → k < length rows.old → row_bit touched.now (first + k) ≡ 0 → at (get_or rows.old k []) col ≡ whole (pos 0) }
@@ -100,7 +101,7 @@ fn combine_each(
 // Whether the row of this number has an entry other than 0 in the column.
 fn has_entry(row: &Row, col: u16, number: u16, touched: &RowSet) -> bool
     requires within { col < length row.now }
-    requires number { number < 320 }
+    requires number { number < MOST_ROWS }
     requires nought { row_bit touched.now number ≡ 0 → at row.now col ≡ whole (pos 0) }
     ensures { OnFalse result (at row.now col ≡ whole (pos 0)) }
 {

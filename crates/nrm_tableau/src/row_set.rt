@@ -1,10 +1,15 @@
-//! Sets of constraint rows, of which there are at most 320: a bit for each row.
+//! Sets of constraint rows: a bit for each row, 64 in a word.
 #![tactic(auto)]
 
 ghost use Rattle.std.specs.Prelude.{◌≡◌, ◌<◌, ◌↔◌, ℕ, IsTrue};
 ghost use Rattle.nrm_tableau.specs.RowSets.{row_bit};
+ghost use Rattle.nrm_tableau.specs.declared.row_set.TheConstants.{MOST_ROWS};
 
+use nrm_lp::{MOST_BOUNDS, MOST_CAPS};
 use std::marker::Model;
+
+/// Constraint rows of a tableau: one for each leg, and one for each product.
+pub(crate) const MOST_ROWS: u16 = (MOST_CAPS + MOST_BOUNDS) as u16;
 
 /// A set of constraint rows. Contracts see its words.
 #[derive(Clone, Copy)]
@@ -27,7 +32,7 @@ impl Model for RowSet {
 impl RowSet {
     /// This row alone.
     pub(crate) fn of(row: u16) -> RowSet
-        requires { row < 320 }
+        requires { row < MOST_ROWS }
         ensures { row_bit result row ≡ 1 }
     {
         let mut set = RowSet { words: [0; 5] };
@@ -37,7 +42,7 @@ impl RowSet {
 
     /// Puts a row in.
     pub(crate) fn insert(&mut self, row: u16)
-        requires { row < 320 }
+        requires { row < MOST_ROWS }
         ensures put { row_bit self.new row ≡ 1 }
         ensures kept { (r : ℕ) → row_bit self.old r ≡ 1 → row_bit self.new r ≡ 1 }
     {
@@ -46,7 +51,7 @@ impl RowSet {
 
     /// Whether a row is in the set.
     pub(crate) fn contains(&self, row: u16) -> bool
-        requires { row < 320 }
+        requires { row < MOST_ROWS }
         ensures { IsTrue result ↔ (row_bit self.now row ≡ 1) }
     {
         self.words[usize::from(row / 64)] & (1 << (row % 64)) != 0
