@@ -6,7 +6,7 @@ use Rattle.std.proofs.lemmas.Bool.{eqb-false, le-ltb, ltb-true, or_parts}
 use Rattle.nrm_number.proofs.Integers.{ring_ℤ, *ℤ-pos-lt, *ℤ-pos-lt_cancel}
 use Rattle.nrm_number.proofs.Ring.{solve, v0, v1, v2}
 use Rattle.nrm_number.proofs.Ring.Expr.{◌⊗◌, e1}
-use Rattle.nrm_fraction.specs.Fraction.{Fraction, ◌over◌, ◌*ᶠ◌, less, whole}
+use Rattle.nrm_fraction.specs.Fraction.{Fraction, ◌over◌, ◌*ᶠ◌, whole}
 use Rattle.nrm_fraction.proofs.Field.{IsValue_whole}
 use Rattle.nrm_fraction.proofs.Tests.{less-is}
 use Rattle.nrm_fraction.proofs.Values.{IsValue, IsValue_over, IsValue_product, IsValue_turn}

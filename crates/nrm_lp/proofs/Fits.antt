@@ -1,5 +1,5 @@
 -- The limits of a program as a test that computes, for programs that are written down.
-use Rattle.std.proofs.Common.{◌≡◌, ℕ, zero, suc, ◌<◌, ◌≤◌, refl, arith, Bool, true, false, not, ◌&&◌, List, [], ◌∷◌, length, get_or, ltb}
+use Rattle.std.proofs.Common.{◌≡◌, ℕ, zero, suc, ◌<◌, ◌≤◌, arith, Bool, true, false, not, ◌&&◌, List, [], ◌∷◌, length, get_or, ltb}
 use Rattle.std.proofs.lemmas.Bool.{ltb-true, and_parts, false≢true, not-true}
 use Rattle.nrm_lp.specs.Program.{ProgramValue, AreLegs, AreProducts, names}
 use Rattle.nrm_lp.specs.Limits.{IsLimited}

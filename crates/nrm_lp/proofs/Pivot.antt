@@ -1,7 +1,7 @@
 -- A pivot keeps three facts of a tableau, here over tables as functions of row and column: basic columns are unit
 -- columns, each row is a combination of the first rows by its own slack entries, and each first row is a combination of
 -- the present rows.
-use Rattle.std.proofs.Common.{◌≡◌, ◌≢◌, ℕ, ◌<◌, ◌⊎◌, inl, inr, pos, arith, refl, sym, ap, ap₂, ◌∙◌, subst, [], ◌∷◌}
+use Rattle.std.proofs.Common.{◌≡◌, ◌≢◌, ℕ, ◌<◌, ◌⊎◌, inl, inr, pos, refl, sym, ap, ap₂, ◌∙◌, subst, [], ◌∷◌}
 use Rattle.std.proofs.lemmas.Bool.{cases_eq}
 use Rattle.nrm_number.proofs.Ring.{solve, ◌⊖◌, v0, v1, v2, v3}
 use Rattle.nrm_number.proofs.Ring.Expr.{◌⊕◌, ◌⊗◌, e0, e1}
