@@ -906,7 +906,9 @@ def tools_end_at_ctrl_c(tools):
         program = tools.file("slow", f"touch '{begun}'\nexec sleep 60\n")
         words = [*words_of_tools(tools)[name][:2 if name == "season.py" else 1], "--program", "sh", program]
         process = subprocess.Popen([sys.executable, "-B", TOOLS / name, *words], cwd=tools.folder, stdout=subprocess.PIPE,
-                                   stderr=subprocess.PIPE, start_new_session=True)
+                                   stderr=subprocess.PIPE, start_new_session=True,
+                                   # a shell has what it runs behind it ignore the signal
+                                   preexec_fn=lambda: signal.signal(signal.SIGINT, signal.SIG_DFL))
         while not begun.exists() and process.poll() is None:
             time.sleep(0.01)
         os.killpg(process.pid, signal.SIGINT)  # as a terminal does, to the tool and to what it runs
