@@ -5,7 +5,7 @@ use Rattle.std.specs.declared.alloc.Global.{Global}
 use Rattle.std.proofs.lemmas.List.FromFn.{get_or-map-range_with_len, length-map-range_with_len}
 use Rattle.std.proofs.lemmas.List.Sums.{sum_by-remove, sum_by_push}
 use Rattle.std.proofs.lemmas.Option.{unwrap_or-slice_get}
-use Rattle.nrm_model.specs.Inventory.{Inventory, seats_of, legs_of, uses_leg}
+use Rattle.nrm_model.specs.Inventory.{Inventory, authorised_of, legs_of, uses_leg}
 use Rattle.nrm_book.specs.declared.booking.Booking.{Booking}
 use Rattle.nrm_book.specs.Bookings.{sold_of, sold_on}
 use Rattle.nrm_book.specs.Book.{BookValue, IsBook, IsInventory}
@@ -28,25 +28,25 @@ pub of-legs : (inventory : Inventory) (P : List ℕ → Type 0) (product : ℕ) 
 of-legs inventory P product all short = subst P (sym (unwrap_or-slice_get inventory.legs product [])) (all product [] short)
 
 -- what is counted on a leg
-pub counted-on : (inventory : Inventory) (bookings : List Booking) (sold : SeatsValue) (leg : ℕ) → sold ≡ seats_sold inventory bookings → leg < length inventory.seats → (leg < length sold.by_leg) × (slice_index sold.by_leg leg ≡ sold_on inventory bookings leg)
+pub counted-on : (inventory : Inventory) (bookings : List Booking) (sold : SeatsValue) (leg : ℕ) → sold ≡ seats_sold inventory bookings → leg < length inventory.authorised → (leg < length sold.by_leg) × (slice_index sold.by_leg leg ≡ sold_on inventory bookings leg)
 counted-on inventory bookings sold leg is short =
     let Counts : SeatsValue → Type 0 = λ sold. (leg < length sold.by_leg) × (slice_index sold.by_leg leg ≡ sold_on inventory bookings leg) in
-    subst Counts (sym is) (omega (arith, length-map-range_with_len (sold_on inventory bookings) 0 (length inventory.seats)), get_or-map-range_with_len (sold_on inventory bookings) 0 (length inventory.seats) leg leg 0 short (zero-add leg))
+    subst Counts (sym is) (omega (arith, length-map-range_with_len (sold_on inventory bookings) 0 (length inventory.authorised)), get_or-map-range_with_len (sold_on inventory bookings) 0 (length inventory.authorised) leg leg 0 short (zero-add leg))
 
 -- the pairs of a leg
-pub leg-counted : (inventory : Inventory) (bookings : List Booking) (sold : SeatsValue) (leg : ℕ) → sold ≡ seats_sold inventory bookings → leg < length inventory.seats
+pub leg-counted : (inventory : Inventory) (bookings : List Booking) (sold : SeatsValue) (leg : ℕ) → sold ≡ seats_sold inventory bookings → leg < length inventory.authorised
     → IsSome (lookup (nat_eq leg) sold.by_product) × (pairs_on sold.by_product leg ≡ pairs_sold inventory bookings leg)
 leg-counted inventory bookings sold leg is low =
     let Counts : SeatsValue → Type 0 = λ sold. IsSome (lookup (nat_eq leg) sold.by_product) × (pairs_on sold.by_product leg ≡ pairs_sold inventory bookings leg) in
-    let nest = lookup-range (pairs_sold inventory bookings) 0 (length inventory.seats) leg (omega arith) (omega arith) in
+    let nest = lookup-range (pairs_sold inventory bookings) 0 (length inventory.authorised) leg (omega arith) (omega arith) in
     subst Counts (sym is) (ap is_some nest, ap (λ (o : Option (List (ℕ × ℕ))). unwrap_or o []) nest)
 
 -- and the count of a product there
-pub pair-counted : (inventory : Inventory) (bookings : List Booking) (sold : SeatsValue) (leg product : ℕ) → sold ≡ seats_sold inventory bookings → leg < length inventory.seats → product < length inventory.legs → uses_leg inventory leg product ≡ true
+pub pair-counted : (inventory : Inventory) (bookings : List Booking) (sold : SeatsValue) (leg product : ℕ) → sold ≡ seats_sold inventory bookings → leg < length inventory.authorised → product < length inventory.legs → uses_leg inventory leg product ≡ true
     → HasPair sold.by_product leg product × (count_in sold.by_product leg product ≡ sold_of bookings product)
 pair-counted inventory bookings sold leg product is low short uses =
     let Counts : SeatsValue → Type 0 = λ sold. HasPair sold.by_product leg product × (count_in sold.by_product leg product ≡ sold_of bookings product) in
-    let nest = lookup-range (pairs_sold inventory bookings) 0 (length inventory.seats) leg (omega arith) (omega arith) in
+    let nest = lookup-range (pairs_sold inventory bookings) 0 (length inventory.authorised) leg (omega arith) (omega arith) in
     let pairs_are = ap (λ (o : Option (List (ℕ × ℕ))). unwrap_or o []) nest in
     let count = ap (lookup (nat_eq product)) pairs_are ∙ lookup-kept (sold_of bookings) (uses_leg inventory leg) 0 (length inventory.legs) product (omega arith) (omega arith) uses in
     subst Counts (sym is) (record { leg = ap is_some nest; product = ap is_some count }, ap (λ (o : Option ℕ). unwrap_or o 0) count)
@@ -69,8 +69,8 @@ module _ (inventory : Inventory) (few many : List Booking) (b : Booking) (is : I
       let none : party_of j b ≡ 0 = rw no refl in
       omega (arith, of_product j)
 
-  low : All (λ i. i < length inventory.seats) (legs_of inventory b.product)
-  low = of-legs inventory (λ (legs : List ℕ). All (λ i. i < length inventory.seats) legs) b.product is.legs short
+  low : All (λ i. i < length inventory.authorised) (legs_of inventory b.product)
+  low = of-legs inventory (λ (legs : List ℕ). All (λ i. i < length inventory.authorised) legs) b.product is.legs short
 
   one-party : (i : ℕ) → uses_leg inventory i b.product ≡ true → sold_on inventory many i ≡ sold_on inventory few i + b.party
   one-party i uses =
@@ -110,12 +110,12 @@ module _ (inventory : Inventory) (few many : List Booking) (b : Booking) (is : I
 pub can-rise : (book : BookValue) (sold : SeatsValue) (product party : ℕ) → IsBook book → sold ≡ seats_sold book.inventory book.bookings → product < length book.inventory.legs → party ≤ 999 → All (λ i. CanRise sold i product party) (legs_of book.inventory product)
 can-rise book sold product party is are short sized k d at =
     let leg = get_or (legs_of book.inventory product) k d in
-    let low = of-legs book.inventory (λ (legs : List ℕ). All (λ i. i < length book.inventory.seats) legs) product is.inventory.legs short k d at in
+    let low = of-legs book.inventory (λ (legs : List ℕ). All (λ i. i < length book.inventory.authorised) legs) product is.inventory.legs short k d at in
     let here = counted-on book.inventory book.bookings sold (get_or (legs_of book.inventory product) k d) are low in
     let uses = uses-each book.inventory product k d at in
     let pair = pair-counted book.inventory book.bookings sold (get_or (legs_of book.inventory product) k d) product are low short uses in
     let within = is.seats (get_or (legs_of book.inventory product) k d) low in
-    let seats : seats_of book.inventory (get_or (legs_of book.inventory product) k d) ≤ 999 = is.inventory.seats (get_or (legs_of book.inventory product) k d) 0 low in
+    let seats : authorised_of book.inventory (get_or (legs_of book.inventory product) k d) ≤ 999 = is.inventory.authorised (get_or (legs_of book.inventory product) k d) 0 low in
     record {
       leg = here.0;
       sum = omega (arith, here.1, within, seats);

@@ -109,12 +109,12 @@ module _ (inventory : Inventory) (before after : List Booking) (change : ℕ →
 
   abbrev mixed : (ℕ → Bool) → SeatsValue
   mixed done = record {
-    by_product = pairs (pairs_mixed done) (range_with_len 0 (length inventory.seats));
-    by_leg = map (sum_mixed done) (range_with_len 0 (length inventory.seats));
+    by_product = pairs (pairs_mixed done) (range_with_len 0 (length inventory.authorised));
+    by_leg = map (sum_mixed done) (range_with_len 0 (length inventory.authorised));
   }
 
   abbrev Turns : ℕ → Type 0
-  Turns i = (i < length inventory.seats) × (uses_leg inventory i j ≡ true) × (change (sold_on inventory before i) ≡ sold_on inventory after i)
+  Turns i = (i < length inventory.authorised) × (uses_leg inventory i j ≡ true) × (change (sold_on inventory before i) ≡ sold_on inventory after i)
 
   abbrev with_leg : (ℕ → Bool) → ℕ → ℕ → Bool
   with_leg done i x = eqb i x || done x
@@ -128,28 +128,28 @@ module _ (inventory : Inventory) (before after : List Booking) (change : ℕ →
   with-other done i x other = ap (λ (b : Bool). b || done x) (ne_eqb i x (λ e. other (sym e)))
 
   one-sum : (done : ℕ → Bool) (i : ℕ) → done i ≡ false → Turns i
-      → set (map (sum_mixed done) (range_with_len 0 (length inventory.seats))) i (change (slice_index (map (sum_mixed done) (range_with_len 0 (length inventory.seats))) i)) ≡ map (sum_mixed (with_leg done i)) (range_with_len 0 (length inventory.seats))
+      → set (map (sum_mixed done) (range_with_len 0 (length inventory.authorised))) i (change (slice_index (map (sum_mixed done) (range_with_len 0 (length inventory.authorised))) i)) ≡ map (sum_mixed (with_leg done i)) (range_with_len 0 (length inventory.authorised))
   one-sum done i new turns =
-      let held : slice_index (map (sum_mixed done) (range_with_len 0 (length inventory.seats))) i ≡ sold_on inventory before i = get_or-map-range_with_len (sum_mixed done) 0 (length inventory.seats) i i 0 turns.0 (zero-add i) ∙ ap (λ (b : Bool). cond b (sold_on inventory after i) (sold_on inventory before i)) new in
-      let is : change (slice_index (map (sum_mixed done) (range_with_len 0 (length inventory.seats))) i) ≡ sum_mixed (with_leg done i) i = ap change held ∙ turns.2 ∙ sym (ap (λ (b : Bool). cond b (sold_on inventory after i) (sold_on inventory before i)) (with-own done i)) in
+      let held : slice_index (map (sum_mixed done) (range_with_len 0 (length inventory.authorised))) i ≡ sold_on inventory before i = get_or-map-range_with_len (sum_mixed done) 0 (length inventory.authorised) i i 0 turns.0 (zero-add i) ∙ ap (λ (b : Bool). cond b (sold_on inventory after i) (sold_on inventory before i)) new in
+      let is : change (slice_index (map (sum_mixed done) (range_with_len 0 (length inventory.authorised))) i) ≡ sum_mixed (with_leg done i) i = ap change held ∙ turns.2 ∙ sym (ap (λ (b : Bool). cond b (sold_on inventory after i) (sold_on inventory before i)) (with-own done i)) in
       let others : (x : ℕ) → x ≢ i → sum_mixed done x ≡ sum_mixed (with_leg done i) x = λ x other. sym (ap (λ (b : Bool). cond b (sold_on inventory after x) (sold_on inventory before x)) (with-other done i x other)) in
-      ap (set (map (sum_mixed done) (range_with_len 0 (length inventory.seats))) i) is ∙ set-range (sum_mixed done) (sum_mixed (with_leg done i)) i i 0 (length inventory.seats) others (zero-add i) turns.0
+      ap (set (map (sum_mixed done) (range_with_len 0 (length inventory.authorised))) i) is ∙ set-range (sum_mixed done) (sum_mixed (with_leg done i)) i i 0 (length inventory.authorised) others (zero-add i) turns.0
 
   one-pair : (done : ℕ → Bool) (i : ℕ) → done i ≡ false → Turns i
-      → set_value (nat_eq i) (pairs (pairs_mixed done) (range_with_len 0 (length inventory.seats))) (set_value (nat_eq j) (pairs_on (pairs (pairs_mixed done) (range_with_len 0 (length inventory.seats))) i) (change (count_in (pairs (pairs_mixed done) (range_with_len 0 (length inventory.seats))) i j)))
-      ≡ pairs (pairs_mixed (with_leg done i)) (range_with_len 0 (length inventory.seats))
+      → set_value (nat_eq i) (pairs (pairs_mixed done) (range_with_len 0 (length inventory.authorised))) (set_value (nat_eq j) (pairs_on (pairs (pairs_mixed done) (range_with_len 0 (length inventory.authorised))) i) (change (count_in (pairs (pairs_mixed done) (range_with_len 0 (length inventory.authorised))) i j)))
+      ≡ pairs (pairs_mixed (with_leg done i)) (range_with_len 0 (length inventory.authorised))
   one-pair done i new turns =
-      let held : pairs_on (pairs (pairs_mixed done) (range_with_len 0 (length inventory.seats))) i ≡ pairs_sold inventory before i =
-      ap (λ (o : Option (List (ℕ × ℕ))). unwrap_or o []) (lookup-range (pairs_mixed done) 0 (length inventory.seats) i (omega arith) (omega (arith, turns.0))) ∙ ap (λ (b : Bool). cond b (pairs_sold inventory after i) (pairs_sold inventory before i)) new in
-      let count : count_in (pairs (pairs_mixed done) (range_with_len 0 (length inventory.seats))) i j ≡ sold_of before j =
+      let held : pairs_on (pairs (pairs_mixed done) (range_with_len 0 (length inventory.authorised))) i ≡ pairs_sold inventory before i =
+      ap (λ (o : Option (List (ℕ × ℕ))). unwrap_or o []) (lookup-range (pairs_mixed done) 0 (length inventory.authorised) i (omega arith) (omega (arith, turns.0))) ∙ ap (λ (b : Bool). cond b (pairs_sold inventory after i) (pairs_sold inventory before i)) new in
+      let count : count_in (pairs (pairs_mixed done) (range_with_len 0 (length inventory.authorised))) i j ≡ sold_of before j =
       ap (λ (es : List (ℕ × ℕ)). unwrap_or (lookup (nat_eq j) es) 0) held ∙ ap (λ (o : Option ℕ). unwrap_or o 0) (lookup-kept (sold_of before) (uses_leg inventory i) 0 (length inventory.legs) j (omega arith) (omega (arith, product)) turns.1) in
       let nest : set_value (nat_eq j) (pairs_sold inventory before i) (sold_of after j) ≡ pairs_sold inventory after i =
       set-pairs (sold_of before) (sold_of after) j only (products_on inventory i) (AllPairs-filter (λ a b. a < b) (uses_leg inventory i) (range_with_len 0 (length inventory.legs)) (range-rises 0 (length inventory.legs))) in
       let own : pairs_sold inventory after i ≡ pairs_mixed (with_leg done i) i = sym (ap (λ (b : Bool). cond b (pairs_sold inventory after i) (pairs_sold inventory before i)) (with-own done i)) in
       let others : (x : ℕ) → x ≢ i → pairs_mixed done x ≡ pairs_mixed (with_leg done i) x = λ x other. sym (ap (λ (b : Bool). cond b (pairs_sold inventory after x) (pairs_sold inventory before x)) (with-other done i x other)) in
-      (λ k. set_value (nat_eq i) (pairs (pairs_mixed done) (range_with_len 0 (length inventory.seats))) (set_value (nat_eq j) (held k) ((ap change count ∙ turned) k)))
-      ∙ ap (set_value (nat_eq i) (pairs (pairs_mixed done) (range_with_len 0 (length inventory.seats)))) (nest ∙ own)
-      ∙ set-pairs (pairs_mixed done) (pairs_mixed (with_leg done i)) i others (range_with_len 0 (length inventory.seats)) (range-rises 0 (length inventory.seats))
+      (λ k. set_value (nat_eq i) (pairs (pairs_mixed done) (range_with_len 0 (length inventory.authorised))) (set_value (nat_eq j) (held k) ((ap change count ∙ turned) k)))
+      ∙ ap (set_value (nat_eq i) (pairs (pairs_mixed done) (range_with_len 0 (length inventory.authorised)))) (nest ∙ own)
+      ∙ set-pairs (pairs_mixed done) (pairs_mixed (with_leg done i)) i others (range_with_len 0 (length inventory.authorised)) (range-rises 0 (length inventory.authorised))
 
   one-leg : (done : ℕ → Bool) (i : ℕ) → done i ≡ false → Turns i → changed_on change (mixed done) i j ≡ mixed (with_leg done i)
   one-leg done i new turns = λ k. record { by_product = one-pair done i new turns k; by_leg = one-sum done i new turns k }
@@ -187,8 +187,8 @@ module _ (inventory : Inventory) (before after : List Booking) (change : ℕ →
         | inr e ↦ ap (λ (b : Bool). cond b (pairs_sold inventory after i) (pairs_sold inventory before i)) e ∙ pairs-stay i e
       ] in
       all ∙ (λ k. record {
-        by_product = pairs (λ i. nests i k) (range_with_len 0 (length inventory.seats));
-        by_leg = map (λ i. sums i k) (range_with_len 0 (length inventory.seats));
+        by_product = pairs (λ i. nests i k) (range_with_len 0 (length inventory.authorised));
+        by_leg = map (λ i. sums i k) (range_with_len 0 (length inventory.authorised));
       })
 
 -- ---- none sold

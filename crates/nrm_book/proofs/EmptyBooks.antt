@@ -16,25 +16,25 @@ use Rattle.nrm_book.proofs.Sold.{sold_on-by_booking}
 -- the inventory of a network is within its limits
 pub IsInventory-of : (net : NetworkValue) → IsNetwork net → IsInventory (inventory_of net)
 IsInventory-of net is =
-    let seats = length-map net.legs (λ (leg : Leg). leg.seats) in
+    let seats = length-map net.legs (λ (leg : Leg). leg.authorised) in
     let fares = length-map net.products (λ (product : Product). product.fare) in
     let legs = length-map net.products (λ (product : Product). product.legs) in
     record {
       leg_count = omega (arith, is.leg_count);
-      seats = All-map (λ seats. seats ≤ 999) (λ (leg : Leg). leg.seats) net.legs (λ k d short. (is.legs k d short).seats);
+      seats = All-map (λ seats. seats ≤ 999) (λ (leg : Leg). leg.authorised) net.legs (λ k d short. (is.legs k d short).authorised);
       product_count = omega (arith, is.product_count);
       fare_count = fares ∙ sym legs;
       fares = All-map (λ fare. fare ≤ 99999999) (λ (product : Product). product.fare) net.products (λ k d short. (is.products k d short).fare.1);
       some_leg = All-map (λ (legs : List ℕ). 1 ≤ length legs) (λ (product : Product). product.legs) net.products (λ k d short. (is.products k d short).leg_count.0);
-      legs = All-map (λ (numbers : List ℕ). All (λ i. i < length (inventory_of net).seats) numbers) (λ (product : Product). product.legs) net.products
+      legs = All-map (λ (numbers : List ℕ). All (λ i. i < length (inventory_of net).authorised) numbers) (λ (product : Product). product.legs) net.products
           (λ k d short. subst (λ n. All (λ i. i < n) (get_or net.products k d).legs) (sym seats) (is.products k d short).legs);
     }
 
 -- so there are at most 999 seats on each of 64 legs
-pub seats-within : (net : NetworkValue) → IsNetwork net → (seats : List ℕ) → seats ≡ (inventory_of net).seats → sum seats ≤ 63936
+pub seats-within : (net : NetworkValue) → IsNetwork net → (seats : List ℕ) → seats ≡ (inventory_of net).authorised → sum seats ≤ 63936
 seats-within net is seats are =
     let own = IsInventory-of net is in
-    let all = sum_by-le (λ (seats : ℕ). seats) 999 (inventory_of net).seats own.seats in
+    let all = sum_by-le (λ (seats : ℕ). seats) 999 (inventory_of net).authorised own.seats in
     omega (arith, own.leg_count, all, ap sum are)
 
 -- an empty book
@@ -52,7 +52,7 @@ IsBook-empty inventory is = record {
 }
 
 -- that of the parts that were copied out of a network
-pub IsBook-of : (net : NetworkValue) (seats fares : List ℕ) (legs : List (List ℕ)) (bookings : List Booking) → IsNetwork net → seats ≡ (inventory_of net).seats → fares ≡ (inventory_of net).fares → legs ≡ (inventory_of net).legs → bookings ≡ []
+pub IsBook-of : (net : NetworkValue) (seats fares : List ℕ) (legs : List (List ℕ)) (bookings : List Booking) → IsNetwork net → seats ≡ (inventory_of net).authorised → fares ≡ (inventory_of net).fares → legs ≡ (inventory_of net).legs → bookings ≡ []
     → IsBook (record { inventory = record { seats = seats; fares = fares; legs = legs }; bookings = bookings; next = 1 })
 IsBook-of net seats fares legs bookings is seats_are fares_are legs_are none =
     let same : ◌≡◌ {A = BookValue} (record { inventory = inventory_of net; bookings = []; next = 1 }) (record { inventory = record { seats = seats; fares = fares; legs = legs }; bookings = bookings; next = 1 }) =
@@ -66,7 +66,7 @@ distinct-of net legs is are =
     subst P (sym are) (All-map (λ (legs : List ℕ). AllPairs (λ a b. a ≢ b) legs) (λ (product : Product). product.legs) net.products (λ k d short. (is.products k d short).distinct))
 
 -- the counts of an empty book
-pub counts-of : (net : NetworkValue) (seats fares : List ℕ) (legs : List (List ℕ)) (bookings : List Booking) (sold : SeatsValue) → seats ≡ (inventory_of net).seats → fares ≡ (inventory_of net).fares → legs ≡ (inventory_of net).legs → bookings ≡ []
+pub counts-of : (net : NetworkValue) (seats fares : List ℕ) (legs : List (List ℕ)) (bookings : List Booking) (sold : SeatsValue) → seats ≡ (inventory_of net).authorised → fares ≡ (inventory_of net).fares → legs ≡ (inventory_of net).legs → bookings ≡ []
     → sold ≡ seats_sold (inventory_of net) [] → sold ≡ seats_sold (record { seats = seats; fares = fares; legs = legs }) bookings
 counts-of net seats fares legs bookings sold seats_are fares_are legs_are none is =
     is ∙ (λ k. seats_sold (record { seats = sym seats_are k; fares = sym fares_are k; legs = sym legs_are k }) (sym none k))

@@ -11,7 +11,7 @@ use Rattle.std.proofs.lemmas.List.Kept.{AllPairs-filter}
 use Rattle.std.proofs.lemmas.List.Quantifiers.{all_pairs_push, position-Some}
 use Rattle.std.proofs.lemmas.List.Sums.{fails_before_first}
 use Rattle.std.proofs.lemmas.Option.{cond_some, none-some, slice_get_past, slice_get_read}
-use Rattle.nrm_model.specs.Inventory.{Inventory, seats_of, legs_of, uses_leg}
+use Rattle.nrm_model.specs.Inventory.{Inventory, authorised_of, legs_of, uses_leg}
 use Rattle.nrm_book.specs.declared.booking.Booking.{Booking}
 use Rattle.nrm_book.specs.Bookings.{NumbersRise, booking_numbered, left_on, sold_on, without}
 use Rattle.nrm_book.specs.Book.{BookValue, IsBook, with_booking}
@@ -25,12 +25,12 @@ covers inventory product i P all uses =
     subst P (at ∙ same) (all k leg short)
 
 pub seats-added : (inventory : Inventory) (bookings : List Booking) (b : Booking) (i : ℕ) → AreProducts inventory bookings → b.product < length inventory.legs
-    → All (λ i. b.party ≤ left_on inventory bookings i) (legs_of inventory b.product) → sold_on inventory bookings i ≤ seats_of inventory i → sold_on inventory (bookings ++ b ∷ []) i ≤ seats_of inventory i
+    → All (λ i. b.party ≤ left_on inventory bookings i) (legs_of inventory b.product) → sold_on inventory bookings i ≤ authorised_of inventory i → sold_on inventory (bookings ++ b ∷ []) i ≤ authorised_of inventory i
 seats-added inventory bookings b i are short fits within =
     let more = sold_on-push inventory i bookings b are short in
     elim (cases_Bool (uses_leg inventory i b.product)) [
       | inl uses ↦
-          let left : b.party ≤ seats_of inventory i - sold_on inventory bookings i = covers inventory b.product i (λ i. b.party ≤ left_on inventory bookings i) fits uses in
+          let left : b.party ≤ authorised_of inventory i - sold_on inventory bookings i = covers inventory b.product i (λ i. b.party ≤ left_on inventory bookings i) fits uses in
           let taken : taken_on inventory i b ≡ b.party = rw uses refl in
           omega arith
       | inr apart ↦
@@ -136,7 +136,7 @@ IsBook-sold book now product party bookings same is short sized fits low are =
 
 -- and so there was room for it
 pub room-left : (book now : BookValue) (product party : ℕ) → book ≡ now → IsBook book → product < length now.inventory.legs → IsInRange 1 999 party
-    → All (λ i. party ≤ left_on now.inventory now.bookings i) (legs_of now.inventory product) → now.next < 1000000000000 → length book.bookings < sum book.inventory.seats
+    → All (λ i. party ≤ left_on now.inventory now.bookings i) (legs_of now.inventory product) → now.next < 1000000000000 → length book.bookings < sum book.inventory.authorised
 room-left book now product party same is short sized fits low =
     let b : Booking = record { number = book.next; product = product; party = party } in
     let after = IsBook-sold book now product party (book.bookings ++ record { number = book.next; product = product; party = party } ∷ []) same is short sized fits low refl in

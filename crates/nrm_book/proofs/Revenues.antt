@@ -5,7 +5,7 @@ use Rattle.std.proofs.Math.Nat.{mul-le-mul_left}
 use Rattle.std.proofs.lemmas.Bool.{cases_Bool, eqb-true}
 use Rattle.std.proofs.lemmas.List.{get_or_read}
 use Rattle.std.proofs.lemmas.List.Sums.{sum_by-le, sum_by-le-sum_by, sum_by_push, sum_by-remove}
-use Rattle.nrm_model.specs.Inventory.{Inventory, seats_of, fare_of, uses_leg}
+use Rattle.nrm_model.specs.Inventory.{Inventory, authorised_of, fare_of, uses_leg}
 use Rattle.nrm_book.specs.declared.booking.Booking.{Booking}
 use Rattle.nrm_book.specs.Bookings.{sold_of, worth_of, revenue_of}
 use Rattle.nrm_book.specs.Book.{BookValue, IsBook}
@@ -18,7 +18,7 @@ number-read xs ys i x same short read =
     get_or_read ys i x short here 0
 
 -- the seats sold on a leg are no more than it has
-pub taken-within : (book : BookValue) (leg : ℕ) → IsBook book → leg < length book.inventory.seats → sum_by (taken_on book.inventory leg) book.bookings ≤ seats_of book.inventory leg
+pub taken-within : (book : BookValue) (leg : ℕ) → IsBook book → leg < length book.inventory.authorised → sum_by (taken_on book.inventory leg) book.bookings ≤ authorised_of book.inventory leg
 taken-within book leg is short = rw (sym (sold_on-by_booking book.inventory leg book.bookings is.products)) (is.seats leg short)
 
 -- the seats sold of a product that uses a leg are among those sold on the leg
@@ -31,11 +31,11 @@ own-among inventory leg product uses b = elim (cases_Bool (eqb b.product product
   | inr e ↦ rw e (omega arith)
 ]
 
-pub sold-within : (book : BookValue) (leg product : ℕ) → IsBook book → leg < length book.inventory.seats → uses_leg book.inventory leg product ≡ true → sold_of book.bookings product ≤ 999
+pub sold-within : (book : BookValue) (leg product : ℕ) → IsBook book → leg < length book.inventory.authorised → uses_leg book.inventory leg product ≡ true → sold_of book.bookings product ≤ 999
 sold-within book leg product is short uses =
     let among = sum_by-le-sum_by (λ (booking : Booking). cond (eqb booking.product product) booking.party 0) (taken_on book.inventory leg) book.bookings (own-among book.inventory leg product uses) in
     let within = taken-within book leg is short in
-    let seats : seats_of book.inventory leg ≤ 999 = is.inventory.seats leg 0 short in
+    let seats : authorised_of book.inventory leg ≤ 999 = is.inventory.authorised leg 0 short in
     omega arith
 
 -- what a booking is worth, and what they all are, at most
@@ -50,7 +50,7 @@ revenue-within book is =
     worth-le (get_or book.bookings k d).party (fare_of book.inventory (get_or book.bookings k d).product) (is.parties k d short).1 (is.inventory.fares (get_or book.bookings k d).product 0 priced) in
     let each = sum_by-le (worth_of book.inventory) 99899999001 book.bookings worth in
     let count = count-le-seats book is in
-    let seats = sum_by-le (λ (seats : ℕ). seats) 999 book.inventory.seats is.inventory.seats in
+    let seats = sum_by-le (λ (seats : ℕ). seats) 999 book.inventory.authorised is.inventory.authorised in
     omega (arith, is.inventory.leg_count)
 
 -- what they are worth with one booking more, and with one less

@@ -8,7 +8,7 @@ use Rattle.std.proofs.lemmas.List.Folds.{list_any_at}
 use Rattle.std.proofs.lemmas.List.FromFn.{length-range_with_len, get_or-range_with_len}
 use Rattle.std.proofs.lemmas.List.Sums.{sum_by-cons, sum_by_push, get_or-le-sum_by}
 use Rattle.std.proofs.lemmas.Option.{unwrap_or-slice_get}
-use Rattle.nrm_model.specs.Inventory.{Inventory, seats_of, legs_of, uses_leg, products_on}
+use Rattle.nrm_model.specs.Inventory.{Inventory, authorised_of, legs_of, uses_leg, products_on}
 use Rattle.nrm_book.specs.declared.booking.Booking.{Booking}
 use Rattle.nrm_book.specs.Bookings.{sold_of, sold_on}
 use Rattle.nrm_book.specs.Book.{BookValue, IsBook, IsInventory}
@@ -54,43 +54,43 @@ uses-each inventory product k d short =
     list_any_at (λ leg. eqb leg (get_or (legs_of inventory product) k d)) (legs_of inventory product) k d short same
 
 -- a booking takes a seat of a leg that its product uses
-takes-one : (inventory : Inventory) (b : Booking) (i : ℕ) → i < length inventory.seats → uses_leg inventory i b.product ≡ true → 1 ≤ b.party → 1 ≤ sum_by (λ i. taken_on inventory i b) (range_with_len 0 (length inventory.seats))
+takes-one : (inventory : Inventory) (b : Booking) (i : ℕ) → i < length inventory.authorised → uses_leg inventory i b.product ≡ true → 1 ≤ b.party → 1 ≤ sum_by (λ i. taken_on inventory i b) (range_with_len 0 (length inventory.authorised))
 takes-one inventory b i low uses some =
-    let term = get_or-le-sum_by (λ i. taken_on inventory i b) (range_with_len 0 (length inventory.seats)) i 0 (rw length-range_with_len low) in
-    let place : get_or (range_with_len 0 (length inventory.seats)) i 0 ≡ i = get_or-range_with_len 0 (length inventory.seats) i 0 low ∙ zero-add i in
+    let term = get_or-le-sum_by (λ i. taken_on inventory i b) (range_with_len 0 (length inventory.authorised)) i 0 (rw length-range_with_len low) in
+    let place : get_or (range_with_len 0 (length inventory.authorised)) i 0 ≡ i = get_or-range_with_len 0 (length inventory.authorised) i 0 low ∙ zero-add i in
     let taken : taken_on inventory i b ≡ b.party = rw uses refl in
-    let here : taken_on inventory (get_or (range_with_len 0 (length inventory.seats)) i 0) b ≡ b.party = rw place taken in
+    let here : taken_on inventory (get_or (range_with_len 0 (length inventory.authorised)) i 0) b ≡ b.party = rw place taken in
     omega arith
 
 -- a booking takes a seat of some leg
-takes-some : (inventory : Inventory) (b : Booking) → IsInventory inventory → b.product < length inventory.legs → 1 ≤ b.party → 1 ≤ sum_by (λ i. taken_on inventory i b) (range_with_len 0 (length inventory.seats))
+takes-some : (inventory : Inventory) (b : Booking) → IsInventory inventory → b.product < length inventory.legs → 1 ≤ b.party → 1 ≤ sum_by (λ i. taken_on inventory i b) (range_with_len 0 (length inventory.authorised))
 takes-some inventory b is short some =
     let legs = legs_of inventory b.product in
     let at : legs_of inventory b.product ≡ get_or inventory.legs b.product [] = unwrap_or-slice_get inventory.legs b.product [] in
     let has : 1 ≤ length (legs_of inventory b.product) = rw at (is.some_leg b.product [] short) in
     let first = get_or (legs_of inventory b.product) 0 0 in
-    let low : get_or (legs_of inventory b.product) 0 0 < length inventory.seats = rw at (is.legs b.product [] short 0 0 (rw at at has)) in
+    let low : get_or (legs_of inventory b.product) 0 0 < length inventory.authorised = rw at (is.legs b.product [] short 0 0 (rw at at has)) in
     takes-one inventory b (get_or (legs_of inventory b.product) 0 0) low (uses-each inventory b.product 0 0 (omega arith)) some
 
 -- so there are no more bookings than seats sold
-count-within : (inventory : Inventory) (bookings : List Booking) → IsInventory inventory → AreProducts inventory bookings → All (λ (booking : Booking). IsInRange 1 999 booking.party) bookings → length bookings ≤ sum_by (λ i. sum_by (taken_on inventory i) bookings) (range_with_len 0 (length inventory.seats))
+count-within : (inventory : Inventory) (bookings : List Booking) → IsInventory inventory → AreProducts inventory bookings → All (λ (booking : Booking). IsInRange 1 999 booking.party) bookings → length bookings ≤ sum_by (λ i. sum_by (taken_on inventory i) bookings) (range_with_len 0 (length inventory.authorised))
 count-within inventory [] is are parties = omega arith
 count-within inventory (b ∷ bs) is are parties =
-    let legs = range_with_len 0 (length inventory.seats) in
+    let legs = range_with_len 0 (length inventory.authorised) in
     let short : b.product < length inventory.legs = All-head (λ (booking : Booking). booking.product < length inventory.legs) b bs are in
     let sized : IsInRange 1 999 b.party = All-head (λ (booking : Booking). IsInRange 1 999 booking.party) b bs parties in
     let rest = count-within inventory bs is (All-tail (λ (booking : Booking). booking.product < length inventory.legs) b bs are) (All-tail (λ (booking : Booking). IsInRange 1 999 booking.party) b bs parties) in
     let own = takes-some inventory b is short (omega arith) in
-    let split = sum-same (λ i. sum_by (taken_on inventory i) (b ∷ bs)) (λ i. taken_on inventory i b + sum_by (taken_on inventory i) bs) (range_with_len 0 (length inventory.seats))
+    let split = sum-same (λ i. sum_by (taken_on inventory i) (b ∷ bs)) (λ i. taken_on inventory i b + sum_by (taken_on inventory i) bs) (range_with_len 0 (length inventory.authorised))
     (λ i. sum_by-cons (taken_on inventory i) b bs) in
-    let apart = sum-plus (λ i. taken_on inventory i b) (λ i. sum_by (taken_on inventory i) bs) (range_with_len 0 (length inventory.seats)) in
+    let apart = sum-plus (λ i. taken_on inventory i b) (λ i. sum_by (taken_on inventory i) bs) (range_with_len 0 (length inventory.authorised)) in
     omega arith
 
 -- and no more than seats
-pub count-le-seats : (book : BookValue) → IsBook book → length book.bookings ≤ sum book.inventory.seats
+pub count-le-seats : (book : BookValue) → IsBook book → length book.bookings ≤ sum book.inventory.authorised
 count-le-seats book is =
     let count = count-within book.inventory book.bookings is.inventory is.products is.parties in
-    let each = sum-le (λ i. sum_by (taken_on book.inventory i) book.bookings) (seats_of book.inventory) (length book.inventory.seats)
+    let each = sum-le (λ i. sum_by (taken_on book.inventory i) book.bookings) (authorised_of book.inventory) (length book.inventory.authorised)
     (λ i short. rw (sym (sold_on-by_booking book.inventory i book.bookings is.products)) (is.seats i short)) in
-    let all = sum-places book.inventory.seats in
+    let all = sum-places book.inventory.authorised in
     omega arith

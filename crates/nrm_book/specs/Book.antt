@@ -1,7 +1,7 @@
 -- What callers see of a book, and what every book keeps.
 use Rattle.std.specs.Prelude.{ℕ, ◌≡◌, ◌<◌, ◌≤◌, ◌++◌, ◌∷◌, [], ◌+◌, List, All, length}
 use Rattle.std.specs.Int.{IsInRange}
-use Rattle.nrm_model.specs.Inventory.{Inventory, seats_of}
+use Rattle.nrm_model.specs.Inventory.{Inventory, authorised_of}
 use Rattle.nrm_model.specs.declared.limits.TheConstants.{BOOKING_LIMIT, MOST_FARE, MOST_LEGS, MOST_PARTY, MOST_PRODUCTS, MOST_SEATS}
 use Rattle.nrm_book.specs.declared.booking.Booking.{Booking}
 use Rattle.nrm_book.specs.Bookings.{NumbersRise, sold_on}
@@ -14,13 +14,13 @@ pub record BookValue : Type 0 where
 
 -- an inventory within the limits of a network
 pub record IsInventory (inventory : Inventory) : Type 0 where
-  pub leg_count : length inventory.seats ≤ MOST_LEGS
-  pub seats : All (λ seats. seats ≤ MOST_SEATS) inventory.seats
+  pub leg_count : length inventory.authorised ≤ MOST_LEGS
+  pub seats : All (λ seats. seats ≤ MOST_SEATS) inventory.authorised
   pub product_count : length inventory.legs ≤ MOST_PRODUCTS
   pub fare_count : length inventory.fares ≡ length inventory.legs
   pub fares : All (λ fare. fare ≤ MOST_FARE) inventory.fares
   pub some_leg : All (λ (legs : List ℕ). 1 ≤ length legs) inventory.legs
-  pub legs : All (λ (legs : List ℕ). All (λ i. i < length inventory.seats) legs) inventory.legs
+  pub legs : All (λ (legs : List ℕ). All (λ i. i < length inventory.authorised) legs) inventory.legs
 
 -- the bookings are those of a book: their numbers rise below the next one, each is a party of a product, and no leg has more seats sold
 -- than it has
@@ -31,7 +31,7 @@ pub record IsBook (book : BookValue) : Type 0 where
   pub numbers : All (λ (booking : Booking). (1 ≤ booking.number) × (booking.number < book.next)) book.bookings
   pub parties : All (λ (booking : Booking). IsInRange 1 MOST_PARTY booking.party) book.bookings
   pub products : All (λ (booking : Booking). booking.product < length book.inventory.legs) book.bookings
-  pub seats : (i : ℕ) → i < length book.inventory.seats → sold_on book.inventory book.bookings i ≤ seats_of book.inventory i
+  pub seats : (i : ℕ) → i < length book.inventory.authorised → sold_on book.inventory book.bookings i ≤ authorised_of book.inventory i
 
 -- the book has this booking more, with the next number
 abbrev pub with_booking : BookValue → ℕ → ℕ → BookValue

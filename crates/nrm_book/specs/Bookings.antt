@@ -1,6 +1,6 @@
 -- The bookings that stand, and the seats that they take and leave.
 use Rattle.std.specs.Prelude.{ℕ, ◌<◌, ◌-◌, ◌*◌, ◌==◌, not, List, filter, find, sum_by, AllPairs, Option, if◌then◌else◌}
-use Rattle.nrm_model.specs.Inventory.{Inventory, seats_of, fare_of, products_on}
+use Rattle.nrm_model.specs.Inventory.{Inventory, authorised_of, fare_of, products_on}
 use Rattle.nrm_book.specs.declared.booking.Booking.{Booking}
 
 -- the seats sold of a product: the parties of its bookings
@@ -13,7 +13,7 @@ sold_on inventory bookings i = sum_by (sold_of bookings) (products_on inventory 
 
 -- the seats left on a leg
 abbrev pub left_on : Inventory → List Booking → ℕ → ℕ
-left_on inventory bookings i = seats_of inventory i - sold_on inventory bookings i
+left_on inventory bookings i = authorised_of inventory i - sold_on inventory bookings i
 
 -- what a booking is worth, and all of them
 abbrev pub worth_of : Inventory → Booking → ℕ

@@ -32,8 +32,8 @@ pairs_sold inventory bookings i = map (λ j. (j, sold_of bookings j)) (products_
 
 abbrev pub seats_sold : Inventory → List Booking → SeatsValue
 seats_sold inventory bookings = record {
-  by_product = map (λ i. (i, pairs_sold inventory bookings i)) (range_with_len 0 (length inventory.seats));
-  by_leg = map (sold_on inventory bookings) (range_with_len 0 (length inventory.seats));
+  by_product = map (λ i. (i, pairs_sold inventory bookings i)) (range_with_len 0 (length inventory.authorised));
+  by_leg = map (sold_on inventory bookings) (range_with_len 0 (length inventory.authorised));
 }
 
 -- with the counts of a product on a leg changed, and with those on each of these legs

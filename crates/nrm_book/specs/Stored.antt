@@ -9,6 +9,6 @@ use Rattle.nrm_book.specs.Standing.{StandingValue}
 pub record IsStored (book : BookValue) (bookings : StandingValue) (sold : SeatsValue) (revenue : ℕ) : Type 0 where
   pub kept : IsBook book
   pub distinct : All (λ (legs : List ℕ). AllPairs (λ a b. a ≢ b) legs) book.inventory.legs
-  pub room : sum book.inventory.seats ≤ bookings.room
+  pub room : sum book.inventory.authorised ≤ bookings.room
   pub seats : sold ≡ seats_sold book.inventory book.bookings
   pub worth : revenue ≡ revenue_of book.inventory book.bookings

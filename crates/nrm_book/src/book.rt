@@ -5,7 +5,7 @@
 ghost use Rattle.std.specs.Prelude.{◌≡◌, ◌+◌, ◌*◌, ◌<◌, ◌≤◌, ◌==◌, [], All, IfNone, IfOk, IfSome, length, map, position, sum, true};
 ghost use Rattle.std.specs.Prelude.{slice_get, slice_index, unwrap_or};
 ghost use Rattle.std.specs.Int.{IsInRange};
-ghost use Rattle.nrm_model.specs.Inventory.{inventory_of, legs_of, products_on, seats_of, uses_leg};
+ghost use Rattle.nrm_model.specs.Inventory.{inventory_of, legs_of, products_on, authorised_of, uses_leg};
 ghost use Rattle.nrm_model.specs.declared.limits.TheConstants.{BOOKING_LIMIT, MOST_LEGS, MOST_PARTY};
 ghost use Rattle.nrm_book.specs.Bookings.{booking_numbered, left_on, revenue_of, sold_of, sold_on, without};
 
@@ -61,7 +61,7 @@ impl Book {
         ensures empty { IfOk result (λ book. book ≡ record { inventory = inventory_of net.now; bookings = []; next = 1 }) }
         ensures kept { IfOk result IsBook }
     {
-        let seats = net.seats_of_legs(alloc)?;
+        let seats = net.authorised_of_legs(alloc)?;
         let fares = net.fares_of_products(alloc)?;
         let legs = net.legs_of_products(alloc)?;
         let sold = SeatsSold::new(alloc, net)?;
@@ -79,16 +79,16 @@ impl Book {
 
     /// The seats left on a leg: with those sold they make up its seats.
     pub fn left(&self, leg: u8) -> u16
-        requires { leg < length self.now.inventory.seats }
+        requires { leg < length self.now.inventory.authorised }
         ensures left { result ≡ left_on self.now.inventory self.now.bookings leg }
-        ensures sold { sold_on self.now.inventory self.now.bookings leg + result ≡ seats_of self.now.inventory leg }
+        ensures sold { sold_on self.now.inventory self.now.bookings leg + result ≡ authorised_of self.now.inventory leg }
     {
         self.seats[leg as usize] - self.sold.on(leg)
     }
 
     /// The seats sold of a product on one of its legs.
     pub fn sold(&self, leg: u8, product: u16) -> u16
-        requires leg { leg < length self.now.inventory.seats }
+        requires leg { leg < length self.now.inventory.authorised }
         requires product { product < length self.now.inventory.legs }
         requires uses { uses_leg self.now.inventory leg product ≡ true }
         ensures { result ≡ sold_of self.now.bookings product }
@@ -98,7 +98,7 @@ impl Book {
 
     /// The products of a leg in file order, each with its seats sold.
     pub fn on_leg(&self, leg: u8) -> &IndexMap<u16, u16>
-        requires { leg < length self.now.inventory.seats }
+        requires { leg < length self.now.inventory.authorised }
         ensures { result.now.entries ≡ map (λ j. (j, sold_of self.now.bookings j)) (products_on self.now.inventory leg) }
     {
         self.sold.on_leg(leg)

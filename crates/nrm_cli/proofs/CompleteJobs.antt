@@ -166,10 +166,10 @@ module _ (asked : Option Job) (before after : Outside) (job : Job) (net : Networ
 
   -- ---- the words ask for a job that has an opening plan: there is one, or its program is Large
   opening-same : (m : Mode) (plan other : PlanValue) → IsOpeningPlan net m plan → IsOpeningPlan net m other → other ≡ plan
-  opening-same m plan other is is' = (one-plan net m (inventory_of net).seats 1).plan plan other is is'
+  opening-same m plan other is is' = (one-plan net m (inventory_of net).authorised 1).plan plan other is is'
 
   planned-apart : (m : Mode) (plan : PlanValue) → IsOpeningPlan net m plan → (s : Status) → TellsOverflow net m before after s
-  planned-apart m plan is s = λ n number large. absurd ((one-plan net m (inventory_of net).seats 1).apart plan n number is large)
+  planned-apart m plan is s = λ n number large. absurd ((one-plan net m (inventory_of net).authorised 1).apart plan n number is large)
 
   -- where a run was started, its plan is the network's
   started : (st : Starts asked before) → IsOpeningPlan net st.mode st.plan
@@ -179,22 +179,22 @@ module _ (asked : Option Job) (before after : Outside) (job : Job) (net : Networ
   large-told : (m : Mode) (n : ℕ) (number : ℤ) → OpeningOverflows net m n number → Wrote before after (overflow_line (told_pivots n) number)
       → TellsOverflow net m before after status.Overflow
   large-told m n number large wrote = λ n' number' large'.
-      let (count, same) = (one-plan net m (inventory_of net).seats 1).overflow n n' number number' large large' in
+      let (count, same) = (one-plan net m (inventory_of net).authorised 1).overflow n n' number number' large large' in
       inl (refl, subst (λ (text : List ℕ). Wrote before after text) (λ i. overflow_line (told_pivots (sym count i)) (sym same i)) wrote)
 
   complete-large : (other : Job) (m : Mode) (n : ℕ) (number : ℤ) → mode_of_job other ≡ Some m → OpeningOverflows net m n number
       → Wrote before after (overflow_line (told_pivots n) number) → CompletesJob other net before after status.Overflow
   complete-large (run_file k file) m n number has large wrote =
       let own = subst (λ (mode : Mode). OpeningOverflows net mode n number) (sym (same_Some k m has)) large in
-      (large-told k n number own wrote, (λ plan stream planned coming short. absurd ((one-plan net k (inventory_of net).seats 1).apart plan n number planned own)))
+      (large-told k n number own wrote, (λ plan stream planned coming short. absurd ((one-plan net k (inventory_of net).authorised 1).apart plan n number planned own)))
   complete-large (plan_file k file) m n number has large wrote =
       let own = subst (λ (mode : Mode). OpeningOverflows net mode n number) (sym (same_Some k m has)) large in
-      (large-told k n number own wrote, (λ plan planned. absurd ((one-plan net k (inventory_of net).seats 1).apart plan n number planned own)))
+      (large-told k n number own wrote, (λ plan planned. absurd ((one-plan net k (inventory_of net).authorised 1).apart plan n number planned own)))
   complete-large (check_file file certificate) m n number has large wrote = absurd (none-some m has)
   complete-large (print_file file) m n number has large wrote = absurd (none-some m has)
   complete-large (run_made k made) m n number has large wrote =
       let own = subst (λ (mode : Mode). OpeningOverflows net mode n number) (sym (same_Some k m has)) large in
-      (large-told k n number own wrote, (λ plan planned. absurd ((one-plan net k (inventory_of net).seats 1).apart plan n number planned own)))
+      (large-told k n number own wrote, (λ plan planned. absurd ((one-plan net k (inventory_of net).authorised 1).apart plan n number planned own)))
 
   complete-told : (s : Status) (text : List ℕ) → Tells asked before after s text → Wrote before after text
       → CompletesJob job net before after s

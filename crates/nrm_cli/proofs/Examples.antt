@@ -32,8 +32,8 @@ abbrev pub two_legs : NetworkValue
 two_legs = record {
   histories = 1;
   periods = 1;
-  legs = record { name = codes "AB"; seats = 3; cuts = [] } ∷ record { name = codes "BC"; seats = 2; cuts = [] } ∷ [];
-  products = record { name = codes "THRU"; fare = 500; legs = 0 ∷ 1 ∷ [] } ∷ record { name = codes "LOC"; fare = 200; legs = 0 ∷ [] } ∷ [];
+  legs = record { name = codes "AB"; seats = 3; authorised = 3; cuts = [] } ∷ record { name = codes "BC"; seats = 2; authorised = 2; cuts = [] } ∷ [];
+  products = record { name = codes "THRU"; fare = 500; refund = 100; legs = 0 ∷ 1 ∷ [] } ∷ record { name = codes "LOC"; fare = 200; refund = 100; legs = 0 ∷ [] } ∷ [];
   demand = 0 ∷ 0 ∷ [];
 }
 
@@ -47,7 +47,7 @@ first = record { mode = mode.FirstCome; period = 1; left = 3 ∷ 2 ∷ []; certi
 first_planned : IsOpeningPlan two_legs mode.FirstCome first
 first_planned = record { mode_is = refl; left_is = refl; period_is = refl; planned = record { left = record { legs = refl; seats = λ i short. within i short }; period = (omega arith, omega arith); certificate = refl; nests = refl } }
   where
-    within : (i : ℕ) → i < 2 → get_or (3 ∷ 2 ∷ []) i 0 ≤ (leg_of two_legs i).seats
+    within : (i : ℕ) → i < 2 → get_or (3 ∷ 2 ∷ []) i 0 ≤ (leg_of two_legs i).authorised
     within zero short = omega arith
     within (suc zero) short = omega arith
     within (suc (suc i)) short = absurd (omega (arith, short))

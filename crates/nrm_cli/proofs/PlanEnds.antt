@@ -18,7 +18,7 @@ use Rattle.nrm_cli.specs.declared.status.Status.TheVariants as status
 use Rattle.nrm_cli.proofs.ToldEnds.{told-ends}
 
 -- what lacks a plan lacks a start
-pub start-fault : (net : NetworkValue) (m : Mode) (why : SolveFault) → IsPlanFault net m (inventory_of net).seats 1 why
+pub start-fault : (net : NetworkValue) (m : Mode) (why : SolveFault) → IsPlanFault net m (inventory_of net).authorised 1 why
     → IsStartFault net m why
 start-fault net m (fault.Overflow pivots number) is = is
 start-fault net m fault.NoMemory is = tt

@@ -49,13 +49,13 @@ taken-network (Some bytes) net gives = read-is-network bytes net (by (file_of by
 
 -- the certificate of an opening plan under bid-price control closes the opening program
 module _ (net : NetworkValue) (plan : PlanValue) (is : IsOpeningPlan net mode.Bid plan) where
-  solved : IsSolved net (inventory_of net).seats 1 plan.certificate
+  solved : IsSolved net (inventory_of net).authorised 1 plan.certificate
   solved =
-      subst (λ (m : Mode). HasCertificate net (inventory_of net).seats 1 m plan.certificate) is.mode_is
-      (subst (λ (k : ℕ). HasCertificate net (inventory_of net).seats k plan.mode plan.certificate) is.period_is
+      subst (λ (m : Mode). HasCertificate net (inventory_of net).authorised 1 m plan.certificate) is.mode_is
+      (subst (λ (k : ℕ). HasCertificate net (inventory_of net).authorised k plan.mode plan.certificate) is.period_is
       (subst (λ (left : List ℕ). HasCertificate net left plan.period plan.mode plan.certificate) is.left_is is.planned.certificate))
 
-  closing-of : (cert : Option Certificate) → IsSolved net (inventory_of net).seats 1 cert
+  closing-of : (cert : Option Certificate) → IsSolved net (inventory_of net).authorised 1 cert
       → (c : Certificate) × (cert ≡ Some c) × IsClosing (opening_program net) c
   closing-of None missing = absurd missing
   closing-of (Some c) closes = (c, refl, closes)

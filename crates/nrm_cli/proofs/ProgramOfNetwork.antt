@@ -15,7 +15,7 @@ pub products-of : (net : NetworkValue) → length (opening_program net).bounds �
 products-of net = length-map-range_with_len (λ j. total_to_come net j 1) 0 (length net.products)
 
 pub legs-of : (net : NetworkValue) → length (opening_program net).caps ≡ length net.legs
-legs-of net = length-map (inventory_of net).seats (λ seats. net.histories * seats) ∙ length-map net.legs (λ (leg : Leg). leg.seats)
+legs-of net = length-map (inventory_of net).authorised (λ seats. net.histories * seats) ∙ length-map net.legs (λ (leg : Leg). leg.authorised)
 
 -- so a certificate of the network's shape has the program's
 pub shape-of-program : (net : NetworkValue) (given : Certificate) → HasShape size_limit (length net.products) (length net.legs) given

@@ -2,7 +2,7 @@
 use Rattle.std.proofs.Common.{ℕ, ◌≡◌, ◌∙◌, ◌<◌, ◌≤◌, List, [], length, sym, ap, subst, arith}
 use Rattle.std.proofs.lemmas.List.{length-map}
 use Rattle.nrm_model.specs.declared.leg.Leg.{Leg}
-use Rattle.nrm_model.specs.Inventory.{Inventory, inventory_of, seats_of}
+use Rattle.nrm_model.specs.Inventory.{Inventory, inventory_of, authorised_of}
 use Rattle.nrm_model.specs.Limits.{IsNetwork}
 use Rattle.nrm_model.specs.Network.{NetworkValue}
 use Rattle.nrm_book.specs.declared.booking.Booking.{Booking}
@@ -36,10 +36,10 @@ kept-begun net plan book tallies is planned empty kept none = record {
 }
 
 -- no leg of the network has more seats sold than it has
-pub fits-of : (net : NetworkValue) (book : BookValue) → book.inventory ≡ inventory_of net → IsBook book → (i : ℕ) → i < length net.legs → sold_on (inventory_of net) book.bookings i ≤ seats_of (inventory_of net) i
+pub fits-of : (net : NetworkValue) (book : BookValue) → book.inventory ≡ inventory_of net → IsBook book → (i : ℕ) → i < length net.legs → sold_on (inventory_of net) book.bookings i ≤ authorised_of (inventory_of net) i
 fits-of net book is kept i few =
-    let count : length book.inventory.seats ≡ length net.legs = ap (λ (v : Inventory). length v.seats) is ∙ length-map net.legs (λ (leg : Leg). leg.seats) in
-    subst (λ (v : Inventory). sold_on v book.bookings i ≤ seats_of v i) is (kept.seats i (omega (arith, few, count)))
+    let count : length book.inventory.authorised ≡ length net.legs = ap (λ (v : Inventory). length v.authorised) is ∙ length-map net.legs (λ (leg : Leg). leg.authorised) in
+    subst (λ (v : Inventory). sold_on v book.bookings i ≤ authorised_of v i) is (kept.seats i (omega (arith, few, count)))
 
 module _ (net : NetworkValue) (plan : PlanValue) (book : BookValue) (tallies : List ℕ) (is : IsInForce net plan book tallies) where
   -- after a refusal
@@ -65,7 +65,7 @@ module _ (net : NetworkValue) (plan : PlanValue) (book : BookValue) (tallies : L
         tallied =
             subst (λ (bookings : List Booking). AreTalliesBeside net bookings (with_request net tallies j party)) (sym booked)
             (beside-sale net book.bookings tallies book.next j party is.network short
-            (λ i few. subst (λ (bookings : List Booking). sold_on (inventory_of net) bookings i ≤ seats_of (inventory_of net) i) booked (fits-of net new inventory kept i few)) is.tallied);
+            (λ i few. subst (λ (bookings : List Booking). sold_on (inventory_of net) bookings i ≤ authorised_of (inventory_of net) i) booked (fits-of net new inventory kept i few)) is.tallied);
       }
 
   -- after a cancellation

@@ -7,7 +7,7 @@ use Rattle.std.proofs.lemmas.List.FromFn.{get_or-map-range_with_len, length-map-
 use Rattle.nrm_model.specs.declared.product.Product.{Product}
 use Rattle.nrm_model.specs.Inventory.{Inventory, inventory_of, legs_of, uses_leg}
 use Rattle.nrm_model.specs.Network.{NetworkValue, product_of}
-use Rattle.nrm_model.proofs.Inventories.{fare_of-product, legs-count, legs_of-product, product_of-found, seats-are}
+use Rattle.nrm_model.proofs.Inventories.{fare_of-product, legs-count, legs_of-product, product_of-found, authorised-are}
 use Rattle.nrm_book.specs.declared.booking.Booking.{Booking}
 use Rattle.nrm_book.specs.Bookings.{booking_numbered, left_on, worth_of}
 use Rattle.nrm_book.proofs.Sold.{uses-each}
@@ -88,5 +88,5 @@ are-seats-left net bookings = record {
   legs = length-map-range_with_len (left_on (inventory_of net) bookings) 0 (length net.legs);
   seats = λ i short.
       let left : get_or (seats_left net bookings) i 0 ≡ left_on (inventory_of net) bookings i = get_or-map-range_with_len (left_on (inventory_of net) bookings) 0 (length net.legs) i i 0 short (omega arith) in
-      omega (arith, left, seats-are net i);
+      omega (arith, left, authorised-are net i);
 }

@@ -5,9 +5,9 @@ use Rattle.std.proofs.lemmas.Bool.Decides.{nat_tests}
 use Rattle.std.proofs.lemmas.List.{get_or_default, get_or-replicate, get_or-set_other, get_or-set_same, length-replicate, length-set}
 use Rattle.std.proofs.lemmas.List.FromFn.{fill_by_all, get_or-map-range_with_len, length-map-range_with_len}
 use Rattle.std.proofs.lemmas.List.Sums.{sum_by-cons, sum_by_push}
-use Rattle.nrm_model.specs.Inventory.{inventory_of, seats_of}
+use Rattle.nrm_model.specs.Inventory.{inventory_of, authorised_of}
 use Rattle.nrm_model.specs.Limits.{IsNetwork}
-use Rattle.nrm_model.specs.Network.{NetworkValue, least_seats_of}
+use Rattle.nrm_model.specs.Network.{NetworkValue, least_authorised_of}
 use Rattle.nrm_book.specs.declared.booking.Booking.{Booking}
 use Rattle.nrm_book.specs.Bookings.{sold_of, sold_on, without}
 use Rattle.nrm_book.proofs.BookedCounts.{party_of}
@@ -21,14 +21,14 @@ use Rattle.nrm_control.specs.Standing.{AreTalliesBeside, with_request}
 
 -- the tally that a request changes, and another one
 module _ (net : NetworkValue) (tallies : List ℕ) (j party : ℕ) where
-  own : j < length tallies → get_or (with_request net tallies j party) j 0 ≡ min (get_or tallies j 0 + party) (least_seats_of net j)
-  own short = get_or-set_same tallies j (min (slice_index tallies j + party) (least_seats_of net j)) 0 short
+  own : j < length tallies → get_or (with_request net tallies j party) j 0 ≡ min (get_or tallies j 0 + party) (least_authorised_of net j)
+  own short = get_or-set_same tallies j (min (slice_index tallies j + party) (least_authorised_of net j)) 0 short
 
   other : (k : ℕ) → k ≢ j → get_or (with_request net tallies j party) k 0 ≡ get_or tallies k 0
-  other k apart = get_or-set_other tallies j k (min (slice_index tallies j + party) (least_seats_of net j)) 0 apart
+  other k apart = get_or-set_other tallies j k (min (slice_index tallies j + party) (least_authorised_of net j)) 0 apart
 
   as-many : length (with_request net tallies j party) ≡ length tallies
-  as-many = length-set tallies j (min (slice_index tallies j + party) (least_seats_of net j))
+  as-many = length-set tallies j (min (slice_index tallies j + party) (least_authorised_of net j))
 
 -- what a request adds to its own product's tally, and to another's
 own-party : (j party : ℕ) → cond (eqb j j) party 0 ≡ party
@@ -52,7 +52,7 @@ tallies-after net requests j party short =
         let pushed = sum_by_push (party_for k) requests (record { product = j; party = party }) in
         elim (cases_eq k j) [
           | inl e ↦
-              let here : get_or (with_request net (tallies_of net requests) j party) k 0 ≡ min (get_or (tallies_of net requests) k 0 + party) (least_seats_of net k) = rw e (own net (tallies_of net requests) j party (omega (arith, short, count))) in
+              let here : get_or (with_request net (tallies_of net requests) j party) k 0 ≡ min (get_or (tallies_of net requests) k 0 + party) (least_authorised_of net k) = rw e (own net (tallies_of net requests) j party (omega (arith, short, count))) in
               let added : cond (eqb j k) party 0 ≡ party = rw e (own-party j party) in
               omega (arith, here, before, pushed, added)
           | inr apart ↦ omega (arith, other net (tallies_of net requests) j party k apart, before, pushed, no-party j k party apart)
@@ -65,10 +65,10 @@ beside-refusal net bookings tallies j party short are = record {
   booked = λ k few. (each k few).1;
 }
   where
-    each : (k : ℕ) → k < length net.products → (get_or (with_request net tallies j party) k 0 ≤ least_seats_of net k) × (sold_of bookings k ≤ get_or (with_request net tallies j party) k 0)
+    each : (k : ℕ) → k < length net.products → (get_or (with_request net tallies j party) k 0 ≤ least_authorised_of net k) × (sold_of bookings k ≤ get_or (with_request net tallies j party) k 0)
     each k few = elim (cases_eq k j) [
       | inl e ↦
-          let here : get_or (with_request net tallies j party) k 0 ≡ min (get_or tallies k 0 + party) (least_seats_of net k) = rw e (own net tallies j party (omega (arith, short, are.capped.products))) in
+          let here : get_or (with_request net tallies j party) k 0 ≡ min (get_or tallies k 0 + party) (least_authorised_of net k) = rw e (own net tallies j party (omega (arith, short, are.capped.products))) in
           (omega (arith, here), omega (arith, here, are.booked k few, are.capped.seats k few))
       | inr apart ↦
           let there = other net tallies j party k apart in
@@ -77,7 +77,7 @@ beside-refusal net bookings tallies j party short are = record {
 
 -- beside one booking more, which fits the seats
 pub beside-sale : (net : NetworkValue) (bookings : List Booking) (tallies : List ℕ) (number j party : ℕ) → IsNetwork net → j < length net.products
-    → ((i : ℕ) → i < length net.legs → sold_on (inventory_of net) (bookings ++ record { number = number; product = j; party = party } ∷ []) i ≤ seats_of (inventory_of net) i)
+    → ((i : ℕ) → i < length net.legs → sold_on (inventory_of net) (bookings ++ record { number = number; product = j; party = party } ∷ []) i ≤ authorised_of (inventory_of net) i)
     → AreTalliesBeside net bookings tallies → AreTalliesBeside net (bookings ++ record { number = number; product = j; party = party } ∷ []) (with_request net tallies j party)
 beside-sale net bookings tallies number j party is short fits are = record { capped = (beside-refusal net bookings tallies j party short are).capped; booked = each }
   where
@@ -90,7 +90,7 @@ beside-sale net bookings tallies number j party is short fits are = record { cap
         let within = sold-within-least net (bookings ++ record { number = number; product = j; party = party } ∷ []) k is fits few in
         elim (cases_eq k j) [
           | inl e ↦
-              let here : get_or (with_request net tallies j party) k 0 ≡ min (get_or tallies k 0 + party) (least_seats_of net k) = rw e (own net tallies j party (omega (arith, short, are.capped.products))) in
+              let here : get_or (with_request net tallies j party) k 0 ≡ min (get_or tallies k 0 + party) (least_authorised_of net k) = rw e (own net tallies j party (omega (arith, short, are.capped.products))) in
               let added : cond (eqb j k) party 0 ≡ party = rw e (own-party j party) in
               omega (arith, here, pushed, added, within, are.booked k few)
           | inr apart ↦ omega (arith, other net tallies j party k apart, pushed, no-party j k party apart, are.booked k few)
@@ -122,8 +122,8 @@ none-asked net = fill_by_all (tally_of net []) (replicate (length net.products) 
 pub tally-read : (tallies : List ℕ) (j read : ℕ) → j < length tallies → read ≡ get_or tallies j read → read ≡ get_or tallies j 0
 tally-read tallies j read short is = is ∙ get_or_default tallies j read 0 short
 
-pub tally-written : (net : NetworkValue) (tallies : List ℕ) (j party read after : ℕ) → j < length tallies → read ≡ get_or tallies j read → after ≡ min (read + party) (least_seats_of net j) → set tallies j after ≡ with_request net tallies j party
-tally-written net tallies j party read after short is grown = ap (set tallies j) (grown ∙ ap (λ r. min (r + party) (least_seats_of net j)) (tally-read tallies j read short is))
+pub tally-written : (net : NetworkValue) (tallies : List ℕ) (j party read after : ℕ) → j < length tallies → read ≡ get_or tallies j read → after ≡ min (read + party) (least_authorised_of net j) → set tallies j after ≡ with_request net tallies j party
+tally-written net tallies j party read after short is grown = ap (set tallies j) (grown ∙ ap (λ r. min (r + party) (least_authorised_of net j)) (tally-read tallies j read short is))
 
 pub tally-small : (net : NetworkValue) (tallies : List ℕ) (j read : ℕ) → IsNetwork net → AreTallies net tallies → j < length net.products → read ≡ get_or tallies j read → read ≤ 999
 tally-small net tallies j read is are short found =

@@ -2,7 +2,7 @@
 use Rattle.std.specs.Prelude.{ℕ, ◌≡◌, ◌<◌, ◌≤◌, ◌+◌, List, ◌∷◌, [], ◌++◌, length, min, slice_index, slice_set, ⊤}
 use Rattle.nrm_fraction.specs.Fraction.{Fraction}
 use Rattle.nrm_model.specs.Inventory.{inventory_of}
-use Rattle.nrm_model.specs.Network.{NetworkValue, least_seats_of}
+use Rattle.nrm_model.specs.Network.{NetworkValue, least_authorised_of}
 use Rattle.nrm_model.specs.Limits.{IsNetwork}
 use Rattle.nrm_dlp.specs.Hindsight.{AreTallies}
 use Rattle.nrm_book.specs.declared.booking.Booking.{Booking}
@@ -62,7 +62,7 @@ pub record IsControl (control : ControlValue) : Type 0 where
 
 -- the tallies after a request: its party is added to its product's, up to the least seats among the product's legs
 abbrev pub with_request : NetworkValue → List ℕ → ℕ → ℕ → List ℕ
-with_request net tallies j party = slice_set tallies j (min (slice_index tallies j + party) (least_seats_of net j))
+with_request net tallies j party = slice_set tallies j (min (slice_index tallies j + party) (least_authorised_of net j))
 
 -- the controller after a request was answered: it is tallied, whatever the answer; and one that was sold is booked
 abbrev pub with_answer : ControlValue → ℕ → ℕ → Answer → ControlValue
@@ -92,5 +92,5 @@ StandsForSome = (control : ControlValue) → IsControl control → (s : SeatStat
 
 -- why none begins: the opening plan's program is Large; or memory is wanting, which may be for the book
 abbrev pub IsStartFault : NetworkValue → Mode → SolveFault → Type 0
-IsStartFault net m (fault.Overflow pivots number) = IsPlanFault net m (inventory_of net).seats 1 (fault.Overflow pivots number)
+IsStartFault net m (fault.Overflow pivots number) = IsPlanFault net m (inventory_of net).authorised 1 (fault.Overflow pivots number)
 IsStartFault net m fault.NoMemory = ⊤

@@ -5,7 +5,7 @@ ghost use Rattle.std.specs.Int.{IsInRange};
 ghost use Rattle.nrm_number.specs.Gcd.{gcd};
 ghost use Rattle.nrm_fraction.specs.Fraction.{◌over◌};
 ghost use Rattle.nrm_model.specs.Inventory.{inventory_of, uses_leg};
-ghost use Rattle.nrm_model.specs.Network.{least_seats_of};
+ghost use Rattle.nrm_model.specs.Network.{least_authorised_of};
 ghost use Rattle.nrm_model.specs.declared.limits.TheConstants.{BOOKING_LIMIT, MOST_PARTY, MOST_SEATS};
 ghost use Rattle.nrm_book.specs.Bookings.{booking_numbered, without, worth_of};
 ghost use Rattle.nrm_hindsight.specs.Requests.{tallies_of};
@@ -127,9 +127,9 @@ fn tally_after(net: &Network, tally: u16, product: u16, party: u16) -> u16
     requires product { product < length net.now.products }
     requires tally { tally ≤ MOST_SEATS }
     requires party { party ≤ MOST_PARTY }
-    ensures { result ≡ min (tally + party) (least_seats_of net.now product) }
+    ensures { result ≡ min (tally + party) (least_authorised_of net.now product) }
 {
-    (tally + party).min(net.least_seats(product))
+    (tally + party).min(net.least_authorised(product))
 }
 
 impl Controller {

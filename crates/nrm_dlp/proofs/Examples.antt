@@ -27,8 +27,8 @@ by_hindsight : hindsight_program two_legs_last_first (2 ∷ 3 ∷ [])
 by_hindsight = refl
 
 -- of the first product no more than the 2 seats of its second leg
-above_the_least_seats : AreTallies two_legs_last_first (3 ∷ 3 ∷ []) → ⊥
-above_the_least_seats are = absurd (omega (arith, are.seats 0 (omega arith)))
+above_the_least_authorised : AreTallies two_legs_last_first (3 ∷ 3 ∷ []) → ⊥
+above_the_least_authorised are = absurd (omega (arith, are.seats 0 (omega arith)))
 
 one_tally_short : AreTallies two_legs_last_first (2 ∷ []) → ⊥
 one_tally_short are = absurd (omega (arith, are.products))

@@ -4,27 +4,27 @@ use Rattle.std.proofs.lemmas.List.{get_or_default}
 use Rattle.nrm_fraction.specs.Fraction.{Fraction, ◌over◌}
 use Rattle.nrm_model.specs.Inventory.{inventory_of}
 use Rattle.nrm_model.specs.Limits.{IsNetwork}
-use Rattle.nrm_model.specs.Network.{NetworkValue, leg_of, least_seats_of, product_of}
-use Rattle.nrm_model.proofs.SeatLemmas.{least-whole, product-within, seats-within}
+use Rattle.nrm_model.specs.Network.{NetworkValue, leg_of, least_authorised_of, product_of}
+use Rattle.nrm_model.proofs.SeatLemmas.{least-whole, product-within, authorised-within}
 use Rattle.nrm_lp.specs.declared.certificate.Certificate.{Certificate}
 use Rattle.nrm_simplex.specs.Solving.{IsClosing}
 use Rattle.nrm_dlp.specs.Hindsight.{AreTallies, HindsightOverflows, IsHindsight}
 use Rattle.nrm_dlp.specs.Laws.{EachHasAHindsight, HindsightsAreDetermined, HindsightsAreLimited}
 use Rattle.nrm_dlp.specs.Programs.{hindsight_program}
-use Rattle.nrm_model.proofs.Inventories.{seats-are, seats-count}
+use Rattle.nrm_model.proofs.Inventories.{authorised-are, authorised-count}
 use Rattle.nrm_simplex.proofs.Closings.{closes-or-not, closing-apart, closing-once, overflow-once}
 use Rattle.nrm_dlp.proofs.Limited.{made-limited}
 
 -- ---- within the limits
-pub seats-limited : (net : NetworkValue) → IsNetwork net → All (λ cap. cap ≤ 31968) (inventory_of net).seats
-seats-limited net is = λ i none short.
-    let read : get_or (inventory_of net).seats i none ≡ get_or (inventory_of net).seats i 0 = get_or_default (inventory_of net).seats i none 0 short in
-    omega (arith, seats-are net i, seats-within net is i, read)
+pub authorised-limited : (net : NetworkValue) → IsNetwork net → All (λ cap. cap ≤ 31968) (inventory_of net).authorised
+authorised-limited net is = λ i none short.
+    let read : get_or (inventory_of net).authorised i none ≡ get_or (inventory_of net).authorised i 0 = get_or_default (inventory_of net).authorised i none 0 short in
+    omega (arith, authorised-are net i, authorised-within net is i, read)
 
-pub least-within : (net : NetworkValue) → IsNetwork net → (j : ℕ) → j < length net.products → least_seats_of net j ≤ 999
+pub least-within : (net : NetworkValue) → IsNetwork net → (j : ℕ) → j < length net.products → least_authorised_of net j ≤ 999
 least-within net is j few =
     let some = (product-within net is j few).leg_count in
-    (least-whole 65535 999 (λ i. (leg_of net i).seats) (product_of net j).legs (omega arith) (seats-within net is) (omega arith)).1
+    (least-whole 65535 999 (λ i. (leg_of net i).authorised) (product_of net j).legs (omega arith) (authorised-within net is) (omega arith)).1
 
 pub tallies-limited : (net : NetworkValue) (tallies : List ℕ) → IsNetwork net → AreTallies net tallies → All (λ bound. bound ≤ 31968) tallies
 tallies-limited net tallies is are = λ j none short.
@@ -33,7 +33,7 @@ tallies-limited net tallies is are = λ j none short.
     omega (arith, are.seats j few, least-within net is j few, read)
 
 pub hindsight-limited : HindsightsAreLimited
-hindsight-limited net tallies is are = made-limited net (inventory_of net).seats tallies is (seats-count net) (seats-limited net is) are.products (tallies-limited net tallies is are)
+hindsight-limited net tallies is are = made-limited net (inventory_of net).authorised tallies is (authorised-count net) (authorised-limited net is) are.products (tallies-limited net tallies is are)
 
 -- ---- one value
 pub one-hindsight : HindsightsAreDetermined

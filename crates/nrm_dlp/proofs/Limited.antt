@@ -14,8 +14,8 @@ use Rattle.nrm_model.specs.Demand.{demand_row, demand_to_come, total_to_come}
 use Rattle.nrm_model.specs.Inventory.{inventory_of}
 use Rattle.nrm_model.specs.Limits.{IsNetwork, IsProduct}
 use Rattle.nrm_model.proofs.DemandLemmas.{sum-range-more}
-use Rattle.nrm_model.proofs.Inventories.{seats-are, seats-count}
-use Rattle.nrm_model.proofs.SeatLemmas.{seats-within}
+use Rattle.nrm_model.proofs.Inventories.{authorised-are, authorised-count}
+use Rattle.nrm_model.proofs.SeatLemmas.{authorised-within}
 use Rattle.nrm_lp.specs.Program.{AreLegs, AreProducts, names}
 use Rattle.nrm_lp.specs.Limits.{IsLimited}
 use Rattle.nrm_dlp.specs.Laws.{OpeningsAreLimited, ProgramsAreLimited, SeatsLeftAreLimited}
@@ -69,21 +69,21 @@ total-within net is j k few =
 module _ (net : NetworkValue) (is : IsNetwork net) where
   fare-size : (j : ℕ) → j < length net.products → IsInRange 1 99999999 (get_or (inventory_of net).fares j 0)
   fare-size j few =
-      let none : Product = record { name = []; fare = 0; legs = [] } in
+      let none : Product = record { name = []; fare = 0; refund = 0; legs = [] } in
       let read = get_or-map (λ (product : Product). product.fare) net.products j none 0 few in
       rw read ((is.products j none few).fare)
 
   legs-count : (j : ℕ) → j < length net.products → IsInRange 1 4 (length (get_or (inventory_of net).legs j []))
   legs-count j few =
-      let none : Product = record { name = []; fare = 0; legs = [] } in
+      let none : Product = record { name = []; fare = 0; refund = 0; legs = [] } in
       let read = ap length (get_or-map (λ (product : Product). product.legs) net.products j none [] few) in
       rw read ((is.products j none few).leg_count)
 
-  pub caps-within : (left : List ℕ) → length left ≡ length net.legs → ((i : ℕ) → i < length net.legs → get_or left i 0 ≤ (leg_of net i).seats) → All (λ cap. cap ≤ 31968) (map (λ seats. net.histories * seats) left)
+  pub caps-within : (left : List ℕ) → length left ≡ length net.legs → ((i : ℕ) → i < length net.legs → get_or left i 0 ≤ (leg_of net i).authorised) → All (λ cap. cap ≤ 31968) (map (λ seats. net.histories * seats) left)
   caps-within left many seats = λ i none l.
       let short : i < length left = omega (arith, l, length-map left (λ (seats : ℕ). net.histories * seats)) in
       let read = get_or-map (λ (seats : ℕ). net.histories * seats) left i 0 none short in
-      let most : get_or left i 0 ≤ 999 = omega (arith, seats i (omega (arith, short, many)), seats-within net is i) in
+      let most : get_or left i 0 ≤ 999 = omega (arith, seats i (omega (arith, short, many)), authorised-within net is i) in
       let less : net.histories * get_or left i 0 ≤ net.histories * 999 = mul-le-mul_left net.histories most in
       omega (arith, read, less, is.histories.1)
 
@@ -115,7 +115,7 @@ limited net left k is many seats =
     (length-map-range_with_len (λ j. total_to_come net j k) 0 (length net.products)) (bounds-within net is k)
 
 pub opening-limited : OpeningsAreLimited
-opening-limited net is = limited net (inventory_of net).seats 1 is (seats-count net) (λ i short. omega (arith, seats-are net i))
+opening-limited net is = limited net (inventory_of net).authorised 1 is (authorised-count net) (λ i short. omega (arith, authorised-are net i))
 
 -- and so is what was made of its parts
 pub limited-parts : (net : NetworkValue) (caps bounds fares : List ℕ) (legs : List (List ℕ)) → IsNetwork net

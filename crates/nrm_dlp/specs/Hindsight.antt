@@ -2,7 +2,7 @@
 use Rattle.std.specs.Prelude.{ℕ, ℤ, ◌≡◌, ◌<◌, ◌≤◌, ◌*◌, ◌≤ℤ◌, ◌*ℤ◌, pos, List, length, slice_index, nat_abs}
 use Rattle.nrm_fraction.specs.Fraction.{Fraction, ◌over◌}
 use Rattle.nrm_fraction.specs.Large.{size_limit}
-use Rattle.nrm_model.specs.Network.{NetworkValue, least_seats_of}
+use Rattle.nrm_model.specs.Network.{NetworkValue, least_authorised_of}
 use Rattle.nrm_lp.specs.declared.certificate.Certificate.{Certificate}
 use Rattle.nrm_lp.specs.Overflow.{Overflows}
 use Rattle.nrm_lp.specs.Program.{IsAllocation, ProgramValue, gain}
@@ -12,7 +12,7 @@ use Rattle.nrm_dlp.specs.Programs.{hindsight_program}
 -- a tally for each product, none above the least seats among the product's legs
 pub record AreTallies (net : NetworkValue) (tallies : List ℕ) : Type 0 where
   pub products : length tallies ≡ length net.products
-  pub seats : (j : ℕ) → j < length net.products → slice_index tallies j ≤ least_seats_of net j
+  pub seats : (j : ℕ) → j < length net.products → slice_index tallies j ≤ least_authorised_of net j
 
 -- the value of hindsight at these tallies, in currency units: that of the closing of its program
 pub record IsHindsight (net : NetworkValue) (tallies : List ℕ) (value : Fraction) : Type 0 where

@@ -17,7 +17,7 @@ ProgramsAreLimited = (net : NetworkValue) (caps bounds : List ℕ) → IsNetwork
 -- at seats left, on no leg more than it has, in any period
 abbrev pub SeatsLeftAreLimited : Type 0
 SeatsLeftAreLimited = (net : NetworkValue) (left : List ℕ) (k : ℕ) → IsNetwork net → length left ≡ length net.legs
-    → ((i : ℕ) → i < length net.legs → slice_index left i ≤ (leg_of net i).seats) → IsLimited (program_at net left k)
+    → ((i : ℕ) → i < length net.legs → slice_index left i ≤ (leg_of net i).authorised) → IsLimited (program_at net left k)
 
 -- and before anything is sold
 abbrev pub OpeningsAreLimited : Type 0

@@ -20,8 +20,8 @@ program_at net left k =
 -- the program of hindsight: the past requests once and not the histories' demand, so a leg has its seats once, and a product is bounded
 -- by its tally
 abbrev pub hindsight_program : NetworkValue → List ℕ → ProgramValue
-hindsight_program net tallies = program_of net (inventory_of net).seats tallies
+hindsight_program net tallies = program_of net (inventory_of net).authorised tallies
 
 -- the program before anything is sold: that of period 1 with every seat left
 abbrev pub opening_program : NetworkValue → ProgramValue
-opening_program net = program_at net (inventory_of net).seats 1
+opening_program net = program_at net (inventory_of net).authorised 1

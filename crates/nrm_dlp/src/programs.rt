@@ -50,7 +50,7 @@ pub fn program_at(
     period: u8,
 ) -> Result<Program, AllocError>
     requires legs { length left.now ≡ length net.now.legs }
-    requires seats { (i : ℕ) → i < length net.now.legs → slice_index left.now i ≤ (leg_of net.now i).seats }
+    requires seats { (i : ℕ) → i < length net.now.legs → slice_index left.now i ≤ (leg_of net.now i).authorised }
     requires period { IsInRange 1 net.now.periods period }
     ensures { IfOk result (λ program. program ≡ program_at net.now left.now period) }
 {
@@ -66,7 +66,7 @@ pub fn program_at(
 pub fn opening_program(alloc: Global, net: &Network) -> Result<Program, AllocError>
     ensures { IfOk result (λ program. program ≡ opening_program net.now) }
 {
-    let left = net.seats_of_legs(alloc)?;
+    let left = net.authorised_of_legs(alloc)?;
     program_at(alloc, net, &left, 1)
 }
 
@@ -91,10 +91,10 @@ pub fn hindsight_program(
 
 // The seats of each leg, once and not for each history.
 fn caps_once(alloc: Global, net: &Network) -> Result<Vec<u32>, AllocError>
-    ensures caps { IfOk result (λ caps. caps.items ≡ (inventory_of net.now).seats) }
+    ensures caps { IfOk result (λ caps. caps.items ≡ (inventory_of net.now).authorised) }
     ensures limits { IsNetwork net.now }
 {
-    let seats = net.seats_of_legs(alloc)?;
+    let seats = net.authorised_of_legs(alloc)?;
     widened(alloc, &seats)
 }
 

@@ -76,10 +76,10 @@ no_feed words h = joined_none 10 words (λ e. cc) (λ k d short. (h k d short).f
 
 -- ---- legs and products by their numbers
 no_leg : Leg
-no_leg = record { name = []; seats = 0; cuts = [] }
+no_leg = record { name = []; seats = 0; authorised = 0; cuts = [] }
 
 no_product : Product
-no_product = record { name = []; fare = 0; legs = [] }
+no_product = record { name = []; fare = 0; refund = 0; legs = [] }
 
 module _ (net : NetworkValue) (is : IsNetwork net) where
   leg_at : (i : ℕ) → leg_of net i ≡ get_or net.legs i no_leg

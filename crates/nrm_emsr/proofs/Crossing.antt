@@ -170,16 +170,16 @@ module _ (net : NetworkValue) (cert : Certificate) (i k : ℕ) (some : 0 < nat_a
       none = crosses-none a next w (length demands) v above-nat next-nat
 
       -- the demand at the place of the greatest count that passes is enough, or the seats where they are fewer
-      place-is : min (leg_of net i).seats (get_or falling (greatest_count test (length demands)) 0) ≡ seats_enough net cert i k b
+      place-is : min (leg_of net i).authorised (get_or falling (greatest_count test (length demands)) 0) ≡ seats_enough net cert i k b
       place-is =
           sym (enough-least net cert i k b (get_or falling (greatest_count test (length demands)) 0) some-weight
           (sym (pointwise (get_or falling (greatest_count test (length demands)) 0)) ∙ number-passes test below none demands falling moved falls)
           (λ y under. sym (pointwise y) ∙ lower-fails test below none demands falling moved falls y under))
 
-      pub enough-is : min (leg_of net i).seats (get_or falling (greatest_count (λ count. crosses count a w net.histories next v) net.histories) 0) ≡ seats_enough net cert i k b
-      enough-is = ap (λ (n : ℕ). min (leg_of net i).seats (get_or falling (greatest_count (λ count. crosses count a w n next v) n) 0)) (sym long) ∙ place-is
+      pub enough-is : min (leg_of net i).authorised (get_or falling (greatest_count (λ count. crosses count a w net.histories next v) net.histories) 0) ≡ seats_enough net cert i k b
+      enough-is = ap (λ (n : ℕ). min (leg_of net i).authorised (get_or falling (greatest_count (λ count. crosses count a w n next v) n) 0)) (sym long) ∙ place-is
 
 pub none-enough : (net : NetworkValue) (cert : Certificate) (i k b : ℕ) → nest_weight (nest_on net cert i k) 1 b ≡ 0 → 0 ≡ seats_enough net cert i k b
 none-enough net cert i k b none =
     let zero = sym (weight-is net cert i k 1 b) ∙ none in
-    sym (ap (λ (t : Bool). cond t 0 (least_from (suffices net cert i k b) (leg_of net i).seats 0)) (eq-eqb (weight_of net cert i k 1 b) 0 zero))
+    sym (ap (λ (t : Bool). cond t 0 (least_from (suffices net cert i k b) (leg_of net i).authorised 0)) (eq-eqb (weight_of net cert i k 1 b) 0 zero))

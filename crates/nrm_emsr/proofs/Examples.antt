@@ -75,8 +75,8 @@ abbrev pub small_pair : NetworkValue
 small_pair = record {
   histories = 2;
   periods = 1;
-  legs = record { name = codes "PQ"; seats = 5; cuts = 40 ∷ [] } ∷ record { name = codes "QR"; seats = 2; cuts = 200 ∷ [] } ∷ [];
-  products = record { name = codes "QRH"; fare = 300; legs = 1 ∷ [] } ∷ record { name = codes "PQL"; fare = 50; legs = 0 ∷ [] } ∷ record { name = codes "PRL"; fare = 120; legs = 0 ∷ 1 ∷ [] } ∷ [];
+  legs = record { name = codes "PQ"; seats = 5; authorised = 5; cuts = 40 ∷ [] } ∷ record { name = codes "QR"; seats = 2; authorised = 2; cuts = 200 ∷ [] } ∷ [];
+  products = record { name = codes "QRH"; fare = 300; refund = 100; legs = 1 ∷ [] } ∷ record { name = codes "PQL"; fare = 50; refund = 100; legs = 0 ∷ [] } ∷ record { name = codes "PRL"; fare = 120; refund = 100; legs = 0 ∷ 1 ∷ [] } ∷ [];
   demand = 3 ∷ 3 ∷ 2 ∷ 1 ∷ 1 ∷ 1 ∷ [];
 }
 
@@ -93,8 +93,8 @@ abbrev pub last_empty : NetworkValue
 last_empty = record {
   histories = 2;
   periods = 1;
-  legs = record { name = codes "AB"; seats = 10; cuts = 100 ∷ [] } ∷ [];
-  products = record { name = codes "TOP"; fare = 150; legs = 0 ∷ [] } ∷ [];
+  legs = record { name = codes "AB"; seats = 10; authorised = 10; cuts = 100 ∷ [] } ∷ [];
+  products = record { name = codes "TOP"; fare = 150; refund = 100; legs = 0 ∷ [] } ∷ [];
   demand = 4 ∷ 8 ∷ [];
 }
 
@@ -108,8 +108,8 @@ abbrev pub edges : NetworkValue
 edges = record {
   histories = 2;
   periods = 1;
-  legs = record { name = codes "GH"; seats = 600; cuts = 1000 ∷ 300 ∷ [] } ∷ record { name = codes "AB"; seats = 4; cuts = 300 ∷ 200 ∷ 100 ∷ [] } ∷ [];
-  products = record { name = codes "G1"; fare = 1000; legs = 0 ∷ [] } ∷ record { name = codes "G2"; fare = 300; legs = 0 ∷ [] } ∷ record { name = codes "G3"; fare = 299; legs = 0 ∷ [] } ∷ record { name = codes "TOP"; fare = 300; legs = 1 ∷ [] } ∷ [];
+  legs = record { name = codes "GH"; seats = 600; authorised = 600; cuts = 1000 ∷ 300 ∷ [] } ∷ record { name = codes "AB"; seats = 4; authorised = 4; cuts = 300 ∷ 200 ∷ 100 ∷ [] } ∷ [];
+  products = record { name = codes "G1"; fare = 1000; refund = 100; legs = 0 ∷ [] } ∷ record { name = codes "G2"; fare = 300; refund = 100; legs = 0 ∷ [] } ∷ record { name = codes "G3"; fare = 299; refund = 100; legs = 0 ∷ [] } ∷ record { name = codes "TOP"; fare = 300; refund = 100; legs = 1 ∷ [] } ∷ [];
   demand = 10 ∷ 0 ∷ 500 ∷ 5 ∷ 1 ∷ 1 ∷ 2 ∷ 6 ∷ [];
 }
 

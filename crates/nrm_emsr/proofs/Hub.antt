@@ -10,18 +10,18 @@ abbrev pub hub : NetworkValue
 hub = record {
   histories = 2;
   periods = 2;
-  legs = record { name = codes "NYC-CHI"; seats = 130; cuts = 400 ∷ 150 ∷ [] } ∷ record { name = codes "BOS-CHI"; seats = 70; cuts = 400 ∷ 150 ∷ [] } ∷ record { name = codes "CHI-LAX"; seats = 120; cuts = 400 ∷ 150 ∷ [] } ∷ record { name = codes "CHI-SEA"; seats = 60; cuts = 400 ∷ 150 ∷ [] } ∷ [];
-  products = record { name = codes "NC-Y"; fare = 320; legs = 0 ∷ [] }
-      ∷ record { name = codes "NC-Q"; fare = 110; legs = 0 ∷ [] }
-      ∷ record { name = codes "BC-Y"; fare = 300; legs = 1 ∷ [] }
-      ∷ record { name = codes "BC-Q"; fare = 95; legs = 1 ∷ [] }
-      ∷ record { name = codes "CL-Y"; fare = 520; legs = 2 ∷ [] }
-      ∷ record { name = codes "CL-Q"; fare = 180; legs = 2 ∷ [] }
-      ∷ record { name = codes "NL-Y"; fare = 700; legs = 0 ∷ 2 ∷ [] }
-      ∷ record { name = codes "NL-Q"; fare = 260; legs = 0 ∷ 2 ∷ [] }
-      ∷ record { name = codes "BL-Q"; fare = 240; legs = 1 ∷ 2 ∷ [] }
-      ∷ record { name = codes "CS-Y"; fare = 450; legs = 3 ∷ [] }
-      ∷ record { name = codes "NS-Q"; fare = 230; legs = 0 ∷ 3 ∷ [] } ∷ [];
+  legs = record { name = codes "NYC-CHI"; seats = 130; authorised = 130; cuts = 400 ∷ 150 ∷ [] } ∷ record { name = codes "BOS-CHI"; seats = 70; authorised = 70; cuts = 400 ∷ 150 ∷ [] } ∷ record { name = codes "CHI-LAX"; seats = 120; authorised = 120; cuts = 400 ∷ 150 ∷ [] } ∷ record { name = codes "CHI-SEA"; seats = 60; authorised = 60; cuts = 400 ∷ 150 ∷ [] } ∷ [];
+  products = record { name = codes "NC-Y"; fare = 320; refund = 100; legs = 0 ∷ [] }
+      ∷ record { name = codes "NC-Q"; fare = 110; refund = 100; legs = 0 ∷ [] }
+      ∷ record { name = codes "BC-Y"; fare = 300; refund = 100; legs = 1 ∷ [] }
+      ∷ record { name = codes "BC-Q"; fare = 95; refund = 100; legs = 1 ∷ [] }
+      ∷ record { name = codes "CL-Y"; fare = 520; refund = 100; legs = 2 ∷ [] }
+      ∷ record { name = codes "CL-Q"; fare = 180; refund = 100; legs = 2 ∷ [] }
+      ∷ record { name = codes "NL-Y"; fare = 700; refund = 100; legs = 0 ∷ 2 ∷ [] }
+      ∷ record { name = codes "NL-Q"; fare = 260; refund = 100; legs = 0 ∷ 2 ∷ [] }
+      ∷ record { name = codes "BL-Q"; fare = 240; refund = 100; legs = 1 ∷ 2 ∷ [] }
+      ∷ record { name = codes "CS-Y"; fare = 450; refund = 100; legs = 3 ∷ [] }
+      ∷ record { name = codes "NS-Q"; fare = 230; refund = 100; legs = 0 ∷ 3 ∷ [] } ∷ [];
   demand = 10 ∷ 10 ∷ 12 ∷ 8 ∷ 20 ∷ 10 ∷ 24 ∷ 6 ∷ 8 ∷ 8 ∷ 6 ∷ 10 ∷ 15 ∷ 5 ∷ 18 ∷ 2 ∷ 15 ∷ 20 ∷ 10 ∷ 15 ∷ 40 ∷ 10 ∷ 45 ∷ 5 ∷ 10 ∷ 10 ∷ 8 ∷ 12 ∷ 25 ∷ 5 ∷ 30 ∷ 4 ∷ 20 ∷ 5 ∷ 22 ∷ 3 ∷ 12 ∷ 12 ∷ 10 ∷ 16 ∷ 15 ∷ 5 ∷ 12 ∷ 8 ∷ [];
 }
 

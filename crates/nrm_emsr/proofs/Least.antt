@@ -28,8 +28,8 @@ least-min p c passes fails (suc n) y low = elim (cases_lt y c) [
 
 pub enough-least : (net : NetworkValue) (cert : Certificate) (i k b c : ℕ) → 0 < weight_of net cert i k 1 b
     → suffices net cert i k b c ≡ true → ((y : ℕ) → y < c → suffices net cert i k b y ≡ false)
-    → seats_enough net cert i k b ≡ min (leg_of net i).seats c
+    → seats_enough net cert i k b ≡ min (leg_of net i).authorised c
 enough-least net cert i k b c some passes fails =
-    ap (λ (t : Bool). cond t 0 (least_from (suffices net cert i k b) (leg_of net i).seats 0)) (ne_eqb (weight_of net cert i k 1 b) 0 (λ none. omega (arith, none, some)))
-    ∙ least-min (suffices net cert i k b) c passes fails (leg_of net i).seats 0 (omega arith)
-    ∙ ap (λ (n : ℕ). min n c) (zero-add (leg_of net i).seats)
+    ap (λ (t : Bool). cond t 0 (least_from (suffices net cert i k b) (leg_of net i).authorised 0)) (ne_eqb (weight_of net cert i k 1 b) 0 (λ none. omega (arith, none, some)))
+    ∙ least-min (suffices net cert i k b) c passes fails (leg_of net i).authorised 0 (omega arith)
+    ∙ ap (λ (n : ℕ). min n c) (zero-add (leg_of net i).authorised)

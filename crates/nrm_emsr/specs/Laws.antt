@@ -10,7 +10,7 @@ use Rattle.nrm_emsr.specs.Protections.{seats_enough, suffices}
 abbrev pub EnoughIsLeast : Type 0
 EnoughIsLeast = (net : NetworkValue) (cert : Certificate) (i k b c : ℕ) → 0 < weight_of net cert i k 1 b
     → suffices net cert i k b c ≡ true → ((y : ℕ) → y < c → suffices net cert i k b y ≡ false)
-    → seats_enough net cert i k b ≡ min (leg_of net i).seats c
+    → seats_enough net cert i k b ≡ min (leg_of net i).authorised c
 
 -- and some number suffices: as many seats as there is demand for those buckets in all histories together
 abbrev pub WholeDemandSuffices : Type 0

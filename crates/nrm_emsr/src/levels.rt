@@ -104,9 +104,9 @@ fn capped(demand: u32, seats: u16) -> u16
 // The seats of a leg, which no protection exceeds.
 fn cap_of(net: &Network, leg: u8) -> u16
     requires { leg < length net.now.legs }
-    ensures { result ≡ (leg_of net.now leg).seats }
+    ensures { result ≡ (leg_of net.now leg).authorised }
 {
-    net.leg_at(leg).seats
+    net.leg_at(leg).authorised
 }
 
 // The demand to come of buckets 1 to `last` in each history.

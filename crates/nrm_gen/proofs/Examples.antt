@@ -38,28 +38,28 @@ product_names : map product_name (0 ∷ 1 ∷ 2 ∷ 22 ∷ 23 ∷ 24 ∷ 25 ∷ 
 product_names = refl
 
 -- ---- networks
-first_leg : made_leg 0 0 ≡ record { name = codes "I1"; seats = 40; cuts = 400 ∷ 200 ∷ 100 ∷ [] }
+first_leg : made_leg 0 0 ≡ record { name = codes "I1"; seats = 40; authorised = 40; cuts = 400 ∷ 200 ∷ 100 ∷ [] }
 unfolding state_after
 first_leg = refl
 
-some_legs : (made_leg 1 0 ≡ record { name = codes "I1"; seats = 78; cuts = 400 ∷ 200 ∷ 100 ∷ [] })
-    × (made_leg 1 5 ≡ record { name = codes "I6"; seats = 67; cuts = 400 ∷ 200 ∷ 100 ∷ [] })
-    × (made_leg 1 6 ≡ record { name = codes "O1"; seats = 50; cuts = 400 ∷ 200 ∷ 100 ∷ [] })
-    × (made_leg 1 11 ≡ record { name = codes "O6"; seats = 47; cuts = 400 ∷ 200 ∷ 100 ∷ [] })
+some_legs : (made_leg 1 0 ≡ record { name = codes "I1"; seats = 78; authorised = 78; cuts = 400 ∷ 200 ∷ 100 ∷ [] })
+    × (made_leg 1 5 ≡ record { name = codes "I6"; seats = 67; authorised = 67; cuts = 400 ∷ 200 ∷ 100 ∷ [] })
+    × (made_leg 1 6 ≡ record { name = codes "O1"; seats = 50; authorised = 50; cuts = 400 ∷ 200 ∷ 100 ∷ [] })
+    × (made_leg 1 11 ≡ record { name = codes "O6"; seats = 47; authorised = 47; cuts = 400 ∷ 200 ∷ 100 ∷ [] })
 unfolding state_after
 some_legs = (refl, refl, refl, refl)
 
-local_products : (made_product 1 0 ≡ record { name = codes "I1-H"; fare = 384; legs = 0 ∷ [] })
-    × (made_product 1 1 ≡ record { name = codes "I1-L"; fare = 160; legs = 0 ∷ [] })
-    × (made_product 1 22 ≡ record { name = codes "O6-H"; fare = 351; legs = 11 ∷ [] })
-    × (made_product 1 23 ≡ record { name = codes "O6-L"; fare = 167; legs = 11 ∷ [] })
+local_products : (made_product 1 0 ≡ record { name = codes "I1-H"; fare = 384; refund = 100; legs = 0 ∷ [] })
+    × (made_product 1 1 ≡ record { name = codes "I1-L"; fare = 160; refund = 100; legs = 0 ∷ [] })
+    × (made_product 1 22 ≡ record { name = codes "O6-H"; fare = 351; refund = 100; legs = 11 ∷ [] })
+    × (made_product 1 23 ≡ record { name = codes "O6-L"; fare = 167; refund = 100; legs = 11 ∷ [] })
 unfolding state_after
 local_products = (refl, refl, refl, refl)
 
-through_products : (made_product 1 24 ≡ record { name = codes "T1-1"; fare = 504; legs = 0 ∷ 6 ∷ [] })
-    × (made_product 1 25 ≡ record { name = codes "T1-2"; fare = 603; legs = 0 ∷ 7 ∷ [] })
-    × (made_product 1 30 ≡ record { name = codes "T2-1"; fare = 635; legs = 1 ∷ 6 ∷ [] })
-    × (made_product 1 59 ≡ record { name = codes "T6-6"; fare = 540; legs = 5 ∷ 11 ∷ [] })
+through_products : (made_product 1 24 ≡ record { name = codes "T1-1"; fare = 504; refund = 100; legs = 0 ∷ 6 ∷ [] })
+    × (made_product 1 25 ≡ record { name = codes "T1-2"; fare = 603; refund = 100; legs = 0 ∷ 7 ∷ [] })
+    × (made_product 1 30 ≡ record { name = codes "T2-1"; fare = 635; refund = 100; legs = 1 ∷ 6 ∷ [] })
+    × (made_product 1 59 ≡ record { name = codes "T6-6"; fare = 540; refund = 100; legs = 5 ∷ 11 ∷ [] })
 unfolding state_after
 through_products = (refl, refl, refl, refl)
 
@@ -111,11 +111,11 @@ after_the_last : (next_of (record { state = 441979785; given = 10000 }) ≡ None
 after_the_last = (refl, refl)
 
 -- ---- a product on two inbound legs, or on two outbound ones, doesn't use one leg each way; the last inbound leg is the sixth
-two_inbound : UsesOneLegEachWay (record { name = codes "X"; fare = 1; legs = 0 ∷ 5 ∷ [] }) → ⊥
+two_inbound : UsesOneLegEachWay (record { name = codes "X"; fare = 1; refund = 100; legs = 0 ∷ 5 ∷ [] }) → ⊥
 two_inbound uses = omega (arith, uses.inbound)
 
-two_outbound : UsesOneLegEachWay (record { name = codes "X"; fare = 1; legs = 6 ∷ 11 ∷ [] }) → ⊥
+two_outbound : UsesOneLegEachWay (record { name = codes "X"; fare = 1; refund = 100; legs = 6 ∷ 11 ∷ [] }) → ⊥
 two_outbound uses = omega (arith, uses.outbound)
 
-one_each_way : UsesOneLegEachWay (record { name = codes "X"; fare = 1; legs = 5 ∷ 6 ∷ [] })
+one_each_way : UsesOneLegEachWay (record { name = codes "X"; fare = 1; refund = 100; legs = 5 ∷ 6 ∷ [] })
 one_each_way = record { inbound = omega arith; outbound = omega arith }

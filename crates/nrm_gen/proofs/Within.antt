@@ -23,11 +23,12 @@ use Rattle.nrm_number.proofs.Ranges.{passes-below}
 -- ---- a leg and a product: all but the seats and the fare is the same in each made network, and is tested
 is-leg : (number i : ℕ) → i < 12 → IsLeg (made_leg number i)
 is-leg number i few =
-    let first = IsLeg-from_test (record { name = leg_name 0; seats = 40; cuts = 400 ∷ 200 ∷ 100 ∷ [] }) refl in
+    let first = IsLeg-from_test (record { name = leg_name 0; seats = 40; authorised = 40; cuts = 400 ∷ 200 ∷ 100 ∷ [] }) refl in
     let below = mod_below (state_after number (suc i) / 65536) 40 (omega arith) in
     record {
       name = passes-below 12 (λ i. is_name (leg_name i)) refl i few;
       seats = omega arith;
+      authorised = omega arith;
       cut_count = first.cut_count;
       cuts = first.cuts;
       falling = first.falling;
@@ -42,8 +43,8 @@ a-fare base m z some few more little = let below = mod_below (z / 65536) m more 
 
 is-product : (number j : ℕ) → j < 60 → IsProduct 12 (made_product number j)
 is-product number j few =
-    let shape = IsProduct-from_test 12 (record { name = product_name j; fare = 100; legs = product_legs j })
-    (passes-below 60 (λ j. product_fits 12 (record { name = product_name j; fare = 100; legs = product_legs j })) refl j few) in
+    let shape = IsProduct-from_test 12 (record { name = product_name j; fare = 100; refund = 100; legs = product_legs j })
+    (passes-below 60 (λ j. product_fits 12 (record { name = product_name j; fare = 100; refund = 100; legs = product_legs j })) refl j few) in
     let z = state_after number (suc (12 + j)) in
     record {
       name = shape.name;
@@ -51,6 +52,7 @@ is-product number j few =
           (one-of-two (j % 2 == 0) _ _ (a-fare 300 200 z (omega arith) (omega arith) (omega arith) (omega arith))
           (a-fare 100 100 z (omega arith) (omega arith) (omega arith) (omega arith)))
           (a-fare 350 300 z (omega arith) (omega arith) (omega arith) (omega arith));
+      refund = shape.refund;
       leg_count = shape.leg_count;
       legs = shape.legs;
       distinct = shape.distinct;
@@ -60,8 +62,8 @@ is-product number j few =
 all-names : IsNetwork (record {
   histories = 1;
   periods = 1;
-  legs = map (λ i. record { name = leg_name i; seats = 40; cuts = [] }) (range_with_len 0 12);
-  products = map (λ j. record { name = product_name j; fare = 100; legs = product_legs j }) (range_with_len 0 60);
+  legs = map (λ i. record { name = leg_name i; seats = 40; authorised = 40; cuts = [] }) (range_with_len 0 12);
+  products = map (λ j. record { name = product_name j; fare = 100; refund = 100; legs = product_legs j }) (range_with_len 0 60);
   demand = replicate 60 0;
 })
 all-names = IsNetwork-from_test _ refl

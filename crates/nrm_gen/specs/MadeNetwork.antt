@@ -11,9 +11,11 @@ use Rattle.nrm_gen.specs.Draws.{draw_of}
 abbrev pub leg_name : ℕ → List ℕ
 leg_name i = if nat_lt i 6 then 73 ∷ (49 + i) ∷ [] else 79 ∷ (43 + i) ∷ []
 
--- 40 to 79 seats, by the draw of the leg's number
+-- 40 to 79 seats, by the draw of the leg's number, all of them authorised and no more
 abbrev pub made_leg : ℕ → ℕ → Leg
-made_leg number i = record { name = leg_name i; seats = 40 + draw_of number i 40; cuts = 400 ∷ 200 ∷ 100 ∷ [] }
+made_leg number i =
+    let seats = 40 + draw_of number i 40 in
+    record { name = leg_name i; seats = seats; authorised = seats; cuts = 400 ∷ 200 ∷ 100 ∷ [] }
 
 -- products 0 to 23: on each leg X the dear one, X-H, and then the cheap one, X-L; products 24 to 59: Ta-b on Ia and
 -- Ob, for each a and each b
@@ -32,7 +34,7 @@ product_fare number j =
     else 350 + draw_of number (12 + j) 300
 
 abbrev pub made_product : ℕ → ℕ → Product
-made_product number j = record { name = product_name j; fare = product_fare number j; legs = product_legs j }
+made_product number j = record { name = product_name j; fare = product_fare number j; refund = 100; legs = product_legs j }
 
 -- the demand of product j, history h (from 0) and period t (from 0): 0 to 5, by the draws after all these, product by
 -- product, history by history, period by period

@@ -1,4 +1,4 @@
-//! The parts of a made network. The seats of the legs are drawn first, then the fares of the products, then the demand, so
+//! The parts of a made network: as many seats are authorised as there are, and all is given back of each fare. The seats of the legs are drawn first, then the fares of the products, then the demand, so
 //! a contract says how many draws came before.
 ghost use Rattle.std.specs.Prelude.{◌≡◌, ◌+◌, ◌<◌, ℕ, IfOk, OnOk, map};
 ghost use Rattle.std.specs.List.{range_with_len};
@@ -7,7 +7,7 @@ ghost use Rattle.nrm_gen.specs.MadeNetwork.{made_demand, made_leg, made_product,
 
 use crate::draws::Draws;
 use crate::names::{leg_name, product_name};
-use nrm_model::{Leg, LegNumbers, Product, Thresholds};
+use nrm_model::{Leg, LegNumbers, MOST_REFUND, Product, Thresholds};
 use std::alloc::{AllocError, Global};
 
 /// How many histories a made network has.
@@ -74,6 +74,7 @@ fn made_leg(alloc: Global, draws: &mut Draws, leg: u8) -> Result<Leg, AllocError
     Ok(Leg {
         name: leg_name(leg),
         seats,
+        authorised: seats,
         cuts: Thresholds::new(cuts),
     })
 }
@@ -90,6 +91,7 @@ fn made_product(alloc: Global, draws: &mut Draws, product: u8) -> Result<Product
     Ok(Product {
         name: product_name(product),
         fare,
+        refund: MOST_REFUND,
         legs: LegNumbers::new(legs),
     })
 }

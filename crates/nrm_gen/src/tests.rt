@@ -8,7 +8,7 @@ fn network_of_0(rt: HostRuntime) -> Result<(), Fail> {
     let (net, _) = made(rt.alloc(), 0)?;
     assert_eq!(rt; (net.n(), net.t()), (8, 4));
     assert_eq!(rt; net.leg_at(0).name.bytes(), b"I1".as_slice());
-    assert_eq!(rt; net.leg_at(0).seats, 40);
+    assert_eq!(rt; (net.leg_at(0).seats, net.leg_at(0).authorised), (40, 40));
     Ok(())
 }
 
@@ -16,9 +16,9 @@ fn network_of_0(rt: HostRuntime) -> Result<(), Fail> {
 fn network_of_1(rt: HostRuntime) -> Result<(), Fail> {
     let (net, _) = made(rt.alloc(), 1)?;
     assert_eq!(rt; (net.leg_count(), net.product_count()), (12, 60));
-    assert_eq!(rt; net.leg_at(0).seats, 78);
+    assert_eq!(rt; (net.leg_at(0).seats, net.leg_at(0).authorised), (78, 78));
     assert_eq!(rt; net.product_at(0).name.bytes(), b"I1-H".as_slice());
-    assert_eq!(rt; net.product_at(0).fare, 384);
+    assert_eq!(rt; (net.product_at(0).fare, net.product_at(0).refund), (384, 100));
     Ok(())
 }
 

@@ -2,7 +2,7 @@
 use Rattle.std.proofs.Common.{ap, arith, lit<, zero, suc}
 use Rattle.std.specs.Prelude.{ℕ, ◌≡◌, ◌<◌, ◌≤◌, ◌≤ℤ◌, ◌*◌, pos, List, [], ◌∷◌, codes, refl}
 use Rattle.nrm_fraction.specs.Fraction.{Fraction}
-use Rattle.nrm_model.specs.Inventory.{inventory_of, seats_of}
+use Rattle.nrm_model.specs.Inventory.{inventory_of, authorised_of}
 use Rattle.nrm_model.specs.Network.{NetworkValue}
 use Rattle.nrm_lp.specs.Program.{cost}
 use Rattle.nrm_dlp.specs.Programs.{hindsight_program}
@@ -15,8 +15,8 @@ abbrev two_fares : NetworkValue
 two_fares = record {
   histories = 1;
   periods = 1;
-  legs = record { name = codes "X"; seats = 2; cuts = [] } ∷ [];
-  products = record { name = codes "LO"; fare = 100; legs = 0 ∷ [] } ∷ record { name = codes "HI"; fare = 300; legs = 0 ∷ [] } ∷ [];
+  legs = record { name = codes "X"; seats = 2; authorised = 2; cuts = [] } ∷ [];
+  products = record { name = codes "LO"; fare = 100; refund = 100; legs = 0 ∷ [] } ∷ record { name = codes "HI"; fare = 300; refund = 100; legs = 0 ∷ [] } ∷ [];
   demand = 0 ∷ 0 ∷ [];
 }
 
@@ -46,7 +46,7 @@ each_taken = refl
 the_dear_one : IsSelection two_fares low_then_high (high 2 ∷ [])
 the_dear_one = record { choice = left_out (left_out (taken (left_out none))); fits = λ i below. one i below }
   where
-    one : (i : ℕ) → i < 1 → seats_asked_on two_fares (high 2 ∷ []) i ≤ seats_of (inventory_of two_fares) i
+    one : (i : ℕ) → i < 1 → seats_asked_on two_fares (high 2 ∷ []) i ≤ authorised_of (inventory_of two_fares) i
     one zero below = omega arith
     one (suc i) below = absurd (omega (arith, below))
 
@@ -83,8 +83,8 @@ abbrev three_pairs : NetworkValue
 three_pairs = record {
   histories = 1;
   periods = 1;
-  legs = record { name = codes "X"; seats = 1; cuts = [] } ∷ record { name = codes "Y"; seats = 1; cuts = [] } ∷ record { name = codes "Z"; seats = 1; cuts = [] } ∷ [];
-  products = record { name = codes "P1"; fare = 100; legs = 0 ∷ 1 ∷ [] } ∷ record { name = codes "P2"; fare = 100; legs = 1 ∷ 2 ∷ [] } ∷ record { name = codes "P3"; fare = 101; legs = 2 ∷ 0 ∷ [] } ∷ [];
+  legs = record { name = codes "X"; seats = 1; authorised = 1; cuts = [] } ∷ record { name = codes "Y"; seats = 1; authorised = 1; cuts = [] } ∷ record { name = codes "Z"; seats = 1; authorised = 1; cuts = [] } ∷ [];
+  products = record { name = codes "P1"; fare = 100; refund = 100; legs = 0 ∷ 1 ∷ [] } ∷ record { name = codes "P2"; fare = 100; refund = 100; legs = 1 ∷ 2 ∷ [] } ∷ record { name = codes "P3"; fare = 101; refund = 100; legs = 2 ∷ 0 ∷ [] } ∷ [];
   demand = 0 ∷ 0 ∷ 0 ∷ [];
 }
 

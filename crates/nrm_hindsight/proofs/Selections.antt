@@ -8,9 +8,9 @@ use Rattle.std.proofs.lemmas.List.Elements.{All-head, All-map, All-tail}
 use Rattle.std.proofs.lemmas.List.FromFn.{get_or-map-range_with_len, length-map-range_with_len}
 use Rattle.std.proofs.lemmas.List.Sums.{sum_by-cons}
 use Rattle.std.proofs.lemmas.Option.{unwrap_or-slice_get}
-use Rattle.nrm_model.specs.Inventory.{inventory_of, products_on, seats_of, uses_leg}
+use Rattle.nrm_model.specs.Inventory.{inventory_of, products_on, authorised_of, uses_leg}
 use Rattle.nrm_model.specs.Limits.{IsNetwork}
-use Rattle.nrm_model.specs.Network.{NetworkValue, leg_of, least_of, least_seats_of, product_of}
+use Rattle.nrm_model.specs.Network.{NetworkValue, leg_of, least_of, least_authorised_of, product_of}
 use Rattle.nrm_model.proofs.SeatLemmas.{product-within}
 use Rattle.nrm_lp.specs.Program.{IsAllocation, dot, gain, load, names}
 use Rattle.nrm_dlp.specs.Programs.{hindsight_program}
@@ -24,7 +24,7 @@ use Rattle.nrm_hindsight.specs.Selections.{IsSelection, earned_by, seats_asked_o
 use Rattle.nrm_hindsight.proofs.Asked.{asked-cons, asked-is-sold, chosen-asks-le, party_for}
 use Rattle.nrm_dlp.proofs.Bounds.{hindsight-bounds}
 use Rattle.nrm_hindsight.proofs.Choices.{all-chosen}
-use Rattle.nrm_model.proofs.Inventories.{fare-is, fare-past, fares-count, legs-are, legs-count, seats-are}
+use Rattle.nrm_model.proofs.Inventories.{fare-is, fare-past, fares-count, legs-are, legs-count, authorised-are}
 use Rattle.nrm_hindsight.proofs.Sums.{dot-is, load-is, one-term, passing-le}
 use Rattle.nrm_hindsight.proofs.Tallies.{tallies-capped}
 
@@ -43,14 +43,14 @@ leg-carries : (net : NetworkValue) (chosen : List Request) (i j : ℕ) → j < l
 leg-carries net chosen i j few uses =
     passing-le (uses_leg (inventory_of net) i) (asked_for chosen) j 0 (length (inventory_of net).legs) (omega arith) (omega (arith, few, legs-count net)) uses
 
-within-least : (net : NetworkValue) (requests chosen : List Request) (j : ℕ) → IsNetwork net → IsSelection net requests chosen → j < length net.products → asked_for chosen j ≤ least_seats_of net j
+within-least : (net : NetworkValue) (requests chosen : List Request) (j : ℕ) → IsNetwork net → IsSelection net requests chosen → j < length net.products → asked_for chosen j ≤ least_authorised_of net j
 within-least net requests chosen j ok is few =
     let product = product-within net ok j few in
-    let seats = λ (i : ℕ). (leg_of net i).seats in
+    let seats = λ (i : ℕ). (leg_of net i).authorised in
     let uses : All (λ i. uses_leg (inventory_of net) i j ≡ true) (product_of net j).legs = subst (λ (legs : List ℕ). All (λ i. uses_leg (inventory_of net) i j ≡ true) legs) (legs-are net j) (uses-each (inventory_of net) j) in
     let each : All (λ i. asked_for chosen j ≤ seats i) (product_of net j).legs = λ k d short.
     let i = get_or (product_of net j).legs k d in
-    omega (arith, leg-carries net chosen i j few (uses k d short), is.fits i (product.legs k d short), seats-are net i) in
+    omega (arith, leg-carries net chosen i j few (uses k d short), is.fits i (product.legs k d short), authorised-are net i) in
     le-least (asked_for chosen j) (map seats (product_of net j).legs) (omega (arith, product.leg_count.0, length-map (product_of net j).legs seats)) (All-map (λ x. asked_for chosen j ≤ x) seats (product_of net j).legs each)
 
 -- ---- the allocation
@@ -147,8 +147,8 @@ bookings-selected net requests bookings choice fits = (
 )
 
 -- so of no product more is booked than the least seats among its legs
-pub sold-within-least : (net : NetworkValue) (bookings : List Booking) (j : ℕ) → IsNetwork net → ((i : ℕ) → i < length net.legs → sold_on (inventory_of net) bookings i ≤ seats_of (inventory_of net) i)
-    → j < length net.products → sold_of bookings j ≤ least_seats_of net j
+pub sold-within-least : (net : NetworkValue) (bookings : List Booking) (j : ℕ) → IsNetwork net → ((i : ℕ) → i < length net.legs → sold_on (inventory_of net) bookings i ≤ authorised_of (inventory_of net) i)
+    → j < length net.products → sold_of bookings j ≤ least_authorised_of net j
 sold-within-least net bookings j ok fits few =
     let is = bookings-selected net (requests_of bookings) bookings (all-chosen (requests_of bookings)) fits in
     omega (arith, asked-is-sold bookings j, within-least net (requests_of bookings) (requests_of bookings) j ok is.0 few)

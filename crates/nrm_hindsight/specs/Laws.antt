@@ -1,9 +1,9 @@
 -- The laws of hindsight: its value bounds each selection of past requests, and capped tallies suffice for it.
 use Rattle.std.specs.Prelude.{ℕ, ◌≡◌, ◌+◌, ◌<◌, ◌≤◌, ◌==◌, List, [], ◌∷◌, ◌++◌, length, min, if◌then◌else◌, slice_index}
 use Rattle.nrm_fraction.specs.Fraction.{Fraction}
-use Rattle.nrm_model.specs.Inventory.{inventory_of, seats_of}
+use Rattle.nrm_model.specs.Inventory.{inventory_of, authorised_of}
 use Rattle.nrm_model.specs.Limits.{IsNetwork}
-use Rattle.nrm_model.specs.Network.{NetworkValue, least_seats_of}
+use Rattle.nrm_model.specs.Network.{NetworkValue, least_authorised_of}
 use Rattle.nrm_lp.specs.Program.{IsAllocation, gain}
 use Rattle.nrm_dlp.specs.Hindsight.{AreTallies, IsHindsight}
 use Rattle.nrm_dlp.specs.Programs.{hindsight_program}
@@ -26,7 +26,7 @@ SelectionsAreBounded = (net : NetworkValue) (requests : List Request) (value : F
 -- bookings that are among the requests and oversell no leg are a selection, which earns their revenue
 abbrev pub BookingsAreSelected : Type 0
 BookingsAreSelected = (net : NetworkValue) (requests : List Request) (bookings : List Booking) → ChosenFrom requests (requests_of bookings)
-    → ((i : ℕ) → i < length net.legs → sold_on (inventory_of net) bookings i ≤ seats_of (inventory_of net) i)
+    → ((i : ℕ) → i < length net.legs → sold_on (inventory_of net) bookings i ≤ authorised_of (inventory_of net) i)
     → IsSelection net requests (requests_of bookings) × (earned_by net (requests_of bookings) ≡ revenue_of (inventory_of net) bookings)
 
 -- the tallies of requests are tallies of the network's products
@@ -37,7 +37,7 @@ TalliesAreCapped = (net : NetworkValue) (requests : List Request) → AreTallies
 abbrev pub TalliesGrow : Type 0
 TalliesGrow = (net : NetworkValue) (requests : List Request) (request : Request) (j : ℕ)
     → tally_of net (requests ++ request ∷ []) j ≡ min (tally_of net requests j + (if request.product == j then request.party else 0))
-    (least_seats_of net j)
+    (least_authorised_of net j)
 
 -- tallies that are at least what is booked of each product, and at most the least seats, are those of some requests, of which the
 -- bookings are a choice

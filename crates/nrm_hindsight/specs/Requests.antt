@@ -1,7 +1,7 @@
 -- Past requests, and their tallies.
 use Rattle.std.specs.Prelude.{ℕ, ◌==◌, List, length, map, sum_by, min, if◌then◌else◌}
 use Rattle.std.specs.List.{range_with_len}
-use Rattle.nrm_model.specs.Network.{NetworkValue, least_seats_of}
+use Rattle.nrm_model.specs.Network.{NetworkValue, least_authorised_of}
 use Rattle.nrm_book.specs.declared.booking.Booking.{Booking}
 
 -- a past request: a product and a party
@@ -15,7 +15,7 @@ asked_for requests j = sum_by (λ request. if request.product == j then request.
 
 -- the tally of a product: the seats asked for, but no more than the least seats among its legs
 abbrev pub tally_of : NetworkValue → List Request → ℕ → ℕ
-tally_of net requests j = min (asked_for requests j) (least_seats_of net j)
+tally_of net requests j = min (asked_for requests j) (least_authorised_of net j)
 
 abbrev pub tallies_of : NetworkValue → List Request → List ℕ
 tallies_of net requests = map (tally_of net requests) (range_with_len 0 (length net.products))

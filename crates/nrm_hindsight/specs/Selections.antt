@@ -2,7 +2,7 @@
 use Rattle.std.specs.Prelude.{ℕ, ◌≤◌, ◌*◌, ◌<◌, ◌≤ℤ◌, pos, List, [], ◌∷◌, length, map, sum_by}
 use Rattle.std.specs.List.{range_with_len}
 use Rattle.nrm_fraction.specs.Fraction.{Fraction}
-use Rattle.nrm_model.specs.Inventory.{inventory_of, products_on, seats_of}
+use Rattle.nrm_model.specs.Inventory.{inventory_of, products_on, authorised_of}
 use Rattle.nrm_model.specs.Network.{NetworkValue, product_of}
 use Rattle.nrm_hindsight.specs.Requests.{Request, asked_for}
 
@@ -20,7 +20,7 @@ seats_asked_on net requests i = sum_by (asked_for requests) (products_on (invent
 -- a selection: a choice of the requests that fits the seats of each leg
 pub record IsSelection (net : NetworkValue) (requests chosen : List Request) : Type 0 where
   pub choice : ChosenFrom requests chosen
-  pub fits : (i : ℕ) → i < length net.legs → seats_asked_on net chosen i ≤ seats_of (inventory_of net) i
+  pub fits : (i : ℕ) → i < length net.legs → seats_asked_on net chosen i ≤ authorised_of (inventory_of net) i
 
 -- what a selection earns: party times fare
 abbrev pub earned_by : NetworkValue → List Request → ℕ

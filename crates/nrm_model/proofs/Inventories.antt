@@ -5,14 +5,14 @@ use Rattle.std.proofs.Math.ListN.{get_or-map}
 use Rattle.std.proofs.lemmas.List.{get_or_past, length-map}
 use Rattle.nrm_model.specs.declared.leg.Leg.{Leg}
 use Rattle.nrm_model.specs.declared.product.Product.{Product}
-use Rattle.nrm_model.specs.Inventory.{inventory_of, legs_of, fare_of, seats_of}
+use Rattle.nrm_model.specs.Inventory.{inventory_of, legs_of, fare_of, authorised_of}
 use Rattle.nrm_model.specs.Network.{NetworkValue, leg_of, product_of}
 
 pub product_of-found : (net : NetworkValue) (j : ℕ) (product : Product) → Some product ≡ slice_get net.products j → product_of net j ≡ product
-product_of-found net j product is = ap (λ o. unwrap_or o (record { name = []; fare = 0; legs = [] })) (sym is)
+product_of-found net j product is = ap (λ o. unwrap_or o (record { name = []; fare = 0; refund = 0; legs = [] })) (sym is)
 
 pub leg_of-found : (net : NetworkValue) (i : ℕ) (leg : Leg) → Some leg ≡ slice_get net.legs i → leg_of net i ≡ leg
-leg_of-found net i leg is = ap (λ o. unwrap_or o (record { name = []; seats = 0; cuts = [] })) (sym is)
+leg_of-found net i leg is = ap (λ o. unwrap_or o (record { name = []; seats = 0; authorised = 0; cuts = [] })) (sym is)
 
 pub legs_of-product : (net : NetworkValue) (j : ℕ) (product : Product) → Some product ≡ slice_get net.products j → legs_of (inventory_of net) j ≡ product.legs
 legs_of-product net j product is =
@@ -22,19 +22,19 @@ pub fare_of-product : (net : NetworkValue) (j : ℕ) (product : Product) → Som
 fare_of-product net j product is =
     sym (get_or_from_slice_get (map (λ (p : Product). p.fare) net.products) j product.fare 0 (slice_get-map (λ (p : Product). p.fare) net.products j ∙ ap (option_map (λ (p : Product). p.fare)) (sym is)))
 
-pub seats_of-leg : (net : NetworkValue) (i : ℕ) (leg : Leg) → Some leg ≡ slice_get net.legs i → leg.seats ≡ seats_of (inventory_of net) i
-seats_of-leg net i leg is =
-    sym (get_or_from_slice_get (map (λ (l : Leg). l.seats) net.legs) i leg.seats 0 (slice_get-map (λ (l : Leg). l.seats) net.legs i ∙ ap (option_map (λ (l : Leg). l.seats)) (sym is)))
+pub authorised_of-leg : (net : NetworkValue) (i : ℕ) (leg : Leg) → Some leg ≡ slice_get net.legs i → leg.authorised ≡ authorised_of (inventory_of net) i
+authorised_of-leg net i leg is =
+    sym (get_or_from_slice_get (map (λ (l : Leg). l.authorised) net.legs) i leg.authorised 0 (slice_get-map (λ (l : Leg). l.authorised) net.legs i ∙ ap (option_map (λ (l : Leg). l.authorised)) (sym is)))
 
 -- ---- by number, past the last one too
 abbrev no_leg : Leg
-no_leg = record { name = []; seats = 0; cuts = [] }
+no_leg = record { name = []; seats = 0; authorised = 0; cuts = [] }
 
 abbrev no_product : Product
-no_product = record { name = []; fare = 0; legs = [] }
+no_product = record { name = []; fare = 0; refund = 0; legs = [] }
 
-pub seats-are : (net : NetworkValue) (i : ℕ) → seats_of (inventory_of net) i ≡ (leg_of net i).seats
-seats-are net i = get_or-map (λ (leg : Leg). leg.seats) net.legs i no_leg ∙ ap (λ (leg : Leg). leg.seats) (sym (unwrap_or-slice_get net.legs i no_leg))
+pub authorised-are : (net : NetworkValue) (i : ℕ) → authorised_of (inventory_of net) i ≡ (leg_of net i).authorised
+authorised-are net i = get_or-map (λ (leg : Leg). leg.authorised) net.legs i no_leg ∙ ap (λ (leg : Leg). leg.authorised) (sym (unwrap_or-slice_get net.legs i no_leg))
 
 pub fare-is : (net : NetworkValue) (j : ℕ) → fare_of (inventory_of net) j ≡ (product_of net j).fare
 fare-is net j = get_or-map (λ (product : Product). product.fare) net.products j no_product ∙ ap (λ (product : Product). product.fare) (sym (unwrap_or-slice_get net.products j no_product))
@@ -49,8 +49,8 @@ pub fare-past : (net : NetworkValue) (j : ℕ) → length net.products ≤ j →
 fare-past net j past = ap (λ (product : Product). product.fare) (unwrap_or-slice_get net.products j no_product ∙ get_or_past net.products j no_product past)
 
 -- there are as many
-pub seats-count : (net : NetworkValue) → length (inventory_of net).seats ≡ length net.legs
-seats-count net = length-map net.legs (λ (leg : Leg). leg.seats)
+pub authorised-count : (net : NetworkValue) → length (inventory_of net).authorised ≡ length net.legs
+authorised-count net = length-map net.legs (λ (leg : Leg). leg.authorised)
 
 pub fares-count : (net : NetworkValue) → length (inventory_of net).fares ≡ length net.products
 fares-count net = length-map net.products (λ (product : Product). product.fare)

@@ -1,4 +1,4 @@
--- What bookings draw on: the seats of each leg, and the fare and the legs of each product.
+-- What bookings draw on: the authorised seats of each leg, and the fare and the legs of each product.
 use Rattle.std.specs.Prelude.{ℕ, Bool, ◌==◌, List, [], length, map, filter, slice_get, slice_index, unwrap_or}
 use Rattle.std.specs.List.{list_any, range_with_len}
 use Rattle.nrm_model.specs.declared.leg.Leg.{Leg}
@@ -6,21 +6,21 @@ use Rattle.nrm_model.specs.declared.product.Product.{Product}
 use Rattle.nrm_model.specs.Network.{NetworkValue}
 
 pub record Inventory : Type 0 where
-  pub seats : List ℕ
+  pub authorised : List ℕ
   pub fares : List ℕ
   pub legs : List (List ℕ)
 
 -- that of a network
 abbrev pub inventory_of : NetworkValue → Inventory
 inventory_of net = record {
-  seats = map (λ (leg : Leg). leg.seats) net.legs;
+  authorised = map (λ (leg : Leg). leg.authorised) net.legs;
   fares = map (λ (product : Product). product.fare) net.products;
   legs = map (λ (product : Product). product.legs) net.products;
 }
 
--- the seats of a leg, the fare of a product and its legs, by number; past the last one there are none
-abbrev pub seats_of : Inventory → ℕ → ℕ
-seats_of inventory i = slice_index inventory.seats i
+-- the authorised seats of a leg, the fare of a product and its legs, by number; past the last one there are none
+abbrev pub authorised_of : Inventory → ℕ → ℕ
+authorised_of inventory i = slice_index inventory.authorised i
 
 abbrev pub fare_of : Inventory → ℕ → ℕ
 fare_of inventory j = slice_index inventory.fares j

@@ -13,12 +13,12 @@ pub record NetworkValue : Type 0 where
   pub products : List Product
   pub demand : List ℕ
 
--- the leg and the product of a number; past the last one they have no name, no seats and no fare
+-- the leg and the product of a number; past the last one they have no name, no seats, no fare and no refund
 abbrev pub leg_of : NetworkValue → ℕ → Leg
-leg_of net i = unwrap_or (slice_get net.legs i) (record { name = []; seats = 0; cuts = [] })
+leg_of net i = unwrap_or (slice_get net.legs i) (record { name = []; seats = 0; authorised = 0; cuts = [] })
 
 abbrev pub product_of : NetworkValue → ℕ → Product
-product_of net j = unwrap_or (slice_get net.products j) (record { name = []; fare = 0; legs = [] })
+product_of net j = unwrap_or (slice_get net.products j) (record { name = []; fare = 0; refund = 0; legs = [] })
 
 -- the number of the leg, or of the product, that has the name, if one has it
 abbrev pub leg_named : NetworkValue → List ℕ → Option ℕ
@@ -33,6 +33,6 @@ least_of [] = 0
 least_of (x ∷ []) = x
 least_of (x ∷ y ∷ more) = min x (least_of (y ∷ more))
 
--- the least seats among a product's legs
-abbrev pub least_seats_of : NetworkValue → ℕ → ℕ
-least_seats_of net j = least_of (map (λ i. (leg_of net i).seats) (product_of net j).legs)
+-- the least authorised seats among a product's legs
+abbrev pub least_authorised_of : NetworkValue → ℕ → ℕ
+least_authorised_of net j = least_of (map (λ i. (leg_of net i).authorised) (product_of net j).legs)

@@ -40,8 +40,10 @@ impl Thresholds {
 pub struct Leg {
     /// Its name.
     pub name: Name,
-    /// Its seats: 0 to [`crate::MOST_SEATS`].
+    /// Its physical seats: 0 to [`crate::MOST_SEATS`]. They are reported, and nothing else: no answer depends on them.
     pub seats: u16,
+    /// Its authorised seats, those that may be sold: 0 to [`crate::MOST_SEATS`], below, at or above its physical seats.
+    pub authorised: u16,
     /// The thresholds of the leg, at most [`crate::MOST_THRESHOLDS`].
     pub cuts: Thresholds,
 }

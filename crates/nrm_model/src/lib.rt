@@ -5,9 +5,9 @@
 //!   is a network;
 //! - `n`, `t`, `leg_count`, `product_count`: how much there is of each;
 //! - `find_leg`, `find_product`, then `leg_at`, `product_at`: a leg or a product by its name, and by its number;
-//! - `uses_leg`, `least_seats`: what a product takes and at most gets;
+//! - `uses_leg`, `least_authorised`: what a product takes and at most gets;
 //! - `demand`, `to_come`, `total`: what was asked for, in a period, from one on, and in all histories;
-//! - `seats_of_legs`, `fares_of_products`, `legs_of_products`: lists of the whole, for who keeps some beside the network.
+//! - `authorised_of_legs`, `fares_of_products`, `legs_of_products`: lists of the whole, for who keeps some beside the network.
 #![tactic(auto)]
 
 mod leg;
@@ -21,7 +21,7 @@ pub use leg::{Leg, Thresholds};
 pub use limits::{
     BOOKING_LIMIT, LAST_BOOKING, MOST_CERTIFICATE_BYTES, MOST_DEMAND, MOST_FARE, MOST_HISTORIES,
     MOST_LEGS, MOST_LEGS_OF_A_PRODUCT, MOST_NETWORK_BYTES, MOST_PARTY, MOST_PERIODS, MOST_PRODUCTS,
-    MOST_SEATS, MOST_STREAM_BYTES, MOST_THRESHOLDS, MOST_TOTAL_DEMAND,
+    MOST_REFUND, MOST_SEATS, MOST_STREAM_BYTES, MOST_THRESHOLDS, MOST_TOTAL_DEMAND,
 };
 pub use mode::Mode;
 pub use names::NameTable;

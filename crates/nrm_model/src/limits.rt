@@ -14,7 +14,7 @@ pub const MOST_LEGS: usize = 64;
 /// Products of a network: four fares on each of 64 journeys.
 pub const MOST_PRODUCTS: usize = 256;
 
-/// Seats of a leg: more than any aircraft has, and most trains.
+/// Physical seats of a leg, and authorised seats of one: more than any aircraft has, and most trains.
 pub const MOST_SEATS: u16 = 999;
 
 /// Thresholds of a leg: they cut its fares into at most ten buckets, about as many as nests are run with.
@@ -23,16 +23,19 @@ pub const MOST_THRESHOLDS: usize = 9;
 /// The fare of a product and a threshold, in whole currency units: eight digits, for currencies of small units too.
 pub const MOST_FARE: u32 = 99_999_999;
 
+/// The refund percentage of a product: all of the fare.
+pub const MOST_REFUND: u8 = 100;
+
 /// Legs of a product: a journey with three changes.
 pub const MOST_LEGS_OF_A_PRODUCT: usize = 4;
 
-/// Seats asked for of a product in one history: as many as a leg may have, since no more can be sold.
+/// Seats asked for of a product in one history: as many as may be authorised on a leg, since no more can be sold.
 pub const MOST_DEMAND: u32 = 999;
 
-/// The same in all histories together, which is also the most seats that a leg has in all of them.
+/// The same in all histories together, which is also the most authorised seats that a leg has in all of them.
 pub const MOST_TOTAL_DEMAND: u32 = MOST_DEMAND * MOST_HISTORIES as u32;
 
-/// Seats of one request: as many as a leg may have.
+/// Seats of one request: as many as may be authorised on a leg.
 pub const MOST_PARTY: u16 = MOST_SEATS;
 
 /// The number of a booking: twelve digits, far more than a stream has lines.

@@ -50,7 +50,7 @@ impl Model for Network {
 impl Network {
     ghost use Rattle.std.specs.List.{position_from};
     ghost use Rattle.nrm_model.specs.Limits.{IsLeg, IsNetwork, IsProduct};
-    ghost use Rattle.nrm_model.specs.Network.{leg_named, least_seats_of, product_named};
+    ghost use Rattle.nrm_model.specs.Network.{leg_named, least_authorised_of, product_named};
     ghost use Rattle.nrm_model.specs.Inventory.{inventory_of, uses_leg};
     ghost use Rattle.nrm_model.specs.Demand.{demand_in, demand_row, demand_to_come, total_to_come};
     ghost use Rattle.nrm_model.specs.Tables.{NamesInOrder};
@@ -229,28 +229,28 @@ impl Network {
         total
     }
 
-    /// The least seats among a product's legs.
-    pub fn least_seats(&self, product: u16) -> u16
+    /// The least authorised seats among a product's legs: no more of it can be sold.
+    pub fn least_authorised(&self, product: u16) -> u16
         requires { product < length self.now.products }
-        ensures seats { result ≡ least_seats_of self.now product }
+        ensures seats { result ≡ least_authorised_of self.now product }
         ensures within { result ≤ MOST_SEATS }
     {
         let mut least = u16::MAX;
         for leg in self.products[product as usize].legs.as_slice() {
-            least = least.min(self.legs[*leg as usize].seats);
+            least = least.min(self.legs[*leg as usize].authorised);
         }
         least
     }
 
-    /// The seats of each leg.
+    /// The authorised seats of each leg.
     ///
     /// # Errors
     /// Want of memory.
-    pub fn seats_of_legs(&self, alloc: Global) -> Result<Vec<u16>, AllocError>
-        ensures seats { IfOk result (λ seats. seats.items ≡ (inventory_of self.now).seats) }
+    pub fn authorised_of_legs(&self, alloc: Global) -> Result<Vec<u16>, AllocError>
+        ensures seats { IfOk result (λ seats. seats.items ≡ (inventory_of self.now).authorised) }
         ensures limits { IsNetwork self.now }
     {
-        self.legs.iter().map(|leg| leg.seats).collect(alloc)
+        self.legs.iter().map(|leg| leg.authorised).collect(alloc)
     }
 
     /// The fare of each product.

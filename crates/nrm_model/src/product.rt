@@ -41,6 +41,8 @@ pub struct Product {
     pub name: Name,
     /// Its fare in whole currency units: 1 to [`crate::MOST_FARE`].
     pub fare: u32,
+    /// What a cancellation gives back of the fare, as a percentage: 0 to [`crate::MOST_REFUND`].
+    pub refund: u8,
     /// The legs that it takes a seat on: 1 to [`crate::MOST_LEGS_OF_A_PRODUCT`].
     pub legs: LegNumbers,
 }

@@ -159,7 +159,7 @@ leg-back leg good =
     let seats_are : value_of (decimal leg.seats) ≡ leg.seats = value_of-decimal leg.seats (omega arith) in
     let cuts_are : map value_of (map decimal leg.cuts) ≡ leg.cuts =
     values-of leg.cuts (λ k d short. let (low, high) = good.cuts k d short in omega arith) in
-    λ i. record { name = leg.name; seats = seats_are i; cuts = cuts_are i }
+    λ i. record { name = leg.name; seats = seats_are i; authorised = seats_are i; cuts = cuts_are i }
 
 legs-back : (legs : List Leg) → All IsLeg legs → map leg_in (map leg_fields legs) ≡ legs
 legs-back [] good = refl
@@ -184,7 +184,7 @@ product-back net is product good =
     let (f0, f1) = good.fare in
     let fare_is : value_of (decimal product.fare) ≡ product.fare = value_of-decimal product.fare (omega arith) in
     let legs_are = numbers-back net is product.legs good.legs in
-    λ i. record { name = product.name; fare = fare_is i; legs = legs_are i }
+    λ i. record { name = product.name; fare = fare_is i; refund = 100; legs = legs_are i }
 
 products-back : (net : NetworkValue) → IsNetwork net → (products : List Product) → All (IsProduct (length net.legs)) products
     → map (product_in (legs_part net)) (map (product_fields net) products) ≡ products

@@ -95,7 +95,7 @@ numbers-stay legs row (name ∷ names) there =
 product-stays : (legs : List Row) (row product : Row) → LegsThere legs product
     → product_in (legs ++ row ∷ []) product ≡ product_in legs product
 product-stays legs row product there =
-    ap (λ (numbers : List ℕ). let p : Product = record { name = field product 1; fare = value_of (field product 2); legs = numbers } in p)
+    ap (λ (numbers : List ℕ). let p : Product = record { name = field product 1; fare = value_of (field product 2); refund = 100; legs = numbers } in p)
     (numbers-stay legs row (further product) there)
 
 products-stay : (legs : List Row) (row : Row) (products : List Row) → All (LegsThere legs) products
@@ -271,8 +271,8 @@ product-grows draft after (first ∷ more) row is shape free (products, product_
 -- a product of these parts is the row's
 pub product-same : (legs : List Row) (row : Row) (name numbers : List ℕ) (fare : ℕ) → name ≡ field row 1 → fare ≡ value_of (field row 2)
     → numbers ≡ map (number_of_leg legs) (further row)
-    → (let product : Product = record { name = name; fare = fare; legs = numbers } in product) ≡ product_in legs row
-product-same legs row name numbers fare n f l = λ i. record { name = n i; fare = f i; legs = l i }
+    → (let product : Product = record { name = name; fare = fare; refund = 100; legs = numbers } in product) ≡ product_in legs row
+product-same legs row name numbers fare n f l = λ i. record { name = n i; fare = f i; refund = 100; legs = l i }
 
 -- the legs and the products are few
 pub few-legs : (taken : List Row) (row : Row) (kind : Kind) → out_of_order taken kind ≡ false → is_periods kind ≡ false

@@ -70,8 +70,8 @@ abbrev pub two_legs : NetworkValue
 two_legs = record {
   histories = 1;
   periods = 1;
-  legs = record { name = codes "AB"; seats = 3; cuts = [] } ∷ record { name = codes "BC"; seats = 2; cuts = [] } ∷ [];
-  products = record { name = codes "THRU"; fare = 500; legs = 0 ∷ 1 ∷ [] } ∷ record { name = codes "LOC"; fare = 200; legs = 0 ∷ [] } ∷ [];
+  legs = record { name = codes "AB"; seats = 3; authorised = 3; cuts = [] } ∷ record { name = codes "BC"; seats = 2; authorised = 2; cuts = [] } ∷ [];
+  products = record { name = codes "THRU"; fare = 500; refund = 100; legs = 0 ∷ 1 ∷ [] } ∷ record { name = codes "LOC"; fare = 200; refund = 100; legs = 0 ∷ [] } ∷ [];
   demand = 0 ∷ 0 ∷ [];
 }
 
@@ -84,8 +84,8 @@ abbrev pub two_histories : NetworkValue
 two_histories = record {
   histories = 2;
   periods = 2;
-  legs = record { name = codes "AB"; seats = 9; cuts = [] } ∷ [];
-  products = record { name = codes "P"; fare = 100; legs = 0 ∷ [] } ∷ [];
+  legs = record { name = codes "AB"; seats = 9; authorised = 9; cuts = [] } ∷ [];
+  products = record { name = codes "P"; fare = 100; refund = 100; legs = 0 ∷ [] } ∷ [];
   demand = 0 ∷ 0 ∷ 1 ∷ 0 ∷ [];
 }
 
@@ -102,11 +102,11 @@ abbrev pub two_legs_five_products : NetworkValue
 two_legs_five_products = record {
   histories = 4;
   periods = 1;
-  legs = record { name = codes "AB"; seats = 10; cuts = 300 ∷ 100 ∷ [] } ∷ record { name = codes "BC"; seats = 10; cuts = 300 ∷ 100 ∷ [] }
+  legs = record { name = codes "AB"; seats = 10; authorised = 10; cuts = 300 ∷ 100 ∷ [] } ∷ record { name = codes "BC"; seats = 10; authorised = 10; cuts = 300 ∷ 100 ∷ [] }
       ∷ [];
-  products = record { name = codes "ABH"; fare = 400; legs = 0 ∷ [] } ∷ record { name = codes "ABL"; fare = 150; legs = 0 ∷ [] }
-      ∷ record { name = codes "ACH"; fare = 500; legs = 0 ∷ 1 ∷ [] } ∷ record { name = codes "BCL"; fare = 80; legs = 1 ∷ [] }
-      ∷ record { name = codes "ACL"; fare = 229; legs = 0 ∷ 1 ∷ [] } ∷ [];
+  products = record { name = codes "ABH"; fare = 400; refund = 100; legs = 0 ∷ [] } ∷ record { name = codes "ABL"; fare = 150; refund = 100; legs = 0 ∷ [] }
+      ∷ record { name = codes "ACH"; fare = 500; refund = 100; legs = 0 ∷ 1 ∷ [] } ∷ record { name = codes "BCL"; fare = 80; refund = 100; legs = 1 ∷ [] }
+      ∷ record { name = codes "ACL"; fare = 229; refund = 100; legs = 0 ∷ 1 ∷ [] } ∷ [];
   demand = 2 ∷ 4 ∷ 3 ∷ 3 ∷ 6 ∷ 8 ∷ 5 ∷ 9 ∷ 4 ∷ 2 ∷ 6 ∷ 4 ∷ 7 ∷ 9 ∷ 8 ∷ 8 ∷ 0 ∷ 0 ∷ 0 ∷ 0 ∷ [];
 }
 

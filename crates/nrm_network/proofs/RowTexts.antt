@@ -92,7 +92,7 @@ pub file_written : (net : NetworkValue) (s0 s1 s2 s3 s4 : List ℕ) → s0 ≡ [
     → s4 ≡ s3 ++ flat_map (λ j. flat_map (history_text net j) (range_with_len 0 net.histories)) (range_with_len 0 (length net.products))
     → s4 ≡ canonical_file net
 file_written net s0 s1 s2 s3 s4 e0 e1 e2 e3 e4 =
-    let no_product : Product = record { name = []; fare = 0; legs = [] } in
+    let no_product : Product = record { name = []; fare = 0; refund = 0; legs = [] } in
     let legs = flat_map-map row_text leg_fields net.legs in
     let products = flat_map-map row_text (product_fields net) net.products in
     let demands = demands-text net 0 net.products no_product (λ i short. ap (product_of net) (none-plus i)

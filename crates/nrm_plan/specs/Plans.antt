@@ -33,7 +33,7 @@ pub record PlanValue : Type 0 where
 -- seats left of a network: on each leg no more than it has
 pub record AreSeatsLeft (net : NetworkValue) (left : List ℕ) : Type 0 where
   pub legs : length left ≡ length net.legs
-  pub seats : (i : ℕ) → i < length net.legs → slice_index left i ≤ (leg_of net i).seats
+  pub seats : (i : ℕ) → i < length net.legs → slice_index left i ≤ (leg_of net i).authorised
 
 -- the program at these seats left and period k was solved, and this is the certificate of its closing
 abbrev pub IsSolved : NetworkValue → List ℕ → ℕ → Option Certificate → Type 0
@@ -74,7 +74,7 @@ pub record IsPlanFor (net : NetworkValue) (m : Mode) (left : List ℕ) (k : ℕ)
 
 -- the plan before anything is sold: that of period 1 with every seat left
 abbrev pub IsOpeningPlan : NetworkValue → Mode → PlanValue → Type 0
-IsOpeningPlan net m plan = IsPlanFor net m (inventory_of net).seats 1 plan
+IsOpeningPlan net m plan = IsPlanFor net m (inventory_of net).authorised 1 plan
 
 -- there is no plan, since the program that the mode would solve is Large: after n finished pivots, with this number
 abbrev pub PlanOverflows : NetworkValue → Mode → List ℕ → ℕ → ℕ → ℤ → Type 0
@@ -83,7 +83,7 @@ PlanOverflows net mode.Bid left k n number = Overflows size_limit (program_at ne
 PlanOverflows net mode.Davn left k n number = Overflows size_limit (program_at net left k) n number
 
 abbrev pub OpeningOverflows : NetworkValue → Mode → ℕ → ℤ → Type 0
-OpeningOverflows net m n number = PlanOverflows net m (inventory_of net).seats 1 n number
+OpeningOverflows net m n number = PlanOverflows net m (inventory_of net).authorised 1 n number
 
 -- why no plan is made: its program is Large, after so many finished pivots, where 4,294,967,295 stands for more; or memory is wanting,
 -- which first come, first served never needs

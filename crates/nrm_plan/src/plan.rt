@@ -42,12 +42,12 @@ impl Model for Plan {
 
 // The seats of each leg.
 fn full_seats(net: &Network) -> SeatsLeft
-    ensures seats { result ≡ (inventory_of net.now).seats }
+    ensures seats { result ≡ (inventory_of net.now).authorised }
     ensures limits { IsNetwork net.now }
 {
     let mut seats = SeatsLeft::new();
     for leg in 0..net.leg_count() as u8 {
-        seats.push(net.leg_at(leg).seats);
+        seats.push(net.leg_at(leg).authorised);
     }
     seats
 }
@@ -114,7 +114,7 @@ impl Plan {
     /// As of `make`.
     pub fn opening(alloc: Global, net: &Network, mode: Mode) -> Result<Plan, SolveFault>
         ensures plan { IfOk result (IsOpeningPlan net.now mode) }
-        ensures fault { IfErr result (IsPlanFault net.now mode (inventory_of net.now).seats 1) }
+        ensures fault { IfErr result (IsPlanFault net.now mode (inventory_of net.now).authorised 1) }
     {
         Plan::make(alloc, net, mode, full_seats(net).as_slice(), 1)
     }

@@ -14,7 +14,7 @@ pub(crate) fn name(text: &[u8]) -> Name
     name_of(text).unwrap()
 }
 
-/// A leg of this name with so many seats and these thresholds.
+/// A leg of this name with so many physical seats, so many authorised seats and these thresholds.
 ///
 /// # Errors
 /// Want of memory.
@@ -22,19 +22,21 @@ pub(crate) fn leg(
     alloc: Global,
     text: &[u8],
     seats: u16,
+    authorised: u16,
     thresholds: &[u32],
 ) -> Result<Leg, AllocError>
     requires { IsTrue (is_name text.now) }
-    ensures { IfOk result (λ leg. leg ≡ record { name = text.now; seats = seats; cuts = thresholds.now }) }
+    ensures { IfOk result (λ leg. leg ≡ record { name = text.now; seats = seats; authorised = authorised; cuts = thresholds.now }) }
 {
     Ok(Leg {
         name: name(text),
         seats,
+        authorised,
         cuts: Thresholds::new(thresholds.to_vec(alloc)?),
     })
 }
 
-/// A product of this name at a fare, over the legs of these numbers.
+/// A product of this name at a fare, with a refund percentage, over the legs of these numbers.
 ///
 /// # Errors
 /// Want of memory.
@@ -42,14 +44,16 @@ pub(crate) fn product(
     alloc: Global,
     text: &[u8],
     fare: u32,
+    refund: u8,
     legs: &[u8],
 ) -> Result<Product, AllocError>
     requires { IsTrue (is_name text.now) }
-    ensures { IfOk result (λ product. product ≡ record { name = text.now; fare = fare; legs = legs.now }) }
+    ensures { IfOk result (λ product. product ≡ record { name = text.now; fare = fare; refund = refund; legs = legs.now }) }
 {
     Ok(Product {
         name: name(text),
         fare,
+        refund,
         legs: LegNumbers::new(legs.to_vec(alloc)?),
     })
 }

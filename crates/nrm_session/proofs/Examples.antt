@@ -5,7 +5,7 @@ use Rattle.std.specs.Fmt.{digits}
 use Rattle.nrm_fraction.specs.Fraction.{Fraction}
 use Rattle.nrm_lp.specs.Means.{mean_value}
 use Rattle.nrm_lp.specs.declared.certificate.Certificate.{Certificate}
-use Rattle.nrm_model.specs.Inventory.{inventory_of, seats_of}
+use Rattle.nrm_model.specs.Inventory.{inventory_of, authorised_of}
 use Rattle.nrm_model.specs.Network.{NetworkValue, leg_of}
 use Rattle.nrm_model.specs.declared.mode.Mode.TheVariants as modes
 use Rattle.nrm_plan.specs.Plans.{PlanValue}
@@ -30,8 +30,8 @@ abbrev there_and_back : NetworkValue
 there_and_back = record {
   histories = 1;
   periods = 1;
-  legs = record { name = codes "AB"; seats = 1; cuts = [] } ∷ record { name = codes "BC"; seats = 1; cuts = [] } ∷ [];
-  products = record { name = codes "BACK"; fare = 500; legs = 1 ∷ 0 ∷ [] } ∷ record { name = codes "LOC"; fare = 200; legs = 0 ∷ [] } ∷ [];
+  legs = record { name = codes "AB"; seats = 1; authorised = 1; cuts = [] } ∷ record { name = codes "BC"; seats = 1; authorised = 1; cuts = [] } ∷ [];
+  products = record { name = codes "BACK"; fare = 500; refund = 100; legs = 1 ∷ 0 ∷ [] } ∷ record { name = codes "LOC"; fare = 200; refund = 100; legs = 0 ∷ [] } ∷ [];
   demand = 0 ∷ 0 ∷ [];
 }
 
@@ -74,7 +74,7 @@ plans_again = optimises (first_for 1 (0 ∷ 0 ∷ [])) (record {
   };
 })
   where
-    within : (i : ℕ) → i < 2 → get_or (0 ∷ 0 ∷ []) i 0 ≤ (leg_of there_and_back i).seats
+    within : (i : ℕ) → i < 2 → get_or (0 ∷ 0 ∷ []) i 0 ≤ (leg_of there_and_back i).authorised
     within zero short = omega arith
     within (suc zero) short = omega arith
     within (suc (suc i)) short = absurd (omega (arith, short))
@@ -117,7 +117,7 @@ both_asked = refl
 all_sold : NoLegOversold there_and_back (sold_once first)
 all_sold = λ i below. one i below
   where
-    one : (i : ℕ) → i < 2 → sold_on (inventory_of there_and_back) (sold_once first).bookings i ≤ seats_of (inventory_of there_and_back) i
+    one : (i : ℕ) → i < 2 → sold_on (inventory_of there_and_back) (sold_once first).bookings i ≤ authorised_of (inventory_of there_and_back) i
     one zero below = omega arith
     one (suc zero) below = omega arith
     one (suc (suc i)) below = absurd (omega (arith, below))

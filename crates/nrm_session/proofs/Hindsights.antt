@@ -6,7 +6,7 @@ use Rattle.std.specs.Option.{option_map_or}
 use Rattle.std.proofs.lemmas.List.{append-nil, length-map, map-append}
 use Rattle.std.proofs.lemmas.List.Elements.{All-weaker}
 use Rattle.nrm_fraction.specs.Fraction.{Fraction}
-use Rattle.nrm_model.specs.Inventory.{inventory_of, seats_of}
+use Rattle.nrm_model.specs.Inventory.{inventory_of, authorised_of}
 use Rattle.nrm_model.specs.Network.{NetworkValue, leg_named, product_named}
 use Rattle.nrm_model.specs.declared.leg.Leg.{Leg}
 use Rattle.nrm_model.specs.declared.product.Product.{Product}
@@ -166,7 +166,7 @@ control-bounds control is s stands = bounded control.net s is.network keeps stan
           (All-weaker (λ (b : Booking). b.product < length (inventory_of control.net).legs)
           (λ (b : Booking). b.product < length control.net.products) within control.bookings is.book.products);
       seats = λ i at.
-          subst (λ (bookings : List Booking). sold_on (inventory_of control.net) bookings i ≤ seats_of (inventory_of control.net) i)
+          subst (λ (bookings : List Booking). sold_on (inventory_of control.net) bookings i ≤ authorised_of (inventory_of control.net) i)
           (sym stands.bookings)
-          (is.book.seats i (omega (arith, length-map control.net.legs (λ (leg : Leg). leg.seats), at)));
+          (is.book.seats i (omega (arith, length-map control.net.legs (λ (leg : Leg). leg.authorised), at)));
     }

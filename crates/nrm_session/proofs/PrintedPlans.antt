@@ -188,7 +188,7 @@ module _ (net : NetworkValue) (m : Mode) (plan : PlanValue) (commands : List Com
   by-line : ((mid.plan ≡ plan) × NoneTellsOfPlan replies) ⊎ IsOfLastLine net (opening plan) commands replies mid
       → PrintsOptimalPrices net m (opening plan) commands replies reply
   by-line (inl (same, none)) =
-      prints (inventory_of net).seats 1 (ap (λ (p : PlanValue). p.left) same ∙ opens.left_is)
+      prints (inventory_of net).authorised 1 (ap (λ (p : PlanValue). p.left) same ∙ opens.left_is)
       (ap (λ (p : PlanValue). p.period) same ∙ opens.period_is) (at_opening none)
   by-line (inr found) =
       let told : optimised_at (value_of net mid.plan) ≡ optimised (mean_value net.histories prices) =

@@ -45,7 +45,7 @@ pub record LastOptimised (net : NetworkValue) (s : SeatState) (commands : List C
 -- that of the plan's certificate.
 pub data IsPlannedFor (net : NetworkValue) (s : SeatState) (commands : List Command) (replies : List Reply)
     (prices : Certificate) : List ℕ → ℕ → Type 0 where
-  at_opening : NoneTellsOfPlan replies → IsPlannedFor net s commands replies prices (inventory_of net).seats 1
+  at_opening : NoneTellsOfPlan replies → IsPlannedFor net s commands replies prices (inventory_of net).authorised 1
   at_line : (period : ℕ) (when : SeatState) → LastOptimised net s commands replies period (mean_value net.histories prices) when
       → IsPlannedFor net s commands replies prices (seats_left net when.bookings) period
 

@@ -1,7 +1,7 @@
 -- Laws of whole sessions.
 use Rattle.std.specs.Prelude.{ℕ, ◌≡◌, ◌≢◌, ◌<◌, ◌≤◌, List, ◌++◌, length, All, ⊤}
 use Rattle.std.specs.Int.{IsInRange}
-use Rattle.nrm_model.specs.Inventory.{inventory_of, seats_of}
+use Rattle.nrm_model.specs.Inventory.{inventory_of, authorised_of}
 use Rattle.nrm_model.specs.Network.{NetworkValue}
 use Rattle.nrm_model.specs.Limits.{IsNetwork}
 use Rattle.nrm_model.specs.declared.mode.Mode.{Mode}
@@ -18,7 +18,7 @@ use Rattle.nrm_session.specs.Run.{Run}
 
 -- no leg of the network has more seats sold than it has
 abbrev pub NoLegOversold : NetworkValue → SeatState → Type 0
-NoLegOversold net s = (i : ℕ) → i < length net.legs → sold_on (inventory_of net) s.bookings i ≤ seats_of (inventory_of net) i
+NoLegOversold net s = (i : ℕ) → i < length net.legs → sold_on (inventory_of net) s.bookings i ≤ authorised_of (inventory_of net) i
 
 -- the bookings are of the network's products, and no leg is oversold
 pub record IsKept (net : NetworkValue) (s : SeatState) : Type 0 where

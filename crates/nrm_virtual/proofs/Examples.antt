@@ -57,8 +57,8 @@ abbrev pub small_pair : NetworkValue
 small_pair = record {
   histories = 2;
   periods = 1;
-  legs = record { name = codes "PQ"; seats = 5; cuts = 40 ∷ [] } ∷ record { name = codes "QR"; seats = 2; cuts = 200 ∷ [] } ∷ [];
-  products = record { name = codes "QRH"; fare = 300; legs = 1 ∷ [] } ∷ record { name = codes "PQL"; fare = 50; legs = 0 ∷ [] } ∷ record { name = codes "PRL"; fare = 120; legs = 0 ∷ 1 ∷ [] } ∷ [];
+  legs = record { name = codes "PQ"; seats = 5; authorised = 5; cuts = 40 ∷ [] } ∷ record { name = codes "QR"; seats = 2; authorised = 2; cuts = 200 ∷ [] } ∷ [];
+  products = record { name = codes "QRH"; fare = 300; refund = 100; legs = 1 ∷ [] } ∷ record { name = codes "PQL"; fare = 50; refund = 100; legs = 0 ∷ [] } ∷ record { name = codes "PRL"; fare = 120; refund = 100; legs = 0 ∷ 1 ∷ [] } ∷ [];
   demand = 3 ∷ 3 ∷ 2 ∷ 1 ∷ 1 ∷ 1 ∷ [];
 }
 

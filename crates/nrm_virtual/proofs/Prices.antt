@@ -88,7 +88,7 @@ used-within (x ∷ legs) i n within used = elim (cases_Bool (x == i)) [
 
 pub leg-within : (net : NetworkValue) (i j : ℕ) → IsNetwork net → j < length net.products → uses_leg (inventory_of net) i j ≡ true → i < length net.legs
 leg-within net i j ok short used =
-    let none : Product = record { name = []; fare = 0; legs = [] } in
+    let none : Product = record { name = []; fare = 0; refund = 0; legs = [] } in
     let within = ok.products j none short in
     let found : Some (get_or net.products j none) ≡ slice_get net.products j = sym (slice_get-get_or net.products j none short) in
     used-within (get_or net.products j none).legs i (length net.legs) within.legs

@@ -127,7 +127,7 @@ PutsUnplanned why held held' before now result = PutsIfSome (unplanned_line why)
 abbrev pub PutsPlan : NetworkValue → Mode → Option (List ℕ) → Option (List ℕ) → ℕ → ℕ → Status → Type 0
 PutsPlan net m held held' before now result =
     ((plan : PlanValue) × IsOpeningPlan net m plan × PutsLine (plan_text net plan) status.Done held held' before now result)
-    ⊎ ((why : SolveFault) × IsPlanFault net m (inventory_of net).seats 1 why × PutsUnplanned why held held' before now result)
+    ⊎ ((why : SolveFault) × IsPlanFault net m (inventory_of net).authorised 1 why × PutsUnplanned why held held' before now result)
 
 -- what is put and answered where there is a certificate: the verdict on it, which is optimal only where the certificate shows that it
 -- is, and is never that it has another shape; or memory ran out

@@ -19,7 +19,7 @@ returns c =
     let began : is_ok c.extend_from_slice.result ≡ true = search rules in
     let ended : is_ok c.extend_from_slice-2.result ≡ true = search rules in
     let product : c.product_at.result.now ≡ product_of c.args.net.now c.args.j =
-    ap (λ (o : Option Product). unwrap_or o (record { name = []; fare = 0; legs = [] })) c.product_at.ensures.product in
+    ap (λ (o : Option Product). unwrap_or o (record { name = []; fare = 0; refund = 0; legs = [] })) c.product_at.ensures.product in
     let number : List ℕ = decimal (c.args.h + 1) in
     let seats : List (List ℕ) = map decimal (demand_row c.args.net.now c.args.j c.args.h) in
     let row : List ℕ = c.write_numbers-from.new.row in

@@ -4,4 +4,4 @@ use Rattle.nrm_plan.proofs.plan.full_seats.Given as goal
 
 -- the seats of the legs so far
 abbrev pub invariant-loop-leg : goal.invariant-loop-leg
-invariant-loop-leg l = l.seats ≡ map (λ (leg : Leg). leg.seats) (take l.leg l.net.legs)
+invariant-loop-leg l = l.seats ≡ map (λ (leg : Leg). leg.authorised) (take l.leg l.net.legs)

@@ -18,7 +18,7 @@ loop-leg-preserved c = record {
 
 pub returns : goal.returns
 returns c =
-    let count : c.loop-leg.leg ≡ length (inventory_of c.args.net.now).seats = omega (arith, c.leg_count-leg-end.ensures.count, length-map c.args.net.now.legs (λ (leg : Leg). leg.seats)) in
+    let count : c.loop-leg.leg ≡ length (inventory_of c.args.net.now).authorised = omega (arith, c.leg_count-leg-end.ensures.count, length-map c.args.net.now.legs (λ (leg : Leg). leg.authorised)) in
     λ k. record {
       by_product = (c.loop-leg.invariant.by_product ∙ ap (λ n. pairs (pairs_sold (inventory_of c.args.net.now) []) (range_with_len 0 n)) count) k;
       by_leg = (c.loop-leg.invariant.by_leg ∙ ap (λ n. map (sold_on (inventory_of c.args.net.now) []) (range_with_len 0 n)) count) k;

@@ -4,7 +4,7 @@ use Rattle.nrm_model.specs.declared.product.Product.{Product}
 use Rattle.nrm_model.specs.Limits.{IsNetwork}
 use Rattle.nrm_model.specs.Network.{NetworkValue, product_of}
 use Rattle.nrm_model.proofs.SeatLemmas.{least-end, least-step, leg-read, product-read, product-within}
-use Rattle.nrm_model.proofs.network.Network.least_seats.Goals as goal
+use Rattle.nrm_model.proofs.network.Network.least_authorised.Goals as goal
 
 pub loop-leg-preserved : goal.loop-leg-preserved
 loop-leg-preserved c =
