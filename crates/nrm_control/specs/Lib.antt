@@ -1,3 +1,4 @@
+pub mod Refunds
 pub mod Standing
 pub mod State
 pub mod Verdict

@@ -1,9 +1,10 @@
 -- What callers see of a controller, and the states that it stands for.
-use Rattle.std.specs.Prelude.{ℕ, ◌≡◌, ◌<◌, ◌≤◌, ◌+◌, List, ◌∷◌, [], ◌++◌, length, min, slice_index, slice_set, ⊤}
+use Rattle.std.specs.Prelude.{ℕ, ◌≡◌, ◌<◌, ◌≤◌, ◌+◌, ◌-◌, ◌*◌, List, ◌∷◌, [], ◌++◌, length, min, slice_index, slice_set, ⊤}
 use Rattle.nrm_fraction.specs.Fraction.{Fraction}
 use Rattle.nrm_model.specs.Inventory.{inventory_of}
 use Rattle.nrm_model.specs.Network.{NetworkValue, least_authorised_of}
 use Rattle.nrm_model.specs.Limits.{IsNetwork}
+use Rattle.nrm_model.specs.declared.limits.TheConstants.{MOST_FARE, MOST_PARTY}
 use Rattle.nrm_dlp.specs.Hindsight.{AreTallies}
 use Rattle.nrm_book.specs.declared.booking.Booking.{Booking}
 use Rattle.nrm_book.specs.Book.{BookValue, IsBook}
@@ -18,49 +19,63 @@ use Rattle.nrm_control.specs.State.{SeatState}
 use Rattle.nrm_control.specs.declared.answer.Answer.{Answer}
 use Rattle.nrm_control.specs.declared.answer.Answer.TheVariants as answer
 
--- the network, the plan in force, the bookings that stand, the next number, and the tallies of the past requests, product by product
+-- the network, the plan in force, the bookings that stand, the next number, the tallies of the past requests, product by product, and the
+-- sum withheld from cancelled bookings
 pub record ControlValue : Type 0 where
   pub net : NetworkValue
   pub plan : PlanValue
   pub bookings : List Booking
   pub next : ℕ
   pub tallies : List ℕ
+  pub withheld : ℕ
 
 -- the controller's book
 abbrev pub book_of : ControlValue → BookValue
 book_of control = record { inventory = inventory_of control.net; bookings = control.bookings; next = control.next }
 
--- A controller stands for each state that has its plan, its bookings and its number, and requests with its tallies, of which the bookings
--- are a choice. It keeps the tallies and not the requests, so they may be any such.
+-- A controller stands for each state that has its plan, its bookings, its number and its sum withheld, and requests with its tallies, of
+-- which the bookings are a choice. It keeps the tallies and not the requests, so they may be any such.
 pub record StandsFor (control : ControlValue) (s : SeatState) : Type 0 where
   pub plan : s.plan ≡ control.plan
   pub bookings : s.bookings ≡ control.bookings
   pub next : s.next ≡ control.next
   pub tallies : tallies_of control.net s.requests ≡ control.tallies
   pub choice : ChosenFrom s.requests (requests_of s.bookings)
+  pub withheld : s.withheld ≡ control.withheld
 
 -- tallies of a network beside bookings: of no product more is booked than its tally
 pub record AreTalliesBeside (net : NetworkValue) (bookings : List Booking) (tallies : List ℕ) : Type 0 where
   pub capped : AreTallies net tallies
   pub booked : (j : ℕ) → j < length net.products → sold_of bookings j ≤ slice_index tallies j
 
--- a network within the limits, and a plan, a book and tallies of it
-pub record IsInForce (net : NetworkValue) (plan : PlanValue) (book : BookValue) (tallies : List ℕ) : Type 0 where
+-- the most that one booking is worth, in whole currency units: the largest party at the highest fare
+abbrev pub most_worth : ℕ
+most_worth = MOST_PARTY * MOST_FARE
+
+-- for each number that was given and isn't live any more no more was withheld than that: so the sum stays below 2^77
+abbrev pub IsWithheld : List Booking → ℕ → ℕ → Type 0
+IsWithheld bookings next withheld = withheld + length bookings * most_worth ≤ (next - 1) * most_worth
+
+-- a network within the limits, and a plan, a book and tallies of it, and a sum withheld
+pub record IsInForce (net : NetworkValue) (plan : PlanValue) (book : BookValue) (tallies : List ℕ) (withheld : ℕ) : Type 0 where
   pub network : IsNetwork net
   pub planned : IsPlanOf net plan
   pub inventory : book.inventory ≡ inventory_of net
   pub kept : IsBook book
   pub tallied : AreTalliesBeside net book.bookings tallies
+  pub withheld : IsWithheld book.bookings book.next withheld
 
--- its network is within the limits, its book is one of that network, so that no leg has more seats sold than it has, its plan is the
--- network's, at the plan's own seats left and period, and of no product more is booked than its tally
+-- its network is within the limits, its book is one of that network, so that no leg has more seats sold than are authorised, its plan is
+-- the network's, at the plan's own seats left and period, of no product more is booked than its tally, and no more is withheld than was
+-- paid for bookings that are cancelled
 pub record IsControl (control : ControlValue) : Type 0 where
   pub network : IsNetwork control.net
   pub book : IsBook (book_of control)
   pub planned : IsPlanOf control.net control.plan
   pub tallied : AreTalliesBeside control.net control.bookings control.tallies
+  pub withheld : IsWithheld control.bookings control.next control.withheld
 
--- the tallies after a request: its party is added to its product's, up to the least seats among the product's legs
+-- the tallies after a request: its party is added to its product's, up to the least authorised seats among the product's legs
 abbrev pub with_request : NetworkValue → List ℕ → ℕ → ℕ → List ℕ
 with_request net tallies j party = slice_set tallies j (min (slice_index tallies j + party) (least_authorised_of net j))
 

@@ -7,20 +7,23 @@ use Rattle.nrm_book.specs.declared.booking.Booking.{Booking}
 use Rattle.nrm_book.specs.Bookings.{left_on, without}
 use Rattle.nrm_hindsight.specs.Requests.{Request}
 use Rattle.nrm_plan.specs.Plans.{PlanValue}
+use Rattle.nrm_control.specs.Refunds.{withheld_by}
 use Rattle.nrm_control.specs.Verdict.{verdict_of}
 use Rattle.nrm_control.specs.declared.answer.Answer.{Answer}
 use Rattle.nrm_control.specs.declared.answer.Answer.TheVariants as answer
 
--- the plan in force, the bookings that stand, the next number, and the requests so far, sold or not
+-- the plan in force, the bookings that stand, the next number, the requests so far, sold or not, and the sum withheld from cancelled
+-- bookings, in whole currency units
 pub record SeatState : Type 0 where
   pub plan : PlanValue
   pub bookings : List Booking
   pub next : ℕ
   pub requests : List Request
+  pub withheld : ℕ
 
--- a session begins with a plan, no booking, number 1, and no request
+-- a session begins with a plan, no booking, number 1, no request, and nothing withheld
 abbrev pub opening : PlanValue → SeatState
-opening plan = record { plan = plan; bookings = []; next = 1; requests = [] }
+opening plan = record { plan = plan; bookings = []; next = 1; requests = []; withheld = 0 }
 
 -- the seats left on each leg
 abbrev pub seats_left : NetworkValue → List Booking → List ℕ
@@ -43,9 +46,12 @@ after_answer s j party answer.Fare = record s { requests = s.requests ++ record 
 abbrev pub after_request : NetworkValue → SeatState → ℕ → ℕ → SeatState
 after_request net s j party = after_answer s j party (answer_in net s j party)
 
--- the state after the booking with a number is cancelled
-abbrev pub after_cancellation : SeatState → ℕ → SeatState
-after_cancellation s number = record s { bookings = without s.bookings number }
+-- the state after the booking with a number is cancelled: what isn't given back of it is withheld
+abbrev pub after_cancellation : NetworkValue → SeatState → ℕ → SeatState
+after_cancellation net s number = record s {
+  bookings = without s.bookings number;
+  withheld = s.withheld + withheld_by net s.bookings number;
+}
 
 -- the state with another plan in force
 abbrev pub with_plan : SeatState → PlanValue → SeatState

@@ -1,5 +1,6 @@
-//! The controller: a network, the plan in force, the book of what was sold of it, and tallies of what was asked.
-ghost use Rattle.std.specs.Prelude.{◌≡◌, ◌<◌, ◌≤◌, ◌+◌, [], All, IfErr, IfNone, IfOk, IfSome, OnErr, OnOk, find, length};
+//! The controller: a network, the plan in force, the book of what was sold of it, tallies of what was asked, and what was withheld
+//! from cancelled bookings.
+ghost use Rattle.std.specs.Prelude.{◌≡◌, ◌<◌, ◌≤◌, ◌+◌, ◌^◌, [], All, IfErr, IfNone, IfOk, IfSome, OnErr, OnOk, find, length};
 ghost use Rattle.std.specs.Prelude.{min, option_map, pos, slice_index, true};
 ghost use Rattle.std.specs.Int.{IsInRange};
 ghost use Rattle.nrm_number.specs.Gcd.{gcd};
@@ -7,9 +8,10 @@ ghost use Rattle.nrm_fraction.specs.Fraction.{◌over◌};
 ghost use Rattle.nrm_model.specs.Inventory.{inventory_of, uses_leg};
 ghost use Rattle.nrm_model.specs.Network.{least_authorised_of};
 ghost use Rattle.nrm_model.specs.declared.limits.TheConstants.{BOOKING_LIMIT, MOST_PARTY, MOST_SEATS};
-ghost use Rattle.nrm_book.specs.Bookings.{booking_numbered, without, worth_of};
+ghost use Rattle.nrm_book.specs.Bookings.{booking_numbered, without};
 ghost use Rattle.nrm_hindsight.specs.Requests.{tallies_of};
 ghost use Rattle.nrm_plan.specs.Plans.{IsPlanFault, IsPlanFor, IsPlanOf};
+ghost use Rattle.nrm_control.specs.Refunds.{refund_of, withheld_by};
 ghost use Rattle.nrm_control.specs.State.{seats_left};
 ghost use Rattle.nrm_control.specs.Verdict.{leg_refuses};
 
@@ -28,6 +30,7 @@ pub struct Controller {
     plan: Plan,
     book: Book,
     tallies: Vec<u16>,
+    withheld: u128,
 }
 
 impl Model for Controller {
@@ -41,9 +44,10 @@ impl Model for Controller {
       bookings = c.book.bookings;
       next = c.book.next;
       tallies = c.tallies.items;
+      withheld = c.withheld;
     } };
 
-    ghost invariant = { λ c. IsInForce c.network c.plan c.book c.tallies.items };
+    ghost invariant = { λ c. IsInForce c.network c.plan c.book c.tallies.items c.withheld };
 }
 
 // Whether the seats left of a product's leg don't cover the party and the seats that are kept from the product.
@@ -141,14 +145,14 @@ impl Controller {
     ghost use Rattle.nrm_control.specs.State.{after_cancellation, after_request, SeatState, with_plan};
     ghost use Rattle.nrm_control.specs.Verdict.{verdict_of};
 
-    /// A controller of a network with nothing sold, and the plan of period 1 with every seat left.
+    /// A controller of a network with nothing sold, and the plan of period 1 with every authorised seat left.
     ///
     /// # Errors
     /// `Overflow` exactly where the program of that plan is Large, which under first come, first served is never;
     /// `NoMemory`. The network is dropped.
     pub fn start(alloc: Global, net: Network, mode: Mode) -> Result<Controller, SolveFault>
         ensures begins { IfOk result (λ controller. controller
-            ≡ record { net = net; plan = controller.plan; bookings = []; next = 1; tallies = tallies_of net [] }) }
+            ≡ record { net = net; plan = controller.plan; bookings = []; next = 1; tallies = tallies_of net []; withheld = 0 }) }
         ensures plan { IfOk result (λ controller. IsOpeningPlan net mode controller.plan) }
         ensures kept { IfOk result IsControl }
         ensures fault { IfErr result (IsStartFault net mode) }
@@ -161,6 +165,7 @@ impl Controller {
             plan,
             book,
             tallies,
+            withheld: 0,
         })
     }
 
@@ -190,18 +195,25 @@ impl Controller {
         }
     }
 
-    /// Cancels a booking, and gives the refund: party times fare, in whole currency units. `None` exactly where the
-    /// number isn't live, and then nothing changes. It takes no memory.
+    /// Cancels a booking, and gives the refund, in whole currency units: of party times fare the product's percentage, cut to a
+    /// whole number. The rest is withheld. `None` exactly where the number isn't live, and then nothing changes. It takes no memory.
     pub fn cancel(&mut self, number: u64) -> Option<u64>
-        ensures refund { result ≡ option_map (worth_of (inventory_of self.old.net)) (booking_numbered self.old.bookings number) }
-        ensures removed { self.new ≡ record self.old { bookings = without self.old.bookings number } }
+        ensures refund { result ≡ option_map (refund_of self.old.net) (booking_numbered self.old.bookings number) }
+        ensures removed { self.new
+            ≡ record self.old {
+              bookings = without self.old.bookings number;
+              withheld = self.old.withheld + withheld_by self.old.net self.old.bookings number;
+            } }
         ensures dead { IfNone result (self.new ≡ self.old) }
         ensures kept { IsControl self.new }
-        ensures state { (s : SeatState) → StandsFor self.old s → StandsFor self.new (after_cancellation s number) }
+        ensures state { (s : SeatState) → StandsFor self.old s → StandsFor self.new (after_cancellation self.old.net s number) }
     {
         let booking = self.book.remove(number)?;
-        let fare = self.network.product_at(booking.product).fare;
-        Some(u64::from(booking.party) * u64::from(fare))
+        let product = self.network.product_at(booking.product);
+        let worth = u64::from(booking.party) * u64::from(product.fare);
+        let refund = worth * u64::from(product.refund) / 100;
+        self.withheld += u128::from(worth - refund);
+        Some(refund)
     }
 
     /// Optimises again, at the seats left now and from period `period` on: the whole new plan is made before it takes
@@ -232,8 +244,8 @@ impl Controller {
         Ok(self.plan.mean_value(&self.network))
     }
 
-    /// The value of hindsight: no choice of the past requests, sold or not, each whole and at most once, that fits the seats
-    /// earns more, in whole currency units, as a numerator and a denominator in lowest terms. Nothing changes.
+    /// The value of hindsight: no choice of the past requests, sold or not, each whole and at most once, that fits the authorised
+    /// seats earns more, in whole currency units, as a numerator and a denominator in lowest terms. Nothing changes.
     ///
     /// # Errors
     /// `Overflow` exactly where the program of hindsight is Large; `NoMemory`.
@@ -247,8 +259,18 @@ impl Controller {
         nrm_dlp::hindsight(alloc, &self.network, &self.tallies)
     }
 
-    /// The tally of a product: the seats that past requests asked for, sold or not, but no more than the least seats among
-    /// its legs.
+    /// What was withheld from cancelled bookings since the start, in whole currency units: what they were worth less what was given
+    /// back. It is no revenue of a booking, and stays below 2^77.
+    pub fn withheld(&self) -> u128
+        ensures withheld { result ≡ self.now.withheld }
+        ensures small { result < 2 ^ 77 }
+        ensures kept { IsControl self.now }
+    {
+        self.withheld
+    }
+
+    /// The tally of a product: the seats that past requests asked for, sold or not, but no more than the least authorised seats
+    /// among its legs.
     pub fn tally(&self, product: u16) -> u16
         requires { product < length self.now.net.products }
         ensures tally { result ≡ slice_index self.now.tallies product }
@@ -273,7 +295,7 @@ impl Controller {
         &self.plan
     }
 
-    /// The book of what was sold. It is one of the network, on which no leg has more seats sold than it has.
+    /// The book of what was sold. It is one of the network, on which no leg has more seats sold than are authorised.
     pub fn book(&self) -> &Book
         ensures book { result.now ≡ book_of self.now }
         ensures kept { IsControl self.now }

@@ -4,7 +4,8 @@
 //! - `start`, with nothing sold;
 //! - `request`, which gives an `Answer`, and `cancel`;
 //! - `reoptimise`, a new plan at the seats left;
-//! - `hindsight`, what past requests could have earned, and `tally`, what was asked for of a product;
+//! - `hindsight`, what past requests could have earned, `tally`, what was asked for of a product, and `withheld`, what cancellations
+//!   didn't give back;
 //! - `network`, `plan` and `book`, what is in force, to be told.
 #![tactic(auto)]
 

@@ -18,11 +18,11 @@ use Rattle.nrm_emsr.specs.Protections.{protections_of}
 use Rattle.nrm_plan.specs.Plans.{PlanValue}
 use Rattle.nrm_dual.specs.Texts.{certificate_text}
 
--- how a leg stands: its seats, those sold and those left
+-- how a leg stands: its physical seats, its authorised seats, and of those the ones sold and left
 abbrev pub leg_line : NetworkValue → List Booking → ℕ → List ℕ
 leg_line net bookings i =
     text_line (codes "leg" ∷ (leg_of net i).name ∷ codes "seats" ∷ decimal (leg_of net i).seats
-    ∷ codes "sold" ∷ decimal (sold_on (inventory_of net) bookings i) ∷ codes "left" ∷ decimal (left_on (inventory_of net) bookings i) ∷ [])
+    ∷ codes "authorised" ∷ decimal (leg_of net i).authorised ∷ codes "sold" ∷ decimal (sold_on (inventory_of net) bookings i) ∷ codes "left" ∷ decimal (left_on (inventory_of net) bookings i) ∷ [])
 
 -- a product on a leg with the seats that it has sold, and nothing if it has sold none
 abbrev pub sold_line : NetworkValue → ℕ → ℕ → ℕ → List ℕ

@@ -14,14 +14,15 @@ use nrm_model::Network;
 use nrm_text::{Name, Text};
 
 // The line of a leg, from its numbers.
-fn line_of_leg(name: &Name, seats: u16, sold: u16, left: u16) -> Text<ROOM>
+fn line_of_leg(name: &Name, seats: u16, authorised: u16, sold: u16, left: u16) -> Text<ROOM>
     ensures { result
-        ≡ text_line (codes "leg" ∷ name.now ∷ codes "seats" ∷ decimal seats ∷ codes "sold" ∷ decimal sold
-        ∷ codes "left" ∷ decimal left ∷ []) }
+        ≡ text_line (codes "leg" ∷ name.now ∷ codes "seats" ∷ decimal seats ∷ codes "authorised" ∷ decimal authorised
+        ∷ codes "sold" ∷ decimal sold ∷ codes "left" ∷ decimal left ∷ []) }
 {
     let mut line = Text::of_bytes(b"leg ");
     line.push_name(name);
     line.push_count(b"seats", u64::from(seats));
+    line.push_count(b"authorised", u64::from(authorised));
     line.push_count(b"sold", u64::from(sold));
     line.push_count(b"left", u64::from(left));
     line.push_bytes(b"\n");
@@ -65,9 +66,15 @@ fn line_for_leg(net: &Network, book: &Book, leg: u8) -> Text<ROOM>
     requires leg { leg < length net.now.legs }
     ensures { result ≡ leg_line net.now book.now.bookings leg }
 {
-    let seats = net.leg_at(leg).seats;
+    let its = net.leg_at(leg);
     let left = book.left(leg);
-    line_of_leg(&net.leg_at(leg).name, seats, seats - left, left)
+    line_of_leg(
+        &its.name,
+        its.seats,
+        its.authorised,
+        its.authorised - left,
+        left,
+    )
 }
 
 // Puts the lines of the products on the leg, in file order.
@@ -86,7 +93,7 @@ fn put_products<K: Sink>(net: &Network, book: &Book, leg: u8, sink: &mut K) -> R
     Ok(())
 }
 
-/// Puts how a leg stands: `leg NAME seats s sold a left b`, then `on LEG PRODUCT a` for each product on it, in file
+/// Puts how a leg stands: `leg NAME seats s authorised u sold a left b`, then `on LEG PRODUCT a` for each product on it, in file
 /// order, with a seat sold.
 ///
 /// # Errors

@@ -32,7 +32,7 @@ reply_in control (answered.Optimised num den) = optimised (pos num over den)
 reply_in control answered.OptimisedNone = optimised_none
 reply_in control answered.Overflow = overflow
 reply_in control answered.Memory = memory
-reply_in control (answered.Hindsight num den revenue) = hindsight_told (pos num over den) revenue
+reply_in control (answered.Hindsight num den revenue withheld) = hindsight_told (pos num over den) revenue withheld
 reply_in control (answered.Leg i) = leg_told (leg_text control.net control.bookings i)
 reply_in control answered.Plan = plan_told (plan_text control.net control.plan)
 
@@ -46,7 +46,7 @@ IsTellable net (answered.Sold number) = ⊤
 IsTellable net (answered.Cancelled number refund) = ⊤
 IsTellable net answered.NoFare = ⊤
 IsTellable net (answered.Optimised num den) = 1 ≤ den
-IsTellable net (answered.Hindsight num den revenue) = 1 ≤ den
+IsTellable net (answered.Hindsight num den revenue withheld) = 1 ≤ den
 IsTellable net answered.OptimisedNone = ⊤
 IsTellable net answered.Overflow = ⊤
 IsTellable net answered.Memory = ⊤

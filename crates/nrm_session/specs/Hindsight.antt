@@ -30,9 +30,9 @@ request_in net command.Bad = []
 abbrev pub requests_in : NetworkValue → List Command → List Request
 requests_in net commands = flat_map (request_in net) commands
 
--- No selection of these requests, each whole and at most once, that fits the seats earns more than the value, and an allocation
+-- No selection of these requests, each whole and at most once, that fits the authorised seats earns more than the value, and an allocation
 -- of their program, which may sell parts of seats, gains just that: so it is the least bound that the program gives. The bookings
--- that stand are such a selection, and the revenue is what they earn.
+-- that stand are such a selection, and the revenue is what they earn. What is withheld is in none of these.
 pub record IsBounded (net : NetworkValue) (requests : List Request) (s : SeatState) (value : Fraction) (revenue : ℕ) : Type 0 where
   pub bound : BoundsSelections net requests value
   pub attained : IsAttained (hindsight_program net (tallies_of net requests)) value
@@ -41,8 +41,8 @@ pub record IsBounded (net : NetworkValue) (requests : List Request) (s : SeatSta
 
 -- So it is at each line of hindsight that tells a value, after any commands from s on: of the requests before s and all of theirs.
 abbrev pub BoundsFrom : NetworkValue → SeatState → Type 0
-BoundsFrom net s = (commands : List Command) (replies : List Reply) (mid after : SeatState) (value : Fraction) (revenue : ℕ)
-    → Run net s commands replies mid → Step net mid command.Hindsight (hindsight_told value revenue) after
+BoundsFrom net s = (commands : List Command) (replies : List Reply) (mid after : SeatState) (value : Fraction) (revenue withheld : ℕ)
+    → Run net s commands replies mid → Step net mid command.Hindsight (hindsight_told value revenue withheld) after
     → IsBounded net (s.requests ++ requests_in net commands) mid value revenue
 
 -- From an opening on those are all requests so far.

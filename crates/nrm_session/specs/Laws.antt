@@ -16,7 +16,7 @@ use Rattle.nrm_session.specs.Replies.{Reply, memory}
 use Rattle.nrm_session.specs.Step.{Step}
 use Rattle.nrm_session.specs.Run.{Run}
 
--- no leg of the network has more seats sold than it has
+-- no leg of the network has more seats sold than are authorised
 abbrev pub NoLegOversold : NetworkValue → SeatState → Type 0
 NoLegOversold net s = (i : ℕ) → i < length net.legs → sold_on (inventory_of net) s.bookings i ≤ authorised_of (inventory_of net) i
 

@@ -5,6 +5,8 @@ pub mod Hindsight
 pub mod Inner
 pub mod LastPlan
 pub mod Laws
+pub mod Money
+pub mod PhysicalSeats
 pub mod Replies
 pub mod Run
 pub mod Serving

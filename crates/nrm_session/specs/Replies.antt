@@ -19,7 +19,7 @@ pub data Reply : Type 0 where
   optimised_none : Reply
   overflow : Reply
   memory : Reply
-  hindsight_told : Fraction → ℕ → Reply
+  hindsight_told : Fraction → ℕ → ℕ → Reply
   leg_told : List ℕ → Reply
   plan_told : List ℕ → Reply
 
@@ -35,7 +35,8 @@ text_of (optimised value) = text_line (codes "optimised" ∷ fraction_text value
 text_of optimised_none = text_line (codes "optimised" ∷ codes "none" ∷ [])
 text_of overflow = text_line (codes "overflow" ∷ [])
 text_of memory = text_line (codes "memory" ∷ [])
-text_of (hindsight_told value revenue) = text_line (codes "hindsight" ∷ fraction_text value ∷ codes "revenue" ∷ decimal revenue ∷ [])
+text_of (hindsight_told value revenue withheld) =
+    text_line (codes "hindsight" ∷ fraction_text value ∷ codes "revenue" ∷ decimal revenue ∷ codes "withheld" ∷ decimal withheld ∷ [])
 text_of (leg_told text) = text
 text_of (plan_told text) = text
 

@@ -7,9 +7,10 @@ use Rattle.nrm_model.specs.Inventory.{inventory_of}
 use Rattle.nrm_model.specs.Network.{NetworkValue, leg_named, product_named}
 use Rattle.nrm_model.specs.declared.mode.Mode.TheVariants as mode
 use Rattle.nrm_dlp.specs.Hindsight.{HindsightOverflows, IsHindsight}
-use Rattle.nrm_book.specs.Bookings.{booking_numbered, revenue_of, worth_of}
+use Rattle.nrm_book.specs.Bookings.{booking_numbered, revenue_of}
 use Rattle.nrm_hindsight.specs.Requests.{tallies_of}
 use Rattle.nrm_plan.specs.Plans.{IsPlanFor, PlanOverflows, PlanValue, value_of}
+use Rattle.nrm_control.specs.Refunds.{refund_of}
 use Rattle.nrm_control.specs.State.{SeatState, answer_in, after_request, after_cancellation, seats_left, with_plan}
 use Rattle.nrm_report.specs.Texts.{leg_text, plan_text}
 use Rattle.nrm_stream.specs.declared.command.Command.{Command}
@@ -30,11 +31,11 @@ pub data Reoptimises (net : NetworkValue) (s : SeatState) (k : ℕ) : Reply → 
   overflows : (n : ℕ) (number : ℤ) → PlanOverflows net s.plan.mode (seats_left net s.bookings) k n number → Reoptimises net s k overflow s
   wants_memory : s.plan.mode ≢ mode.FirstCome → Reoptimises net s k memory s
 
--- A line of hindsight: its value at the tallies of all requests so far, and the revenue of the bookings that stand; or its
--- program is Large; or memory is wanting.
+-- A line of hindsight: its value at the tallies of all requests so far, the revenue of the bookings that stand, and the sum withheld;
+-- or its program is Large; or memory is wanting.
 pub data LooksBack (net : NetworkValue) (s : SeatState) : Reply → Type 0 where
   tells : (value : Fraction) → IsHindsight net (tallies_of net s.requests) value
-      → LooksBack net s (hindsight_told value (revenue_of (inventory_of net) s.bookings))
+      → LooksBack net s (hindsight_told value (revenue_of (inventory_of net) s.bookings) s.withheld)
   is_large : (n : ℕ) (number : ℤ) → HindsightOverflows net (tallies_of net s.requests) n number → LooksBack net s overflow
   lacks_memory : LooksBack net s memory
 
@@ -49,7 +50,7 @@ Step net s (command.Book name party) reply s' =
     (λ j. (reply ≡ reply_to net (answer_in net s j party)) × (s' ≡ after_request net s j party))
 Step net s (command.Cancel number) reply s' =
     MatchOption (booking_numbered s.bookings number) (Gives unknown reply s s')
-    (λ booking. (reply ≡ cancelled number (worth_of (inventory_of net) booking)) × (s' ≡ after_cancellation s number))
+    (λ booking. (reply ≡ cancelled number (refund_of net booking)) × (s' ≡ after_cancellation net s number))
 Step net s (command.Reoptimise k) reply s' = MatchBool (lacks_period net k) (Gives unknown reply s s') (Reoptimises net s k reply s')
 Step net s (command.Leg name) reply s' =
     MatchOption (leg_named net name) (Gives unknown reply s s') (λ i. Gives (leg_told (leg_text net s.bookings i)) reply s s')

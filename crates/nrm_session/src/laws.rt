@@ -4,8 +4,10 @@ ghost use Rattle.nrm_session.specs.Hindsight.{HindsightBounds, HindsightBoundsOn
 ghost use Rattle.nrm_session.specs.LastPlan.{PrintedPricesAreOptimal};
 ghost use Rattle.nrm_session.specs.Laws.{EachListHasARun, OtherLinesNeedNoMemory, PlansAreKept, RepliesAreDetermined, RunsHaveFirstParts};
 ghost use Rattle.nrm_session.specs.Laws.{SeatsAreKept, StatesAreDetermined};
+ghost use Rattle.nrm_session.specs.Money.{MoneyAddsUp};
+ghost use Rattle.nrm_session.specs.PhysicalSeats.{PhysicalSeatsDecideNothing};
 
-/// No leg has more seats sold than it has in an opening, and a run keeps that from any state.
+/// No leg has more seats sold than are authorised in an opening, and a run keeps that from any state.
 pub fn seats_are_kept()
     ensures { SeatsAreKept }
 {}
@@ -58,4 +60,15 @@ pub fn requests_are_answered()
 pub fn hindsight_bounds()
     ensures opening { HindsightBounds }
     ensures on { HindsightBoundsOn }
+{}
+
+/// After any commands from an opening, what was sold in all is the revenue of the bookings that stand, what was given back, and what
+/// is withheld, to the unit.
+pub fn money_adds_up()
+    ensures { MoneyAddsUp }
+{}
+
+/// Two networks that differ in their physical seats alone have the same replies to the same commands, but for the text of a leg.
+pub fn physical_seats_decide_nothing()
+    ensures { PhysicalSeatsDecideNothing }
 {}

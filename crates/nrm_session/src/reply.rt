@@ -20,8 +20,9 @@ use nrm_stream::Command;
 use nrm_text::{Name, Text};
 use std::alloc::Global;
 
-// The most bytes of a reply with a fraction. A call clears its room before it begins, so each kind of line has a call of its own.
+// The most bytes of a reply with a fraction, and of one of hindsight. A call clears its room before it begins, so each kind of line has a call of its own.
 const ROOM: usize = 128;
+const HINDSIGHT_ROOM: usize = 176;
 
 /// What a line is answered. Legs are named by their numbers in the network.
 #[derive(Clone, Copy, Debug, PartialEq, Eq)]
@@ -46,9 +47,14 @@ pub enum Reply {
     Overflow,
     /// Want of memory, and nothing changes.
     Memory,
-    /// No selection of the past requests that fits the seats earns more than this value, in whole currency units, in lowest
-    /// terms; the bookings that stand earn this revenue.
-    Hindsight { num: u64, den: u64, revenue: u64 },
+    /// No selection of the past requests that fits the authorised seats earns more than this value, in whole currency units, in
+    /// lowest terms; the bookings that stand earn this revenue, and this much was withheld from cancelled ones.
+    Hindsight {
+        num: u64,
+        den: u64,
+        revenue: u64,
+        withheld: u128,
+    },
     /// How this leg stands.
     Leg(u8),
     /// The plan in force.
@@ -115,6 +121,7 @@ fn look_back(alloc: Global, controller: &Controller) -> Reply
             num,
             den,
             revenue: controller.book().revenue(),
+            withheld: controller.withheld(),
         },
         Err(SolveFault::Overflow { .. }) => Reply::Overflow,
         Err(SolveFault::NoMemory) => Reply::Memory,
@@ -214,20 +221,28 @@ fn put_optimised<K: Sink>(num: u64, den: u64, sink: &mut K) -> Result<(), Failed
     put_all(sink, line.bytes())
 }
 
-// Puts the line of hindsight, with the revenue of the bookings that stand.
+// Puts the line of hindsight, with the revenue of the bookings that stand and the sum withheld.
 #[tactic(auto, using(nrm_text::proofs::Fractions::short_fraction, nrm_text::proofs::Decimals::short_decimal))]
 #[inline(never)]
-fn put_hindsight<K: Sink>(num: u64, den: u64, revenue: u64, sink: &mut K) -> Result<(), Failed>
+fn put_hindsight<K: Sink>(
+    num: u64,
+    den: u64,
+    revenue: u64,
+    withheld: u128,
+    sink: &mut K,
+) -> Result<(), Failed>
     requires { 1 ≤ den }
-    ensures whole { OnOk result (Appends (K.held sink.old) (K.held sink.new) (text_of (hindsight_told (pos num over den) revenue))) }
-    ensures cut { OnErr result (AppendsFront (K.held sink.old) (K.held sink.new) (text_of (hindsight_told (pos num over den) revenue))) }
+    ensures whole { OnOk result (Appends (K.held sink.old) (K.held sink.new) (text_of (hindsight_told (pos num over den) revenue withheld))) }
+    ensures cut { OnErr result (AppendsFront (K.held sink.old) (K.held sink.new) (text_of (hindsight_told (pos num over den) revenue withheld))) }
     ensures cause { HasCause (K.faults sink.old) (K.faults sink.new) result }
 {
-    let mut line = Text::<ROOM>::new();
+    let mut line = Text::<HINDSIGHT_ROOM>::new();
     line.push_bytes(b"hindsight ");
     line.push_fraction(i128::from(num), u128::from(den));
     line.push_bytes(b" revenue ");
     line.push_u64(revenue);
+    line.push_bytes(b" withheld ");
+    line.push_whole(withheld);
     line.push_bytes(b"\n");
     put_all(sink, line.bytes())
 }
@@ -254,7 +269,12 @@ pub fn put_reply<K: Sink>(controller: &Controller, reply: Reply, sink: &mut K) -
         Reply::OptimisedNone => put_all(sink, b"optimised none\n"),
         Reply::Overflow => put_all(sink, b"overflow\n"),
         Reply::Memory => put_all(sink, b"memory\n"),
-        Reply::Hindsight { num, den, revenue } => put_hindsight(num, den, revenue, sink),
+        Reply::Hindsight {
+            num,
+            den,
+            revenue,
+            withheld,
+        } => put_hindsight(num, den, revenue, withheld, sink),
         Reply::Leg(leg) => leg_text(net, controller.book(), leg, sink),
         Reply::Plan => plan_text(net, controller.plan(), sink),
     }

@@ -84,8 +84,8 @@ fn lines_are_answered_by_hand(rt: HostRuntime) {
             &[],
         ),
         End::Done,
-        b"ok 1\ncancelled 1 1000\nunknown\nok 2\nleg AB seats 3 sold 1 left 2\non AB LOC 1\nfirst\noptimised none\nunknown\n\
-            hindsight 1200/1 revenue 200\nbad\n",
+        b"ok 1\ncancelled 1 1000\nunknown\nok 2\nleg AB seats 3 authorised 3 sold 1 left 2\non AB LOC 1\nfirst\noptimised none\nunknown\n\
+            hindsight 1200/1 revenue 200 withheld 0\nbad\n",
     );
 }
 
@@ -147,7 +147,7 @@ fn each_line_goes_out_in_one_put(rt: HostRuntime) {
         first,
         2,
         b"leg BC\nleg BC\n",
-        b"leg BC seats 2 sold 0 left 2\n",
+        b"leg BC seats 2 authorised 2 sold 0 left 2\n",
     );
     assert_cut(&rt, alloc, first, 2, b"plan\nplan\n", b"first\n");
     assert_cut(
@@ -164,7 +164,7 @@ fn each_line_goes_out_in_one_put(rt: HostRuntime) {
         first,
         2,
         b"hindsight\nhindsight\n",
-        b"hindsight 0/1 revenue 0\n",
+        b"hindsight 0/1 revenue 0 withheld 0\n",
     );
 }
 
