@@ -1,12 +1,12 @@
 -- The canonical file of a network is read as that network.
 use Rattle.std.proofs.Common.{ℕ, zero, suc, ◌≡◌, ◌∙◌, ◌+◌, ◌*◌, ◌<◌, ◌≤◌, Bool, true, false, ◌==◌, List, [], ◌∷◌, ◌++◌, length, get_or, map}
-use Rattle.std.proofs.Common.{flat_map, take, drop, bytes_eq, refl, sym, ap, subst, arith, All, None, Ok, filter, nat_lt}
+use Rattle.std.proofs.Common.{flat_map, take, drop, bytes_eq, refl, sym, ap, subst, arith, length-append, All, None, Ok, filter, nat_lt}
 use Rattle.std.specs.Prelude.{decimal, codes, find, replicate}
 use Rattle.std.specs.Option.{option_map_or}
 use Rattle.std.specs.List.{list_any, range_with_len}
 use Rattle.std.proofs.lemmas.Bool.{or_from, or_left, or_right, ne_eqb, le-ltb}
 use Rattle.std.proofs.lemmas.List.{append-nil, length-map, take_all}
-use Rattle.std.proofs.lemmas.List.Elements.{All-head, All-tail, filter-append}
+use Rattle.std.proofs.lemmas.List.Elements.{All-append, All-cons, All-head, All-map, All-tail, filter-append}
 use Rattle.std.proofs.lemmas.List.Folds.{flat_map-map}
 use Rattle.csv.specs.Reading.{strip_bom, records, default_config}
 use Rattle.nrm_text.specs.Numbers.{value_of}
@@ -16,18 +16,21 @@ use Rattle.nrm_model.specs.declared.product.Product.{Product}
 use Rattle.nrm_model.specs.Network.{NetworkValue, leg_of}
 use Rattle.nrm_model.specs.Demand.{demand_row}
 use Rattle.nrm_model.specs.Limits.{IsNetwork, IsLeg, IsProduct}
-use Rattle.nrm_network.specs.Rows.{Row, begins, rows_of, leg_rows, product_rows, demand_rows, histories_in, periods_in, gives_demand}
+use Rattle.nrm_network.specs.Rows.{Row, begins, rows_of, leg_rows, product_rows, demand_rows, refund_rows, histories_in, periods_in, gives_demand}
 use Rattle.nrm_network.specs.Rows.{further_numbers, field, is_named}
 use Rattle.nrm_network.specs.Checks.{why_refused}
-use Rattle.nrm_network.specs.File.{file_of, network_of, refusal_after, lacks_a_kind, leg_in, product_in, number_of_leg, demand_given}
+use Rattle.nrm_network.specs.File.{file_of, network_of, refusal_after, lacks_a_kind, leg_in, product_in, number_of_leg, refund_given, demand_given}
 use Rattle.nrm_network.specs.Canonical.{PrintedIsRead, periods_fields, leg_fields, product_fields, canonical_rows, canonical_file}
 use Rattle.nrm_network.specs.declared.fault.Why.TheVariants as why
 use Rattle.nrm_network.proofs.PlainRows.{records-plain, texts-short}
-use Rattle.nrm_network.proofs.CanonicalRows.{canonical-plain, canonical-few}
+use Rattle.nrm_network.proofs.CanonicalRows.{demands-plain, leg-plain, periods-plain, product-plain}
+use Rattle.nrm_network.proofs.PlainRows.{IsPlainRow}
 use Rattle.nrm_network.proofs.NumberFields.{values-of, bytes-same}
 use Rattle.nrm_network.proofs.CanonicalChecks.{periods-accepted}
 use Rattle.nrm_network.proofs.LegNames.{leg-place}
-use Rattle.nrm_network.proofs.DemandRows.{demands, demands-leg_rows, demands-product_rows, demands-demand_rows}
+use Rattle.nrm_network.proofs.DemandRows.{demands, demands-leg_rows, demands-product_rows, demands-demand_rows, demands-refund_rows}
+use Rattle.nrm_network.proofs.RefundRows.{refund-back, refunds, refunds-demand_rows, refunds-leg_rows, refunds-plain, refunds-product_rows}
+use Rattle.nrm_network.proofs.RefundRows.{refunds-refund_rows, refunds-taken}
 use Rattle.nrm_network.proofs.DemandBack.{given-back, products-flat}
 use Rattle.nrm_network.specs.Inner.Draft.{Accepts}
 use Rattle.nrm_network.proofs.RefusalPlace.{Accepts-append, refusal_after-none}
@@ -46,6 +49,10 @@ legs-demand_rows : (legs : List Leg) → demand_rows (map leg_fields legs) ≡ [
 legs-demand_rows [] = refl
 legs-demand_rows (leg ∷ legs) = legs-demand_rows legs
 
+legs-refund_rows : (legs : List Leg) → refund_rows (map leg_fields legs) ≡ []
+legs-refund_rows [] = refl
+legs-refund_rows (leg ∷ legs) = legs-refund_rows legs
+
 products-leg_rows : (net : NetworkValue) (products : List Product) → leg_rows (map (product_fields net) products) ≡ []
 products-leg_rows net [] = refl
 products-leg_rows net (product ∷ products) = products-leg_rows net products
@@ -60,6 +67,10 @@ products-demand_rows : (net : NetworkValue) (products : List Product) → demand
 products-demand_rows net [] = refl
 products-demand_rows net (product ∷ products) = products-demand_rows net products
 
+products-refund_rows : (net : NetworkValue) (products : List Product) → refund_rows (map (product_fields net) products) ≡ []
+products-refund_rows net [] = refl
+products-refund_rows net (product ∷ products) = products-refund_rows net products
+
 two-parts : (p : Row → Bool) (xs ys a b : List Row) → filter p xs ≡ a → filter p ys ≡ b → filter p (xs ++ ys) ≡ a ++ b
 two-parts p xs ys a b ea eb = filter-append p xs ys ∙ ap (λ (r : List Row). r ++ filter p ys) ea ∙ ap (λ (r : List Row). a ++ r) eb
 
@@ -70,35 +81,95 @@ legs_part net = map leg_fields net.legs
 abbrev products_part : NetworkValue → List Row
 products_part net = map (product_fields net) net.products
 
+abbrev refunds_part : NetworkValue → List Row
+refunds_part net = refunds net.products
+
 abbrev demand_part : NetworkValue → List Row
 demand_part net = demands net 0 net.products
 
-front-leg_rows : (net : NetworkValue) → leg_rows (legs_part net ++ products_part net) ≡ legs_part net
-front-leg_rows net = two-parts (begins (codes "leg")) (legs_part net) (products_part net) (legs_part net) [] (legs-leg_rows net.legs)
-    (products-leg_rows net net.products) ∙ append-nil (legs_part net)
+-- among all rows, those that pass a test, by the parts
+parts : (p : Row → Bool) (net : NetworkValue) (a b c d : List Row) → filter p (legs_part net) ≡ a → filter p (products_part net) ≡ b
+    → filter p (refunds_part net) ≡ c → filter p (demand_part net) ≡ d
+    → filter p (legs_part net ++ products_part net ++ refunds_part net ++ demand_part net) ≡ a ++ b ++ c ++ d
+parts p net a b c d ea eb ec ed =
+    two-parts p (legs_part net ++ products_part net ++ refunds_part net) (demand_part net) (a ++ b ++ c) d
+    (two-parts p (legs_part net ++ products_part net) (refunds_part net) (a ++ b) c
+    (two-parts p (legs_part net) (products_part net) a b ea eb) ec) ed
 
+-- the rows of each kind before the refunds, and before the demand
 front-product_rows : (net : NetworkValue) → product_rows (legs_part net ++ products_part net) ≡ products_part net
 front-product_rows net = two-parts (begins (codes "product")) (legs_part net) (products_part net) [] (products_part net)
     (legs-product_rows net.legs) (products-product_rows net net.products)
 
-front-demand_rows : (net : NetworkValue) → demand_rows (legs_part net ++ products_part net) ≡ []
-front-demand_rows net = two-parts (begins (codes "demand")) (legs_part net) (products_part net) [] [] (legs-demand_rows net.legs)
-    (products-demand_rows net net.products)
+front-refund_rows : (net : NetworkValue) → refund_rows (legs_part net ++ products_part net) ≡ []
+front-refund_rows net = two-parts (begins (codes "refund")) (legs_part net) (products_part net) [] [] (legs-refund_rows net.legs)
+    (products-refund_rows net net.products)
 
+later-product_rows : (net : NetworkValue) → product_rows (legs_part net ++ products_part net ++ refunds_part net) ≡ products_part net
+later-product_rows net =
+    two-parts (begins (codes "product")) (legs_part net ++ products_part net) (refunds_part net) (products_part net) []
+    (front-product_rows net) (refunds-product_rows net.products) ∙ append-nil (products_part net)
+
+later-demand_rows : (net : NetworkValue) → demand_rows (legs_part net ++ products_part net ++ refunds_part net) ≡ []
+later-demand_rows net =
+    two-parts (begins (codes "demand")) (legs_part net ++ products_part net) (refunds_part net) [] []
+    (two-parts (begins (codes "demand")) (legs_part net) (products_part net) [] [] (legs-demand_rows net.legs)
+    (products-demand_rows net net.products)) (refunds-demand_rows net.products)
+
+-- and of the whole file
 all-leg_rows : (net : NetworkValue) → leg_rows (canonical_rows net) ≡ legs_part net
 all-leg_rows net =
-    two-parts (begins (codes "leg")) (legs_part net ++ products_part net) (demand_part net) (legs_part net) [] (front-leg_rows net)
-    (demands-leg_rows net 0 net.products) ∙ append-nil (legs_part net)
+    parts (begins (codes "leg")) net (legs_part net) [] [] [] (legs-leg_rows net.legs) (products-leg_rows net net.products)
+    (refunds-leg_rows net.products) (demands-leg_rows net 0 net.products)
+    ∙ append-nil (legs_part net ++ [] ++ []) ∙ append-nil (legs_part net ++ []) ∙ append-nil (legs_part net)
 
 all-product_rows : (net : NetworkValue) → product_rows (canonical_rows net) ≡ products_part net
 all-product_rows net =
-    two-parts (begins (codes "product")) (legs_part net ++ products_part net) (demand_part net) (products_part net) []
-    (front-product_rows net) (demands-product_rows net 0 net.products) ∙ append-nil (products_part net)
+    parts (begins (codes "product")) net [] (products_part net) [] [] (legs-product_rows net.legs) (products-product_rows net net.products)
+    (refunds-product_rows net.products) (demands-product_rows net 0 net.products)
+    ∙ append-nil (products_part net ++ []) ∙ append-nil (products_part net)
+
+all-refund_rows : (net : NetworkValue) → refund_rows (canonical_rows net) ≡ refunds_part net
+all-refund_rows net =
+    parts (begins (codes "refund")) net [] [] (refunds_part net) [] (legs-refund_rows net.legs) (products-refund_rows net net.products)
+    (refunds-refund_rows net.products) (demands-refund_rows net 0 net.products) ∙ append-nil (refunds_part net)
 
 all-demand_rows : (net : NetworkValue) → demand_rows (canonical_rows net) ≡ demand_part net
 all-demand_rows net =
-    two-parts (begins (codes "demand")) (legs_part net ++ products_part net) (demand_part net) [] (demand_part net) (front-demand_rows net)
-    (demands-demand_rows net 0 net.products)
+    parts (begins (codes "demand")) net [] [] [] (demand_part net) (legs-demand_rows net.legs) (products-demand_rows net net.products)
+    (refunds-demand_rows net.products) (demands-demand_rows net 0 net.products)
+
+-- the rows are plain, and few
+canonical-plain : (net : NetworkValue) → IsNetwork net → All IsPlainRow (canonical_rows net)
+canonical-plain net is =
+    let legs = All-map IsPlainRow leg_fields net.legs (λ k d short. leg-plain (get_or net.legs k d) (is.legs k d short)) in
+    let products = All-map IsPlainRow (product_fields net) net.products
+    (λ k d short. product-plain net is (get_or net.products k d) (is.products k d short)) in
+    let given = (refunds-plain (length net.legs) net.products is.products).0 in
+    let demands = (demands-plain net is 0 net.products is.products (omega arith)).0 in
+    All-cons IsPlainRow (periods_fields net) (legs_part net ++ products_part net ++ refunds_part net ++ demand_part net)
+    (periods-plain net is)
+    (All-append IsPlainRow (legs_part net ++ products_part net ++ refunds_part net) (demand_part net)
+    (All-append IsPlainRow (legs_part net ++ products_part net) (refunds_part net)
+    (All-append IsPlainRow (legs_part net) (products_part net) legs products) given) demands)
+
+-- 1 + 64 + 256 + 256 + 256 * 32
+canonical-few : (net : NetworkValue) → IsNetwork net → length (canonical_rows net) ≤ 8769
+canonical-few net is =
+    let (l0, l1) = is.leg_count in
+    let (p0, p1) = is.product_count in
+    let given = (refunds-plain (length net.legs) net.products is.products).1 in
+    let demands = (demands-plain net is 0 net.products is.products (omega arith)).1 in
+    omega (
+      arith,
+      given,
+      demands,
+      length-append (legs_part net ++ products_part net ++ refunds_part net) (demand_part net),
+      length-append (legs_part net ++ products_part net) (refunds_part net),
+      length-append (legs_part net) (products_part net),
+      length-map net.legs leg_fields,
+      length-map net.products (product_fields net),
+    )
 
 -- each product's name is among the product rows
 named-at : (net : NetworkValue) (products : List Product) (k : ℕ) (d : Product) → k < length products
@@ -122,12 +193,23 @@ products-accepted net is =
     products-taken net is (legs_part net) net.products is.products (legs-leg_rows net.legs) (rw none (omega arith))
     (λ k d short. rw none refl) is.product_names
 
-demands-accepted : (net : NetworkValue) → IsNetwork net
-    → Accepts why_refused (periods_fields net ∷ (legs_part net ++ products_part net)) (demand_part net)
-demands-accepted net is =
+refunds-accepted : (net : NetworkValue) → IsNetwork net
+    → Accepts why_refused (periods_fields net ∷ (legs_part net ++ products_part net)) (refunds_part net)
+refunds-accepted net is =
     let named = front-product_rows net in
-    let none = front-demand_rows net in
-    demands-taken net is (legs_part net ++ products_part net) 0 net.products is.products (omega arith)
+    let none = front-refund_rows net in
+    refunds-taken net (legs_part net ++ products_part net) net.products is.products
+    (λ k d short. subst (λ (rows : List Row). is_named rows (get_or net.products k d).name ≡ true) (sym named)
+    (named-at net net.products k d short))
+    (λ k d short. subst (λ (rows : List Row). is_named rows (get_or net.products k d).name ≡ false) (sym none) refl)
+    is.product_names
+
+demands-accepted : (net : NetworkValue) → IsNetwork net
+    → Accepts why_refused (periods_fields net ∷ (legs_part net ++ products_part net ++ refunds_part net)) (demand_part net)
+demands-accepted net is =
+    let named = later-product_rows net in
+    let none = later-demand_rows net in
+    demands-taken net is (legs_part net ++ products_part net ++ refunds_part net) 0 net.products is.products (omega arith)
     (λ k d short. subst (λ (rows : List Row). is_named rows (get_or net.products k d).name ≡ true) (sym named)
     (named-at net net.products k d short))
     (λ k d short t. subst (λ (rows : List Row). list_any (gives_demand (get_or net.products k d).name t) rows ≡ false) (sym none) refl)
@@ -148,20 +230,23 @@ all-taken : (net : NetworkValue) → IsNetwork net → refusal_after why_refused
 all-taken net is =
     refusal_after-none why_refused why.Empty [] (canonical_rows net) (
       periods-accepted net is,
-      Accepts-append why_refused (periods_fields net ∷ []) (legs_part net ++ products_part net) (demand_part net)
+      Accepts-append why_refused (periods_fields net ∷ []) (legs_part net ++ products_part net ++ refunds_part net) (demand_part net)
+          (Accepts-append why_refused (periods_fields net ∷ []) (legs_part net ++ products_part net) (refunds_part net)
           (Accepts-append why_refused (periods_fields net ∷ []) (legs_part net) (products_part net) (legs-accepted net is)
-          (products-accepted net is)) (demands-accepted net is),
+          (products-accepted net is)) (refunds-accepted net is)) (demands-accepted net is),
     ) (has-both net is)
 
-leg-back : (leg : Leg) → IsLeg leg → leg_in (leg_fields leg) ≡ leg
+leg-back : (leg : Leg) → IsLeg leg → leg_in 2 (leg_fields leg) ≡ leg
 leg-back leg good =
     let seats_in = good.seats in
+    let authorised_in = good.authorised in
+    let authorised_are : value_of (decimal leg.authorised) ≡ leg.authorised = value_of-decimal leg.authorised (omega arith) in
     let seats_are : value_of (decimal leg.seats) ≡ leg.seats = value_of-decimal leg.seats (omega arith) in
     let cuts_are : map value_of (map decimal leg.cuts) ≡ leg.cuts =
     values-of leg.cuts (λ k d short. let (low, high) = good.cuts k d short in omega arith) in
-    λ i. record { name = leg.name; seats = seats_are i; authorised = seats_are i; cuts = cuts_are i }
+    λ i. record { name = leg.name; seats = seats_are i; authorised = authorised_are i; cuts = cuts_are i }
 
-legs-back : (legs : List Leg) → All IsLeg legs → map leg_in (map leg_fields legs) ≡ legs
+legs-back : (legs : List Leg) → All IsLeg legs → map (leg_in 2) (map leg_fields legs) ≡ legs
 legs-back [] good = refl
 legs-back (leg ∷ more) good =
     let one = leg-back leg (All-head IsLeg leg more good) in
@@ -178,20 +263,24 @@ numbers-back net is (k ∷ more) within =
     let rest = numbers-back net is more (All-tail (λ m. m < length net.legs) k more within) in
     λ i. one i ∷ rest i
 
-product-back : (net : NetworkValue) → IsNetwork net → (product : Product) → IsProduct (length net.legs) product
-    → product_in (legs_part net) (product_fields net product) ≡ product
-product-back net is product good =
+product-back : (net : NetworkValue) → IsNetwork net → (given : List Row) (product : Product) → IsProduct (length net.legs) product
+    → refund_given given product.name ≡ product.refund
+    → product_in (legs_part net) given (product_fields net product) ≡ product
+product-back net is given product good refund_is =
     let (f0, f1) = good.fare in
     let fare_is : value_of (decimal product.fare) ≡ product.fare = value_of-decimal product.fare (omega arith) in
     let legs_are = numbers-back net is product.legs good.legs in
-    λ i. record { name = product.name; fare = fare_is i; refund = 100; legs = legs_are i }
+    λ i. record { name = product.name; fare = fare_is i; refund = refund_is i; legs = legs_are i }
 
-products-back : (net : NetworkValue) → IsNetwork net → (products : List Product) → All (IsProduct (length net.legs)) products
-    → map (product_in (legs_part net)) (map (product_fields net) products) ≡ products
-products-back net is [] good = refl
-products-back net is (product ∷ more) good =
-    let one = product-back net is product (All-head (IsProduct (length net.legs)) product more good) in
-    let rest = products-back net is more (All-tail (IsProduct (length net.legs)) product more good) in
+products-back : (net : NetworkValue) → IsNetwork net → (given : List Row) (products : List Product)
+    → All (IsProduct (length net.legs)) products → All (λ product. refund_given given product.name ≡ product.refund) products
+    → map (product_in (legs_part net) given) (map (product_fields net) products) ≡ products
+products-back net is given [] good refunds_are = refl
+products-back net is given (product ∷ more) good refunds_are =
+    let one = product-back net is given product (All-head (IsProduct (length net.legs)) product more good)
+    (All-head (λ p. refund_given given p.name ≡ p.refund) product more refunds_are) in
+    let rest = products-back net is given more (All-tail (IsProduct (length net.legs)) product more good)
+    (All-tail (λ p. refund_given given p.name ≡ p.refund) product more refunds_are) in
     λ i. one i ∷ rest i
 
 -- the demand that the rows give, where the rows of each kind are these
@@ -222,10 +311,12 @@ network-back net is =
     let rows : List Row = canonical_rows net in
     let histories_are : value_of (decimal net.histories) ≡ net.histories = value_of-decimal net.histories (omega arith) in
     let periods_are : value_of (decimal net.periods) ≡ net.periods = value_of-decimal net.periods (omega arith) in
-    let legs_are = ap (λ (r : List Row). map leg_in r) (all-leg_rows net) ∙ legs-back net.legs is.legs in
-    let products_are = ap (λ (r : List Row). map (product_in r) (product_rows rows)) (all-leg_rows net)
-    ∙ ap (λ (r : List Row). map (product_in (legs_part net)) r) (all-product_rows net)
-    ∙ products-back net is net.products is.products in
+    let legs_are = ap (λ (r : List Row). map (leg_in 2) r) (all-leg_rows net) ∙ legs-back net.legs is.legs in
+    let legs = all-leg_rows net in
+    let given = all-refund_rows net in
+    let products = all-product_rows net in
+    let products_are = (λ i. map (product_in (legs i) (given i)) (products i))
+    ∙ products-back net is (refunds_part net) net.products is.products (refund-back (length net.legs) net.products is.products is.product_names) in
     let demand_are = demand-is net is rows histories_are periods_are (all-product_rows net) (all-demand_rows net) in
     λ i. record {
       histories = histories_are i;

@@ -28,11 +28,18 @@ back : {X Y : Type 0} (P : Y → Type 0) (f : X → Y) (xs : List X) → All P (
 back P f xs all = λ k d short. subst P (get_or-map f xs k d (f d) short) (all k (f d) (omega (arith, length-map xs f)))
 
 -- one row more, of another name
-named-push : (rows : List Row) (row : Row) (name : List ℕ) → is_named rows name ≡ false → bytes_eq (field row 1) name ≡ false
+pub named-push : (rows : List Row) (row : Row) (name : List ℕ) → is_named rows name ≡ false → bytes_eq (field row 1) name ≡ false
     → is_named (rows ++ row ∷ []) name ≡ false
 named-push rows row name none other =
     list_any-append (λ r. bytes_eq (field r 1) name) rows (row ∷ [])
     ∙ or_from (is_named rows name) (bytes_eq (field row 1) name || false) none (or_from (bytes_eq (field row 1) name) false other refl)
+
+-- the names of the products after the first differ from its name
+pub names-differ-from : (product : Product) (rest : List Product) → AllPairs (λ a b. a ≢ b) (map (λ (p : Product). p.name) (product ∷ rest))
+    → All (λ (other : Product). product.name ≢ other.name) rest
+names-differ-from product rest apart =
+    back (λ n. product.name ≢ n) (λ (other : Product). other.name) rest
+    (AllPairs-head (λ a b. a ≢ b) product.name (map (λ (other : Product). other.name) rest) apart)
 
 pub legs-taken : (net : NetworkValue) → IsNetwork net → (before : List Row) (rest : List Leg) → All IsLeg rest
     → length (leg_rows before) + length rest ≤ 64 → All (λ (leg : Leg). is_named (leg_rows before) leg.name ≡ false) rest
@@ -69,9 +76,7 @@ products-taken net is before (product ∷ rest) good legs few fresh apart =
     ∙ append-nil (leg_rows before) ∙ legs in
     let pushed : product_rows (before ++ row ∷ []) ≡ product_rows before ++ row ∷ [] =
     filter-append (begins (codes "product")) before (row ∷ []) in
-    let differs : All (λ (other : Product). product.name ≢ other.name) rest =
-    back (λ n. product.name ≢ n) (λ (other : Product). other.name) rest
-    (AllPairs-head (λ a b. a ≢ b) product.name (map (λ (other : Product). other.name) rest) apart) in
+    let differs = names-differ-from product rest apart in
     let later = All-tail (λ (other : Product). is_named (product_rows before) other.name ≡ false) product rest fresh in (
       product-accepted net is before product (All-head (IsProduct (length net.legs)) product rest good) legs (omega arith)
           (All-head (λ (other : Product). is_named (product_rows before) other.name ≡ false) product rest fresh),
@@ -127,9 +132,7 @@ demands-taken net is before j (product ∷ rest) good few there fresh apart =
     ∙ ap (λ (r : List Row). product_rows before ++ r) none ∙ append-nil (product_rows before) in
     let pushed : demand_rows (before ++ here) ≡ demand_rows before ++ here = filter-append (begins (codes "demand")) before here
     ∙ ap (λ (r : List Row). demand_rows before ++ r) same in
-    let differs : All (λ (other : Product). product.name ≢ other.name) rest =
-    back (λ n. product.name ≢ n) (λ (other : Product). other.name) rest
-    (AllPairs-head (λ a b. a ≢ b) product.name (map (λ (other : Product). other.name) rest) apart) in
+    let differs = names-differ-from product rest apart in
     let there_later = All-tail (λ (other : Product). is_named (product_rows before) other.name ≡ true) product rest there in
     let fresh_later = All-tail (λ (other : Product). (t : ℕ)
     → list_any (gives_demand other.name t) (demand_rows before) ≡ false) product rest fresh in

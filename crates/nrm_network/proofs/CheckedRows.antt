@@ -1,5 +1,5 @@
 -- What the checks say of a row that none of them refuses.
-use Rattle.std.proofs.Common.{ℕ, ◌≡◌, ◌∙◌, ◌⊎◌, ◌+◌, ◌<◌, ◌≤◌, true, false, not, ◌&&◌, ◌==◌, List, [], ◌∷◌, length, map, sum, bytes_eq}
+use Rattle.std.proofs.Common.{ℕ, ◌≡◌, ◌∙◌, ◌⊎◌, ◌+◌, ◌<◌, ◌≤◌, Bool, true, false, not, ◌&&◌, ◌==◌, List, [], ◌∷◌, length, map, sum, bytes_eq}
 use Rattle.std.proofs.Common.{codes, refl, sym, ap, subst, arith, inl, inr, nat_le, None}
 use Rattle.std.specs.Int.{is_in_range}
 use Rattle.std.specs.List.{list_all}
@@ -11,8 +11,9 @@ use Rattle.nrm_text.specs.Names.{is_name}
 use Rattle.nrm_text.specs.Numbers.{value_of}
 use Rattle.nrm_model.specs.Limits.{falls, differ}
 use Rattle.nrm_model.proofs.Fits.{leg_fits}
-use Rattle.nrm_network.specs.Rows.{Row, field, begins, kind_of, leg_rows, product_rows, periods_in, is_named, further, further_numbers}
-use Rattle.nrm_network.specs.Checks.{NumberField, why_refused, is_within, no_such_kind, is_periods}
+use Rattle.nrm_network.specs.Rows.{Row, authorised_field, field, begins, kind_of, leg_rows, product_rows, refund_rows, version_in, periods_in, is_named}
+use Rattle.nrm_network.specs.Rows.{further, further_numbers, thresholds, threshold_numbers}
+use Rattle.nrm_network.specs.Checks.{why_refused, is_within, no_such_kind, is_periods}
 use Rattle.nrm_network.specs.File.{leg_in}
 use Rattle.nrm_network.specs.Inner.Entries.{kind_by}
 use Rattle.nrm_network.proofs.ChecksByName.{PassesAs, passes}
@@ -27,12 +28,11 @@ checked : (before : List Row) (row : Row) (word : List ℕ) → field row 0 ≡ 
     → PassesAs before row (kind_by word)
 checked before row word first taken = subst (λ (f : List ℕ). PassesAs before row (kind_by f)) first (passes before row taken)
 
--- the numbers of the further fields are within the bounds
-pub further-within : (low high : ℕ) (row : Row) → list_all is_within (map (λ text. (text, low, high)) (further row)) ≡ true
-    → list_all (is_in_range low high) (further_numbers row) ≡ true
-further-within low high row within =
-    list_all-map (is_in_range low high) value_of (further row) ∙ sym (list_all-map is_within (λ text. (text, low, high)) (further row))
-    ∙ within
+-- the numbers of some fields are within the bounds
+pub fields-within : (low high : ℕ) (fields : List (List ℕ)) → list_all is_within (map (λ text. (text, low, high)) fields) ≡ true
+    → list_all (is_in_range low high) (map value_of fields) ≡ true
+fields-within low high fields within =
+    list_all-map (is_in_range low high) value_of fields ∙ sym (list_all-map is_within (λ text. (text, low, high)) fields) ∙ within
 
 -- a first row gives 1 to 32 histories and 1 to 16 periods
 pub record FirstChecked (row : Row) : Type 0 where
@@ -47,8 +47,9 @@ in-range low high n within = let (above, below) = and_parts (nat_le low n) (nat_
 periods-checked : (row : Row) → field row 0 ≡ codes "periods" → why_refused [] row ≡ None → FirstChecked row
 periods-checked row first taken =
     let p = checked [] row (codes "periods") first taken in
-    let (histories, more) = and_parts (is_within (field row 1, 1, 32)) (is_within (field row 2, 1, 16) && true) p.range in
-    let (periods, end) = and_parts (is_within (field row 2, 1, 16)) true more in
+    let version : Bool = list_all is_within (map (λ text. (text, 2, 2)) (further row)) in
+    let (histories, more) = and_parts (is_within (field row 1, 1, 32)) (is_within (field row 2, 1, 16) && version) p.range in
+    let (periods, end) = and_parts (is_within (field row 2, 1, 16)) version more in
     record {
       histories = in-range 1 32 (value_of (field row 1)) histories;
       periods = in-range 1 16 (value_of (field row 2)) periods;
@@ -59,29 +60,37 @@ periods-checked row first taken =
 -- a leg that no check refuses fits
 pub record LegChecked (before : List Row) (row : Row) : Type 0 where
   pub few : length (leg_rows before) < 64
-  pub fits : leg_fits (leg_in row) ≡ true
+  pub fits : leg_fits (leg_in (version_in before) row) ≡ true
   pub fresh : is_named (leg_rows before) (field row 1) ≡ false
 
 pub leg-checked : (before : List Row) (row : Row) → field row 0 ≡ codes "leg" → why_refused before row ≡ None → LegChecked before row
 leg-checked before row first taken =
     let p = checked before row (codes "leg") first taken in
     let (name, end) = and_parts (is_name (field row 1)) true p.names in
-    let (low, high) = in-range 3 12 (length row) (not-false (is_in_range 3 12 (length row)) p.count) in
-    let cuts_fields : List NumberField = map (λ cut. (cut, 1, 99999999)) (further row) in
-    let (seats_within, cuts_within) = and_parts (is_within (field row 2, 0, 999)) (list_all is_within cuts_fields) p.range in
+    let version : ℕ = version_in before in
+    let (low, high) = in-range (2 + version) (2 + version + 9) (length row)
+    (not-false (is_in_range (2 + version) (2 + version + 9) (length row)) p.count) in
+    let cuts_within : Bool = list_all is_within (map (λ cut. (cut, 1, 99999999)) (thresholds version row)) in
+    let (seats_within, more) = and_parts (is_within (field row 2, 0, 999))
+    (is_within (authorised_field version row, 0, 999) && cuts_within) p.range in
+    let (authorised_within, each_cut) = and_parts (is_within (authorised_field version row, 0, 999)) cuts_within more in
     let (none, seats) = in-range 0 999 (value_of (field row 2)) seats_within in
-    let cuts : List ℕ = further_numbers row in
-    let count : length cuts ≤ 9 = omega (arith, length-map (further row) value_of, length-drop 3 row) in
+    let (no_fewer, authorised) = in-range 0 999 (value_of (authorised_field version row)) authorised_within in
+    let cuts : List ℕ = threshold_numbers version row in
+    let count : length cuts ≤ 9 = omega (arith, length-map (thresholds version row) value_of, length-drop (2 + version) row) in
+    let named : Bool = is_name (field row 1) in
+    let few_seats : Bool = nat_le (value_of (field row 2)) 999 in
+    let few_authorised : Bool = nat_le (value_of (authorised_field version row)) 999 in
     record {
       few = leb-false 64 (length (leg_rows before)) p.few;
-      fits = and_from (is_name (field row 1) && nat_le (value_of (field row 2)) 999 && nat_le (length cuts) 9 && list_all
-          (is_in_range 1 99999999) cuts) (falls cuts)
-          (and_from (is_name (field row 1) && nat_le (value_of (field row 2)) 999 && nat_le (length cuts) 9)
-          (list_all (is_in_range 1 99999999) cuts)
-          (and_from (is_name (field row 1) && nat_le (value_of (field row 2)) 999) (nat_le (length cuts) 9)
-          (and_from (is_name (field row 1)) (nat_le (value_of (field row 2)) 999) name (le-leb (value_of (field row 2)) 999 seats))
+      fits = and_from (named && few_seats && few_authorised && nat_le (length cuts) 9 && list_all (is_in_range 1 99999999) cuts) (falls cuts)
+          (and_from (named && few_seats && few_authorised && nat_le (length cuts) 9) (list_all (is_in_range 1 99999999) cuts)
+          (and_from (named && few_seats && few_authorised) (nat_le (length cuts) 9)
+          (and_from (named && few_seats) few_authorised
+          (and_from named few_seats name (le-leb (value_of (field row 2)) 999 seats))
+          (le-leb (value_of (authorised_field version row)) 999 authorised))
           (le-leb (length cuts) 9 count))
-          (further-within 1 99999999 row cuts_within))
+          (fields-within 1 99999999 (thresholds version row) each_cut))
           (not-false (falls cuts) p.falling);
       fresh = p.once;
     }
@@ -128,13 +137,36 @@ demand-checked before row first taken =
     eqb-true (length row) (3 + periods_in before) (not-false (length row == 3 + periods_in before) p.count) in
     (omega (arith, count, length-drop 3 row), ltb-false 999 (sum (further_numbers row)) p.total)
 
+-- a refund that no check refuses: of a product that is there, and of no other's, 100 at most
+pub record RefundChecked (before : List Row) (row : Row) : Type 0 where
+  pub small : value_of (field row 2) ≤ 100
+  pub there : is_named (product_rows before) (field row 1) ≡ true
+  pub fresh : is_named (refund_rows before) (field row 1) ≡ false
+
+pub refund-checked : (before : List Row) (row : Row) → field row 0 ≡ codes "refund" → why_refused before row ≡ None
+    → RefundChecked before row
+refund-checked before row first taken =
+    let p = checked before row (codes "refund") first taken in
+    let (percentage, end) = and_parts (is_within (field row 2, 0, 100)) true p.range in
+    record {
+      small = (in-range 0 100 (value_of (field row 2)) percentage).1;
+      there = not-false (is_named (product_rows before) (field row 1)) p.there;
+      fresh = p.once;
+    }
+
 -- the kind of a row that doesn't begin with `periods` is another
 not-periods : (row : Row) → begins (codes "periods") row ≡ false → is_periods (kind_of row) ≡ false
 not-periods row other = elim (cases_Bool (begins (codes "leg") row)) [
   | inl e ↦ rw (other, e) refl
   | inr e ↦ elim (cases_Bool (begins (codes "product") row)) [
     | inl f ↦ rw (other, e, f) refl
-    | inr f ↦ elim (cases_Bool (begins (codes "demand") row)) [ inl g ↦ rw (other, e, f, g) refl | inr g ↦ rw (other, e, f, g) refl ]
+    | inr f ↦ elim (cases_Bool (begins (codes "demand") row)) [
+      | inl g ↦ rw (other, e, f, g) refl
+      | inr g ↦ elim (cases_Bool (begins (codes "refund") row)) [
+        | inl h ↦ rw (other, e, f, g, h) refl
+        | inr h ↦ rw (other, e, f, g, h) refl
+      ]
+    ]
   ]
 ]
 
@@ -149,12 +181,12 @@ first-checked row taken = elim (cases_Bool (begins (codes "periods") row)) [
       cc
 ]
 
--- and a later row is a leg, a product or a demand
+-- and a later row is a leg, a product, a demand or a refund
 pub later-kinds : (first row : Row) (more : List Row) → why_refused (first ∷ more) row ≡ None
-    → (field row 0 ≡ codes "leg") ⊎ ((field row 0 ≡ codes "product") ⊎ (field row 0 ≡ codes "demand"))
+    → (field row 0 ≡ codes "leg") ⊎ ((field row 0 ≡ codes "product") ⊎ ((field row 0 ≡ codes "demand") ⊎ (field row 0 ≡ codes "refund")))
 later-kinds first row more taken =
     let p = passes (first ∷ more) row taken in
-    let known : no_such_kind (kind_of row) ≡ false = p.known in
+    let known : no_such_kind (version_in (first ∷ more)) (kind_of row) ≡ false = p.known in
     let later : is_periods (kind_of row) ≡ false = p.order in
     elim (cases_Bool (begins (codes "periods") row)) [
       | inl d ↦ let no : true ≡ false = rw d at later in cc
@@ -163,8 +195,11 @@ later-kinds first row more taken =
         | inr e ↦ elim (cases_Bool (begins (codes "product") row)) [
           | inl f ↦ inr (inl (word-is (codes "product") row f))
           | inr f ↦ elim (cases_Bool (begins (codes "demand") row)) [
-            | inl g ↦ inr (inr (word-is (codes "demand") row g))
-            | inr g ↦ let no : true ≡ false = rw (d, e, f, g) at known in cc
+            | inl g ↦ inr (inr (inl (word-is (codes "demand") row g)))
+            | inr g ↦ elim (cases_Bool (begins (codes "refund") row)) [
+              | inl h ↦ inr (inr (inr (word-is (codes "refund") row h)))
+              | inr h ↦ let no : true ≡ false = rw (d, e, f, g, h) at known in cc
+            ]
           ]
         ]
       ]

@@ -10,14 +10,15 @@ use Rattle.std.proofs.lemmas.List.Sums.{AllPass-from_list_all}
 use Rattle.nrm_text.specs.Names.{is_name}
 use Rattle.nrm_text.specs.Numbers.{is_whole, value_of}
 use Rattle.nrm_model.specs.Limits.{falls, differ}
-use Rattle.nrm_network.specs.Rows.{Row, Kind, periods_kind, leg_kind, product_kind, demand_kind, no_kind, field, begins, kind_of, leg_rows}
-use Rattle.nrm_network.specs.Rows.{product_rows, demand_rows, histories_in, periods_in, is_named, further, further_numbers, gives_demand}
+use Rattle.nrm_network.specs.Rows.{Row, Kind, periods_kind, leg_kind, product_kind, demand_kind, refund_kind, no_kind, field, begins, kind_of}
+use Rattle.nrm_network.specs.Rows.{leg_rows, product_rows, demand_rows, refund_rows, version_in, histories_in, periods_in, is_named}
+use Rattle.nrm_network.specs.Rows.{further, further_numbers, threshold_numbers, gives_demand}
 use Rattle.nrm_network.specs.Checks.{NumberField, why_refused, is_within, no_such_kind, out_of_order, miscounted, too_many, name_fields}
 use Rattle.nrm_network.specs.Checks.{number_fields, given_twice, missing, unordered, too_much}
 use Rattle.nrm_network.specs.Inner.Entries.{HasShape}
 use Rattle.nrm_network.specs.declared.fault.Why.{Why}
 use Rattle.nrm_network.specs.declared.fault.Why.TheVariants as why
-use Rattle.nrm_network.proofs.CheckedRows.{word-is, in-range, further-within}
+use Rattle.nrm_network.proofs.CheckedRows.{word-is, in-range, fields-within}
 use Rattle.nrm_network.proofs.RowFields.{whole_fields}
 
 -- the word that a kind's rows begin with
@@ -26,6 +27,7 @@ HasWord periods_kind row = field row 0 ≡ codes "periods"
 HasWord leg_kind row = field row 0 ≡ codes "leg"
 HasWord product_kind row = field row 0 ≡ codes "product"
 HasWord demand_kind row = field row 0 ≡ codes "demand"
+HasWord refund_kind row = field row 0 ≡ codes "refund"
 HasWord no_kind row = ⊤
 
 has-word : (row : Row) → HasWord (kind_of row) row
@@ -37,8 +39,10 @@ has-word row = elim (cases_Bool (begins (codes "periods") row)) [
       | inl f ↦ rw (d, e, f) (word-is (codes "product") row f)
       | inr f ↦ elim (cases_Bool (begins (codes "demand") row)) [
         | inl g ↦ rw (d, e, f, g) (word-is (codes "demand") row g)
-        | inr g ↦ rw
-            (d, e, f, g) tt
+        | inr g ↦ elim (cases_Bool (begins (codes "refund") row)) [
+          | inl h ↦ rw (d, e, f, g, h) (word-is (codes "refund") row h)
+          | inr h ↦ rw (d, e, f, g, h) tt
+        ]
       ]
     ]
   ]
@@ -52,7 +56,7 @@ abbrev late : List Row → Row → Kind → List (Bool × Why)
 late before row kind =
     (given_twice before kind row, why.Twice)
     ∷ (missing before kind row, why.Missing)
-    ∷ (unordered kind row, why.Thresholds)
+    ∷ (unordered (version_in before) kind row, why.Thresholds)
     ∷ (too_much kind row, why.Sum)
     ∷ []
 
@@ -62,13 +66,13 @@ first_of list = option_map (λ (check : Bool × Why). check.1) (find (λ (check 
 -- all the checks at a kind
 abbrev checks_as : List Row → Row → Kind → List (Bool × Why)
 checks_as before row kind =
-    (no_such_kind kind, why.Kind)
+    (no_such_kind (version_in before) kind, why.Kind)
     ∷ (out_of_order before kind, why.Order)
-    ∷ (miscounted (periods_in before) kind (length row), why.Fields)
+    ∷ (miscounted (version_in before) (periods_in before) kind (length row), why.Fields)
     ∷ (too_many before kind, why.Many)
     ∷ (not (list_all is_name (name_fields kind row)), why.Name)
-    ∷ (not (list_all (λ (number : NumberField). is_whole number.0) (number_fields (histories_in before) kind row)), why.Number)
-    ∷ (not (list_all is_within (number_fields (histories_in before) kind row)), why.Range)
+    ∷ (not (list_all (λ (number : NumberField). is_whole number.0) (number_fields (version_in before) (histories_in before) kind row)), why.Number)
+    ∷ (not (list_all is_within (number_fields (version_in before) (histories_in before) kind row)), why.Range)
     ∷ late before row kind
 
 passed : (a b c d : Bool) (n w r : Bool) (p q s t u x y : Why) (rest : List (Bool × Why)) → a ≡ false → b ≡ false → c ≡ false → d ≡ false
@@ -80,10 +84,11 @@ refused-late : (before : List Row) (row : Row) (kind : Kind) → HasShape before
     → why_refused before row ≡ first_of (late before row kind)
 refused-late before row kind shape =
     ap (λ (k : Kind). first_of (checks_as before row k)) shape.is_kind
-    ∙ passed (no_such_kind kind) (out_of_order before kind) (miscounted (periods_in before) kind (length row)) (too_many before kind)
+    ∙ passed (no_such_kind (version_in before) kind) (out_of_order before kind)
+    (miscounted (version_in before) (periods_in before) kind (length row)) (too_many before kind)
     (list_all is_name (name_fields kind row))
-    (list_all (λ (number : NumberField). is_whole number.0) (number_fields (histories_in before) kind row))
-    (list_all is_within (number_fields (histories_in before) kind row))
+    (list_all (λ (number : NumberField). is_whole number.0) (number_fields (version_in before) (histories_in before) kind row))
+    (list_all is_within (number_fields (version_in before) (histories_in before) kind row))
     why.Kind why.Order why.Fields why.Many why.Name why.Number why.Range
     (late before row kind) shape.known shape.order shape.count shape.few shape.names shape.numbers shape.range
 
@@ -97,11 +102,11 @@ pub leg-twice : (before : List Row) (row : Row) → HasShape before row leg_kind
 leg-twice before row shape e = refused-late before row leg_kind shape ∙ rw e refl
 
 pub leg-unordered : (before : List Row) (row : Row) → HasShape before row leg_kind → is_named (leg_rows before) (field row 1) ≡ false
-    → falls (further_numbers row) ≡ false → why_refused before row ≡ Some why.Thresholds
+    → falls (threshold_numbers (version_in before) row) ≡ false → why_refused before row ≡ Some why.Thresholds
 leg-unordered before row shape e f = refused-late before row leg_kind shape ∙ rw (e, f) refl
 
 pub leg-free : (before : List Row) (row : Row) → HasShape before row leg_kind → is_named (leg_rows before) (field row 1) ≡ false
-    → falls (further_numbers row) ≡ true → why_refused before row ≡ None
+    → falls (threshold_numbers (version_in before) row) ≡ true → why_refused before row ≡ None
 leg-free before row shape e f = refused-late before row leg_kind shape ∙ rw (e, f) refl
 
 -- a product
@@ -147,6 +152,19 @@ pub demand-free : (before : List Row) (row : Row) → HasShape before row demand
     → nat_lt 999 (sum (further_numbers row)) ≡ false → why_refused before row ≡ None
 demand-free before row shape e f g = refused-late before row demand_kind shape ∙ rw (e, f, g) refl
 
+-- a refund
+pub refund-twice : (before : List Row) (row : Row) → HasShape before row refund_kind → is_named (refund_rows before) (field row 1) ≡ true
+    → why_refused before row ≡ Some why.Twice
+refund-twice before row shape e = refused-late before row refund_kind shape ∙ rw e refl
+
+pub refund-missing : (before : List Row) (row : Row) → HasShape before row refund_kind → is_named (refund_rows before) (field row 1) ≡ false
+    → is_named (product_rows before) (field row 1) ≡ false → why_refused before row ≡ Some why.Missing
+refund-missing before row shape e f = refused-late before row refund_kind shape ∙ rw (e, f) refl
+
+pub refund-free : (before : List Row) (row : Row) → HasShape before row refund_kind → is_named (refund_rows before) (field row 1) ≡ false
+    → is_named (product_rows before) (field row 1) ≡ true → why_refused before row ≡ None
+refund-free before row shape e f = refused-late before row refund_kind shape ∙ rw (e, f) refl
+
 -- a number within bounds
 pub record Number (text : List ℕ) (least greatest : ℕ) : Type 0 where
   pub whole : is_whole text ≡ true
@@ -168,7 +186,7 @@ further-small : (row : Row) (least greatest : ℕ)
 further-small row least greatest whole within = record {
   whole = sym (whole_fields least greatest (further row)) ∙ whole;
   small = λ k d short. (in-range least greatest _
-      (AllPass-from_list_all (is_in_range least greatest) (further_numbers row) (further-within least greatest row within) k d short)).1;
+      (AllPass-from_list_all (is_in_range least greatest) (further_numbers row) (fields-within least greatest (further row) within) k d short)).1;
 }
 
 pub record DemandShape (histories periods : ℕ) (row : Row) : Type 0 where

@@ -5,23 +5,23 @@ use Rattle.std.specs.List.{list_all}
 use Rattle.std.proofs.lemmas.Bool.{cases_Bool, not-false, not_from_true}
 use Rattle.nrm_text.specs.Names.{is_name}
 use Rattle.nrm_text.specs.Numbers.{is_whole}
-use Rattle.nrm_network.specs.Rows.{Row, Kind, kind_of, histories_in, periods_in}
+use Rattle.nrm_network.specs.Rows.{Row, Kind, kind_of, version_in, histories_in, periods_in}
 use Rattle.nrm_network.specs.Checks.{NumberField, checks, why_refused, is_within, no_such_kind, out_of_order, miscounted, too_many}
 use Rattle.nrm_network.specs.Checks.{name_fields, number_fields, given_twice, missing, unordered, too_much}
 use Rattle.nrm_network.specs.declared.fault.Why.{Why}
 
 -- a row passes the checks of a kind
 pub record PassesAs (before : List Row) (row : Row) (kind : Kind) : Type 0 where
-  pub known : no_such_kind kind ≡ false
+  pub known : no_such_kind (version_in before) kind ≡ false
   pub order : out_of_order before kind ≡ false
-  pub count : miscounted (periods_in before) kind (length row) ≡ false
+  pub count : miscounted (version_in before) (periods_in before) kind (length row) ≡ false
   pub few : too_many before kind ≡ false
   pub names : list_all is_name (name_fields kind row) ≡ true
-  pub numbers : list_all (λ (number : NumberField). is_whole number.0) (number_fields (histories_in before) kind row) ≡ true
-  pub range : list_all is_within (number_fields (histories_in before) kind row) ≡ true
+  pub numbers : list_all (λ (number : NumberField). is_whole number.0) (number_fields (version_in before) (histories_in before) kind row) ≡ true
+  pub range : list_all is_within (number_fields (version_in before) (histories_in before) kind row) ≡ true
   pub once : given_twice before kind row ≡ false
   pub there : missing before kind row ≡ false
-  pub falling : unordered kind row ≡ false
+  pub falling : unordered (version_in before) kind row ≡ false
   pub total : too_much kind row ≡ false
 
 -- checks of which none holds give no cause
@@ -47,8 +47,8 @@ pub not-refused : (before : List Row) (row : Row) → PassesAs before row (kind_
 not-refused before row p =
     let names = not_from_true (list_all is_name (name_fields (kind_of row) row)) p.names in
     let numbers = not_from_true (list_all (λ (number : NumberField). is_whole number.0)
-    (number_fields (histories_in before) (kind_of row) row)) p.numbers in
-    let range = not_from_true (list_all is_within (number_fields (histories_in before) (kind_of row) row)) p.range in
+    (number_fields (version_in before) (histories_in before) (kind_of row) row)) p.numbers in
+    let range = not_from_true (list_all is_within (number_fields (version_in before) (histories_in before) (kind_of row) row)) p.range in
     no-cause (checks before row) (
       p.known,
       (p.order, (p.count, (p.few, (names, (numbers, (range, (p.once, (p.there, (p.falling, (p.total, tt)))))))))),
@@ -64,9 +64,9 @@ passes before row taken =
       count = count;
       few = few;
       names = not-false (list_all is_name (name_fields (kind_of row) row)) names;
-      numbers = not-false (list_all (λ (number : NumberField). is_whole number.0) (number_fields (histories_in before) (kind_of row) row))
+      numbers = not-false (list_all (λ (number : NumberField). is_whole number.0) (number_fields (version_in before) (histories_in before) (kind_of row) row))
           numbers;
-      range = not-false (list_all is_within (number_fields (histories_in before) (kind_of row) row)) range;
+      range = not-false (list_all is_within (number_fields (version_in before) (histories_in before) (kind_of row) row)) range;
       once = once;
       there = there;
       falling = falling;

@@ -13,7 +13,8 @@ use Rattle.std.proofs.lemmas.List.Elements.{All-push}
 use Rattle.std.proofs.lemmas.List.Folds.{list_any-append, list_any_at, find-append}
 use Rattle.std.proofs.lemmas.Slice.Eq.{bytes_eq-Decides}
 use Rattle.nrm_text.specs.Numbers.{value_of}
-use Rattle.nrm_network.specs.Rows.{Row, demand_kind, field, begins, leg_rows, product_rows, demand_rows, histories_in, periods_in, is_named}
+use Rattle.nrm_network.specs.Rows.{Row, demand_kind, field, begins, leg_rows, product_rows, demand_rows, refund_rows, version_in, histories_in}
+use Rattle.nrm_network.specs.Rows.{periods_in, is_named}
 use Rattle.nrm_network.specs.Rows.{further, further_numbers, gives_demand}
 use Rattle.nrm_network.specs.Checks.{why_refused}
 use Rattle.nrm_network.specs.Inner.Draft.{Accepts, SetsDemand, Stands, names_of, demand_by, given_by}
@@ -25,7 +26,7 @@ use Rattle.nrm_network.proofs.DemandRows.{find-none}
 use Rattle.nrm_network.proofs.GoodRows.{DemandFits, push-yes, push-no}
 use Rattle.nrm_network.proofs.ReadNetwork.{found-fits, names-apart}
 use Rattle.nrm_network.proofs.ChecksAfterShape.{word-of, demand-shape}
-use Rattle.nrm_network.proofs.DraftGrowth.{stands-by, good-taken, accepts-more}
+use Rattle.nrm_network.proofs.DraftGrowth.{apart, stands-by, good-taken, accepts-more}
 use Rattle.nrm_network.proofs.PieceChange.{Differ, long-pieces, one-cell, written, written-one, read-one}
 use Rattle.nrm_model.proofs.NameLemmas.{bytes_eq-apart}
 use Rattle.std.proofs.lemmas.Option.{none-some}
@@ -44,7 +45,7 @@ found-at p k n (x ∷ xs) found = elim (cases_Bool (p x)) [
   | inr e ↦ let (i, place, short, holds) = found-at p (k + 1) n xs (rw e at found) in (suc i, omega arith, omega arith, holds)
 ]
 
-found-product : (products : List Row) (j : ℕ) (name text : List ℕ) (names : List (List ℕ))
+pub found-product : (products : List Row) (j : ℕ) (name text : List ℕ) (names : List (List ℕ))
     → Some j ≡ position_from (λ other. bytes_eq other name) 0 names → names ≡ names_of products → name ≡ text
     → AllPairs (λ a b. a ≢ b) (names_of products) → Found products j text
 found-product products j name text names found are same apart =
@@ -70,18 +71,18 @@ found-product products j name text names found are same apart =
     }
 
 -- one row more that a test passes, or doesn't
-find-no : (p : Row → Bool) (rows : List Row) (row : Row) → p row ≡ false → find p (rows ++ row ∷ []) ≡ find p rows
+pub find-no : (p : Row → Bool) (rows : List Row) (row : Row) → p row ≡ false → find p (rows ++ row ∷ []) ≡ find p rows
 find-no p [] row none = rw none refl
 find-no p (r ∷ rows) row none = elim (cases_Bool (p r)) [ inl e ↦ rw e refl | inr e ↦ rw e (find-no p rows row none) ]
 
-find-yes : (p : Row → Bool) (rows : List Row) (row : Row) → list_any p rows ≡ false → p row ≡ true → find p (rows ++ row ∷ []) ≡ Some row
+pub find-yes : (p : Row → Bool) (rows : List Row) (row : Row) → list_any p rows ≡ false → p row ≡ true → find p (rows ++ row ∷ []) ≡ Some row
 find-yes p rows row none here = find-append p rows (row ∷ []) ∙ rw (find-none p rows none, here) refl
 
-any-no : (p : Row → Bool) (rows : List Row) (row : Row) → p row ≡ false → list_any p (rows ++ row ∷ []) ≡ list_any p rows
+pub any-no : (p : Row → Bool) (rows : List Row) (row : Row) → p row ≡ false → list_any p (rows ++ row ∷ []) ≡ list_any p rows
 any-no p [] row none = rw none refl
 any-no p (r ∷ rows) row none = ap (λ (b : Bool). p r || b) (any-no p rows row none)
 
-any-yes : (p : Row → Bool) (rows : List Row) (row : Row) → p row ≡ true → list_any p (rows ++ row ∷ []) ≡ true
+pub any-yes : (p : Row → Bool) (rows : List Row) (row : Row) → p row ≡ true → list_any p (rows ++ row ∷ []) ≡ true
 any-yes p rows row here = list_any-append p rows (row ∷ []) ∙ or_right (list_any p rows) (p row || false) (or_left (p row) false here)
 
 -- what the rows give for a product in a history, and whether they do
@@ -262,29 +263,42 @@ demand-grows draft after (first ∷ more) row j is shape free place none there (
     let seats = seats-differ products demands row histories periods j place.found fits.history.above fits.history.below good.demands none in
     let flags = flags-differ products demands row histories j place.found fits.history.above fits.history.below in
     let was : List ℕ = seats_by periods demands (get_or products j []) (1 + (value_of (field row 2) - 1)) in
-    stands-by after (taken ++ row ∷ []) (leg_rows taken) products (demands ++ row ∷ []) histories periods
-    (accepts-more taken row is.accepted free) refl refl
-    (push-no (begins (codes "leg")) taken row (begins-as (codes "demand") (codes "leg") row word))
-    (push-no (begins (codes "product")) taken row (begins-as (codes "demand") (codes "product") row word))
-    (push-yes (begins (codes "demand")) taken row (begins-as (codes "demand") (codes "demand") row word))
-    (ap (λ (d : Draft). d.histories) others ∙ is.histories) (ap (λ (d : Draft). d.periods) others ∙ is.periods)
-    (ap (λ (d : Draft). d.legs.items) others ∙ is.legs) (ap (λ (d : Draft). d.leg_names) others ∙ is.leg_names)
-    (ap (λ (d : Draft). d.products.items) others ∙ is.products) (ap (λ (d : Draft). d.product_names) others ∙ is.product_names)
-    (All-push (λ r. is_named products (field r 1) ≡ true) demands row is.named there)
-    (demand ∙ ap (λ (n : ℕ). take ((j * n + (value_of (field row 2) - 1)) * draft.periods) draft.demand.items ++
-    (further_numbers row ++ drop ((j * n + (value_of (field row 2) - 1)) * draft.periods + length (further_numbers row))
-    draft.demand.items)) is.histories
-    ∙ ap (λ (n : ℕ). take (cell * n) draft.demand.items ++
-    (further_numbers row ++ drop (cell * n + length (further_numbers row)) draft.demand.items)) is.periods
-    ∙ ap (λ (xs : List ℕ). take (cell * periods) xs ++ (further_numbers row ++ drop (cell * periods + length (further_numbers row)) xs))
-    is.demand
-    ∙ written periods cell (demand_by histories periods demands products) (demand_by histories periods (demands ++ row ∷ []) products) was
-    (further_numbers row) seats ((found-fits periods
-    (gives_demand (field (get_or products j []) 1) (1 + (value_of (field row 2) - 1))) demands good.demands).0) count)
-    (given ∙ ap (λ (n : ℕ). set draft.given.items (j * n + (value_of (field row 2) - 1)) true) is.histories
-    ∙ ap (λ (xs : List Bool). set xs cell true) is.given
-    ∙ written-one cell (given_by histories demands products) (given_by histories (demands ++ row ∷ []) products)
-    (list_any (gives_demand (field row 1) (value_of (field row 2))) demands) true flags)
+    stands-by after (taken ++ row ∷ []) (leg_rows taken) products (demands ++ row ∷ []) (refund_rows taken) (version_in taken) histories
+    periods (record {
+      accepted = accepts-more taken row is.accepted free;
+      version_is = refl;
+      histories_is = refl;
+      periods_is = refl;
+      legs_are = apart (codes "demand") (codes "leg") taken row word refl;
+      products_are = apart (codes "demand") (codes "product") taken row word refl;
+      demands_are = push-yes (begins (codes "demand")) taken row (begins-as (codes "demand") (codes "demand") row word);
+      refunds_are = apart (codes "demand") (codes "refund") taken row word refl;
+    }) (record {
+      version_is = (λ i. (others i).version) ∙ is.version;
+      histories_is = (λ i. (others i).histories) ∙ is.histories;
+      periods_is = (λ i. (others i).periods) ∙ is.periods;
+      legs_are = (λ i. (others i).legs.items) ∙ is.legs;
+      leg_names = (λ i. (others i).leg_names) ∙ is.leg_names;
+      products_are = (λ i. (others i).products.items) ∙ is.products;
+      product_names = (λ i. (others i).product_names) ∙ is.product_names;
+      named = All-push (λ r. is_named products (field r 1) ≡ true) demands row is.named there;
+      demand = demand ∙ ap (λ (n : ℕ). take ((j * n + (value_of (field row 2) - 1)) * draft.periods) draft.demand.items ++
+          (further_numbers row ++ drop ((j * n + (value_of (field row 2) - 1)) * draft.periods + length (further_numbers row))
+          draft.demand.items)) is.histories
+          ∙ ap (λ (n : ℕ). take (cell * n) draft.demand.items ++
+          (further_numbers row ++ drop (cell * n + length (further_numbers row)) draft.demand.items)) is.periods
+          ∙ ap (λ (xs : List ℕ). take (cell * periods) xs ++
+          (further_numbers row ++ drop (cell * periods + length (further_numbers row)) xs)) is.demand
+          ∙ written periods cell (demand_by histories periods demands products) (demand_by histories periods (demands ++ row ∷ []) products)
+          was (further_numbers row) seats ((found-fits periods
+          (gives_demand (field (get_or products j []) 1) (1 + (value_of (field row 2) - 1))) demands good.demands).0) count;
+      given = given ∙ ap (λ (n : ℕ). set draft.given.items (j * n + (value_of (field row 2) - 1)) true) is.histories
+          ∙ ap (λ (xs : List Bool). set xs cell true) is.given
+          ∙ written-one cell (given_by histories demands products) (given_by histories (demands ++ row ∷ []) products)
+          (list_any (gives_demand (field row 1) (value_of (field row 2))) demands) true flags;
+      refunds_named = is.refunds_named;
+      refunded = (λ i. (others i).refunded.items) ∙ is.refunded;
+    })
 
 -- a row has few demands
 pub few-seats : (taken : List Row) (row : Row) → Accepts why_refused [] taken → HasShape taken row demand_kind

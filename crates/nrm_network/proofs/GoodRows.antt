@@ -8,11 +8,14 @@ use Rattle.std.proofs.lemmas.List.Elements.{All-nil, All-push, All-weaker, filte
 use Rattle.std.proofs.lemmas.List.Folds.{list_any-append}
 use Rattle.nrm_model.specs.Limits.{differ}
 use Rattle.nrm_model.proofs.Fits.{leg_fits}
-use Rattle.nrm_network.specs.Rows.{Row, field, begins, leg_rows, product_rows, demand_rows, periods_in, is_named, further, further_numbers}
+use Rattle.nrm_network.specs.Rows.{Row, field, begins, leg_rows, product_rows, demand_rows, refund_rows, version_in, periods_in, is_named}
+use Rattle.nrm_network.specs.Rows.{further, further_numbers}
+use Rattle.nrm_text.specs.Numbers.{value_of}
 use Rattle.nrm_network.specs.Checks.{why_refused}
 use Rattle.nrm_network.specs.File.{leg_in}
 use Rattle.nrm_network.specs.Inner.Draft.{Accepts, names_of}
-use Rattle.nrm_network.proofs.CheckedRows.{FirstChecked, ProductFits, begins-as, leg-checked, product-checked, demand-checked, later-kinds}
+use Rattle.nrm_network.proofs.CheckedRows.{FirstChecked, ProductFits, begins-as, leg-checked, product-checked, demand-checked, refund-checked}
+use Rattle.nrm_network.proofs.CheckedRows.{later-kinds}
 
 -- a product row whose legs are all there
 abbrev pub LegsThere : List Row → List (List ℕ) → Type 0
@@ -22,15 +25,20 @@ LegsThere legs row = list_all (is_named legs) (further row) ≡ true
 abbrev pub DemandFits : ℕ → List (List ℕ) → Type 0
 DemandFits periods row = (length (further row) ≡ periods) × (sum (further_numbers row) ≤ 999)
 
-pub record GoodRows (periods : ℕ) (rows : List Row) : Type 0 where
+-- a refund row of 100 per cent at most
+abbrev pub RefundFits : List (List ℕ) → Type 0
+RefundFits row = value_of (field row 2) ≤ 100
+
+pub record GoodRows (version periods : ℕ) (rows : List Row) : Type 0 where
   pub few_legs : length (leg_rows rows) ≤ 64
   pub few_products : length (product_rows rows) ≤ 256
-  pub legs : All (λ row. leg_fits (leg_in row) ≡ true) (leg_rows rows)
+  pub legs : All (λ row. leg_fits (leg_in version row) ≡ true) (leg_rows rows)
   pub leg_names : differ bytes_eq (names_of (leg_rows rows)) ≡ true
   pub products : All ProductFits (product_rows rows)
   pub there : All (LegsThere (leg_rows rows)) (product_rows rows)
   pub product_names : differ bytes_eq (names_of (product_rows rows)) ≡ true
   pub demands : All (DemandFits periods) (demand_rows rows)
+  pub refunds : All RefundFits (refund_rows rows)
 
 -- one more row that passes a test, or doesn't
 pub push-yes : (p : Row → Bool) (rows : List Row) (row : Row) → p row ≡ true → filter p (rows ++ row ∷ []) ≡ filter p rows ++ row ∷ []
@@ -76,91 +84,119 @@ stay legs row (name ∷ names) all =
     ∙ or_left (is_named legs name) (bytes_eq (field row 1) name || false) first) (stay legs row names rest)
 
 -- good rows by their parts
-from-parts : (periods : ℕ) (rows legs products demands : List Row) → leg_rows rows ≡ legs → product_rows rows ≡ products
-    → demand_rows rows ≡ demands
-    → length legs ≤ 64 → length products ≤ 256 → All (λ row. leg_fits (leg_in row) ≡ true) legs → differ bytes_eq (names_of legs) ≡ true
+from-parts : (version periods : ℕ) (rows legs products demands refunds : List Row) → leg_rows rows ≡ legs → product_rows rows ≡ products
+    → demand_rows rows ≡ demands → refund_rows rows ≡ refunds
+    → length legs ≤ 64 → length products ≤ 256 → All (λ row. leg_fits (leg_in version row) ≡ true) legs → differ bytes_eq (names_of legs) ≡ true
     → All ProductFits products → All (LegsThere legs) products → differ bytes_eq (names_of products) ≡ true
-    → All (DemandFits periods) demands → GoodRows periods rows
-from-parts periods rows legs products demands are_legs are_products are_demands few_legs few_products fit apart products_fit there
-    products_apart demands_fit = record {
+    → All (DemandFits periods) demands → All RefundFits refunds → GoodRows version periods rows
+from-parts version periods rows legs products demands refunds are_legs are_products are_demands are_refunds few_legs few_products fit apart
+    products_fit there products_apart demands_fit refunds_fit = record {
       few_legs = subst (λ (l : List Row). length l ≤ 64) (sym are_legs) few_legs;
       few_products = subst (λ (l : List Row). length l ≤ 256) (sym are_products) few_products;
-      legs = subst (λ (l : List Row). All (λ row. leg_fits (leg_in row) ≡ true) l) (sym are_legs) fit;
+      legs = subst (λ (l : List Row). All (λ row. leg_fits (leg_in version row) ≡ true) l) (sym are_legs) fit;
       leg_names = subst (λ (l : List Row). differ bytes_eq (names_of l) ≡ true) (sym are_legs) apart;
       products = subst (λ (l : List Row). All ProductFits l) (sym are_products) products_fit;
       there = subst (λ (l : List Row). All (LegsThere l) (product_rows rows)) (sym are_legs)
           (subst (λ (l : List Row). All (LegsThere legs) l) (sym are_products) there);
       product_names = subst (λ (l : List Row). differ bytes_eq (names_of l) ≡ true) (sym are_products) products_apart;
       demands = subst (λ (l : List Row). All (DemandFits periods) l) (sym are_demands) demands_fit;
+      refunds = subst (λ (l : List Row). All RefundFits l) (sym are_refunds) refunds_fit;
     }
 
-leg-step : (periods : ℕ) (rows : List Row) (row : Row) → GoodRows periods rows → field row 0 ≡ codes "leg" → length (leg_rows rows) < 64
-    → leg_fits (leg_in row) ≡ true → is_named (leg_rows rows) (field row 1) ≡ false → GoodRows periods (rows ++ row ∷ [])
-leg-step periods rows row good first few fits new =
+leg-step : (version periods : ℕ) (rows : List Row) (row : Row) → GoodRows version periods rows → field row 0 ≡ codes "leg" → length (leg_rows rows) < 64
+    → leg_fits (leg_in version row) ≡ true → is_named (leg_rows rows) (field row 1) ≡ false → GoodRows version periods (rows ++ row ∷ [])
+leg-step version periods rows row good first few fits new =
     let legs : leg_rows (rows ++ row ∷ []) ≡ leg_rows rows ++ row ∷ [] =
     push-yes (begins (codes "leg")) rows row (begins-as (codes "leg") (codes "leg") row first) in
     let products : product_rows (rows ++ row ∷ []) ≡ product_rows rows =
     push-no (begins (codes "product")) rows row (begins-as (codes "leg") (codes "product") row first) in
     let demands : demand_rows (rows ++ row ∷ []) ≡ demand_rows rows =
     push-no (begins (codes "demand")) rows row (begins-as (codes "leg") (codes "demand") row first) in
-    from-parts periods (rows ++ row ∷ []) (leg_rows rows ++ row ∷ []) (product_rows rows) (demand_rows rows) legs products demands
+    let refunds : refund_rows (rows ++ row ∷ []) ≡ refund_rows rows =
+    push-no (begins (codes "refund")) rows row (begins-as (codes "leg") (codes "refund") row first) in
+    from-parts version periods (rows ++ row ∷ []) (leg_rows rows ++ row ∷ []) (product_rows rows) (demand_rows rows) (refund_rows rows) legs products
+    demands refunds
     (omega (arith, length-append (leg_rows rows) (row ∷ []))) good.few_products
-    (All-push (λ r. leg_fits (leg_in r) ≡ true) (leg_rows rows) row good.legs fits) (names-push (leg_rows rows) row good.leg_names new)
+    (All-push (λ r. leg_fits (leg_in version r) ≡ true) (leg_rows rows) row good.legs fits) (names-push (leg_rows rows) row good.leg_names new)
     good.products (All-weaker (LegsThere (leg_rows rows)) (LegsThere (leg_rows rows ++ row ∷ []))
-    (λ r all. stay (leg_rows rows) row (further r) all) (product_rows rows) good.there) good.product_names good.demands
+    (λ r all. stay (leg_rows rows) row (further r) all) (product_rows rows) good.there) good.product_names good.demands good.refunds
 
-product-step : (periods : ℕ) (rows : List Row) (row : Row) → GoodRows periods rows → field row 0 ≡ codes "product"
+product-step : (version periods : ℕ) (rows : List Row) (row : Row) → GoodRows version periods rows → field row 0 ≡ codes "product"
     → length (product_rows rows) < 256 → ProductFits row → LegsThere (leg_rows rows) row
     → is_named (product_rows rows) (field row 1) ≡ false
-    → GoodRows periods (rows ++ row ∷ [])
-product-step periods rows row good first few fits there new =
+    → GoodRows version periods (rows ++ row ∷ [])
+product-step version periods rows row good first few fits there new =
     let legs : leg_rows (rows ++ row ∷ []) ≡ leg_rows rows =
     push-no (begins (codes "leg")) rows row (begins-as (codes "product") (codes "leg") row first) in
     let products : product_rows (rows ++ row ∷ []) ≡ product_rows rows ++ row ∷ [] =
     push-yes (begins (codes "product")) rows row (begins-as (codes "product") (codes "product") row first) in
     let demands : demand_rows (rows ++ row ∷ []) ≡ demand_rows rows =
     push-no (begins (codes "demand")) rows row (begins-as (codes "product") (codes "demand") row first) in
-    from-parts periods (rows ++ row ∷ []) (leg_rows rows) (product_rows rows ++ row ∷ []) (demand_rows rows) legs products demands
+    let refunds : refund_rows (rows ++ row ∷ []) ≡ refund_rows rows =
+    push-no (begins (codes "refund")) rows row (begins-as (codes "product") (codes "refund") row first) in
+    from-parts version periods (rows ++ row ∷ []) (leg_rows rows) (product_rows rows ++ row ∷ []) (demand_rows rows) (refund_rows rows) legs products
+    demands refunds
     good.few_legs (omega (arith, length-append (product_rows rows) (row ∷ []))) good.legs good.leg_names
     (All-push ProductFits (product_rows rows) row good.products fits)
     (All-push (LegsThere (leg_rows rows)) (product_rows rows) row good.there there)
-    (names-push (product_rows rows) row good.product_names new) good.demands
+    (names-push (product_rows rows) row good.product_names new) good.demands good.refunds
 
-demand-step : (periods : ℕ) (rows : List Row) (row : Row) → GoodRows periods rows → field row 0 ≡ codes "demand" → DemandFits periods row
-    → GoodRows periods (rows ++ row ∷ [])
-demand-step periods rows row good first fits =
+demand-step : (version periods : ℕ) (rows : List Row) (row : Row) → GoodRows version periods rows → field row 0 ≡ codes "demand" → DemandFits periods row
+    → GoodRows version periods (rows ++ row ∷ [])
+demand-step version periods rows row good first fits =
     let legs : leg_rows (rows ++ row ∷ []) ≡ leg_rows rows =
     push-no (begins (codes "leg")) rows row (begins-as (codes "demand") (codes "leg") row first) in
     let products : product_rows (rows ++ row ∷ []) ≡ product_rows rows =
     push-no (begins (codes "product")) rows row (begins-as (codes "demand") (codes "product") row first) in
     let demands : demand_rows (rows ++ row ∷ []) ≡ demand_rows rows ++ row ∷ [] =
     push-yes (begins (codes "demand")) rows row (begins-as (codes "demand") (codes "demand") row first) in
-    from-parts periods (rows ++ row ∷ []) (leg_rows rows) (product_rows rows) (demand_rows rows ++ row ∷ []) legs products demands
+    let refunds : refund_rows (rows ++ row ∷ []) ≡ refund_rows rows =
+    push-no (begins (codes "refund")) rows row (begins-as (codes "demand") (codes "refund") row first) in
+    from-parts version periods (rows ++ row ∷ []) (leg_rows rows) (product_rows rows) (demand_rows rows ++ row ∷ []) (refund_rows rows) legs products
+    demands refunds
     good.few_legs good.few_products good.legs good.leg_names good.products good.there good.product_names
-    (All-push (DemandFits periods) (demand_rows rows) row good.demands fits)
+    (All-push (DemandFits periods) (demand_rows rows) row good.demands fits) good.refunds
+
+refund-step : (version periods : ℕ) (rows : List Row) (row : Row) → GoodRows version periods rows → field row 0 ≡ codes "refund"
+    → RefundFits row → GoodRows version periods (rows ++ row ∷ [])
+refund-step version periods rows row good first fits =
+    let legs : leg_rows (rows ++ row ∷ []) ≡ leg_rows rows =
+    push-no (begins (codes "leg")) rows row (begins-as (codes "refund") (codes "leg") row first) in
+    let products : product_rows (rows ++ row ∷ []) ≡ product_rows rows =
+    push-no (begins (codes "product")) rows row (begins-as (codes "refund") (codes "product") row first) in
+    let demands : demand_rows (rows ++ row ∷ []) ≡ demand_rows rows =
+    push-no (begins (codes "demand")) rows row (begins-as (codes "refund") (codes "demand") row first) in
+    let refunds : refund_rows (rows ++ row ∷ []) ≡ refund_rows rows ++ row ∷ [] =
+    push-yes (begins (codes "refund")) rows row (begins-as (codes "refund") (codes "refund") row first) in
+    from-parts version periods (rows ++ row ∷ []) (leg_rows rows) (product_rows rows) (demand_rows rows) (refund_rows rows ++ row ∷ []) legs
+    products demands refunds good.few_legs good.few_products good.legs good.leg_names good.products good.there good.product_names good.demands
+    (All-push RefundFits (refund_rows rows) row good.refunds fits)
 
 -- one row more that no check refuses
-good-step : (first row : Row) (more : List Row) → GoodRows (periods_in (first ∷ more)) (first ∷ more)
-    → why_refused (first ∷ more) row ≡ None → GoodRows (periods_in (first ∷ more)) ((first ∷ more) ++ row ∷ [])
+good-step : (first row : Row) (more : List Row) → GoodRows (version_in (first ∷ more)) (periods_in (first ∷ more)) (first ∷ more)
+    → why_refused (first ∷ more) row ≡ None → GoodRows (version_in (first ∷ more)) (periods_in (first ∷ more)) ((first ∷ more) ++ row ∷ [])
 good-step first row more good taken =
+    let version : ℕ = version_in (first ∷ more) in
     let periods : ℕ = periods_in (first ∷ more) in
     elim (later-kinds first row more taken) [
-      | inl leg ↦ let is = leg-checked (first ∷ more) row leg taken in leg-step periods (first ∷ more) row good leg is.few is.fits is.fresh
+      | inl leg ↦ let is = leg-checked (first ∷ more) row leg taken in leg-step version periods (first ∷ more) row good leg is.few is.fits is.fresh
       | inr (inl product) ↦ let is = product-checked (first ∷ more) row product taken in
-          product-step periods (first ∷ more) row good product is.few is.fits is.there is.fresh
-      | inr (inr demand) ↦ demand-step periods (first ∷ more) row good demand (demand-checked (first ∷ more) row demand taken)
+          product-step version periods (first ∷ more) row good product is.few is.fits is.there is.fresh
+      | inr (inr (inl demand)) ↦ demand-step version periods (first ∷ more) row good demand (demand-checked (first ∷ more) row demand taken)
+      | inr (inr (inr refund)) ↦
+          refund-step version periods (first ∷ more) row good refund (refund-checked (first ∷ more) row refund taken).small
     ]
 
-pub good-more : (first : Row) (more rest : List Row) → GoodRows (periods_in (first ∷ more)) (first ∷ more)
-    → Accepts why_refused (first ∷ more) rest → GoodRows (periods_in (first ∷ more)) (first ∷ (more ++ rest))
+pub good-more : (first : Row) (more rest : List Row) → GoodRows (version_in (first ∷ more)) (periods_in (first ∷ more)) (first ∷ more)
+    → Accepts why_refused (first ∷ more) rest → GoodRows (version_in (first ∷ more)) (periods_in (first ∷ more)) (first ∷ (more ++ rest))
 good-more first more [] good taken =
-    subst (λ (rows : List Row). GoodRows (periods_in (first ∷ more)) (first ∷ rows)) (sym (append-nil more)) good
+    subst (λ (rows : List Row). GoodRows (version_in (first ∷ more)) (periods_in (first ∷ more)) (first ∷ rows)) (sym (append-nil more)) good
 good-more first more (row ∷ rest) good taken =
-    subst (λ (rows : List Row). GoodRows (periods_in (first ∷ more)) (first ∷ rows)) (append_assoc more (row ∷ []) rest)
+    subst (λ (rows : List Row). GoodRows (version_in (first ∷ more)) (periods_in (first ∷ more)) (first ∷ rows)) (append_assoc more (row ∷ []) rest)
     (good-more first (more ++ row ∷ []) rest (good-step first row more good taken.0) taken.1)
 
 -- the first row alone
-pub good-first : (first : Row) → FirstChecked first → GoodRows (periods_in (first ∷ [])) (first ∷ [])
+pub good-first : (first : Row) → FirstChecked first → GoodRows (version_in (first ∷ [])) (periods_in (first ∷ [])) (first ∷ [])
 good-first first is =
     let legs : leg_rows (first ∷ []) ≡ [] =
     push-no (begins (codes "leg")) [] first (begins-as (codes "periods") (codes "leg") first is.word) in
@@ -168,6 +204,8 @@ good-first first is =
     push-no (begins (codes "product")) [] first (begins-as (codes "periods") (codes "product") first is.word) in
     let demands : demand_rows (first ∷ []) ≡ [] =
     push-no (begins (codes "demand")) [] first (begins-as (codes "periods") (codes "demand") first is.word) in
-    from-parts (periods_in (first ∷ [])) (first ∷ []) [] [] [] legs products demands (omega arith) (omega arith)
-    (All-nil (λ row. leg_fits (leg_in row) ≡ true)) refl (All-nil ProductFits) (All-nil (LegsThere [])) refl
-    (All-nil (DemandFits (periods_in (first ∷ []))))
+    let refunds : refund_rows (first ∷ []) ≡ [] =
+    push-no (begins (codes "refund")) [] first (begins-as (codes "periods") (codes "refund") first is.word) in
+    from-parts (version_in (first ∷ [])) (periods_in (first ∷ [])) (first ∷ []) [] [] [] [] legs products demands refunds (omega arith)
+    (omega arith) (All-nil (λ row. leg_fits (leg_in (version_in (first ∷ [])) row) ≡ true)) refl (All-nil ProductFits)
+    (All-nil (LegsThere [])) refl (All-nil (DemandFits (periods_in (first ∷ [])))) (All-nil RefundFits)

@@ -11,6 +11,7 @@ pub mod PieceChange  -- a list of pieces of one length, where one piece changes
 pub mod ReadNetwork  -- rows that were all taken give a network within the limits
 pub mod DraftGrowth  -- a draft grows by a leg, by a product, or by the first row
 pub mod DemandGrowth  -- a draft grows by a demand row
+pub mod RefundGrowth  -- a draft grows by a refund row
 pub mod ProductPlace  -- a product's name is found at its place in a draft
 pub mod LegNames  -- legs by their numbers and by their names
 pub mod PlainRows  -- rows of plain fields are read from their text as they were written
@@ -18,6 +19,7 @@ pub mod CanonicalRows  -- the rows of a canonical file are plain, and few enough
 pub mod CanonicalChecks  -- no check refuses a row of a canonical file
 pub mod CanonicalTaken  -- the rows of a canonical file are taken one after another
 pub mod DemandRows  -- what tests find among the demand rows of a canonical file
+pub mod RefundRows  -- the refund rows of a canonical file are taken, and give back the percentages
 pub mod DemandBack  -- the demand rows of a canonical file give back the demand
 pub mod CanonicalRead  -- the canonical file of a network is read as that network
 pub mod RowTexts  -- the text of rows, written piece by piece

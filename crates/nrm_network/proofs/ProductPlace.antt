@@ -5,7 +5,7 @@ use Rattle.std.specs.List.{position_from}
 use Rattle.std.proofs.lemmas.List.{length-map, get_or-map}
 use Rattle.std.proofs.lemmas.Slice.Eq.{bytes_eq-Decides}
 use Rattle.nrm_model.specs.declared.product.Product.{Product}
-use Rattle.nrm_network.specs.Rows.{Row, field, leg_rows, product_rows}
+use Rattle.nrm_network.specs.Rows.{Row, field, leg_rows, product_rows, refund_rows}
 use Rattle.nrm_network.specs.File.{product_in}
 use Rattle.nrm_network.specs.Inner.Draft.{Stands, names_of}
 use Rattle.nrm_network.specs.declared.draft.Draft.{Draft}
@@ -38,10 +38,10 @@ product-at draft (first ∷ more) i product name is short at same =
     let taken : List Row = first ∷ more in
     let rows : List Row = product_rows taken in
     let good = good-taken first more is.accepted in
-    let few : i < length rows = omega (arith, ap length is.products, length-map rows (product_in (leg_rows taken))) in
+    let few : i < length rows = omega (arith, ap length is.products, length-map rows (product_in (leg_rows taken) (refund_rows taken))) in
     let within : i < length (names_of rows) = omega (arith, few, length-map rows (λ (r : Row). field r 1)) in
-    let named : product ≡ product_in (leg_rows taken) (get_or rows i []) = at ∙ ap (λ (ps : List Product). get_or ps i product) is.products
-    ∙ get_or-map (product_in (leg_rows taken)) rows i [] product few in
+    let named : product ≡ product_in (leg_rows taken) (refund_rows taken) (get_or rows i []) = at ∙ ap (λ (ps : List Product). get_or ps i product) is.products
+    ∙ get_or-map (product_in (leg_rows taken) (refund_rows taken)) rows i [] product few in
     let here : get_or (names_of rows) i [] ≡ name = get_or-map (λ (r : Row). field r 1) rows i [] [] few
     ∙ sym (ap (λ (p : Product). p.name) named) ∙ (bytes_eq-Decides product.name name).0 same in
     let place : 0 + i ≡ i = omega arith in

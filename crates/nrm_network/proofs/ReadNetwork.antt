@@ -20,17 +20,17 @@ use Rattle.nrm_model.specs.declared.product.Product.{Product}
 use Rattle.nrm_model.specs.Network.{NetworkValue}
 use Rattle.nrm_model.specs.Limits.{IsNetwork, IsLeg, IsProduct, differ}
 use Rattle.nrm_model.proofs.Fits.{IsLeg-from_test}
-use Rattle.nrm_network.specs.Rows.{Row, field, rows_of, leg_rows, product_rows, demand_rows, histories_in, periods_in, is_named, further}
-use Rattle.nrm_network.specs.Rows.{further_numbers, gives_demand}
+use Rattle.nrm_network.specs.Rows.{Row, field, rows_of, leg_rows, product_rows, demand_rows, refund_rows, version_in, histories_in, periods_in}
+use Rattle.nrm_network.specs.Rows.{is_named, further, further_numbers, gives_demand}
 use Rattle.nrm_network.specs.Checks.{why_refused}
 use Rattle.nrm_network.specs.Inner.Draft.{Accepts, names_of}
-use Rattle.nrm_network.specs.File.{Refusal, network_of, refusal_after, lacks_a_kind, leg_in, product_in, number_of_leg, demand_given}
-use Rattle.nrm_network.specs.Valid.{ReadIsNetwork}
+use Rattle.nrm_network.specs.File.{Refusal, network_of, refusal_after, lacks_a_kind, leg_in, product_in, number_of_leg, refund_given, demand_given}
+use Rattle.nrm_network.specs.Valid.{FirstVersionAuthorisesSeats, ReadIsNetwork}
 use Rattle.nrm_network.specs.declared.fault.Why.{Why}
 use Rattle.nrm_network.specs.declared.fault.Why.TheVariants as why
 use Rattle.nrm_network.proofs.NumberFields.{bytes-same}
 use Rattle.nrm_network.proofs.CheckedRows.{FirstChecked, ProductFits, first-checked}
-use Rattle.nrm_network.proofs.GoodRows.{GoodRows, DemandFits, LegsThere, good-first, good-more}
+use Rattle.nrm_network.proofs.GoodRows.{GoodRows, DemandFits, LegsThere, RefundFits, good-first, good-more}
 use Rattle.nrm_network.proofs.Blocks.{IsBlocks, blocks-one, blocks-flat}
 use Rattle.std.proofs.lemmas.Option.{none-some}
 
@@ -90,28 +90,38 @@ names-apart (name ∷ names) apart =
     (names-apart names others)
 
 -- the names of the legs and of the products are those of their rows
-pub leg-names : (rows : List Row) → map (λ (leg : Leg). leg.name) (map leg_in rows) ≡ names_of rows
-leg-names [] = refl
-leg-names (row ∷ rows) = ap (λ (n : List (List ℕ)). field row 1 ∷ n) (leg-names rows)
+pub leg-names : (version : ℕ) (rows : List Row) → map (λ (leg : Leg). leg.name) (map (leg_in version) rows) ≡ names_of rows
+leg-names version [] = refl
+leg-names version (row ∷ rows) = ap (λ (n : List (List ℕ)). field row 1 ∷ n) (leg-names version rows)
 
-pub product-names : (legs rows : List Row) → map (λ (product : Product). product.name) (map (product_in legs) rows) ≡ names_of rows
-product-names legs [] = refl
-product-names legs (row ∷ rows) = ap (λ (n : List (List ℕ)). field row 1 ∷ n) (product-names legs rows)
+pub product-names : (legs refunds rows : List Row)
+    → map (λ (product : Product). product.name) (map (product_in legs refunds) rows) ≡ names_of rows
+product-names legs refunds [] = refl
+product-names legs refunds (row ∷ rows) = ap (λ (n : List (List ℕ)). field row 1 ∷ n) (product-names legs refunds rows)
 
-product-is : (legs : List Row) (row : Row) → ProductFits row → LegsThere legs row
-    → IsProduct (length (map leg_in legs)) (product_in legs row)
-product-is legs row fits there =
+-- no refund row gives more than all of the fare
+refund-small : (refunds : List Row) (name : List ℕ) → All RefundFits refunds → refund_given refunds name ≤ 100
+refund-small [] name fits = omega arith
+refund-small (row ∷ refunds) name fits = elim (cases_Bool (bytes_eq (field row 1) name)) [
+  | inl e ↦ rw e (All-head RefundFits row refunds fits)
+  | inr e ↦ rw e (refund-small refunds name (All-tail RefundFits row refunds fits))
+]
+
+product-is : (version : ℕ) (legs refunds : List Row) (row : Row) → ProductFits row → LegsThere legs row → All RefundFits refunds
+    → IsProduct (length (map (leg_in version) legs)) (product_in legs refunds row)
+product-is version legs refunds row fits there small =
     let (low, high) = fits.count in
     record {
       name = fits.name;
       fare = fits.fare;
+      refund = refund-small refunds (field row 1) small;
       leg_count = (
         omega (arith, low, length-map (further row) (number_of_leg legs)),
         omega (arith, high, length-map (further row) (number_of_leg legs)),
       );
-      legs = All-map (λ i. i < length (map leg_in legs)) (number_of_leg legs) (further row) (λ k d short.
+      legs = All-map (λ i. i < length (map (leg_in version) legs)) (number_of_leg legs) (further row) (λ k d short.
           let below = (number-of legs (get_or (further row) k d) (AllPass-from_list_all (is_named legs) (further row) there k d short)).0 in
-          omega (arith, below, length-map legs leg_in));
+          omega (arith, below, length-map legs (leg_in version)));
       distinct = numbers-apart legs (further row) there fits.apart;
     }
 
@@ -127,7 +137,7 @@ found-fits periods p (row ∷ rows) fits = elim (cases_Bool (p row)) [
   | inr e ↦ rw e (found-fits periods p rows (All-tail (DemandFits periods) row rows fits))
 ]
 
-demand-blocks : (rows : List Row) → GoodRows (periods_in rows) rows
+demand-blocks : (rows : List Row) → GoodRows (version_in rows) (periods_in rows) rows
     → IsBlocks (periods_in rows) (length (product_rows rows) * histories_in rows) (network_of rows).demand
 demand-blocks rows good =
     let periods : ℕ = periods_in rows in
@@ -143,30 +153,35 @@ some-from : (n : ℕ) → (n == 0) ≡ false → 1 ≤ n
 some-from zero e = cc
 some-from (suc n) e = omega arith
 
-is-network : (first : Row) (more : List Row) → FirstChecked first → GoodRows (periods_in (first ∷ more)) (first ∷ more)
+is-network : (first : Row) (more : List Row) → FirstChecked first
+    → GoodRows (version_in (first ∷ more)) (periods_in (first ∷ more)) (first ∷ more)
     → lacks_a_kind (first ∷ more) ≡ false → IsNetwork (network_of (first ∷ more))
 is-network first more begun good whole =
     let rows : List Row = first ∷ more in
+    let version : ℕ = version_in rows in
     let legs : List Row = leg_rows rows in
     let products : List Row = product_rows rows in
+    let refunds : List Row = refund_rows rows in
     let (no_leg, no_product) = or_parts (length legs == 0) (length products == 0) whole in
     let some_legs = some-from (length legs) no_leg in
     let some_products = some-from (length products) no_product in
     let few_legs = good.few_legs in
     let few_products = good.few_products in
     let blocks = demand-blocks rows good in
-    let count = length-map products (product_in legs) in
+    let count = length-map products (product_in legs refunds) in
+    let leg_total = length-map legs (leg_in version) in
     record {
       histories = begun.histories;
       periods = begun.periods;
-      leg_count = (omega (arith, some_legs, length-map legs leg_in), omega (arith, few_legs, length-map legs leg_in));
+      leg_count = (omega (arith, some_legs, leg_total), omega (arith, few_legs, leg_total));
       product_count = (omega (arith, some_products, count), omega (arith, few_products, count));
-      legs = All-map IsLeg leg_in legs (λ k d short. IsLeg-from_test (leg_in (get_or legs k d)) (good.legs k d short));
-      products = All-map (IsProduct (length (map leg_in legs))) (product_in legs) products
-          (λ k d short. product-is legs (get_or products k d) (good.products k d short) (good.there k d short));
-      leg_names = subst (λ (n : List (List ℕ)). AllPairs (λ a b. a ≢ b) n) (sym (leg-names legs))
+      legs = All-map IsLeg (leg_in version) legs
+          (λ k d short. IsLeg-from_test (leg_in version (get_or legs k d)) (good.legs k d short));
+      products = All-map (IsProduct (length (map (leg_in version) legs))) (product_in legs refunds) products
+          (λ k d short. product-is version legs refunds (get_or products k d) (good.products k d short) (good.there k d short) good.refunds);
+      leg_names = subst (λ (n : List (List ℕ)). AllPairs (λ a b. a ≢ b) n) (sym (leg-names version legs))
           (names-apart (names_of legs) good.leg_names);
-      product_names = subst (λ (n : List (List ℕ)). AllPairs (λ a b. a ≢ b) n) (sym (product-names legs products))
+      product_names = subst (λ (n : List (List ℕ)). AllPairs (λ a b. a ≢ b) n) (sym (product-names legs refunds products))
           (names-apart (names_of products) good.product_names);
       demand_count = blocks.long ∙ ap (λ (n : ℕ). n * histories_in rows * periods_in rows) (sym count);
       demand = λ j h few few_histories.
@@ -216,4 +231,17 @@ read-is-network bytes net answer = elim (cases_Bool (nat_lt 4194304 (length byte
       (rw e at answer) in
       let (taken, whole) = taken-from why_refused why.Empty [] (rows_of bytes) none in
       subst IsNetwork same (rows-network (rows_of bytes) taken whole)
+]
+
+-- in version 1 the seats and the authorised seats of a leg are one field
+pub first-version : FirstVersionAuthorisesSeats
+first-version bytes net one answer = elim (cases_Bool (nat_lt 4194304 (length bytes))) [
+  | inl e ↦ absurd (no-network (0, why.Size) net (rw e at answer))
+  | inr e ↦
+      let rows : List Row = rows_of bytes in
+      let (none, same) = no-refusal (refusal_after why_refused why.Empty [] rows) (network_of rows) net (rw e at answer) in
+      let alike : Leg → Type 0 = λ leg. leg.authorised ≡ leg.seats in
+      subst (λ (n : NetworkValue). All alike n.legs) same
+      (subst (λ (version : ℕ). All alike (map (leg_in version) (leg_rows rows))) (sym one)
+      (All-map alike (leg_in 1) (leg_rows rows) (λ k d short. refl)))
 ]

@@ -6,7 +6,7 @@ use Rattle.std.proofs.lemmas.Bool.{true≢false}
 use Rattle.std.proofs.lemmas.List.Folds.{list_all-map}
 use Rattle.nrm_text.specs.Numbers.{is_whole, value_of}
 use Rattle.nrm_model.specs.Limits.{differ}
-use Rattle.nrm_network.specs.Rows.{field, further, further_numbers}
+use Rattle.nrm_network.specs.Rows.{field}
 use Rattle.nrm_network.specs.Checks.{NumberField, is_within}
 use Rattle.nrm_network.specs.Inner.Fields.{NumberIn, are_whole, bounded}
 use Rattle.std.specs.Cmp.Lexicographic.{nat_list_eq_equiv}
@@ -52,14 +52,14 @@ push_name fields i name read all short same is =
     append_assoc read (name ∷ []) (drop (i + 1) fields) ∙ ap (λ (n : List ℕ). read ++ n ∷ drop (i + 1) fields) same
     ∙ ap (λ (fs : List (List ℕ)). read ++ fs) (sym (next_field fields i short)) ∙ is
 
--- what is known of the fields from the fourth on where those up to a place were read: these numbers, and whether each was within the bounds
-pub record ReadTo (least greatest : ℕ) (fields : List (List ℕ)) (i : ℕ) (numbers : List ℕ) (inside : Bool) : Type 0 where
-  pub whole : are_whole (bounded least greatest (further fields)) ≡ are_whole (bounded least greatest (drop i fields))
-  pub within : list_all is_within (bounded least greatest (further fields))
+-- what is known of the fields from a place on where those up to another were read: these numbers, and whether each was within the bounds
+pub record ReadTo (from least greatest : ℕ) (fields : List (List ℕ)) (i : ℕ) (numbers : List ℕ) (inside : Bool) : Type 0 where
+  pub whole : are_whole (bounded least greatest (drop from fields)) ≡ are_whole (bounded least greatest (drop i fields))
+  pub within : list_all is_within (bounded least greatest (drop from fields))
       ≡ (inside && list_all is_within (bounded least greatest (drop i fields)))
-  pub read : inside ≡ true → numbers ++ map value_of (drop i fields) ≡ further_numbers fields
+  pub read : inside ≡ true → numbers ++ map value_of (drop i fields) ≡ map value_of (drop from fields)
 
-module _ (least greatest : ℕ) (fields : List (List ℕ)) (i : ℕ) (short : i < length fields) where
+module _ (from least greatest : ℕ) (fields : List (List ℕ)) (i : ℕ) (short : i < length fields) where
   whole-step : are_whole (bounded least greatest (drop i fields))
       ≡ is_whole (field fields i) && are_whole (bounded least greatest (drop (i + 1) fields))
   whole-step = ap (λ (fs : List (List ℕ)). are_whole (bounded least greatest fs)) (next_field fields i short)
@@ -70,18 +70,18 @@ module _ (least greatest : ℕ) (fields : List (List ℕ)) (i : ℕ) (short : i 
 
   -- one number more, one outside its bounds, and a field that is no number
   pub read-within : (text : List ℕ) (n : ℕ) (numbers : List ℕ) (inside : Bool) → text ≡ field fields i
-      → NumberIn (text, least, greatest) (Ok (Some n)) → ReadTo least greatest fields i numbers inside
-      → ReadTo least greatest fields (i + 1) (numbers ++ n ∷ []) inside
+      → NumberIn (text, least, greatest) (Ok (Some n)) → ReadTo from least greatest fields i numbers inside
+      → ReadTo from least greatest fields (i + 1) (numbers ++ n ∷ []) inside
   read-within text n numbers inside is number so_far =
       let (whole, within, value) = subst (λ (t : List ℕ). NumberIn (t, least, greatest) (Ok (Some n))) is number in
       record {
         whole = so_far.whole ∙ whole-step ∙ rw whole refl;
         within = so_far.within ∙ ap (λ (b : Bool). inside && b) (within-step ∙ rw within refl);
-        read = λ all. push_next fields i n numbers (further_numbers fields) short value (so_far.read all);
+        read = λ all. push_next fields i n numbers (map value_of (drop from fields)) short value (so_far.read all);
       }
 
   pub read-outside : (text numbers : List ℕ) (inside : Bool) → text ≡ field fields i → NumberIn (text, least, greatest) (Ok None)
-      → ReadTo least greatest fields i numbers inside → ReadTo least greatest fields (i + 1) numbers false
+      → ReadTo from least greatest fields i numbers inside → ReadTo from least greatest fields (i + 1) numbers false
   read-outside text numbers inside is number so_far =
       let (whole, outside) = subst (λ (t : List ℕ). NumberIn (t, least, greatest) (Ok None)) is number in
       record {
@@ -91,15 +91,15 @@ module _ (least greatest : ℕ) (fields : List (List ℕ)) (i : ℕ) (short : i 
       }
 
   pub read-off : (text numbers : List ℕ) (inside : Bool) → text ≡ field fields i → is_whole text ≡ false
-      → ReadTo least greatest fields i numbers inside → are_whole (bounded least greatest (further fields)) ≡ false
+      → ReadTo from least greatest fields i numbers inside → are_whole (bounded least greatest (drop from fields)) ≡ false
   read-off text numbers inside is off so_far =
       let other : is_whole (field fields i) ≡ false = subst (λ (t : List ℕ). is_whole t ≡ false) is off in
       so_far.whole ∙ whole-step ∙ rw other refl
 
 -- once a number was outside its bounds, what was read is free
-pub read-freely : (least greatest : ℕ) (fields : List (List ℕ)) (i : ℕ) (numbers others : List ℕ)
-    → ReadTo least greatest fields i numbers false → ReadTo least greatest fields i others false
-read-freely least greatest fields i numbers others so_far =
+pub read-freely : (from least greatest : ℕ) (fields : List (List ℕ)) (i : ℕ) (numbers others : List ℕ)
+    → ReadTo from least greatest fields i numbers false → ReadTo from least greatest fields i others false
+read-freely from least greatest fields i numbers others so_far =
     record { whole = so_far.whole; within = so_far.within; read = λ all. absurd (true≢false (sym all)) }
 
 -- number fields are whole where their texts are

@@ -11,7 +11,8 @@ use Rattle.std.proofs.lemmas.Option.{get_or_from_slice_get, unwrap_or-slice_get,
 use Rattle.nrm_model.specs.declared.product.Product.{Product}
 use Rattle.nrm_model.specs.Network.{NetworkValue, product_of}
 use Rattle.nrm_model.specs.Demand.{demand_row}
-use Rattle.nrm_network.specs.Canonical.{canonical_file, demand_fields, leg_fields, periods_fields, product_fields}
+use Rattle.nrm_network.specs.Canonical.{canonical_file, demand_fields, leg_fields, periods_fields, product_fields, refund_fields}
+use Rattle.nrm_network.specs.Rows.{Row}
 use Rattle.nrm_network.specs.Inner.RowText.{after_commas, history_fields, history_text, row_text}
 use Rattle.nrm_number.proofs.Ranges.{range-more}
 
@@ -79,39 +80,46 @@ demands-text net j (product ∷ rest) d are =
     ∙ ap (λ ys. flat_map (history_text net j) (range_with_len 0 net.histories) ++ ys)
     (demands-text net (j + 1) rest d (λ i short. ap (product_of net) (plus-next j i) ∙ are (suc i) (omega arith)))
 
-four : (s0 s1 s2 s3 s4 a b c d : List ℕ) → s0 ≡ [] → s1 ≡ s0 ++ a → s2 ≡ s1 ++ b → s3 ≡ s2 ++ c → s4 ≡ s3 ++ d → s4 ≡ a ++ ((b ++ c) ++ d)
-four s0 s1 s2 s3 s4 a b c d e0 e1 e2 e3 e4 = e4
-    ∙ ap (λ s. s ++ d) (e3 ∙ ap (λ s. s ++ c) (e2 ∙ ap (λ s. s ++ b) (e1 ∙ ap (λ s. s ++ a) e0))) ∙ simp append_assoc
+five : (s0 s1 s2 s3 s4 s5 a b c r d : List ℕ) → s0 ≡ [] → s1 ≡ s0 ++ a → s2 ≡ s1 ++ b → s3 ≡ s2 ++ c → s4 ≡ s3 ++ r → s5 ≡ s4 ++ d
+    → s5 ≡ a ++ (((b ++ c) ++ r) ++ d)
+five s0 s1 s2 s3 s4 s5 a b c r d e0 e1 e2 e3 e4 e5 = e5
+    ∙ ap (λ s. s ++ d) (e4 ∙ ap (λ s. s ++ r) (e3 ∙ ap (λ s. s ++ c) (e2 ∙ ap (λ s. s ++ b) (e1 ∙ ap (λ s. s ++ a) e0))))
+    ∙ simp append_assoc
 
-three : (a b c x y z : List ℕ) → a ≡ x → b ≡ y → c ≡ z → (a ++ b) ++ c ≡ (x ++ y) ++ z
-three a b c x y z e f g = rw (e, f, g) refl
+-- the text of rows part by part
+four-texts : (b c r d : List Row) → flat_map row_text (b ++ c ++ r ++ d)
+    ≡ ((flat_map row_text b ++ flat_map row_text c) ++ flat_map row_text r) ++ flat_map row_text d
+four-texts b c r d =
+    flat_map-append row_text (b ++ c ++ r) d
+    ∙ ap (λ xs. xs ++ flat_map row_text d) (flat_map-append row_text (b ++ c) r
+    ∙ ap (λ xs. xs ++ flat_map row_text r) (flat_map-append row_text b c))
 
-pub file_written : (net : NetworkValue) (s0 s1 s2 s3 s4 : List ℕ) → s0 ≡ [] → s1 ≡ s0 ++ row_text (periods_fields net)
+-- the text of the refund rows
+refunds-text : (products : List Product)
+    → flat_map row_text (flat_map refund_fields products) ≡ flat_map (λ product. flat_map row_text (refund_fields product)) products
+refunds-text [] = refl
+refunds-text (product ∷ rest) = flat_map-append row_text (refund_fields product) (flat_map refund_fields rest)
+    ∙ ap (λ xs. flat_map row_text (refund_fields product) ++ xs) (refunds-text rest)
+
+pub file_written : (net : NetworkValue) (s0 s1 s2 s3 s4 s5 : List ℕ) → s0 ≡ [] → s1 ≡ s0 ++ row_text (periods_fields net)
     → s2 ≡ s1 ++ flat_map (λ leg. row_text (leg_fields leg)) net.legs
     → s3 ≡ s2 ++ flat_map (λ product. row_text (product_fields net product)) net.products
-    → s4 ≡ s3 ++ flat_map (λ j. flat_map (history_text net j) (range_with_len 0 net.histories)) (range_with_len 0 (length net.products))
-    → s4 ≡ canonical_file net
-file_written net s0 s1 s2 s3 s4 e0 e1 e2 e3 e4 =
+    → s4 ≡ s3 ++ flat_map (λ product. flat_map row_text (refund_fields product)) net.products
+    → s5 ≡ s4 ++ flat_map (λ j. flat_map (history_text net j) (range_with_len 0 net.histories)) (range_with_len 0 (length net.products))
+    → s5 ≡ canonical_file net
+file_written net s0 s1 s2 s3 s4 s5 e0 e1 e2 e3 e4 e5 =
     let no_product : Product = record { name = []; fare = 0; refund = 0; legs = [] } in
     let legs = flat_map-map row_text leg_fields net.legs in
     let products = flat_map-map row_text (product_fields net) net.products in
+    let refunds = refunds-text net.products in
     let demands = demands-text net 0 net.products no_product (λ i short. ap (product_of net) (none-plus i)
     ∙ unwrap_or-slice_get net.products i no_product) in
     let start = row_text (periods_fields net) in
-    let all : flat_map row_text (map leg_fields net.legs ++ map (product_fields net) net.products ++ flat_map (demand_fields net)
-    (enumerate_from 0 net.products))
-    ≡ (flat_map row_text (map leg_fields net.legs) ++ flat_map row_text (map (product_fields net) net.products)) ++ flat_map row_text
-    (flat_map (demand_fields net) (enumerate_from 0 net.products)) =
-    flat_map-append row_text (map leg_fields net.legs ++ map (product_fields net) net.products)
-    (flat_map (demand_fields net) (enumerate_from 0 net.products))
-    ∙ ap (λ ys. ys ++ flat_map row_text (flat_map (demand_fields net) (enumerate_from 0 net.products)))
-    (flat_map-append row_text (map leg_fields net.legs) (map (product_fields net) net.products)) in
-    four s0 s1 s2 s3 s4 start (flat_map (λ leg. row_text (leg_fields leg)) net.legs)
+    let all = four-texts (map leg_fields net.legs) (map (product_fields net) net.products) (flat_map refund_fields net.products)
+    (flat_map (demand_fields net) (enumerate_from 0 net.products)) in
+    five s0 s1 s2 s3 s4 s5 start (flat_map (λ leg. row_text (leg_fields leg)) net.legs)
     (flat_map (λ product. row_text (product_fields net product)) net.products)
-    (flat_map (λ j. flat_map (history_text net j) (range_with_len 0 net.histories)) (range_with_len 0 (length net.products))) e0 e1 e2 e3 e4
-    ∙ ap (λ ys. start ++ ys) (sym (all
-    ∙ three (flat_map row_text (map leg_fields net.legs)) (flat_map row_text (map (product_fields net) net.products))
-    (flat_map row_text (flat_map (demand_fields net) (enumerate_from 0 net.products)))
-    (flat_map (λ leg. row_text (leg_fields leg)) net.legs) (flat_map (λ product. row_text (product_fields net product)) net.products)
-    (flat_map (λ j. flat_map (history_text net j) (range_with_len 0 net.histories)) (range_with_len 0 (length net.products))) legs products
-    demands))
+    (flat_map (λ product. flat_map row_text (refund_fields product)) net.products)
+    (flat_map (λ j. flat_map (history_text net j) (range_with_len 0 net.histories)) (range_with_len 0 (length net.products)))
+    e0 e1 e2 e3 e4 e5
+    ∙ ap (λ ys. start ++ ys) (sym (all ∙ λ i. ((legs i ++ products i) ++ refunds i) ++ demands i))

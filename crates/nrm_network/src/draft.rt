@@ -1,5 +1,5 @@
-//! A network as it is read, row by row: legs and products with tables of their names, and the demand of each product
-//! in each history and period, 0 until a row gives it. Nothing else of a row is kept.
+//! A network as it is read, row by row: legs and products with tables of their names, the percentage of each product, 100 until a row
+//! gives it, and the demand of each product in each history and period, 0 until a row gives it. Nothing else of a row is kept.
 ghost use Rattle.std.specs.Prelude.{◌≡◌, ◌<◌, ◌≤◌, ◌+◌, ◌-◌, ◌*◌, ◌^◌, ℕ, List, [], bytes_eq, false, length, map, sum, true};
 ghost use Rattle.std.specs.Prelude.{IfOk, MatchOption, OnOk};
 ghost use Rattle.std.specs.List.{list_all, list_any, position_from};
@@ -12,20 +12,21 @@ ghost use Rattle.nrm_network.specs.Answer.{AnswersFile};
 ghost use Rattle.nrm_network.specs.Checks.{why_refused};
 ghost use Rattle.nrm_network.specs.File.{lacks_a_kind, network_or_refusal, number_of_leg};
 ghost use Rattle.nrm_network.specs.declared.fault.Why.TheVariants as why;
-ghost use Rattle.nrm_network.specs.Inner.Draft.{AddsLeg, AddsProduct, Awaits, SetsDemand, Stands, Takes, TakesSaid, names_of};
+ghost use Rattle.nrm_network.specs.Inner.Draft.{AddsLeg, AddsProduct, Awaits, SetsDemand, SetsRefund, Stands, Takes, TakesSaid, names_of};
 ghost use Rattle.nrm_network.specs.Inner.Entries.{Counted};
 ghost use Rattle.nrm_network.specs.declared.entry.Entry.TheVariants as says;
 
-use crate::entry::{Counts, DemandEntry, Entry, ProductEntry, read_row};
+use crate::entry::{Counts, DemandEntry, Entry, ProductEntry, RefundEntry, read_row};
 use crate::fault::{NetFault, RowRefusal, Why};
 use csv::ByteRecord;
-use nrm_model::{Leg, LegNumbers, MOST_DEMAND, NameTable, Network, Product};
+use nrm_model::{Leg, LegNumbers, MOST_DEMAND, MOST_REFUND, NameTable, Network, Product};
 use nrm_text::Name;
 use std::alloc::{AllocError, Global};
 
 /// What was read so far.
 #[derive(Drop)]
 pub(crate) struct Draft {
+    version: u8,
     histories: u8,
     periods: u8,
     legs: Vec<Leg>,
@@ -34,6 +35,8 @@ pub(crate) struct Draft {
     product_names: NameTable,
     demand: Vec<u16>,
     given: Vec<bool>,
+    // Whether a row gave the percentage of each product.
+    refunded: Vec<bool>,
     // The number of the product whose demand was given last: rows of one product mostly follow one another.
     recent: usize,
 }
@@ -86,6 +89,7 @@ impl Draft {
         ensures { Stands result [] }
     {
         Draft {
+            version: 1,
             histories: 0,
             periods: 0,
             legs: Vec::new(alloc),
@@ -94,6 +98,7 @@ impl Draft {
             product_names: NameTable::new(alloc),
             demand: Vec::new(alloc),
             given: Vec::new(alloc),
+            refunded: Vec::new(alloc),
             recent: 0,
         }
     }
@@ -102,6 +107,7 @@ impl Draft {
         ensures { (taken : List Row) → Stands self.now taken → Counted result taken }
     {
         Counts {
+            version: self.version,
             histories: self.histories,
             periods: self.periods,
             legs: self.legs.len(),
@@ -117,10 +123,11 @@ impl Draft {
         }
     }
 
-    fn take_periods(&mut self, histories: u8, periods: u8)
-        requires { Awaits self.old (says.Periods histories periods) }
-        ensures { TakesSaid (says.Periods histories periods) self.old self.new (Ok tt) }
+    fn take_periods(&mut self, version: u8, histories: u8, periods: u8)
+        requires { Awaits self.old (says.Periods version histories periods) }
+        ensures { TakesSaid (says.Periods version histories periods) self.old self.new (Ok tt) }
     {
+        self.version = version;
         self.histories = histories;
         self.periods = periods;
     }
@@ -174,6 +181,7 @@ impl Draft {
         self.products.push(product)?;
         self.demand.resize(self.demand.len() + cells, 0)?;
         self.given.resize(self.given.len() + histories, false)?;
+        self.refunded.push(false)?;
         Ok(())
     }
 
@@ -193,8 +201,32 @@ impl Draft {
         self.add_product(Product {
             name: product.name,
             fare: product.fare,
+            refund: MOST_REFUND,
             legs: LegNumbers::new(legs),
         })?;
+        Ok(())
+    }
+
+    fn set_refund(&mut self, product: usize, percentage: u8)
+        requires product { product < length self.old.products.items }
+        requires refunded { product < length self.old.refunded.items }
+        ensures { SetsRefund self.old self.new product percentage }
+    {
+        self.products[product].refund = percentage;
+        self.refunded[product] = true;
+    }
+
+    fn take_refund(&mut self, refund: &RefundEntry) -> Result<(), RowRefusal>
+        requires { Awaits self.old (says.Refund refund.now) }
+        ensures { TakesSaid (says.Refund refund.now) self.old self.new result }
+    {
+        let Some(product) = self.product_names.number_of(&refund.product) else {
+            return Err(RowRefusal::Refused(Why::Missing));
+        };
+        if self.refunded[product] {
+            return Err(RowRefusal::Refused(Why::Twice));
+        }
+        self.set_refund(product, refund.percentage);
         Ok(())
     }
 
@@ -257,13 +289,18 @@ impl Draft {
     {
         let mut places = [0; 16];
         match read_row(alloc, self.counts(), self.recent_name(), row, &mut places)? {
-            Entry::Periods { histories, periods } => {
-                self.take_periods(histories, periods);
+            Entry::Periods {
+                version,
+                histories,
+                periods,
+            } => {
+                self.take_periods(version, histories, periods);
                 Ok(())
             }
             Entry::Leg(leg) => self.take_leg(leg),
             Entry::Product(product) => self.take_product(alloc, &product),
             Entry::Demand(demand) => self.take_demand(&demand),
+            Entry::Refund(refund) => self.take_refund(&refund),
         }
     }
 

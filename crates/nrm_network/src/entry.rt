@@ -2,15 +2,17 @@
 //! here, kind by kind: its place, how many fields it has, that there is room for it, and what its fields are.
 ghost use Rattle.std.specs.Prelude.{◌≡◌, ◌≤◌, List, ℕ, MatchResult, false};
 ghost use Rattle.csv.specs.Records.{fields_of};
-ghost use Rattle.nrm_network.specs.Rows.{kind_of, periods_kind, leg_kind, product_kind, demand_kind};
+ghost use Rattle.nrm_network.specs.Rows.{kind_of, periods_kind, leg_kind, product_kind, demand_kind, refund_kind};
 ghost use Rattle.nrm_network.specs.Inner.Entries.{Counted, ReadsAs, ReadsRow, first_refusal, kind_by, kind_seen};
 
 use crate::fault::{RowRefusal, Why};
-use crate::row::{field, name_again, name_in, names_in, number_in, numbers_in, seats_in};
+use crate::row::{
+    field, leg_figures_in, name_again, name_in, names_in, number_in, seats_in, version_of,
+};
 use csv::ByteRecord;
 use nrm_model::{
     Leg, MOST_DEMAND, MOST_FARE, MOST_HISTORIES, MOST_LEGS, MOST_LEGS_OF_A_PRODUCT, MOST_PERIODS,
-    MOST_PRODUCTS, MOST_SEATS, MOST_THRESHOLDS, Thresholds,
+    MOST_PRODUCTS, MOST_REFUND, MOST_THRESHOLDS, Thresholds,
 };
 use nrm_text::Name;
 use std::alloc::Global;
@@ -18,10 +20,15 @@ use std::alloc::Global;
 /// What a row says.
 #[derive(Drop)]
 pub(crate) enum Entry<'a> {
-    Periods { histories: u8, periods: u8 },
+    Periods {
+        version: u8,
+        histories: u8,
+        periods: u8,
+    },
     Leg(Leg),
     Product(ProductEntry),
     Demand(DemandEntry<'a>),
+    Refund(RefundEntry),
 }
 
 /// What a row of a product says: its legs are named.
@@ -40,10 +47,18 @@ pub(crate) struct DemandEntry<'a> {
     pub(crate) seats: &'a [u16],
 }
 
-/// What was read before a row: how many histories and periods there are, both 0 before the first row, and how many
-/// legs and products were read.
+/// What a row of a refund says: the percentage of a product.
+#[derive(Clone, Copy)]
+pub(crate) struct RefundEntry {
+    pub(crate) product: Name,
+    pub(crate) percentage: u8,
+}
+
+/// What was read before a row: the file's version, how many histories and periods there are, both 0 before the first row, and
+/// how many legs and products were read.
 #[derive(Clone, Copy)]
 pub(crate) struct Counts {
+    pub(crate) version: u8,
     pub(crate) histories: u8,
     pub(crate) periods: u8,
     pub(crate) legs: usize,
@@ -57,6 +72,7 @@ enum RowKind {
     Leg,
     Product,
     Demand,
+    Refund,
     Unknown,
 }
 
@@ -72,6 +88,8 @@ fn kind_named(word: &[u8]) -> RowKind
         RowKind::Product
     } else if word == b"demand".as_slice() {
         RowKind::Demand
+    } else if word == b"refund".as_slice() {
+        RowKind::Refund
     } else {
         RowKind::Unknown
     }
@@ -105,10 +123,13 @@ fn read_periods<'a>(counts: Counts, row: &ByteRecord) -> Result<Entry<'a>, RowRe
     ensures { ReadsAs periods_kind counts (fields_of row.now) result }
 {
     let first = counts.histories == 0;
-    admit(!first, row.len() != 3, false)?;
+    let count = row.len();
+    admit(!first, !(3 <= count && count <= 4), false)?;
     let histories = number_in(field(row, 1), 1, u32::from(MOST_HISTORIES))?;
     let periods = number_in(field(row, 2), 1, u32::from(MOST_PERIODS))?;
+    let version = version_of(row)?;
     Ok(Entry::Periods {
+        version: version.ok_or(Why::Range)?,
         histories: histories.ok_or(Why::Range)? as u8,
         periods: periods.ok_or(Why::Range)? as u8,
     })
@@ -117,19 +138,21 @@ fn read_periods<'a>(counts: Counts, row: &ByteRecord) -> Result<Entry<'a>, RowRe
 fn read_leg<'a>(alloc: Global, counts: Counts, row: &ByteRecord) -> Result<Entry<'a>, RowRefusal>
     ensures { ReadsAs leg_kind counts (fields_of row.now) result }
 {
+    let version = counts.version as usize;
     let count = row.len();
     admit(
         counts.histories == 0,
-        !(3 <= count && count <= 3 + MOST_THRESHOLDS),
+        !(2 + version <= count && count <= 2 + version + MOST_THRESHOLDS),
         MOST_LEGS <= counts.legs,
     )?;
     let name = name_in(field(row, 1))?;
-    let seats = number_in(field(row, 2), 0, u32::from(MOST_SEATS))?;
-    let cuts = numbers_in(alloc, row, 1, MOST_FARE)?;
+    let figures = leg_figures_in(alloc, counts.version, row)?;
+    let figures = figures.ok_or(Why::Range)?;
     Ok(Entry::Leg(Leg {
         name,
-        seats: seats.ok_or(Why::Range)? as u16,
-        cuts: Thresholds::new(cuts.ok_or(Why::Range)?),
+        seats: figures.seats,
+        authorised: figures.authorised,
+        cuts: Thresholds::new(figures.cuts),
     }))
 }
 
@@ -182,6 +205,21 @@ fn read_demand<'a>(
     }))
 }
 
+fn read_refund<'a>(counts: Counts, row: &ByteRecord) -> Result<Entry<'a>, RowRefusal>
+    ensures { ReadsAs refund_kind counts (fields_of row.now) result }
+{
+    if counts.version != 2 {
+        return Err(RowRefusal::Refused(Why::Kind));
+    }
+    admit(counts.histories == 0, row.len() != 3, false)?;
+    let product = name_in(field(row, 1))?;
+    let percentage = number_in(field(row, 2), 0, u32::from(MOST_REFUND))?;
+    Ok(Entry::Refund(RefundEntry {
+        product,
+        percentage: percentage.ok_or(Why::Range)? as u8,
+    }))
+}
+
 /// What a row says that passes the checks that need no look-up. The seats of a demand are written at these places. The
 /// recent name is that of the product whose demand was given last.
 ///
@@ -202,6 +240,7 @@ pub(crate) fn read_row<'a>(
         RowKind::Leg => read_leg(alloc, counts, row),
         RowKind::Product => read_product(alloc, counts, row),
         RowKind::Demand => read_demand(counts, recent, row, places),
+        RowKind::Refund => read_refund(counts, row),
         RowKind::Unknown => Err(RowRefusal::Refused(Why::Kind)),
     }
 }

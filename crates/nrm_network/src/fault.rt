@@ -5,11 +5,11 @@ use thiserror::Error;
 /// Why a file is refused: the first check that a row fails, in this order, or what the file lacks.
 #[derive(Clone, Copy, Debug, PartialEq, Eq)]
 pub enum Why {
-    /// The first field is none of the four words.
+    /// The first field is none of the five words, or `refund` in a file of version 1.
     Kind,
     /// The first row isn't of periods, or a later row is.
     Order,
-    /// The number of fields isn't one that the kind allows.
+    /// The number of fields isn't one that the kind allows in the file's version.
     Fields,
     /// A leg after the most legs, or a product after the most products.
     Many,
@@ -19,7 +19,7 @@ pub enum Why {
     Number,
     /// A number is below its least or above its greatest value.
     Range,
-    /// A name is taken among its kind, a product names one leg twice, or a demand was given.
+    /// A name is taken among its kind, a product names one leg twice, or a demand or a percentage was given.
     Twice,
     /// A named leg or product isn't there.
     Missing,

@@ -13,6 +13,8 @@ mod tests;
 mod writing;
 
 pub use fault::{NetFault, Why};
-pub use laws::{printed_is_read, read_is_network};
+pub use laws::{
+    first_version_authorises_seats, migrated_is_same, printed_is_read, read_is_network,
+};
 pub use reading::parse;
 pub use writing::print;

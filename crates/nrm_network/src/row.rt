@@ -1,15 +1,24 @@
 //! The fields of a row, each read once.
 ghost use Rattle.std.specs.Prelude.{◌≡◌, ◌+◌, length};
+ghost use Rattle.std.specs.Int.{IsInRange};
 ghost use Rattle.csv.specs.Records.{fields_of};
 ghost use Rattle.nrm_model.specs.declared.limits.TheConstants.{MOST_DEMAND};
 ghost use Rattle.nrm_network.specs.Rows.{field};
-ghost use Rattle.nrm_network.specs.Inner.Fields.{NameIn, NamesIn, NumberIn, NumbersIn, SeatsIn};
+ghost use Rattle.nrm_network.specs.Inner.Fields.{LegFiguresIn, NameIn, NamesIn, NumberIn, NumbersIn, SeatsIn, TwoCountsIn, VersionIn};
 
 use crate::fault::{RowRefusal, Why};
 use csv::ByteRecord;
-use nrm_model::MOST_DEMAND;
+use nrm_model::{MOST_DEMAND, MOST_FARE, MOST_SEATS};
 use nrm_text::{Name, NumberFault, name_of, read_whole};
 use std::alloc::Global;
+
+/// What the row of a leg writes: its seats, its authorised seats and its thresholds.
+#[derive(Drop)]
+pub(crate) struct LegFigures {
+    pub(crate) seats: u16,
+    pub(crate) authorised: u16,
+    pub(crate) cuts: Vec<u32>,
+}
 
 /// The field at a place, counted from 0; past the last one it is empty.
 pub(crate) fn field(row: &ByteRecord, i: usize) -> &[u8]
@@ -60,18 +69,66 @@ pub(crate) fn number_in(text: &[u8], least: u32, greatest: u32) -> Result<Option
     }
 }
 
-/// The numbers that the fields from the fourth on write, if each lies within these bounds.
-pub(crate) fn numbers_in(
+// The seats that two fields write, if each writes a number of a leg's seats: 0 to [`nrm_model::MOST_SEATS`].
+fn two_counts_in(first: &[u8], second: &[u8]) -> Result<Option<(u16, u16)>, Why>
+    ensures { TwoCountsIn first.now second.now result }
+{
+    let one = number_in(first, 0, u32::from(MOST_SEATS))?;
+    let other = number_in(second, 0, u32::from(MOST_SEATS))?;
+    match (one, other) {
+        (Some(one), Some(other)) => Ok(Some((one as u16, other as u16))),
+        _ => Ok(None),
+    }
+}
+
+/// The file's version by its first row: 1 where that has three fields, and 2 where it has four and the fourth says so.
+pub(crate) fn version_of(row: &ByteRecord) -> Result<Option<u8>, Why>
+    requires { IsInRange 3 4 (length (fields_of row.now)) }
+    ensures { VersionIn (fields_of row.now) result }
+{
+    if row.len() == 3 {
+        return Ok(Some(1));
+    }
+    match number_in(field(row, 3), 2, 2)? {
+        Some(_) => Ok(Some(2)),
+        None => Ok(None),
+    }
+}
+
+/// The numbers that the row of a leg writes, in a file of this version, if each lies within its bounds.
+pub(crate) fn leg_figures_in(
+    alloc: Global,
+    version: u8,
+    row: &ByteRecord,
+) -> Result<Option<LegFigures>, RowRefusal>
+    ensures { LegFiguresIn version (fields_of row.now) result }
+{
+    let from = version as usize;
+    let counts = two_counts_in(field(row, 2), field(row, 1 + from))?;
+    let cuts = numbers_in(alloc, row, 2 + from, 1, MOST_FARE)?;
+    match (counts, cuts) {
+        (Some((seats, authorised)), Some(cuts)) => Ok(Some(LegFigures {
+            seats,
+            authorised,
+            cuts,
+        })),
+        _ => Ok(None),
+    }
+}
+
+// The numbers that the fields from a place on write, if each lies within these bounds.
+fn numbers_in(
     alloc: Global,
     row: &ByteRecord,
+    from: usize,
     least: u32,
     greatest: u32,
 ) -> Result<Option<Vec<u32>>, RowRefusal>
-    ensures { NumbersIn least greatest (fields_of row.now) result }
+    ensures { NumbersIn from least greatest (fields_of row.now) result }
 {
     let mut numbers = Vec::with_capacity(alloc, row.len())?;
     let mut within = true;
-    for i in 3..row.len() {
+    for i in from..row.len() {
         match number_in(field(row, i), least, greatest)? {
             Some(number) => numbers.push(number)?,
             None => within = false,

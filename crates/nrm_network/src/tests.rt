@@ -12,8 +12,20 @@ fn what_is_read_is_printed(rt: HostRuntime) -> Result<(), Fail> {
     let file = print(rt.alloc(), &net)?;
     assert_eq!(rt;
         file.as_slice(),
-        b"periods,2,2\nleg,AB,9\nproduct,P,100,AB\ndemand,P,2,1,0\n".as_slice()
+        b"periods,2,2,2\nleg,AB,9,9\nproduct,P,100,AB\ndemand,P,2,1,0\n".as_slice()
     );
+    Ok(())
+}
+
+#[test]
+fn version_2_is_printed_as_it_was_read(rt: HostRuntime) -> Result<(), Fail> {
+    let file =
+        b"periods,1,1,2\nleg,AB,3,4\nleg,BC,2,0,5\nproduct,THRU,500,AB,BC\nproduct,LOC,199,AB\nrefund,LOC,33\ndemand,LOC,1,2\n";
+    let net = parse(rt.alloc(), file)?;
+    assert_eq!(rt; (net.leg_at(0).seats, net.leg_at(0).authorised), (3, 4));
+    assert_eq!(rt; net.leg_at(1).cuts.as_slice(), [5].as_slice());
+    let printed = print(rt.alloc(), &net)?;
+    assert_eq!(rt; printed.as_slice(), file.as_slice());
     Ok(())
 }
 
@@ -45,6 +57,27 @@ fn each_cause_is_told_at_its_row(rt: HostRuntime) {
             4,
             Why::Sum,
         ),
+        ("periods,1,1,3\n", 1, Why::Range),
+        ("periods,1,1,02\n", 1, Why::Number),
+        ("periods,1,1,2\nleg,AB,9\n", 2, Why::Fields),
+        ("periods,1,1,2\nleg,AB,9,1000\n", 2, Why::Range),
+        ("periods,1,1,2\nleg,AB,9,x,y\n", 2, Why::Number),
+        (
+            "periods,1,1\nleg,AB,9\nproduct,P,5,AB\nrefund,P,33\n",
+            4,
+            Why::Kind,
+        ),
+        (
+            "periods,1,1,2\nleg,AB,9,9\nproduct,P,5,AB\nrefund,P,101\n",
+            4,
+            Why::Range,
+        ),
+        (
+            "periods,1,1,2\nleg,AB,9,9\nproduct,P,5,AB\nrefund,P,3\nrefund,P,3\n",
+            5,
+            Why::Twice,
+        ),
+        ("periods,1,1,2\nleg,AB,9,9\nrefund,P,3\n", 3, Why::Missing),
         ("periods,1,1\n", 2, Why::Empty),
         ("", 1, Why::Empty),
     ] {
@@ -81,11 +114,14 @@ fn push_demand(file: &mut String, product: u16) -> Result<(), AllocError> {
     Ok(())
 }
 
-// A canonical file with as many products, histories and demand rows as there may be.
+// A canonical file with as many products, refunds, histories and demand rows as there may be.
 fn full_file(alloc: Global) -> Result<String, AllocError> {
-    let mut file = String::from_str(alloc, "periods,32,1\nleg,L,1\n")?;
+    let mut file = String::from_str(alloc, "periods,32,1,2\nleg,L,1,2\n")?;
     for product in 0..256 {
         write!(file, "product,P{product:03},1,L\n")?;
+    }
+    for product in 0..256 {
+        write!(file, "refund,P{product:03},99\n")?;
     }
     for product in 0..256 {
         push_demand(&mut file, product)?;

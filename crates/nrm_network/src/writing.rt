@@ -1,16 +1,16 @@
-//! The canonical file of a network, written row by row: the fields with commas between them, and the end of the line
+//! The canonical file of a network, of version 2, written row by row: the fields with commas between them, and the end of the line
 //! after each row.
 ghost use Rattle.std.specs.Prelude.{◌≡◌, ◌<◌, ◌∷◌, ◌++◌, All, IfOk, OnOk, decimal, flat_map, length, map};
 ghost use Rattle.std.specs.List.{range_with_len};
 ghost use Rattle.nrm_model.specs.Limits.{IsNetwork};
 ghost use Rattle.nrm_model.specs.Network.{leg_of};
-ghost use Rattle.nrm_network.specs.Canonical.{canonical_file, leg_fields, periods_fields, product_fields};
+ghost use Rattle.nrm_network.specs.Canonical.{canonical_file, leg_fields, periods_fields, product_fields, refund_fields};
 ghost use Rattle.nrm_network.specs.File.{file_of};
 ghost use Rattle.nrm_network.specs.Inner.RowText.{after_commas, history_fields, history_text, row_text};
 
 use crate::numbers::{NUMBERS_ROOM, write_numbers};
 use itoa::Buffer;
-use nrm_model::{Leg, Network, Product};
+use nrm_model::{Leg, MOST_REFUND, Network, Product};
 use std::alloc::{AllocError, Global};
 
 fn push_field(text: &mut Vec<u8>, field: &[u8]) -> Result<(), AllocError>
@@ -42,6 +42,7 @@ fn push_periods(text: &mut Vec<u8>, net: &Network) -> Result<(), AllocError>
     text.extend_from_slice(b"periods")?;
     push_number(text, u32::from(net.n()))?;
     push_number(text, u32::from(net.t()))?;
+    push_number(text, 2)?;
     text.push(b'\n')?;
     Ok(())
 }
@@ -52,6 +53,7 @@ fn push_leg(text: &mut Vec<u8>, leg: &Leg) -> Result<(), AllocError>
     text.extend_from_slice(b"leg")?;
     push_field(text, leg.name.bytes())?;
     push_number(text, u32::from(leg.seats))?;
+    push_number(text, u32::from(leg.authorised))?;
     push_numbers(text, leg.cuts.as_slice())?;
     text.push(b'\n')?;
     Ok(())
@@ -75,6 +77,20 @@ fn push_product(text: &mut Vec<u8>, net: &Network, product: &Product) -> Result<
     push_field(text, product.name.bytes())?;
     push_number(text, product.fare)?;
     push_leg_names(text, net, product.legs.as_slice())?;
+    text.push(b'\n')?;
+    Ok(())
+}
+
+// The row of a product's percentage, unless it is all of the fare.
+fn push_refund(text: &mut Vec<u8>, product: &Product) -> Result<(), AllocError>
+    ensures { OnOk result (text.new.items ≡ text.old.items ++ flat_map row_text (refund_fields product.now)) }
+{
+    if product.refund == MOST_REFUND {
+        return Ok(());
+    }
+    text.extend_from_slice(b"refund")?;
+    push_field(text, product.name.bytes())?;
+    push_number(text, u32::from(product.refund))?;
     text.push(b'\n')?;
     Ok(())
 }
@@ -135,6 +151,16 @@ fn push_products(text: &mut Vec<u8>, net: &Network) -> Result<(), AllocError>
     Ok(())
 }
 
+fn push_refunds(text: &mut Vec<u8>, net: &Network) -> Result<(), AllocError>
+    ensures { OnOk result (text.new.items
+        ≡ text.old.items ++ flat_map (λ product. flat_map row_text (refund_fields product)) net.now.products) }
+{
+    for j in 0..net.product_count() {
+        push_refund(text, net.product_at(j as u16))?;
+    }
+    Ok(())
+}
+
 fn push_demands(text: &mut Vec<u8>, net: &Network) -> Result<(), AllocError>
     ensures { OnOk result (text.new.items
         ≡ text.old.items
@@ -148,8 +174,8 @@ fn push_demands(text: &mut Vec<u8>, net: &Network) -> Result<(), AllocError>
     Ok(())
 }
 
-/// The canonical file of a network: the periods, the legs, the products, and the demand of each product in each history
-/// in which a seat was requested.
+/// The canonical file of a network, of version 2: the periods, the legs, the products, the percentage of each product of which not all
+/// of the fare is given back, and the demand of each product in each history in which a seat was requested.
 ///
 /// It is read back as the same network.
 ///
@@ -163,6 +189,7 @@ pub fn print(alloc: Global, net: &Network) -> Result<Vec<u8>, AllocError>
     push_periods(&mut text, net)?;
     push_legs(&mut text, net)?;
     push_products(&mut text, net)?;
+    push_refunds(&mut text, net)?;
     push_demands(&mut text, net)?;
     Ok(text)
 }

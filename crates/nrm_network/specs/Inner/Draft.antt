@@ -1,9 +1,9 @@
 -- The draft of a network, and the rows that it stands for.
-use Rattle.std.specs.Prelude.{ℕ, ◌≡◌, ◌+◌, ◌*◌, ⊤, Bool, true, false, Option, None, Result, Ok, Err}
-use Rattle.std.specs.Prelude.{List, [], ◌∷◌, ◌++◌, All, length, map, find, replicate, flat_map, take, drop, slice_set}
+use Rattle.std.specs.Prelude.{ℕ, ◌≡◌, ◌+◌, ◌*◌, ⊤, Bool, true, false, Option, Some, None, Result, Ok, Err}
+use Rattle.std.specs.Prelude.{List, [], ◌∷◌, ◌++◌, All, length, map, find, replicate, flat_map, take, drop, slice_get, slice_set}
 use Rattle.std.specs.List.{list_any, range_with_len}
 use Rattle.std.specs.Option.{option_map_or}
-use Rattle.nrm_network.specs.Rows.{Row, field, leg_rows, product_rows, demand_rows, histories_in, periods_in, is_named}
+use Rattle.nrm_network.specs.Rows.{Row, field, leg_rows, product_rows, demand_rows, refund_rows, version_in, histories_in, periods_in, is_named}
 use Rattle.nrm_network.specs.Rows.{further_numbers, gives_demand}
 use Rattle.nrm_network.specs.Checks.{why_refused}
 use Rattle.nrm_network.specs.Inner.Entries.{IsRead}
@@ -38,22 +38,29 @@ given_by histories demands products =
     list_any (gives_demand (field product 1) history) demands ∷ [])
     (range_with_len 1 histories)) products
 
--- each of these rows gives the demand of one of the products
+-- whether a refund row gives the percentage of each product
+abbrev pub refunded_by : List Row → List Row → List Bool
+refunded_by refunds products = map (λ product. is_named refunds (field product 1)) products
+
+-- each of these rows is of one of the products
 abbrev pub NameProducts : List Row → List Row → Type 0
-NameProducts products demands = All (λ row. is_named products (field row 1) ≡ true) demands
+NameProducts products rows = All (λ row. is_named products (field row 1) ≡ true) rows
 
 -- a draft stands for rows that were all taken
 pub record Stands (draft : Draft) (taken : List Row) : Type 0 where
   pub accepted : Accepts why_refused [] taken
+  pub version : draft.version ≡ version_in taken
   pub histories : draft.histories ≡ histories_in taken
   pub periods : draft.periods ≡ periods_in taken
-  pub legs : draft.legs.items ≡ map leg_in (leg_rows taken)
+  pub legs : draft.legs.items ≡ map (leg_in (version_in taken)) (leg_rows taken)
   pub leg_names : draft.leg_names ≡ names_of (leg_rows taken)
-  pub products : draft.products.items ≡ map (product_in (leg_rows taken)) (product_rows taken)
+  pub products : draft.products.items ≡ map (product_in (leg_rows taken) (refund_rows taken)) (product_rows taken)
   pub product_names : draft.product_names ≡ names_of (product_rows taken)
   pub named : NameProducts (product_rows taken) (demand_rows taken)
   pub demand : draft.demand.items ≡ demand_by (histories_in taken) (periods_in taken) (demand_rows taken) (product_rows taken)
   pub given : draft.given.items ≡ given_by (histories_in taken) (demand_rows taken) (product_rows taken)
+  pub refunds_named : NameProducts (product_rows taken) (refund_rows taken)
+  pub refunded : draft.refunded.items ≡ refunded_by (refund_rows taken) (product_rows taken)
 
 -- what a row does to a draft: it is refused as the checks say, or the draft then stands for it too
 abbrev pub TakesRow : Draft → List Row → Row → Result Unit RowRefusal → Type 0
@@ -85,7 +92,22 @@ AddsProduct before after product =
     (after.products.items ≡ before.products.items ++ product ∷ []) × (after.product_names ≡ before.product_names ++ product.name ∷ [])
     × (after.demand.items ≡ before.demand.items ++ replicate (before.histories * before.periods) 0)
     × (after.given.items ≡ before.given.items ++ replicate before.histories false)
-    × (after ≡ record before { products = after.products; product_names = after.product_names; demand = after.demand; given = after.given })
+    × (after.refunded.items ≡ before.refunded.items ++ false ∷ [])
+    × (after ≡ record before {
+      products = after.products;
+      product_names = after.product_names;
+      demand = after.demand;
+      given = after.given;
+      refunded = after.refunded;
+    })
+
+-- the percentage of one product, and all else as it was
+abbrev pub SetsRefund : Draft → Draft → ℕ → ℕ → Type 0
+SetsRefund before after j percentage =
+    ((product : Product) → slice_get before.products.items j ≡ Some product
+    → after.products.items ≡ slice_set before.products.items j (record product { refund = percentage }))
+    × (after.refunded.items ≡ slice_set before.refunded.items j true)
+    × (after ≡ record before { products = after.products; refunded = after.refunded })
 
 -- the demand of one cell, a product in a history, and all else as it was
 abbrev pub SetsDemand : Draft → Draft → ℕ → List ℕ → Type 0

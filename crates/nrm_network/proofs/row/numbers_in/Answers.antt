@@ -12,7 +12,7 @@ returns-in_err-number c =
     let gives : c.from_residual-in_err-number.result ≡ Err (fault.Refused c.in_err-number.field-0.0) = search rules in
     let off = c.in_err-number.ensures in
     rw gives (
-      read-off c.args.least c.args.greatest
+      read-off c.args.from c.args.least c.args.greatest
           (fields_of c.args.row.now) c.loop-i.i short c.field.result.now c.loop-i.numbers.items c.loop-i.within c.field.ensures off.0
           c.loop-i.invariant,
       off.1,
@@ -25,10 +25,10 @@ loop-i-preserved c =
     elim c.match-branch-3.branch [
       | in-Some+in_ok-push-in-Some w ↦
           rw (w.numbers-is, w.within-is, w.in_ok-push-in-Some.ensures.items)
-          (read-within c.args.least c.args.greatest fields c.loop-i.i short c.field.result.now w.in-Some.number c.loop-i.numbers.items
+          (read-within c.args.from c.args.least c.args.greatest fields c.loop-i.i short c.field.result.now w.in-Some.number c.loop-i.numbers.items
           c.loop-i.within c.field.ensures (rw w.in-Some.is at c.in_ok-number.ensures) c.loop-i.invariant)
       | in-None w ↦
           rw (w.numbers-is, w.within-is)
-          (read-outside c.args.least c.args.greatest fields c.loop-i.i short c.field.result.now c.loop-i.numbers.items c.loop-i.within
+          (read-outside c.args.from c.args.least c.args.greatest fields c.loop-i.i short c.field.result.now c.loop-i.numbers.items c.loop-i.within
           c.field.ensures (rw w.in-None.is at c.in_ok-number.ensures) c.loop-i.invariant)
     ]

@@ -13,7 +13,7 @@ returns-in_err-count c =
     let gives : c.from_residual.result ≡ Err c.in_err-count.field-0.0 = search rules in
     let off = c.in_err-count.ensures in
     rw gives (
-      read-off 0 999 (fields_of c.args.row.now) (c.loop-i.i + 3) short c.field.result.now
+      read-off 3 0 999 (fields_of c.args.row.now) (c.loop-i.i + 3) short c.field.result.now
           (take c.loop-i.i c.loop-i.seats) c.loop-i.within c.field.ensures off.0 so_far,
       off.1,
     )
@@ -29,19 +29,19 @@ loop-i-preserved c =
     elim c.match-branch-2.branch [
       | in-Some w ↦
           let number : ℕ = w.in-Some.count in
-          let read = read-within 0 999 fields (i + 3) short c.field.result.now number (take i seats) c.loop-i.within c.field.ensures
+          let read = read-within 3 0 999 fields (i + 3) short c.field.result.now number (take i seats) c.loop-i.within c.field.ensures
           (rw w.in-Some.is at c.in_ok-count.ensures) so_far in
           let written = take_more_set seats i number (omega (arith, c.loop-i-test.true)) in
           rw (w.seats-is, w.within-is) (
             omega (arith, places, length-set seats i number),
-            rw written (subst (λ (n : ℕ). ReadTo 0 999 fields n (take i seats ++ number ∷ []) c.loop-i.within) next read),
+            rw written (subst (λ (n : ℕ). ReadTo 3 0 999 fields n (take i seats ++ number ∷ []) c.loop-i.within) next read),
           )
       | in-None w ↦
-          let read = read-outside 0 999 fields (i + 3) short c.field.result.now (take i seats) c.loop-i.within c.field.ensures
+          let read = read-outside 3 0 999 fields (i + 3) short c.field.result.now (take i seats) c.loop-i.within c.field.ensures
           (rw w.in-None.is at c.in_ok-count.ensures) so_far in
           rw (w.seats-is, w.within-is) (
             places,
-            read-freely 0 999 fields (i + 1 + 3) (take i seats) (take (i + 1) seats)
-                (subst (λ (n : ℕ). ReadTo 0 999 fields n (take i seats) false) next read),
+            read-freely 3 0 999 fields (i + 1 + 3) (take i seats) (take (i + 1) seats)
+                (subst (λ (n : ℕ). ReadTo 3 0 999 fields n (take i seats) false) next read),
           )
     ]

@@ -2,7 +2,7 @@
 use Rattle.std.proofs.Common.{ℕ, inl, inr, ◌≡◌, ◌∙◌, ◌≤◌, ◌==◌, List, [], ◌∷◌, length, sym, ap, refl, arith, false}
 use Rattle.std.proofs.lemmas.List.{length-map}
 use Rattle.std.proofs.lemmas.Bool.{cases_Bool, eqb-true}
-use Rattle.nrm_network.specs.Rows.{Row, leg_rows, product_rows, histories_in}
+use Rattle.nrm_network.specs.Rows.{Row, leg_rows, product_rows, refund_rows, version_in, histories_in}
 use Rattle.nrm_network.specs.Checks.{why_refused}
 use Rattle.nrm_network.specs.File.{leg_in, product_in}
 use Rattle.nrm_network.specs.Inner.Draft.{Accepts}
@@ -21,8 +21,9 @@ first-row (first ∷ more) accepted = positive (histories_in (first ∷ more)) (
 pub returns : goal.returns
 returns c = λ taken is. record {
   first = ap (λ (n : ℕ). n == 0) is.histories ∙ first-row taken is.accepted;
+  version = is.version;
   histories = is.histories;
   periods = is.periods;
-  legs = omega (arith, c.len.ensures, ap length is.legs, length-map (leg_rows taken) leg_in);
-  products = omega (arith, c.len-2.ensures, ap length is.products, length-map (product_rows taken) (product_in (leg_rows taken)));
+  legs = omega (arith, c.len.ensures, ap length is.legs, length-map (leg_rows taken) (leg_in (version_in taken)));
+  products = omega (arith, c.len-2.ensures, ap length is.products, length-map (product_rows taken) (product_in (leg_rows taken) (refund_rows taken)));
 }

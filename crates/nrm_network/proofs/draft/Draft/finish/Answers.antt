@@ -5,7 +5,7 @@ use Rattle.nrm_model.specs.declared.leg.Leg.{Leg}
 use Rattle.nrm_model.specs.declared.product.Product.{Product}
 use Rattle.nrm_model.specs.Network.{NetworkValue}
 use Rattle.nrm_model.specs.Limits.{IsNetwork}
-use Rattle.nrm_network.specs.Rows.{Row, leg_rows, product_rows}
+use Rattle.nrm_network.specs.Rows.{Row, leg_rows, product_rows, refund_rows, version_in}
 use Rattle.nrm_network.specs.Checks.{why_refused}
 use Rattle.nrm_network.specs.Inner.Draft.{Stands}
 use Rattle.nrm_network.specs.File.{Refusal, network_of, network_or_refusal, refusal_after}
@@ -44,8 +44,8 @@ with_tables-requires c =
     let lacks = sym (c.lacks_a_kind.ensures taken is) ∙ c.if-lacks_a_kind.false in
     record {
       network = subst IsNetwork (sym (network-is c.args.self taken is)) (rows-network taken is.accepted lacks);
-      legs = is.leg_names ∙ sym (leg-names (leg_rows taken)) ∙ ap (λ (legs : List Leg). map (λ (leg : Leg). leg.name) legs) (sym is.legs);
-      products = is.product_names ∙ sym (product-names (leg_rows taken) (product_rows taken))
+      legs = is.leg_names ∙ sym (leg-names (version_in taken) (leg_rows taken)) ∙ ap (λ (legs : List Leg). map (λ (leg : Leg). leg.name) legs) (sym is.legs);
+      products = is.product_names ∙ sym (product-names (leg_rows taken) (refund_rows taken) (product_rows taken))
           ∙ ap (λ (products : List Product). map (λ (product : Product). product.name) products) (sym is.products);
     }
 

@@ -22,33 +22,48 @@ read_row-requires c =
 pub take_product-requires : goal.take_product-requires
 take_product-requires c =
     let (taken, is) = c.requires in
-    (taken, fields_of c.args.row.now, is, rw c.in-Product.is at (c.in_ok-histories.ensures taken (c.counts.ensures taken is)))
+    (taken, fields_of c.args.row.now, is, rw c.in-Product.is at (c.in_ok-version.ensures taken (c.counts.ensures taken is)))
 
 pub take_demand-requires : goal.take_demand-requires
 take_demand-requires c =
     let (taken, is) = c.requires in
-    (taken, fields_of c.args.row.now, is, rw c.in-Demand.is at (c.in_ok-histories.ensures taken (c.counts.ensures taken is)))
+    (taken, fields_of c.args.row.now, is, rw c.in-Demand.is at (c.in_ok-version.ensures taken (c.counts.ensures taken is)))
+
+pub take_periods-requires : goal.take_periods-requires
+take_periods-requires c =
+    let (taken, is) = c.requires in
+    (taken, fields_of c.args.row.now, is, rw c.in-Periods.is at (c.in_ok-version.ensures taken (c.counts.ensures taken is)))
+
+pub take_refund-requires : goal.take_refund-requires
+take_refund-requires c =
+    let (taken, is) = c.requires in
+    (taken, fields_of c.args.row.now, is, rw c.in-Refund.is at (c.in_ok-version.ensures taken (c.counts.ensures taken is)))
+
+pub returns-in-Refund : goal.returns-in-Refund
+returns-in-Refund c = λ taken is.
+    c.take_refund.ensures taken (fields_of c.args.row.now) is
+    (rw c.in-Refund.is at (c.in_ok-version.ensures taken (c.counts.ensures taken is)))
 
 pub returns-in-Periods : goal.returns-in-Periods
 returns-in-Periods c = λ taken is.
     c.take_periods.ensures taken (fields_of c.args.row.now) is
-    (rw c.in-Periods.is at (c.in_ok-histories.ensures taken (c.counts.ensures taken is)))
+    (rw c.in-Periods.is at (c.in_ok-version.ensures taken (c.counts.ensures taken is)))
 
 pub returns-in-Leg : goal.returns-in-Leg
 returns-in-Leg c = λ taken is. c.take_leg.ensures taken (fields_of c.args.row.now) is
-    (rw c.in-Leg.is at (c.in_ok-histories.ensures taken (c.counts.ensures taken is)))
+    (rw c.in-Leg.is at (c.in_ok-version.ensures taken (c.counts.ensures taken is)))
 
 pub returns-in-Product : goal.returns-in-Product
 returns-in-Product c = λ taken is.
     c.take_product.ensures taken (fields_of c.args.row.now) is
-    (rw c.in-Product.is at (c.in_ok-histories.ensures taken (c.counts.ensures taken is)))
+    (rw c.in-Product.is at (c.in_ok-version.ensures taken (c.counts.ensures taken is)))
 
 pub returns-in-Demand : goal.returns-in-Demand
 returns-in-Demand c = λ taken is.
     c.take_demand.ensures taken (fields_of c.args.row.now) is
-    (rw c.in-Demand.is at (c.in_ok-histories.ensures taken (c.counts.ensures taken is)))
+    (rw c.in-Demand.is at (c.in_ok-version.ensures taken (c.counts.ensures taken is)))
 
-pub returns-in_err-histories : goal.returns-in_err-histories
-returns-in_err-histories c = λ taken is.
+pub returns-in_err-version : goal.returns-in_err-version
+returns-in_err-version c = λ taken is.
     let p = err_from_is_err_and c.from_residual.result c.from_residual.ensures.1 in
-    rw (p.1, p.2) (c.in_err-histories.ensures taken (c.counts.ensures taken is))
+    rw (p.1, p.2) (c.in_err-version.ensures taken (c.counts.ensures taken is))

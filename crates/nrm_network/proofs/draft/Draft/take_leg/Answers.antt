@@ -3,7 +3,7 @@ use Rattle.std.proofs.Common.{ℕ, ◌≡◌, ◌∙◌, true, false, bytes_eq, 
 use Rattle.std.specs.Prelude.{is_some}
 use Rattle.nrm_model.specs.Limits.{falls}
 use Rattle.nrm_model.specs.declared.leg.Leg.{Leg}
-use Rattle.nrm_network.specs.Rows.{field, leg_rows, further_numbers}
+use Rattle.nrm_network.specs.Rows.{field, leg_rows, threshold_numbers, version_in}
 use Rattle.nrm_network.specs.Inner.Draft.{AddsLeg}
 use Rattle.nrm_network.proofs.ChecksAfterShape.{leg-twice, leg-unordered, leg-free}
 use Rattle.nrm_network.proofs.DraftGrowth.{leg-grows, named-by, place-any}
@@ -19,7 +19,7 @@ pub returns-then-not-falls : goal.returns-then-not-falls
 returns-then-not-falls c = λ taken row is read.
     let named = named-by c.number_of.result c.is_some.result c.args.self.now.leg_names (leg_rows taken) c.args.leg.name
     (field row 1) c.number_of.ensures c.is_some.ensures is.leg_names (ap (λ (l : Leg). l.name) read.says) in
-    let fails : falls (further_numbers row) ≡ false = ap (λ (l : Leg). falls l.cuts) (sym read.says) ∙ ap falls (sym c.as_slice.ensures)
+    let fails : falls (threshold_numbers (version_in taken) row) ≡ false = ap (λ (l : Leg). falls l.cuts) (sym read.says) ∙ ap falls (sym c.as_slice.ensures)
     ∙ sym c.falls.ensures ∙ c.if-not-falls.true in
     leg-unordered taken row read.shape (sym named ∙ c.if-is_some.false) fails
 
@@ -33,7 +33,7 @@ pub returns : goal.returns
 returns c = λ taken row is read.
     let named = named-by c.number_of.result c.is_some.result c.args.self.now.leg_names (leg_rows taken) c.args.leg.name
     (field row 1) c.number_of.ensures c.is_some.ensures is.leg_names (ap (λ (l : Leg). l.name) read.says) in
-    let goes : falls (further_numbers row) ≡ true = ap (λ (l : Leg). falls l.cuts) (sym read.says) ∙ ap falls (sym c.as_slice.ensures)
+    let goes : falls (threshold_numbers (version_in taken) row) ≡ true = ap (λ (l : Leg). falls l.cuts) (sym read.says) ∙ ap falls (sym c.as_slice.ensures)
     ∙ sym c.falls.ensures ∙ c.if-not-falls.false in
     let free = leg-free taken row read.shape (sym named ∙ c.if-is_some.false) goes in (
       free,

@@ -5,11 +5,12 @@ use Rattle.std.specs.List.{list_all}
 use Rattle.std.proofs.lemmas.List.{length-map}
 use Rattle.nrm_model.specs.Limits.{differ}
 use Rattle.nrm_model.specs.declared.product.Product.{Product}
-use Rattle.nrm_network.specs.Rows.{product_kind, field, leg_rows, product_rows, further, is_named}
+use Rattle.nrm_network.specs.Rows.{product_kind, field, leg_rows, product_rows, refund_rows, further, is_named}
 use Rattle.nrm_network.specs.File.{number_of_leg}
 use Rattle.nrm_network.specs.Inner.Draft.{AddsProduct}
-use Rattle.nrm_network.proofs.ChecksAfterShape.{product-twice, product-repeats, product-missing, product-free}
-use Rattle.nrm_network.proofs.DraftGrowth.{product-grows, product-same, few-legs, named-by, place-any}
+use Rattle.nrm_network.proofs.CheckedRows.{product-checked}
+use Rattle.nrm_network.proofs.ChecksAfterShape.{product-twice, product-repeats, product-missing, product-free, word-of}
+use Rattle.nrm_network.proofs.DraftGrowth.{all-given-back, product-grows, product-same, few-legs, named-by, place-any}
 use Rattle.nrm_network.proofs.draft.Draft.take_product.Goals as goal
 
 pub returns-then-is_some : goal.returns-then-is_some
@@ -60,8 +61,10 @@ returns c = λ taken row is read.
     let there = subst (λ (n : List (List ℕ)). list_all (is_named (leg_rows taken)) n ≡ true) names_again found.0 in
     let numbers = found.1 ∙ ap (λ (n : List (List ℕ)). map (number_of_leg (leg_rows taken)) n) names_again in
     let free = product-free taken row read.shape (sym named ∙ c.if-is_some.false) apart there in
-    let product = product-same (leg_rows taken) row c.args.product.now.name c.new.result c.args.product.now.fare read.says.0 read.says.1
-    (c.new.ensures ∙ numbers) in (
+    let checked = product-checked taken row (word-of taken row product_kind read.shape) free in
+    let all = (all-given-back (product_rows taken) (refund_rows taken) (field row 1) checked.fresh is.refunds_named).0 in
+    let product = product-same (leg_rows taken) (refund_rows taken) row c.args.product.now.name c.new.result c.args.product.now.fare 100
+    read.says.0 read.says.1 (sym all) (c.new.ensures ∙ numbers) in (
       free,
       product-grows c.args.self.now c.add_product.new.self taken row is read.shape free
           (subst (λ (p : Product). AddsProduct c.args.self.now c.add_product.new.self p) product c.in_ok-add_product.ensures),
