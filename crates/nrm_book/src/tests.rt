@@ -147,7 +147,7 @@ fn sell_local(rt: &impl Abort, book: &mut Book)
     book.add(1, 1);
 }
 
-// Five seats in all, so room for ten bookings, through which these go twice.
+// Five authorised seats in all, so room for ten bookings, through which these go twice.
 #[test]
 fn books_again_behind_the_oldest_that_was_cancelled(rt: HostRuntime) -> Result<(), Fail> {
     let mut book = empty_book(rt.alloc())?;
