@@ -8,7 +8,5 @@ mod programs;
 #[cfg(test)]
 mod tests;
 
-pub use networks::{
-    two_legs, two_legs_authorised, two_legs_five_products, two_legs_last_first,
-};
+pub use networks::{two_legs, two_legs_authorised, two_legs_five_products, two_legs_last_first};
 pub use programs::two_legs_five_products_program;
