@@ -1,4 +1,4 @@
--- The programs of two networks, which a reader can check by hand.
+-- The programs of three networks, which a reader can check by hand.
 use Rattle.std.specs.Prelude.{◌≡◌, ◌<◌, ◌≤◌, [], ◌∷◌, refl}
 use Rattle.std.proofs.Common.{ℕ, zero, suc, arith, get_or}
 use Rattle.nrm_model.specs.Network.{least_authorised_of}
