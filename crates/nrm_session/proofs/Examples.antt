@@ -49,6 +49,7 @@ sold_once plan = record {
   bookings = record { number = 1; product = 0; party = 1 } ∷ [];
   next = 2;
   requests = record { product = 0; party = 1 } ∷ record { product = 0; party = 1 } ∷ [];
+  withheld = 0;
 }
 
 -- both legs refuse the second request, and the first in the product's own order is named; the request is remembered
@@ -133,12 +134,13 @@ standing = record {
   bookings = record { number = 1; product = 0; party = 1 } ∷ [];
   next = 2;
   tallies = 1 ∷ 0 ∷ [];
+  withheld = 0;
 }
 
 the_second_leg : reply_in standing (answered.NoLeg 1) ≡ no_leg (codes "BC")
 the_second_leg = refl
 
-the_leg_told : text_of (reply_in standing (answered.Leg 1)) ≡ codes "leg BC seats 1 sold 1 left 0\non BC BACK 1\n"
+the_leg_told : text_of (reply_in standing (answered.Leg 1)) ≡ codes "leg BC seats 1 authorised 1 sold 1 left 0\non BC BACK 1\n"
 unfolding digits
 the_leg_told = refl
 
@@ -176,8 +178,8 @@ text_of_optimised_none = refl
 text_of_overflow : text_of overflow ≡ codes "overflow\n"
 text_of_overflow = refl
 
-text_of_hindsight : (value : Fraction) → value.num ≡ pos 301 → value.den ≡ 2 → text_of (hindsight_told value 101)
-    ≡ codes "hindsight 301/2 revenue 101\n"
+text_of_hindsight : (value : Fraction) → value.num ≡ pos 301 → value.den ≡ 2 → text_of (hindsight_told value 101 202)
+    ≡ codes "hindsight 301/2 revenue 101 withheld 202\n"
 unfolding digits
 text_of_hindsight value num den = rw (num, den) refl
 
