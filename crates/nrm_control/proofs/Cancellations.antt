@@ -21,7 +21,6 @@ use Rattle.nrm_book.specs.declared.booking.Booking.{Booking}
 use Rattle.nrm_book.specs.Book.{BookValue, IsBook}
 use Rattle.nrm_book.specs.Bookings.{NumbersRise, booking_numbered, without, worth_of}
 use Rattle.nrm_book.proofs.Kept.{absent-is, found-is, removed-is}
-use Rattle.nrm_book.proofs.Revenues.{worth-le}
 use Rattle.nrm_control.specs.Refunds.{refund_of, withheld_by, withheld_of}
 use Rattle.nrm_control.specs.Standing.{IsWithheld, most_worth}
 
@@ -79,6 +78,9 @@ refund-and-rest net is b =
     both-parts (worth_of (inventory_of net) b) (refund_of net b) (part-within (worth_of (inventory_of net) b) (product_of net b.product).refund (refund-most net is b.product))
 
 -- and that is at most the largest party at the highest fare
+worth-le : (party fare : ℕ) → party ≤ 999 → fare ≤ 99999999 → party * fare ≤ most_worth
+worth-le party fare sized cheap = omega (arith, mul-le-mul_left party cheap)
+
 pub worth-most : (net : NetworkValue) (book : BookValue) (number : ℕ) (b : Booking) → book.inventory ≡ inventory_of net → IsBook book → booking_numbered book.bookings number ≡ Some b
     → worth_of (inventory_of net) b ≤ most_worth
 worth-most net book number b same is live =
@@ -138,5 +140,5 @@ module _ (net : NetworkValue) (bookings : List Booking) (number : ℕ) (b : Book
   pub refund-is : Some (party * fare * percent / 100) ≡ option_map (refund_of net) (booking_numbered bookings number)
   refund-is = ap Some own-refund ∙ ap (option_map (refund_of net)) live
 
-  pub withheld-is : (withheld : ℕ) → withheld + (party * fare - party * fare * percent / 100) ≡ withheld + withheld_by net bookings number
-  withheld-is withheld = (λ k. withheld + (worth-is k - own-refund k)) ∙ ap (λ o. withheld + option_map_or (withheld_of net) o 0) live
+  pub withheld-is : (withheld rest : ℕ) → rest ≡ party * fare - party * fare * percent / 100 → withheld + rest ≡ withheld + withheld_by net bookings number
+  withheld-is withheld rest is = (λ k. withheld + is k) ∙ (λ k. withheld + (worth-is k - own-refund k)) ∙ ap (λ o. withheld + option_map_or (withheld_of net) o 0) live

@@ -63,7 +63,7 @@ sold-is net plan book new tallies more withheld j party number is added grown =
     ∙ ap (λ n. with_answer (record { net = net; plan = plan; bookings = book.bookings; next = book.next; tallies = tallies; withheld = withheld }) j party (answer.Sold n)) (sym is)
 
 -- a controller after a cancellation
-abbrev without_booking : ControlValue → ℕ → ControlValue
+abbrev pub without_booking : ControlValue → ℕ → ControlValue
 without_booking control number = record control {
   bookings = without control.bookings number;
   withheld = control.withheld + withheld_by control.net control.bookings number;
