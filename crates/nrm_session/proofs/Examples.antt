@@ -254,8 +254,27 @@ abbrev sold_three : SeatState
 sold_three = after_request two_legs_authorised refused_two 1 3
 
 money_run : Run two_legs_authorised (opening first) money_lines money_replies sold_three
-money_run = (sold_two, (refl, refl), (gave_back, (refl, refl), (gave_back, (refl, refl), (refused_two, (refl, refl), (sold_three, (refl, refl),
-    (sold_three, (refl, refl), refl))))))
+money_run = (
+  sold_two,
+  (refl, refl),
+  (
+    gave_back,
+    (refl, refl),
+    (
+      gave_back,
+      (refl, refl),
+      (
+        refused_two,
+        (refl, refl),
+        (
+          sold_three,
+          (refl, refl),
+          (sold_three, (refl, refl), refl),
+        ),
+      ),
+    ),
+  ),
+)
 
 sold_by_hand : sold_in_all two_legs_authorised money_lines money_replies ≡ 995
 sold_by_hand = refl

@@ -77,19 +77,20 @@ sold-moves net s name j party numbered found =
           (sum_by_push (worth_of (inventory_of net)) s.bookings b) paid;
     }
 
+abbrev AnswerMoves : NetworkValue → SeatState → List ℕ → ℕ → ℕ → Answer → Type 0
+AnswerMoves net s name j party given = Moves net s (command.Book name party) (reply_to net given) (after_answer s j party given)
+
 request-moves : (net : NetworkValue) (s : SeatState) (name : List ℕ) (j party : ℕ) → Numbered s → product_named net name ≡ Some j
     → Moves net s (command.Book name party) (reply_to net (answer_in net s j party)) (after_request net s j party)
 request-moves net s name j party numbered found =
     by (find (leg_refuses net s.plan s.bookings j party) (product_of net j).legs)
   where
-    abbrev Told : Answer → Type 0
-    Told given = Moves net s (command.Book name party) (reply_to net given) (after_answer s j party given)
-
-    by-fare : (refuses : Bool) → Told (if refuses then answer.Fare else answer.Sold s.next)
+    by-fare : (refuses : Bool) → AnswerMoves net s name j party (if refuses then answer.Fare else answer.Sold s.next)
     by-fare true = record { numbered = record { rising = numbered.rising; below = numbered.below }; sum = refl }
     by-fare false = sold-moves net s name j party numbered found
 
-    by : (o : Option ℕ) → Told (option_map_or answer.Leg o (if fare_refuses net s.plan j then answer.Fare else answer.Sold s.next))
+    by : (o : Option ℕ)
+        → AnswerMoves net s name j party (option_map_or answer.Leg o (if fare_refuses net s.plan j then answer.Fare else answer.Sold s.next))
     by None = by-fare (fare_refuses net s.plan j)
     by (Some i) = record { numbered = record { rising = numbered.rising; below = numbered.below }; sum = refl }
 
