@@ -20,8 +20,10 @@ use nrm_stream::Command;
 use nrm_text::{Name, Text};
 use std::alloc::Global;
 
-// The most bytes of a reply with a fraction, and of one of hindsight. A call clears its room before it begins, so each kind of line has a call of its own.
+// The most bytes of a reply with a fraction, and of one of hindsight. A call clears its room before it begins, so each kind of line
+// has a call of its own.
 const ROOM: usize = 128;
+
 const HINDSIGHT_ROOM: usize = 176;
 
 /// What a line is answered. Legs are named by their numbers in the network.
@@ -32,15 +34,23 @@ pub enum Reply {
     /// No product, booking or leg of this name or number, or a period beyond the last.
     Unknown,
     /// The request is sold, under this number.
-    Sold { number: u64 },
+    Sold {
+        number: u64,
+    },
     /// This leg refuses the request.
     NoLeg(u8),
     /// The legs have the seats, but the fare is below the sum of their bid prices.
     NoFare,
     /// The booking is cancelled, and this much is given back.
-    Cancelled { number: u64, refund: u64 },
+    Cancelled {
+        number: u64,
+        refund: u64,
+    },
     /// A new plan is in force, of this mean value of a history, in whole currency units, in lowest terms.
-    Optimised { num: u64, den: u64 },
+    Optimised {
+        num: u64,
+        den: u64,
+    },
     /// A new plan is in force, for which no program was solved.
     OptimisedNone,
     /// The program is too large, and nothing changes.
@@ -222,7 +232,7 @@ fn put_optimised<K: Sink>(num: u64, den: u64, sink: &mut K) -> Result<(), Failed
 }
 
 // Puts the line of hindsight, with the revenue of the bookings that stand and the sum withheld.
-#[tactic(auto, using(nrm_text::proofs::Fractions::short_fraction, nrm_text::proofs::Decimals::short_decimal))]
+#[tactic(auto, using(nrm_text::proofs::Fractions::short_fraction, nrm_text::proofs::Decimals::short_decimal, crate::proofs::Wholes::short_whole))]
 #[inline(never)]
 fn put_hindsight<K: Sink>(
     num: u64,
