@@ -21,7 +21,7 @@ IsInventory-of net is =
     let legs = length-map net.products (λ (product : Product). product.legs) in
     record {
       leg_count = omega (arith, is.leg_count);
-      seats = All-map (λ seats. seats ≤ 999) (λ (leg : Leg). leg.authorised) net.legs (λ k d short. (is.legs k d short).authorised);
+      authorised = All-map (λ seats. seats ≤ 999) (λ (leg : Leg). leg.authorised) net.legs (λ k d short. (is.legs k d short).authorised);
       product_count = omega (arith, is.product_count);
       fare_count = fares ∙ sym legs;
       fares = All-map (λ fare. fare ≤ 99999999) (λ (product : Product). product.fare) net.products (λ k d short. (is.products k d short).fare.1);
@@ -30,11 +30,11 @@ IsInventory-of net is =
           (λ k d short. subst (λ n. All (λ i. i < n) (get_or net.products k d).legs) (sym seats) (is.products k d short).legs);
     }
 
--- so there are at most 999 seats on each of 64 legs
+-- so there are at most 999 authorised seats on each of 64 legs
 pub seats-within : (net : NetworkValue) → IsNetwork net → (seats : List ℕ) → seats ≡ (inventory_of net).authorised → sum seats ≤ 63936
 seats-within net is seats are =
     let own = IsInventory-of net is in
-    let all = sum_by-le (λ (seats : ℕ). seats) 999 (inventory_of net).authorised own.seats in
+    let all = sum_by-le (λ (seats : ℕ). seats) 999 (inventory_of net).authorised own.authorised in
     omega (arith, own.leg_count, all, ap sum are)
 
 -- an empty book
@@ -53,10 +53,10 @@ IsBook-empty inventory is = record {
 
 -- that of the parts that were copied out of a network
 pub IsBook-of : (net : NetworkValue) (seats fares : List ℕ) (legs : List (List ℕ)) (bookings : List Booking) → IsNetwork net → seats ≡ (inventory_of net).authorised → fares ≡ (inventory_of net).fares → legs ≡ (inventory_of net).legs → bookings ≡ []
-    → IsBook (record { inventory = record { seats = seats; fares = fares; legs = legs }; bookings = bookings; next = 1 })
+    → IsBook (record { inventory = record { authorised = seats; fares = fares; legs = legs }; bookings = bookings; next = 1 })
 IsBook-of net seats fares legs bookings is seats_are fares_are legs_are none =
-    let same : ◌≡◌ {A = BookValue} (record { inventory = inventory_of net; bookings = []; next = 1 }) (record { inventory = record { seats = seats; fares = fares; legs = legs }; bookings = bookings; next = 1 }) =
-    λ k. record { inventory = record { seats = sym seats_are k; fares = sym fares_are k; legs = sym legs_are k }; bookings = sym none k; next = 1 } in
+    let same : ◌≡◌ {A = BookValue} (record { inventory = inventory_of net; bookings = []; next = 1 }) (record { inventory = record { authorised = seats; fares = fares; legs = legs }; bookings = bookings; next = 1 }) =
+    λ k. record { inventory = record { authorised = sym seats_are k; fares = sym fares_are k; legs = sym legs_are k }; bookings = sym none k; next = 1 } in
     subst IsBook same (IsBook-empty (inventory_of net) (IsInventory-of net is))
 
 -- no product of a network has a leg twice
@@ -67,6 +67,6 @@ distinct-of net legs is are =
 
 -- the counts of an empty book
 pub counts-of : (net : NetworkValue) (seats fares : List ℕ) (legs : List (List ℕ)) (bookings : List Booking) (sold : SeatsValue) → seats ≡ (inventory_of net).authorised → fares ≡ (inventory_of net).fares → legs ≡ (inventory_of net).legs → bookings ≡ []
-    → sold ≡ seats_sold (inventory_of net) [] → sold ≡ seats_sold (record { seats = seats; fares = fares; legs = legs }) bookings
+    → sold ≡ seats_sold (inventory_of net) [] → sold ≡ seats_sold (record { authorised = seats; fares = fares; legs = legs }) bookings
 counts-of net seats fares legs bookings sold seats_are fares_are legs_are none is =
-    is ∙ (λ k. seats_sold (record { seats = sym seats_are k; fares = sym fares_are k; legs = sym legs_are k }) (sym none k))
+    is ∙ (λ k. seats_sold (record { authorised = sym seats_are k; fares = sym fares_are k; legs = sym legs_are k }) (sym none k))

@@ -17,7 +17,7 @@ number-read xs ys i x same short read =
     let here : x ≡ get_or ys i x = subst (λ (zs : List ℕ). x ≡ get_or zs i x) same read in
     get_or_read ys i x short here 0
 
--- the seats sold on a leg are no more than it has
+-- the seats sold on a leg are no more than it has authorised
 pub taken-within : (book : BookValue) (leg : ℕ) → IsBook book → leg < length book.inventory.authorised → sum_by (taken_on book.inventory leg) book.bookings ≤ authorised_of book.inventory leg
 taken-within book leg is short = rw (sym (sold_on-by_booking book.inventory leg book.bookings is.products)) (is.seats leg short)
 

@@ -86,7 +86,7 @@ count-within inventory (b ∷ bs) is are parties =
     let apart = sum-plus (λ i. taken_on inventory i b) (λ i. sum_by (taken_on inventory i) bs) (range_with_len 0 (length inventory.authorised)) in
     omega arith
 
--- and no more than seats
+-- and no more than authorised seats
 pub count-le-seats : (book : BookValue) → IsBook book → length book.bookings ≤ sum book.inventory.authorised
 count-le-seats book is =
     let count = count-within book.inventory book.bookings is.inventory is.products is.parties in

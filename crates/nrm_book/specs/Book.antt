@@ -6,7 +6,7 @@ use Rattle.nrm_model.specs.declared.limits.TheConstants.{BOOKING_LIMIT, MOST_FAR
 use Rattle.nrm_book.specs.declared.booking.Booking.{Booking}
 use Rattle.nrm_book.specs.Bookings.{NumbersRise, sold_on}
 
--- the seats, fares and leg lists of a network, the bookings that stand, and the number of the next one
+-- the authorised seats, fares and leg lists of a network, the bookings that stand, and the number of the next one
 pub record BookValue : Type 0 where
   pub inventory : Inventory
   pub bookings : List Booking
@@ -15,7 +15,7 @@ pub record BookValue : Type 0 where
 -- an inventory within the limits of a network
 pub record IsInventory (inventory : Inventory) : Type 0 where
   pub leg_count : length inventory.authorised ≤ MOST_LEGS
-  pub seats : All (λ seats. seats ≤ MOST_SEATS) inventory.authorised
+  pub authorised : All (λ seats. seats ≤ MOST_SEATS) inventory.authorised
   pub product_count : length inventory.legs ≤ MOST_PRODUCTS
   pub fare_count : length inventory.fares ≡ length inventory.legs
   pub fares : All (λ fare. fare ≤ MOST_FARE) inventory.fares
@@ -23,7 +23,7 @@ pub record IsInventory (inventory : Inventory) : Type 0 where
   pub legs : All (λ (legs : List ℕ). All (λ i. i < length inventory.authorised) legs) inventory.legs
 
 -- the bookings are those of a book: their numbers rise below the next one, each is a party of a product, and no leg has more seats sold
--- than it has
+-- than it has authorised
 pub record IsBook (book : BookValue) : Type 0 where
   pub inventory : IsInventory book.inventory
   pub next : IsInRange 1 BOOKING_LIMIT book.next

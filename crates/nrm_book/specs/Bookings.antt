@@ -11,7 +11,7 @@ sold_of bookings j = sum_by (λ booking. if booking.product == j then booking.pa
 abbrev pub sold_on : Inventory → List Booking → ℕ → ℕ
 sold_on inventory bookings i = sum_by (sold_of bookings) (products_on inventory i)
 
--- the seats left on a leg
+-- the seats left on a leg: its authorised seats that are not sold
 abbrev pub left_on : Inventory → List Booking → ℕ → ℕ
 left_on inventory bookings i = authorised_of inventory i - sold_on inventory bookings i
 

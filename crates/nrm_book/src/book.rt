@@ -1,7 +1,7 @@
-//! The book: a plain list of bookings by rising number, with the seats, the fares and the leg lists of its network, and
-//! beside it counters that are always what the list sums to: the seats sold and the revenue. Its room is reserved when it
-//! is made, for twice as many bookings as there are seats in all (a live booking holds one or more): no later call takes
-//! memory. A cancellation moves the bookings on its nearer side by one place.
+//! The book: a plain list of bookings by rising number, with the authorised seats, the fares and the leg lists of its
+//! network, and beside it counters that are always what the list sums to: the seats sold and the revenue. Its room is
+//! reserved when it is made, for twice as many bookings as there are authorised seats in all (a live booking holds one or
+//! more): no later call takes memory. A cancellation moves the bookings on its nearer side by one place.
 ghost use Rattle.std.specs.Prelude.{◌≡◌, ◌+◌, ◌*◌, ◌<◌, ◌≤◌, ◌==◌, [], All, IfNone, IfOk, IfSome, length, map, position, sum, true};
 ghost use Rattle.std.specs.Prelude.{slice_get, slice_index, unwrap_or};
 ghost use Rattle.std.specs.Int.{IsInRange};
@@ -20,7 +20,7 @@ use std::marker::Model;
 /// The bookings that stand on a network.
 #[derive(Drop)]
 pub struct Book {
-    seats: Vec<u16>,
+    authorised: Vec<u16>,
     fares: Vec<u32>,
     legs: Vec<Vec<u8>>,
     bookings: Standing,
@@ -37,14 +37,14 @@ impl Model for Book {
     ghost Value = { BookValue };
 
     ghost view = { λ b. record {
-      inventory = record { seats = b.seats.items; fares = b.fares.items; legs = map (λ v. v.items) b.legs.items };
+      inventory = record { authorised = b.authorised.items; fares = b.fares.items; legs = map (λ v. v.items) b.legs.items };
       bookings = b.bookings.items;
       next = b.next;
     } };
 
     ghost invariant = { λ b. IsStored
         (record {
-          inventory = record { seats = b.seats.items; fares = b.fares.items; legs = map (λ v. v.items) b.legs.items };
+          inventory = record { authorised = b.authorised.items; fares = b.fares.items; legs = map (λ v. v.items) b.legs.items };
           bookings = b.bookings.items;
           next = b.next;
         }) b.bookings b.sold b.revenue };
@@ -53,7 +53,8 @@ impl Model for Book {
 impl Book {
     ghost use Rattle.nrm_book.specs.Book.{IsBook, with_booking};
 
-    /// An empty book of a network, with the next number 1 and room for twice as many bookings as there are seats in all.
+    /// An empty book of a network, with the next number 1 and room for twice as many bookings as there are authorised seats
+    /// in all.
     ///
     /// # Errors
     /// Want of memory.
@@ -61,13 +62,13 @@ impl Book {
         ensures empty { IfOk result (λ book. book ≡ record { inventory = inventory_of net.now; bookings = []; next = 1 }) }
         ensures kept { IfOk result IsBook }
     {
-        let seats = net.authorised_of_legs(alloc)?;
+        let authorised = net.authorised_of_legs(alloc)?;
         let fares = net.fares_of_products(alloc)?;
         let legs = net.legs_of_products(alloc)?;
         let sold = SeatsSold::new(alloc, net)?;
-        let bookings = Standing::with_room(alloc, seats_in_all(&seats))?;
+        let bookings = Standing::with_room(alloc, seats_in_all(&authorised))?;
         Ok(Book {
-            seats,
+            authorised,
             fares,
             legs,
             bookings,
@@ -77,13 +78,13 @@ impl Book {
         })
     }
 
-    /// The seats left on a leg: with those sold they make up its seats.
+    /// The seats left on a leg: with those sold they make up its authorised seats.
     pub fn left(&self, leg: u8) -> u16
         requires { leg < length self.now.inventory.authorised }
         ensures left { result ≡ left_on self.now.inventory self.now.bookings leg }
         ensures sold { sold_on self.now.inventory self.now.bookings leg + result ≡ authorised_of self.now.inventory leg }
     {
-        self.seats[leg as usize] - self.sold.on(leg)
+        self.authorised[leg as usize] - self.sold.on(leg)
     }
 
     /// The seats sold of a product on one of its legs.
@@ -135,8 +136,8 @@ impl Book {
         self.next
     }
 
-    /// Books a party, and gives its number. It takes no memory; at most once in as many calls as there are seats in all
-    /// does it move the bookings that stand, to the front of their room.
+    /// Books a party, and gives its number. It takes no memory; at most once in as many calls as there are authorised seats
+    /// in all does it move the bookings that stand, to the front of their room.
     pub fn add(&mut self, product: u16, party: u16) -> u64
         requires product { product < length self.old.inventory.legs }
         requires party { IsInRange 1 MOST_PARTY party }
@@ -207,7 +208,7 @@ fn worth(fares: &[u32], booking: &Booking) -> u64
     u64::from(booking.party) * u64::from(fares[booking.product as usize])
 }
 
-// The seats of all legs together.
+// The authorised seats of all legs together.
 fn seats_in_all(seats: &[u16]) -> usize
     requires { length seats.now ≤ MOST_LEGS }
     ensures { result ≡ sum seats.now }

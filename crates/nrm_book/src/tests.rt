@@ -1,12 +1,12 @@
-//! The book of a network of two legs, AB with 3 seats and BC with 2, and of one with five products, and five bookings alone,
-//! worked by hand.
+//! The book of a network of two legs, AB with 3 seats and BC with 2, of one with 4 and 1 of those authorised, and of one with
+//! five products, and five bookings alone, worked by hand.
 ghost use Rattle.std.specs.Prelude.{◌≡◌, [], IfOk, length};
 ghost use Rattle.nrm_model.specs.Inventory.{inventory_of};
-ghost use Rattle.nrm_samples.specs.Networks.{two_legs, two_legs_five_products};
+ghost use Rattle.nrm_samples.specs.Networks.{two_legs, two_legs_authorised, two_legs_five_products};
 
 use crate::standing::Standing;
 use crate::{Book, Booking};
-use nrm_samples::{two_legs, two_legs_five_products};
+use nrm_samples::{two_legs, two_legs_authorised, two_legs_five_products};
 use std::alloc::{AllocError, Global};
 use std::process::Abort;
 use std::test::Fail;
@@ -36,6 +36,25 @@ fn sells_by_hand(rt: HostRuntime) -> Result<(), Fail> {
         })
     );
     assert_eq!(rt; book.find(2), None);
+    Ok(())
+}
+
+// The empty book of the network whose authorised seats are not its physical ones.
+fn empty_book_of_authorised(alloc: Global) -> Result<Book, AllocError>
+    ensures { IfOk result (λ book. book ≡ record { inventory = inventory_of two_legs_authorised; bookings = []; next = 1 }) }
+{
+    let net = two_legs_authorised(alloc)?;
+    Book::new(alloc, &net)
+}
+
+// The local product takes 4 seats of AB, which has 3, and leaves BC's 1, which has 2.
+#[test]
+fn sells_the_authorised_seats(rt: HostRuntime) -> Result<(), Fail> {
+    let mut book = empty_book_of_authorised(rt.alloc())?;
+    assert_eq!(rt; (book.left(0), book.left(1)), (4, 1));
+    assert_eq!(rt; book.add(1, 4), 1);
+    assert_eq!(rt; (book.left(0), book.left(1)), (0, 1));
+    assert_eq!(rt; book.revenue(), 796);
     Ok(())
 }
 
@@ -128,7 +147,7 @@ fn sell_local(rt: &impl Abort, book: &mut Book)
     book.add(1, 1);
 }
 
-// Five seats in all, so room for ten bookings, through which these go twice.
+// Five authorised seats in all, so room for ten bookings, through which these go twice.
 #[test]
 fn books_again_behind_the_oldest_that_was_cancelled(rt: HostRuntime) -> Result<(), Fail> {
     let mut book = empty_book(rt.alloc())?;

@@ -9,7 +9,7 @@ use Rattle.nrm_lp.specs.Program.{IsAllocation, ProgramValue, gain}
 use Rattle.nrm_simplex.specs.Solving.{IsClosing}
 use Rattle.nrm_dlp.specs.Programs.{hindsight_program}
 
--- a tally for each product, none above the least seats among the product's legs
+-- a tally for each product, none above the least authorised seats among the product's legs
 pub record AreTallies (net : NetworkValue) (tallies : List ℕ) : Type 0 where
   pub products : length tallies ≡ length net.products
   pub seats : (j : ℕ) → j < length net.products → slice_index tallies j ≤ least_authorised_of net j

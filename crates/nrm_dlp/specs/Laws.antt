@@ -14,7 +14,7 @@ ProgramsAreLimited = (net : NetworkValue) (caps bounds : List ℕ) → IsNetwork
     → length caps ≡ length net.legs → All (λ cap. cap ≤ MOST_SEATS_IN_ALL) caps
     → length bounds ≡ length net.products → All (λ bound. bound ≤ MOST_SEATS_IN_ALL) bounds → IsLimited (program_of net caps bounds)
 
--- at seats left, on no leg more than it has, in any period
+-- at seats left, on no leg more than its authorised seats, in any period
 abbrev pub SeatsLeftAreLimited : Type 0
 SeatsLeftAreLimited = (net : NetworkValue) (left : List ℕ) (k : ℕ) → IsNetwork net → length left ≡ length net.legs
     → ((i : ℕ) → i < length net.legs → slice_index left i ≤ (leg_of net i).authorised) → IsLimited (program_at net left k)

@@ -17,11 +17,11 @@ abbrev pub program_at : NetworkValue → List ℕ → ℕ → ProgramValue
 program_at net left k =
     program_of net (map (λ seats. net.histories * seats) left) (map (λ j. total_to_come net j k) (range_with_len 0 (length net.products)))
 
--- the program of hindsight: the past requests once and not the histories' demand, so a leg has its seats once, and a product is bounded
--- by its tally
+-- the program of hindsight: the past requests once and not the histories' demand, so a leg has its authorised seats once, and a product
+-- is bounded by its tally
 abbrev pub hindsight_program : NetworkValue → List ℕ → ProgramValue
 hindsight_program net tallies = program_of net (inventory_of net).authorised tallies
 
--- the program before anything is sold: that of period 1 with every seat left
+-- the program before anything is sold: that of period 1 with every authorised seat left
 abbrev pub opening_program : NetworkValue → ProgramValue
 opening_program net = program_at net (inventory_of net).authorised 1

@@ -11,7 +11,7 @@ ghost use Rattle.nrm_dlp.specs.Laws.{
 };
 
 /// The programs of a network are within the limits of programs: with caps and bounds within those, at seats left
-/// of which no leg has more than its own, before anything is sold, and with tallies as bounds.
+/// of which no leg has more than its authorised seats, before anything is sold, and with tallies as bounds.
 pub fn programs_are_limited()
     ensures made { ProgramsAreLimited }
     ensures left { SeatsLeftAreLimited }

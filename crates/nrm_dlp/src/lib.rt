@@ -1,6 +1,6 @@
 //! The deterministic linear programs of a network: the seats left and the demand to come, summed over the demand
-//! histories, as the data of a program, and the seats and the past requests as those of hindsight; and what solving one
-//! gives.
+//! histories, as the data of a program, and the authorised seats and the past requests as those of hindsight; and what
+//! solving one gives.
 //!
 //! A caller meets its calls in this order, and src/tests.rt runs each:
 //! - `opening_program`, `program_at`: the program before anything is sold, and at some seats left from a period on;

@@ -21,7 +21,7 @@ use std::alloc::Global;
 
 /// Optimises a network at these seats left, from period `period` on: the certificate of the closing of its program, with
 /// an optimal allocation and optimal bid prices, the optimal duals (chapter 3 of Talluri and van Ryzin). `left` has the
-/// seats left leg by leg, on each leg at most its seats; periods count from 1.
+/// seats left leg by leg, on each leg at most its authorised seats; periods count from 1.
 ///
 /// # Errors
 /// `Overflow` exactly where a number on the program's path or of its closing reaches the limit in size; `NoMemory`.
@@ -68,7 +68,7 @@ pub fn mean_value(net: &Network, certificate: &Certificate) -> (u64, u64)
 
 /// The value of hindsight: the most that any choice of past requests could have earned, were parts of seats for sale, in
 /// whole currency units, as a numerator and a denominator in lowest terms. `tallies` has the tallies product by product, in
-/// seats, none above the least seats among the product's legs.
+/// seats, none above the least authorised seats among the product's legs.
 ///
 /// # Errors
 /// `Overflow` exactly where a number on the path of its program or of its closing reaches the limit in size; `NoMemory`.

@@ -39,7 +39,7 @@ pub fn program_of(
 /// The deterministic linear program of a network at these seats left, from period `period` on (chapter 3 of Talluri
 /// and van Ryzin), summed over the demand histories so that all data are whole: a leg's cap is its seats left times
 /// the histories, and a product's bound is its demand to come in all of them. `left` has the seats left leg by leg,
-/// on each leg at most its seats; periods count from 1.
+/// on each leg at most its authorised seats; periods count from 1.
 ///
 /// # Errors
 /// Want of memory.
@@ -59,7 +59,7 @@ pub fn program_at(
     program_of(alloc, net, caps, bounds)
 }
 
-/// The program before anything is sold: that of period 1 with every seat left.
+/// The program before anything is sold: that of period 1 with every authorised seat left.
 ///
 /// # Errors
 /// Want of memory.
@@ -70,9 +70,9 @@ pub fn opening_program(alloc: Global, net: &Network) -> Result<Program, AllocErr
     program_at(alloc, net, &left, 1)
 }
 
-/// The program of hindsight: a leg's cap is its seats, and a product's bound its tally of past requests, once and not for
-/// each history. `tallies` has the tallies product by product, in seats, none above the least seats among the product's
-/// legs.
+/// The program of hindsight: a leg's cap is its authorised seats, and a product's bound its tally of past requests, once
+/// and not for each history. `tallies` has the tallies product by product, in seats, none above the least authorised seats
+/// among the product's legs.
 ///
 /// # Errors
 /// Want of memory.
@@ -89,7 +89,7 @@ pub fn hindsight_program(
     program_of(alloc, net, caps, bounds)
 }
 
-// The seats of each leg, once and not for each history.
+// The authorised seats of each leg, once and not for each history.
 fn caps_once(alloc: Global, net: &Network) -> Result<Vec<u32>, AllocError>
     ensures caps { IfOk result (λ caps. caps.items ≡ (inventory_of net.now).authorised) }
     ensures limits { IsNetwork net.now }

@@ -1,5 +1,5 @@
 //! The programs of a network of two legs, AB with 3 seats and BC with 2, of two products and two histories of two
-//! periods, worked by hand.
+//! periods, and of one with 4 and 1 of those seats authorised, worked by hand.
 ghost use Rattle.std.specs.Prelude.{IfOk};
 ghost use Rattle.nrm_fraction.specs.Large.{size_limit};
 ghost use Rattle.nrm_lp.specs.Shape.{HasShape};
@@ -8,7 +8,7 @@ use crate::{
     hindsight, hindsight_program, mean_value, opening_program, prices, program_at, program_of,
 };
 use nrm_lp::{Certificate, Numbers, Program};
-use nrm_samples::{two_legs, two_legs_last_first};
+use nrm_samples::{two_legs, two_legs_authorised, two_legs_last_first};
 use nrm_simplex::SolveFault;
 use std::alloc::{AllocError, Global};
 use std::process::Abort;
@@ -84,6 +84,28 @@ fn optimises_by_hand(rt: HostRuntime) -> Result<(), Fail> {
         assert_eq!(rt; certificate.p.as_slice(), [200, 300].as_slice());
         assert_eq!(rt; certificate.value, 2400);
         assert_eq!(rt; mean, (1200, 1));
+    }
+    Ok(())
+}
+
+// The opening program where the authorised seats are not the physical ones, and the value that it is solved at.
+fn optimised_at_authorised(alloc: Global) -> Result<(Program, u64), SolveFault> {
+    let net = two_legs_authorised(alloc)?;
+    let program = opening_program(alloc, &net)?;
+    let certificate = prices(alloc, &net, &[4, 1], 1)?;
+    let (value, _) = mean_value(&net, &certificate);
+    Ok((program, value))
+}
+
+// BC has the one seat for a through request, at 500, and so AB three for local ones, at 199.
+#[test]
+fn caps_are_the_authorised_seats(rt: HostRuntime) -> Result<(), Fail> {
+    let optimised = optimised_at_authorised(rt.alloc());
+    assert!(rt; optimised.is_ok());
+    if let Ok((program, value)) = optimised {
+        assert_eq!(rt; program.caps(), [4, 1].as_slice());
+        assert_eq!(rt; program.bounds(), [2, 3].as_slice());
+        assert_eq!(rt; value, 1097);
     }
     Ok(())
 }

@@ -169,7 +169,7 @@ module _ (net : NetworkValue) (cert : Certificate) (i k : ℕ) (some : 0 < nat_a
       none : test 0 ≡ true
       none = crosses-none a next w (length demands) v above-nat next-nat
 
-      -- the demand at the place of the greatest count that passes is enough, or the seats where they are fewer
+      -- the demand at the place of the greatest count that passes is enough, or the authorised seats where they are fewer
       place-is : min (leg_of net i).authorised (get_or falling (greatest_count test (length demands)) 0) ≡ seats_enough net cert i k b
       place-is =
           sym (enough-least net cert i k b (get_or falling (greatest_count test (length demands)) 0) some-weight

@@ -102,8 +102,18 @@ all_demand : protections_of last_empty (prices_at 0 0) 0 1 ≡ 8 ∷ []
 unfolding ◌over◌ ◌*ᶠ◌ less whole gcd in_lowest_terms
 all_demand = refl
 
+-- ---- the same demand of four and eight, on a leg with other seats than authorised seats: fewer are authorised than there are, more
+-- are, more than the demand are, and none is. The authorised seats are the most that is protected, and the physical ones never tell
+abbrev pub with_seats : ℕ → ℕ → NetworkValue
+with_seats seats authorised = record last_empty { legs = record { name = codes "AB"; seats = seats; authorised = authorised; cuts = 100 ∷ [] } ∷ [] }
+
+capped_by_authorised : (protections_of (with_seats 10 6) (prices_at 0 0) 0 1 ≡ 6 ∷ []) × (protections_of (with_seats 5 7) (prices_at 0 0) 0 1 ≡ 7 ∷ [])
+    × (protections_of (with_seats 5 9) (prices_at 0 0) 0 1 ≡ 8 ∷ []) × (protections_of (with_seats 10 0) (prices_at 0 0) 0 1 ≡ 0 ∷ [])
+unfolding ◌over◌ ◌*ᶠ◌ less whole gcd in_lowest_terms
+capped_by_authorised = (refl, refl, refl, refl)
+
 -- ---- a leg on which the second bucket alone would need fewer seats than the first, and one whose thresholds stand in
--- for empty buckets, up to the seats
+-- for empty buckets, up to the authorised seats
 abbrev pub edges : NetworkValue
 edges = record {
   histories = 2;

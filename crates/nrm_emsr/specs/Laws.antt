@@ -5,8 +5,8 @@ use Rattle.nrm_lp.specs.declared.certificate.Certificate.{Certificate}
 use Rattle.nrm_emsr.specs.Fares.{weight_of}
 use Rattle.nrm_emsr.specs.Protections.{seats_enough, suffices}
 
--- where c seats suffice for buckets 1 to b and no lower number does, the number that is enough is c, or the leg's seats
--- where they are fewer
+-- where c seats suffice for buckets 1 to b and no lower number does, the number that is enough is c, or the leg's authorised seats where
+-- they are fewer
 abbrev pub EnoughIsLeast : Type 0
 EnoughIsLeast = (net : NetworkValue) (cert : Certificate) (i k b c : ℕ) → 0 < weight_of net cert i k 1 b
     → suffices net cert i k b c ≡ true → ((y : ℕ) → y < c → suffices net cert i k b y ≡ false)

@@ -31,8 +31,8 @@ abbrev pub least_from : (ℕ → Bool) → ℕ → ℕ → ℕ
 least_from test zero y = y
 least_from test (suc n) y = if test y then y else least_from test n (y + 1)
 
--- the least number of seats that suffices for buckets 1 to b, and the leg's seats where no lower number does; 0 where
--- those buckets have no demand
+-- the least number of seats that suffices for buckets 1 to b, and the leg's authorised seats where no lower number does; 0 where those
+-- buckets have no demand
 abbrev pub seats_enough : NetworkValue → Certificate → ℕ → ℕ → ℕ → ℕ
 seats_enough net cert i k b = if weight_of net cert i k 1 b == 0 then 0 else least_from (suffices net cert i k b) (leg_of net i).authorised 0
 

@@ -58,8 +58,9 @@ fn greater(seats: u16, other: u16) -> u16
     seats.max(other)
 }
 
-// The least number of seats that suffices for buckets 1 to `last`, and the leg's seats where no lower number does: of
-// the histories' demands of those buckets, in falling order, the one at the place of the greatest count that passes.
+// The least number of seats that suffices for buckets 1 to `last`, and the leg's authorised seats where no lower number
+// does: of the histories' demands of those buckets, in falling order, the one at the place of the greatest count that
+// passes.
 fn enough_for(
     alloc: Global,
     net: &Network,
@@ -94,14 +95,14 @@ fn enough_for(
     Ok(capped(demand_at(&demands, most), cap_of(net, leg)))
 }
 
-// A demand, or the seats where they are fewer.
+// A demand, or the authorised seats where they are fewer.
 fn capped(demand: u32, seats: u16) -> u16
     ensures { result ≡ min seats demand }
 {
     demand.min(u32::from(seats)) as u16
 }
 
-// The seats of a leg, which no protection exceeds.
+// The authorised seats of a leg, which no protection exceeds.
 fn cap_of(net: &Network, leg: u8) -> u16
     requires { leg < length net.now.legs }
     ensures { result ≡ (leg_of net.now leg).authorised }

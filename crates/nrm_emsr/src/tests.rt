@@ -122,9 +122,9 @@ fn a_hub_at_opening_and_later(rt: HostRuntime) -> Result<(), Fail> {
     Ok(())
 }
 
-// On AB a fare equal to a threshold, two empty buckets in the middle, where no number below the 4 seats passes from the
-// second on, and a negative fare in the last. BC has no thresholds and CD no products. On GH fewer seats would do for
-// the second bucket than for the first, and a mean without weights would ask for all demand. On IJ two sides are equal,
+// On AB a fare equal to a threshold, two empty buckets in the middle, where no number below the 4 authorised seats passes
+// from the second on, and a negative fare in the last. BC has no thresholds and CD no products. On GH fewer seats would do
+// for the second bucket than for the first, and a mean without weights would ask for all demand. On IJ two sides are equal,
 // and the last bucket is empty.
 #[test]
 fn at_the_edges(rt: HostRuntime) -> Result<(), Fail> {

@@ -1,5 +1,5 @@
-//! The parts of a made network: as many seats are authorised as there are, and all is given back of each fare. The seats of the legs are drawn first, then the fares of the products, then the demand, so
-//! a contract says how many draws came before.
+//! The parts of a made network: as many seats are authorised as there are, and all is given back of each fare. The seats of
+//! the legs are drawn first, then the fares of the products, then the demand, so a contract says how many draws came before.
 ghost use Rattle.std.specs.Prelude.{◌≡◌, ◌+◌, ◌<◌, ℕ, IfOk, OnOk, map};
 ghost use Rattle.std.specs.List.{range_with_len};
 ghost use Rattle.nrm_gen.specs.Draws.{state_after};

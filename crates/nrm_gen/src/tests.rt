@@ -18,7 +18,10 @@ fn network_of_1(rt: HostRuntime) -> Result<(), Fail> {
     assert_eq!(rt; (net.leg_count(), net.product_count()), (12, 60));
     assert_eq!(rt; (net.leg_at(0).seats, net.leg_at(0).authorised), (78, 78));
     assert_eq!(rt; net.product_at(0).name.bytes(), b"I1-H".as_slice());
-    assert_eq!(rt; (net.product_at(0).fare, net.product_at(0).refund), (384, 100));
+    assert_eq!(rt;
+        (net.product_at(0).fare, net.product_at(0).refund),
+        (384, 100)
+    );
     Ok(())
 }
 

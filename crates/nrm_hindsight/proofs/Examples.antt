@@ -1,4 +1,4 @@
--- Requests, tallies and selections on two small networks, which a reader can check by hand.
+-- Requests, tallies and selections on small networks, which a reader can check by hand.
 use Rattle.std.proofs.Common.{ap, arith, lit<, zero, suc}
 use Rattle.std.specs.Prelude.{ℕ, ◌≡◌, ◌<◌, ◌≤◌, ◌≤ℤ◌, ◌*◌, pos, List, [], ◌∷◌, codes, refl}
 use Rattle.nrm_fraction.specs.Fraction.{Fraction}
@@ -32,7 +32,7 @@ low_then_high = low ∷ low ∷ high 2 ∷ high 3 ∷ []
 asked : asked_for low_then_high 1 ≡ 5
 asked = refl
 
--- the dear product's tally ends at the two seats of its leg
+-- the dear product's tally ends at the two authorised seats of its leg
 tallied : tallies_of two_fares low_then_high ≡ 2 ∷ 2 ∷ []
 tallied = refl
 
@@ -77,6 +77,41 @@ below_the_best value num den bounds = absurd (by (rw (num, den) at (bounds (high
   where
     by : pos (600 * 1) ≤ℤ pos 599 → ⊥
     by below = omega (arith, below)
+
+-- ---- three seats on the first leg, of which four are authorised, and two on the second, of which one is
+abbrev authorised_otherwise : NetworkValue
+authorised_otherwise = record {
+  histories = 1;
+  periods = 1;
+  legs = record { name = codes "X"; seats = 3; authorised = 4; cuts = [] } ∷ record { name = codes "Y"; seats = 2; authorised = 1; cuts = [] } ∷ [];
+  products = record { name = codes "OWN"; fare = 100; refund = 100; legs = 0 ∷ [] } ∷ record { name = codes "BOTH"; fare = 300; refund = 100; legs = 0 ∷ 1 ∷ [] } ∷ [];
+  demand = 0 ∷ 0 ∷ [];
+}
+
+abbrev own : ℕ → Request
+own party = record { product = 0; party = party }
+
+abbrev both : ℕ → Request
+both party = record { product = 1; party = party }
+
+-- a tally ends at the least authorised seats, above the physical ones and below them
+tallied_to_the_authorised : tallies_of authorised_otherwise (own 9 ∷ both 9 ∷ []) ≡ 4 ∷ 1 ∷ []
+tallied_to_the_authorised = refl
+
+-- four seats fit the first leg, and one fits the second
+four_on_three : IsSelection authorised_otherwise (own 4 ∷ []) (own 4 ∷ [])
+four_on_three = record { choice = taken none; fits = λ i below. each i below }
+  where
+    each : (i : ℕ) → i < 2 → seats_asked_on authorised_otherwise (own 4 ∷ []) i ≤ authorised_of (inventory_of authorised_otherwise) i
+    each zero below = omega arith
+    each (suc zero) below = omega arith
+    each (suc (suc i)) below = absurd (omega (arith, below))
+
+five_on_three : IsSelection authorised_otherwise (own 5 ∷ []) (own 5 ∷ []) → ⊥
+five_on_three is = let on = is.fits 0 (lit< tt) in omega (arith, on)
+
+two_on_two : IsSelection authorised_otherwise (both 2 ∷ []) (both 2 ∷ []) → ⊥
+two_on_two is = let on = is.fits 1 (lit< tt) in omega (arith, on)
 
 -- three legs of one seat and three products on two legs each: prices of 101, 99 and 101 over 2 cost 301 over 2
 abbrev three_pairs : NetworkValue

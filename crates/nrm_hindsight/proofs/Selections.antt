@@ -28,7 +28,7 @@ use Rattle.nrm_model.proofs.Inventories.{fare-is, fare-past, fares-count, legs-a
 use Rattle.nrm_hindsight.proofs.Sums.{dot-is, load-is, one-term, passing-le}
 use Rattle.nrm_hindsight.proofs.Tallies.{tallies-capped}
 
--- ---- no product is taken beyond the least seats among its legs
+-- ---- no product is taken beyond the least authorised seats among its legs
 -- what is at most each of some numbers is at most the least of them
 le-least : (m : ℕ) (xs : List ℕ) → 0 < length xs → All (λ x. m ≤ x) xs → m ≤ least_of xs
 le-least m [] some each = absurd (omega arith)
@@ -146,7 +146,7 @@ bookings-selected net requests bookings choice fits = (
   earned-revenue net bookings,
 )
 
--- so of no product more is booked than the least seats among its legs
+-- so of no product more is booked than the least authorised seats among its legs
 pub sold-within-least : (net : NetworkValue) (bookings : List Booking) (j : ℕ) → IsNetwork net → ((i : ℕ) → i < length net.legs → sold_on (inventory_of net) bookings i ≤ authorised_of (inventory_of net) i)
     → j < length net.products → sold_of bookings j ≤ least_authorised_of net j
 sold-within-least net bookings j ok fits few =

@@ -23,7 +23,7 @@ abbrev pub SelectionsAreBounded : Type 0
 SelectionsAreBounded = (net : NetworkValue) (requests : List Request) (value : Fraction) → IsNetwork net
     → IsHindsight net (tallies_of net requests) value → BoundsSelections net requests value
 
--- bookings that are among the requests and oversell no leg are a selection, which earns their revenue
+-- bookings that are among the requests and take no more than the authorised seats of a leg are a selection, which earns their revenue
 abbrev pub BookingsAreSelected : Type 0
 BookingsAreSelected = (net : NetworkValue) (requests : List Request) (bookings : List Booking) → ChosenFrom requests (requests_of bookings)
     → ((i : ℕ) → i < length net.legs → sold_on (inventory_of net) bookings i ≤ authorised_of (inventory_of net) i)
@@ -33,14 +33,14 @@ BookingsAreSelected = (net : NetworkValue) (requests : List Request) (bookings :
 abbrev pub TalliesAreCapped : Type 0
 TalliesAreCapped = (net : NetworkValue) (requests : List Request) → AreTallies net (tallies_of net requests)
 
--- a request adds its party to the tally of its product, up to the least seats among the product's legs
+-- a request adds its party to the tally of its product, up to the least authorised seats among the product's legs
 abbrev pub TalliesGrow : Type 0
 TalliesGrow = (net : NetworkValue) (requests : List Request) (request : Request) (j : ℕ)
     → tally_of net (requests ++ request ∷ []) j ≡ min (tally_of net requests j + (if request.product == j then request.party else 0))
     (least_authorised_of net j)
 
--- tallies that are at least what is booked of each product, and at most the least seats, are those of some requests, of which the
--- bookings are a choice
+-- tallies that are at least what is booked of each product, and at most the least authorised seats, are those of some requests, of
+-- which the bookings are a choice
 abbrev pub SomeRequestsStand : Type 0
 SomeRequestsStand = (net : NetworkValue) (bookings : List Booking) (tallies : List ℕ) → AreTallies net tallies
     → ((j : ℕ) → j < length net.products → sold_of bookings j ≤ slice_index tallies j)

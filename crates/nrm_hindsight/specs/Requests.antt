@@ -13,7 +13,7 @@ pub record Request : Type 0 where
 abbrev pub asked_for : List Request → ℕ → ℕ
 asked_for requests j = sum_by (λ request. if request.product == j then request.party else 0) requests
 
--- the tally of a product: the seats asked for, but no more than the least seats among its legs
+-- the tally of a product: the seats asked for, but no more than the least authorised seats among its legs
 abbrev pub tally_of : NetworkValue → List Request → ℕ → ℕ
 tally_of net requests j = min (asked_for requests j) (least_authorised_of net j)
 

@@ -17,7 +17,7 @@ pub data ChosenFrom : List Request → List Request → Type 0 where
 abbrev pub seats_asked_on : NetworkValue → List Request → ℕ → ℕ
 seats_asked_on net requests i = sum_by (asked_for requests) (products_on (inventory_of net) i)
 
--- a selection: a choice of the requests that fits the seats of each leg
+-- a selection: a choice of the requests that fits the authorised seats of each leg
 pub record IsSelection (net : NetworkValue) (requests chosen : List Request) : Type 0 where
   pub choice : ChosenFrom requests chosen
   pub fits : (i : ℕ) → i < length net.legs → seats_asked_on net chosen i ≤ authorised_of (inventory_of net) i

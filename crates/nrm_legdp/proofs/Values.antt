@@ -1,4 +1,4 @@
--- The value of a leg's seats: its differences fall, no policy earns more, and protections earn it.
+-- The value of a leg's authorised seats: its differences fall, no policy earns more, and protections earn it.
 use Rattle.std.proofs.Common.{◌≡◌, ℕ, zero, suc, ◌+◌, ◌*◌, ◌-◌, ◌^◌, ◌≤◌, Bool, true, false, arith, inl, inr, refl, sym, ap, ap₂, ◌∙◌, List, [], ◌∷◌, length, get_or, drop, slice_index, min, nat_lt, All}
 use native.Mathlib.Nat.{mul-le-mul_left, mul-le-mul_right, pow-suc}
 use Rattle.std.specs.List.{sum_by}

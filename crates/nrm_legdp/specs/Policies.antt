@@ -1,6 +1,6 @@
--- One leg, and classes that ask for its seats from the lowest fare to the highest: policies, the greatest value, and protections. Each
--- class's demand is one of its histories, with equal chance, whatever the others' is. Sums over all of them stand for means: of j
--- classes, over the number of histories to the power j.
+-- One leg, and classes that ask for its authorised seats from the lowest fare to the highest: policies, the greatest value, and
+-- protections. Each class's demand is one of its histories, with equal chance, whatever the others' is. Sums over all of them stand for
+-- means: of j classes, over the number of histories to the power j.
 use Rattle.std.specs.Prelude.{ℕ, zero, suc, ◌+◌, ◌-◌, ◌*◌, ◌^◌, ◌≤◌, Bool, true, false, List, sum_by, take, drop, slice_index, nat_lt}
 use Rattle.std.specs.Prelude.{min, max}
 

@@ -74,7 +74,7 @@ fn row_above(
     Ok(next)
 }
 
-/// The values of a leg's seats, and the protections of its classes. Contracts see lists.
+/// The values of a leg's authorised seats, and the protections of its classes. Contracts see lists.
 #[derive(Drop)]
 pub struct LegTable {
     rows: Vec<Vec<u128>>,
@@ -91,8 +91,8 @@ impl Model for LegTable {
     ghost view = { λ t. record { rows = map (λ (row : Vec ℕ Global). row.items) t.rows.items; protections = t.protections.items } };
 }
 
-/// The table of these classes, up to so many seats. `fares` are those of the classes, the highest first; `demands` has for each class
-/// the seats that were asked for in each of `n` histories. (Chapter 2 of the book, the static model of a single leg.)
+/// The table of these classes, up to so many authorised seats. `fares` are those of the classes, the highest first; `demands` has for
+/// each class the seats that were asked for in each of `n` histories. (Chapter 2 of the book, the static model of a single leg.)
 ///
 /// # Errors
 /// Want of memory.

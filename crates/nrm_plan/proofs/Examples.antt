@@ -64,7 +64,7 @@ mean : value_of two_legs_five_products (planned mode.Bid at_150_and_80) ≡ Some
 unfolding ◌over◌ gcd in_lowest_terms
 mean = refl
 
--- an opening plan is that of period 1 with every seat left
+-- an opening plan is that of period 1 with every authorised seat left
 not_later : IsOpeningPlan two_legs_five_products mode.Bid (record (planned mode.Bid at_150_and_80) { period = 2 }) → ⊥
 not_later is = cc is.period_is
 

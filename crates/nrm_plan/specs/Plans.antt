@@ -30,7 +30,7 @@ pub record PlanValue : Type 0 where
   pub certificate : Option Certificate
   pub nests : Option NestsValue
 
--- seats left of a network: on each leg no more than it has
+-- seats left of a network: on each leg no more than its authorised seats
 pub record AreSeatsLeft (net : NetworkValue) (left : List ℕ) : Type 0 where
   pub legs : length left ≡ length net.legs
   pub seats : (i : ℕ) → i < length net.legs → slice_index left i ≤ (leg_of net i).authorised
@@ -72,7 +72,7 @@ pub record IsPlanFor (net : NetworkValue) (m : Mode) (left : List ℕ) (k : ℕ)
   pub period_is : plan.period ≡ k
   pub planned : IsPlanOf net plan
 
--- the plan before anything is sold: that of period 1 with every seat left
+-- the plan before anything is sold: that of period 1 with every authorised seat left
 abbrev pub IsOpeningPlan : NetworkValue → Mode → PlanValue → Type 0
 IsOpeningPlan net m plan = IsPlanFor net m (inventory_of net).authorised 1 plan
 

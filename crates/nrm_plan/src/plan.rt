@@ -40,7 +40,7 @@ impl Model for Plan {
     ghost view = { λ p. record { mode = p.mode; period = p.period; left = p.left; certificate = p.certificate; nests = p.nests } };
 }
 
-// The seats of each leg.
+// The authorised seats of each leg.
 fn full_seats(net: &Network) -> SeatsLeft
     ensures seats { result ≡ (inventory_of net.now).authorised }
     ensures limits { IsNetwork net.now }
@@ -80,7 +80,7 @@ fn solved(
 impl Plan {
     /// The plan of a network in a mode, at these seats left and from period `period` on: under first come, first served
     /// nothing is solved, and no memory taken; in the other modes it has the certificate of the program's closing.
-    /// `left` has the seats left leg by leg, on each leg at most its seats; periods count from 1.
+    /// `left` has the seats left leg by leg, on each leg at most its authorised seats; periods count from 1.
     ///
     /// # Errors
     /// `Overflow` exactly where the program is Large, and `NoMemory`; first come, first served meets neither.
@@ -108,7 +108,7 @@ impl Plan {
         })
     }
 
-    /// The plan before anything is sold: that of period 1 with every seat left.
+    /// The plan before anything is sold: that of period 1 with every authorised seat left.
     ///
     /// # Errors
     /// As of `make`.

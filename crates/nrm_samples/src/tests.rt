@@ -1,7 +1,8 @@
 //! What the calls of a network answer of the samples, worked by hand.
 use crate::parts::name;
 use crate::{
-    two_legs, two_legs_authorised, two_legs_five_products, two_legs_five_products_program, two_legs_last_first,
+    two_legs, two_legs_authorised, two_legs_five_products, two_legs_five_products_program,
+    two_legs_last_first,
 };
 use std::test::Fail;
 
@@ -39,7 +40,10 @@ fn seats_are_by_leg(rt: HostRuntime) -> Result<(), Fail> {
     let net = two_legs_authorised(rt.alloc())?;
     assert_eq!(rt; (net.leg_at(0).seats, net.leg_at(0).authorised), (3, 4));
     assert_eq!(rt; (net.least_authorised(0), net.least_authorised(1)), (1, 4));
-    assert_eq!(rt; (net.product_at(0).refund, net.product_at(1).refund), (100, 33));
+    assert_eq!(rt;
+        (net.product_at(0).refund, net.product_at(1).refund),
+        (100, 33)
+    );
     Ok(())
 }
 

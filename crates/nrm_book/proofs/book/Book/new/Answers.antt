@@ -6,20 +6,20 @@ use Rattle.nrm_book.proofs.book.Book.new.Goals as goal
 
 pub seats_in_all-requires : goal.seats_in_all-requires
 seats_in_all-requires c =
-    let same = ap length (c.deref.ensures.value ∙ c.in_ok-seats.ensures.seats) in
+    let same = ap length (c.deref.ensures.value ∙ c.in_ok-authorised.ensures.seats) in
     let count = c.authorised_of_legs.ensures.limits.leg_count in
     omega (arith, length-map c.args.net.now.legs (λ (leg : Leg). leg.authorised))
 
 pub with_room-requires : goal.with_room-requires
 with_room-requires c =
-    let within = seats-within c.args.net.now c.authorised_of_legs.ensures.limits c.deref.result.now (c.deref.ensures.value ∙ c.in_ok-seats.ensures.seats) in
+    let within = seats-within c.args.net.now c.authorised_of_legs.ensures.limits c.deref.result.now (c.deref.ensures.value ∙ c.in_ok-authorised.ensures.seats) in
     omega (arith, c.seats_in_all.ensures)
 
 pub invariant_of-result : goal.invariant_of-result
 invariant_of-result c = record {
-  kept = IsBook-of c.args.net.now _ _ _ _ c.authorised_of_legs.ensures.limits c.in_ok-seats.ensures.seats c.in_ok-fares.ensures.fares c.in_ok-legs.ensures.legs c.in_ok-bookings.ensures.items;
+  kept = IsBook-of c.args.net.now _ _ _ _ c.authorised_of_legs.ensures.limits c.in_ok-authorised.ensures.seats c.in_ok-fares.ensures.fares c.in_ok-legs.ensures.legs c.in_ok-bookings.ensures.items;
   distinct = distinct-of c.args.net.now _ c.authorised_of_legs.ensures.limits c.in_ok-legs.ensures.legs;
-  seats = counts-of c.args.net.now _ _ _ _ c.in_ok-sold.sold c.in_ok-seats.ensures.seats c.in_ok-fares.ensures.fares c.in_ok-legs.ensures.legs c.in_ok-bookings.ensures.items c.in_ok-sold.ensures;
+  seats = counts-of c.args.net.now _ _ _ _ c.in_ok-sold.sold c.in_ok-authorised.ensures.seats c.in_ok-fares.ensures.fares c.in_ok-legs.ensures.legs c.in_ok-bookings.ensures.items c.in_ok-sold.ensures;
   room =
       let seats = c.seats_in_all.ensures ∙ ap sum c.deref.ensures.value in
       omega (arith, c.in_ok-bookings.ensures.room);
