@@ -1,5 +1,5 @@
 -- A network's inventory, and what is known of its legs.
-use Rattle.std.proofs.Common.{◌+◌, get_or, if◌then◌else◌, ℕ, ◌≡◌, ◌∙◌, ◌*◌, ◌<◌, ◌≤◌, List, [], ◌∷◌, length, find, slice_get, option_map, Option, Some, None, Bool, true, false, nat_lt, refl, sym, ap, subst, arith, All}
+use Rattle.std.proofs.Common.{◌+◌, get_or, if◌then◌else◌, ℕ, ◌≡◌, ◌∙◌, ◌<◌, ◌≤◌, List, [], ◌∷◌, length, find, slice_get, Option, Some, None, Bool, true, false, nat_lt, refl, sym, ap, subst, arith, All}
 use Rattle.std.specs.Option.{option_map_or}
 use Rattle.std.proofs.lemmas.Bool.{ltb-false}
 use Rattle.std.proofs.lemmas.List.Elements.{All-cons, All-head, All-tail}
@@ -7,9 +7,9 @@ use Rattle.std.proofs.lemmas.List.FromFn.{get_or-map-range_with_len, length-map-
 use Rattle.nrm_model.specs.declared.product.Product.{Product}
 use Rattle.nrm_model.specs.Inventory.{Inventory, inventory_of, legs_of, uses_leg}
 use Rattle.nrm_model.specs.Network.{NetworkValue, product_of}
-use Rattle.nrm_model.proofs.Inventories.{fare_of-product, legs-count, legs_of-product, product_of-found, authorised-are}
+use Rattle.nrm_model.proofs.Inventories.{legs-count, legs_of-product, product_of-found, authorised-are}
 use Rattle.nrm_book.specs.declared.booking.Booking.{Booking}
-use Rattle.nrm_book.specs.Bookings.{booking_numbered, left_on, worth_of}
+use Rattle.nrm_book.specs.Bookings.{left_on}
 use Rattle.nrm_book.proofs.Sold.{uses-each}
 use Rattle.nrm_plan.specs.Plans.{AreSeatsLeft, PlanValue, fare_refuses, kept_from}
 use Rattle.nrm_control.specs.State.{seats_left}
@@ -65,13 +65,6 @@ pub product-within : (net : NetworkValue) (inventory : Inventory) (j : ℕ) → 
 product-within net inventory j is below =
     let count = ap (λ (v : Inventory). length v.legs) is ∙ legs-count net in
     omega (arith, count)
-
--- what a booking was worth
-pub refund-is : (net : NetworkValue) (bookings : List Booking) (number : ℕ) (booking : Booking) (product : Product) (party fare : ℕ)
-    → Some booking ≡ booking_numbered bookings number → Some product ≡ slice_get net.products booking.product → party ≡ booking.party → fare ≡ product.fare
-    → Some (party * fare) ≡ option_map (worth_of (inventory_of net)) (booking_numbered bookings number)
-refund-is net bookings number booking product party fare live found its_party its_fare =
-    ap Some ((λ k. its_party k * its_fare k) ∙ ap (λ f. booking.party * f) (fare_of-product net booking.product product found)) ∙ ap (option_map (worth_of (inventory_of net))) live
 
 -- a leg that was found is one of the list
 pub found-within : (p : ℕ → Bool) (n : ℕ) (legs : List ℕ) (i : ℕ) → Some i ≡ find p legs → All (λ k. k < n) legs → i < n

@@ -1,5 +1,5 @@
 -- The states that a controller stands for after a call.
-use Rattle.std.proofs.Common.{ℕ, ◌≡◌, ◌<◌, ◌∙◌, List, ◌∷◌, [], ◌++◌, ◌==◌, not, length, refl, sym, ap, subst}
+use Rattle.std.proofs.Common.{ℕ, ◌≡◌, ◌+◌, ◌<◌, ◌∙◌, List, ◌∷◌, [], ◌++◌, ◌==◌, not, length, refl, sym, ap, subst}
 use Rattle.std.proofs.lemmas.List.{map-append}
 use Rattle.nrm_model.specs.Network.{NetworkValue}
 use Rattle.nrm_plan.specs.Plans.{PlanValue}
@@ -9,6 +9,7 @@ use Rattle.nrm_book.specs.Bookings.{without}
 use Rattle.nrm_hindsight.specs.Requests.{Request, request_of, requests_of, tallies_of}
 use Rattle.nrm_hindsight.specs.Selections.{ChosenFrom}
 use Rattle.nrm_hindsight.proofs.Choices.{chosen-push, kept-chosen, left-out-push}
+use Rattle.nrm_control.specs.Refunds.{withheld_by}
 use Rattle.nrm_control.specs.Verdict.{verdict_of}
 use Rattle.nrm_control.specs.State.{SeatState, after_answer, after_cancellation, after_request, answer_in}
 use Rattle.nrm_control.specs.Standing.{ControlValue, StandsFor, with_answer, with_request}
@@ -36,9 +37,10 @@ answered old s j party (answer.Sold number) short stands = record {
   next = refl;
   tallies = tallied old s j party short stands;
   choice = chosen s.requests s.bookings (record { number = number; product = j; party = party }) stands.choice;
+  withheld = stands.withheld;
 }
-answered old s j party (answer.Leg i) short stands = record { plan = stands.plan; bookings = stands.bookings; next = stands.next; tallies = tallied old s j party short stands; choice = left-out-push (record { product = j; party = party }) stands.choice }
-answered old s j party answer.Fare short stands = record { plan = stands.plan; bookings = stands.bookings; next = stands.next; tallies = tallied old s j party short stands; choice = left-out-push (record { product = j; party = party }) stands.choice }
+answered old s j party (answer.Leg i) short stands = record { plan = stands.plan; bookings = stands.bookings; next = stands.next; tallies = tallied old s j party short stands; choice = left-out-push (record { product = j; party = party }) stands.choice; withheld = stands.withheld }
+answered old s j party answer.Fare short stands = record { plan = stands.plan; bookings = stands.bookings; next = stands.next; tallies = tallied old s j party short stands; choice = left-out-push (record { product = j; party = party }) stands.choice; withheld = stands.withheld }
 
 pub request-stands : (old new : ControlValue) (j party : ℕ) (given : Answer) → j < length old.net.products → given ≡ verdict_of old.net old.plan old.bookings old.next j party → new ≡ with_answer old j party given
     → (s : SeatState) → StandsFor old s → StandsFor new (after_request old.net s j party)
@@ -53,30 +55,45 @@ pub request-stands-through : (inside old new : ControlValue) (j party : ℕ) (gi
 request-stands-through inside old new j party given is short verdict changed = request-stands old new j party given short verdict (changed ∙ ap (λ (control : ControlValue). with_answer control j party given) is)
 
 -- what the book's next booking makes of the controller
-pub sold-is : (net : NetworkValue) (plan : PlanValue) (book new : BookValue) (tallies more : List ℕ) (j party number : ℕ) → number ≡ book.next → new ≡ with_booking book j party → more ≡ with_request net tallies j party
-    → record { net = net; plan = plan; bookings = new.bookings; next = new.next; tallies = more } ≡ with_answer (record { net = net; plan = plan; bookings = book.bookings; next = book.next; tallies = tallies }) j party (answer.Sold number)
-sold-is net plan book new tallies more j party number is added grown =
-    (λ k. record { net = net; plan = plan; bookings = (added k).bookings; next = (added k).next; tallies = grown k })
-    ∙ ap (λ n. with_answer (record { net = net; plan = plan; bookings = book.bookings; next = book.next; tallies = tallies }) j party (answer.Sold n)) (sym is)
+pub sold-is : (net : NetworkValue) (plan : PlanValue) (book new : BookValue) (tallies more : List ℕ) (withheld j party number : ℕ) → number ≡ book.next → new ≡ with_booking book j party → more ≡ with_request net tallies j party
+    → record { net = net; plan = plan; bookings = new.bookings; next = new.next; tallies = more; withheld = withheld }
+    ≡ with_answer (record { net = net; plan = plan; bookings = book.bookings; next = book.next; tallies = tallies; withheld = withheld }) j party (answer.Sold number)
+sold-is net plan book new tallies more withheld j party number is added grown =
+    (λ k. record { net = net; plan = plan; bookings = (added k).bookings; next = (added k).next; tallies = grown k; withheld = withheld })
+    ∙ ap (λ n. with_answer (record { net = net; plan = plan; bookings = book.bookings; next = book.next; tallies = tallies; withheld = withheld }) j party (answer.Sold n)) (sym is)
+
+-- a controller after a cancellation
+abbrev pub without_booking : ControlValue → ℕ → ControlValue
+without_booking control number = record control {
+  bookings = without control.bookings number;
+  withheld = control.withheld + withheld_by control.net control.bookings number;
+}
 
 -- the states after a cancellation, where the controller is seen through its parts
-pub cancelled-stands : (inside old new : ControlValue) (number : ℕ) → inside ≡ old → new ≡ record inside { bookings = without inside.bookings number } → (s : SeatState) → StandsFor old s → StandsFor new (after_cancellation s number)
+pub cancelled-stands : (inside old new : ControlValue) (number : ℕ) → inside ≡ old
+    → new ≡ record inside { bookings = without inside.bookings number; withheld = inside.withheld + withheld_by inside.net inside.bookings number }
+    → (s : SeatState) → StandsFor old s → StandsFor new (after_cancellation old.net s number)
 cancelled-stands inside old new number is removed s stands =
-    subst (λ (control : ControlValue). StandsFor control (after_cancellation s number)) (sym (removed ∙ ap (λ (control : ControlValue). record control { bookings = without control.bookings number }) is))
+    subst (λ (control : ControlValue). StandsFor control (after_cancellation old.net s number)) (sym (removed ∙ ap (λ (control : ControlValue). without_booking control number) is))
     (record {
       plan = stands.plan;
       bookings = ap (λ (bookings : List Booking). without bookings number) stands.bookings;
       next = stands.next;
       tallies = stands.tallies;
       choice = kept-chosen (λ booking. not (booking.number == number)) s.bookings stands.choice;
+      withheld = λ k. stands.withheld k + withheld_by old.net (stands.bookings k) number;
     })
 
 -- what the book without a booking makes of the controller
-pub removed-is : (net : NetworkValue) (plan : PlanValue) (book new : BookValue) (tallies : List ℕ) (number : ℕ) → new ≡ record book { bookings = without book.bookings number }
-    → ◌≡◌ {A = ControlValue} (record { net = net; plan = plan; bookings = new.bookings; next = new.next; tallies = tallies }) (record { net = net; plan = plan; bookings = without book.bookings number; next = book.next; tallies = tallies })
-removed-is net plan book new tallies number removed = λ k. record { net = net; plan = plan; bookings = (removed k).bookings; next = (removed k).next; tallies = tallies }
+pub removed-is : (net : NetworkValue) (plan : PlanValue) (book new : BookValue) (tallies : List ℕ) (withheld more number : ℕ) → new ≡ record book { bookings = without book.bookings number }
+    → more ≡ withheld + withheld_by net book.bookings number
+    → ◌≡◌ {A = ControlValue} (record { net = net; plan = plan; bookings = new.bookings; next = new.next; tallies = tallies; withheld = more })
+    (record { net = net; plan = plan; bookings = without book.bookings number; next = book.next; tallies = tallies; withheld = withheld + withheld_by net book.bookings number })
+removed-is net plan book new tallies withheld more number removed grown =
+    λ k. record { net = net; plan = plan; bookings = (removed k).bookings; next = (removed k).next; tallies = tallies; withheld = grown k }
 
 -- and what a refusal makes of it
-pub tallied-is : (net : NetworkValue) (plan : PlanValue) (book : BookValue) (tallies more : List ℕ) (j party : ℕ) → more ≡ with_request net tallies j party
-    → ◌≡◌ {A = ControlValue} (record { net = net; plan = plan; bookings = book.bookings; next = book.next; tallies = more }) (record { net = net; plan = plan; bookings = book.bookings; next = book.next; tallies = with_request net tallies j party })
-tallied-is net plan book tallies more j party grown = λ k. record { net = net; plan = plan; bookings = book.bookings; next = book.next; tallies = grown k }
+pub tallied-is : (net : NetworkValue) (plan : PlanValue) (book : BookValue) (tallies more : List ℕ) (withheld j party : ℕ) → more ≡ with_request net tallies j party
+    → ◌≡◌ {A = ControlValue} (record { net = net; plan = plan; bookings = book.bookings; next = book.next; tallies = more; withheld = withheld })
+    (record { net = net; plan = plan; bookings = book.bookings; next = book.next; tallies = with_request net tallies j party; withheld = withheld })
+tallied-is net plan book tallies more withheld j party grown = λ k. record { net = net; plan = plan; bookings = book.bookings; next = book.next; tallies = grown k; withheld = withheld }

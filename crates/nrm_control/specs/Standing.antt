@@ -57,13 +57,13 @@ abbrev pub IsWithheld : List Booking → ℕ → ℕ → Type 0
 IsWithheld bookings next withheld = withheld + length bookings * most_worth ≤ (next - 1) * most_worth
 
 -- a network within the limits, and a plan, a book and tallies of it, and a sum withheld
-pub record IsInForce (net : NetworkValue) (plan : PlanValue) (book : BookValue) (tallies : List ℕ) (withheld : ℕ) : Type 0 where
+pub record IsInForce (net : NetworkValue) (plan : PlanValue) (book : BookValue) (tallies : List ℕ) (held_back : ℕ) : Type 0 where
   pub network : IsNetwork net
   pub planned : IsPlanOf net plan
   pub inventory : book.inventory ≡ inventory_of net
   pub kept : IsBook book
   pub tallied : AreTalliesBeside net book.bookings tallies
-  pub withheld : IsWithheld book.bookings book.next withheld
+  pub withheld : IsWithheld book.bookings book.next held_back
 
 -- its network is within the limits, its book is one of that network, so that no leg has more seats sold than are authorised, its plan is
 -- the network's, at the plan's own seats left and period, of no product more is booked than its tally, and no more is withheld than was

@@ -1,11 +1,12 @@
-//! Requests on networks of two legs, worked by hand: AB with 3 seats and BC with 2, and both with ten.
+//! Requests on networks of two legs, worked by hand: AB with 3 seats and BC with 2, both with ten, and AB with 3 seats of which 4 are
+//! authorised beside BC with 2 of which 1 is.
 ghost use Rattle.std.specs.Prelude.{◌≡◌, ◌<◌, ◌≤◌, ◌+◌, IfOk, length};
 ghost use Rattle.std.specs.Int.{IsInRange};
 ghost use Rattle.nrm_model.specs.declared.limits.TheConstants.{MOST_PARTY};
 
 use crate::{Answer, Controller};
 use nrm_model::Mode;
-use nrm_samples::{two_legs, two_legs_five_products};
+use nrm_samples::{two_legs, two_legs_authorised, two_legs_five_products};
 use nrm_simplex::SolveFault;
 use std::alloc::Global;
 use std::process::Abort;
@@ -134,6 +135,46 @@ fn serves_by_nests_by_hand(rt: HostRuntime) {
         Ok(controller) => {
             let mut controller = controller;
             serve_nested(&rt, &mut controller);
+        }
+        Err(_) => assert!(rt; false),
+    }
+}
+
+// A controller by first come, first served, where a seat more than AB has is authorised, and a seat less than BC has.
+fn begun_authorised(alloc: Global) -> Result<Controller, SolveFault>
+    ensures products { IfOk result (λ controller. length controller.net.products ≡ 2) }
+    ensures next { IfOk result (λ controller. controller.next ≡ 1) }
+{
+    Controller::start(alloc, two_legs_authorised(alloc)?, Mode::FirstCome)
+}
+
+// Of two local seats for 199 each a third is given back, 131 and not twice 65, and the rest withheld, once. The authorised seats
+// are sold, not the physical ones.
+fn serve_authorised(rt: &impl Abort, controller: &mut Controller)
+    requires products { length controller.old.net.products ≡ 2 }
+    requires next { controller.old.next ≡ 1 }
+{
+    assert_eq!(rt; ask(controller, 1, 2), Answer::Sold { number: 1 });
+    assert_eq!(rt; controller.withheld(), 0);
+    assert_eq!(rt; controller.cancel(1), Some(131));
+    assert_eq!(rt; controller.withheld(), 267);
+    assert_eq!(rt; controller.cancel(1), None);
+    assert_eq!(rt; controller.withheld(), 267);
+    assert_eq!(rt; ask(controller, 1, 4), Answer::Sold { number: 2 });
+    assert_eq!(rt; controller.cancel(2), Some(262));
+    assert_eq!(rt; controller.withheld(), 801);
+    assert_eq!(rt; ask(controller, 0, 2), Answer::Leg(1));
+    assert_eq!(rt; ask(controller, 0, 1), Answer::Sold { number: 3 });
+    assert_eq!(rt; controller.cancel(3), Some(500));
+    assert_eq!(rt; controller.withheld(), 801);
+}
+
+#[test]
+fn serves_authorised_seats_by_hand(rt: HostRuntime) {
+    match begun_authorised(rt.alloc()) {
+        Ok(controller) => {
+            let mut controller = controller;
+            serve_authorised(&rt, &mut controller);
         }
         Err(_) => assert!(rt; false),
     }

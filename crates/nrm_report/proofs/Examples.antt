@@ -5,7 +5,7 @@ use Rattle.nrm_number.specs.Gcd.{gcd, in_lowest_terms}
 use Rattle.nrm_fraction.specs.Fraction.{◌over◌, ◌*ᶠ◌, less, whole}
 use Rattle.nrm_model.specs.declared.mode.Mode.TheVariants as mode
 use Rattle.nrm_lp.specs.declared.certificate.Certificate.{Certificate}
-use Rattle.nrm_samples.specs.Networks.{two_legs_five_products}
+use Rattle.nrm_samples.specs.Networks.{two_legs_authorised, two_legs_five_products}
 use Rattle.nrm_book.specs.declared.booking.Booking.{Booking}
 use Rattle.nrm_report.specs.Texts.{leg_text, nest_line, nests_text, protect_line, text_of_plan}
 
@@ -48,6 +48,18 @@ one_word = refl
 abbrev seats_sold : Booking
 seats_sold = record { number = 1; product = 2; party = 3 }
 
-sold_in_file_order : leg_text two_legs_five_products (record { number = 1; product = 4; party = 1 } ∷ seats_sold ∷ []) 1 ≡ codes "leg BC seats 10 sold 4 left 6\non BC ACH 3\non BC ACL 1\n"
+sold_in_file_order : leg_text two_legs_five_products (record { number = 1; product = 4; party = 1 } ∷ seats_sold ∷ []) 1 ≡ codes "leg BC seats 10 authorised 10 sold 4 left 6\non BC ACH 3\non BC ACL 1\n"
 unfolding digits
 sold_in_file_order = refl
+
+-- the physical seats are told, and what is left is of the authorised ones: one more than the first leg has, and one less than the second
+abbrev local_sold : Booking
+local_sold = record { number = 1; product = 1; party = 3 }
+
+one_seat_more : leg_text two_legs_authorised (local_sold ∷ []) 0 ≡ codes "leg AB seats 3 authorised 4 sold 3 left 1\non AB LOC 3\n"
+unfolding digits
+one_seat_more = refl
+
+one_seat_less : leg_text two_legs_authorised (local_sold ∷ []) 1 ≡ codes "leg BC seats 2 authorised 1 sold 0 left 1\n"
+unfolding digits
+one_seat_less = refl

@@ -68,16 +68,16 @@ fn leg_of_network_goes_out(
 
 #[test]
 fn tells_by_hand(rt: HostRuntime) -> Result<(), Fail> {
-    let text = b"leg AB seats 10 sold 3 left 7\non AB ABL 1\non AB ACH 2\n";
+    let text = b"leg AB seats 10 authorised 10 sold 3 left 7\non AB ABL 1\non AB ACH 2\n";
     leg_goes_out(&rt, rt.alloc(), &[], true, text)?;
     Ok(())
 }
 
 #[test]
 fn each_line_of_a_leg_goes_out_in_one_put(rt: HostRuntime) -> Result<(), Fail> {
-    let text = b"leg AB seats 10 sold 3 left 7\n";
+    let text = b"leg AB seats 10 authorised 10 sold 3 left 7\n";
     leg_goes_out(&rt, rt.alloc(), &[2], false, text)?;
-    let text = b"leg AB seats 10 sold 3 left 7\non AB ABL 1\n";
+    let text = b"leg AB seats 10 authorised 10 sold 3 left 7\non AB ABL 1\n";
     leg_goes_out(&rt, rt.alloc(), &[3], false, text)?;
     Ok(())
 }

@@ -88,15 +88,15 @@ looks-same net s reply other first second agree = by reply other first second ag
 
     by : (reply other : Reply) → LooksBack net s reply → LooksBack net s other → Agree reply other → other ≡ reply
     by reply other (tells value is) (tells value' is') agree =
-        ap (λ (v : Fraction). hindsight_told v (revenue_of (inventory_of net) s.bookings)) (once.value value value' is is')
+        ap (λ (v : Fraction). hindsight_told v (revenue_of (inventory_of net) s.bookings) s.withheld) (once.value value value' is is')
     by reply other (tells value is) (is_large n number large) agree = absurd (once.apart value n number is large)
     by reply other (tells value is) lacks_memory agree =
-        absurd (memory-alone (hindsight_told value (revenue_of (inventory_of net) s.bookings)) (λ e. cc) agree)
+        absurd (memory-alone (hindsight_told value (revenue_of (inventory_of net) s.bookings) s.withheld) (λ e. cc) agree)
     by reply other (is_large n number large) (tells value is) agree = absurd (once.apart value n number is large)
     by reply other (is_large n number large) (is_large n' number' large') agree = refl
     by reply other (is_large n number large) lacks_memory agree = absurd (memory-alone overflow (λ e. cc) agree)
     by reply other lacks_memory (tells value is) agree =
-        absurd (alone-memory (hindsight_told value (revenue_of (inventory_of net) s.bookings)) (λ e. cc) agree)
+        absurd (alone-memory (hindsight_told value (revenue_of (inventory_of net) s.bookings) s.withheld) (λ e. cc) agree)
     by reply other lacks_memory (is_large n number large) agree = absurd (alone-memory overflow (λ e. cc) agree)
     by reply other lacks_memory lacks_memory agree = refl
 

@@ -8,14 +8,16 @@ use Rattle.nrm_lp.specs.declared.certificate.Certificate.{Certificate}
 use Rattle.nrm_model.specs.Inventory.{inventory_of, authorised_of}
 use Rattle.nrm_model.specs.Network.{NetworkValue, leg_of}
 use Rattle.nrm_model.specs.declared.mode.Mode.TheVariants as modes
+use Rattle.nrm_samples.specs.Networks.{two_legs_authorised}
 use Rattle.nrm_plan.specs.Plans.{PlanValue}
-use Rattle.nrm_book.specs.Bookings.{sold_on}
-use Rattle.nrm_control.specs.State.{SeatState, opening, after_request}
+use Rattle.nrm_book.specs.Bookings.{revenue_of, sold_on}
+use Rattle.nrm_control.specs.State.{SeatState, opening, after_cancellation, after_request}
 use Rattle.nrm_control.specs.Standing.{ControlValue}
 use Rattle.nrm_stream.specs.declared.command.Command.TheVariants as command
 use Rattle.nrm_session.specs.Answering.{IsTellable, reply_in}
 use Rattle.nrm_session.specs.Hindsight.{requests_in}
 use Rattle.nrm_session.specs.Laws.{NoLegOversold, Solves}
+use Rattle.nrm_session.specs.Money.{given_back_in_all, sold_in_all}
 use Rattle.nrm_session.specs.Serving.{SentOn, ServesBy, Streams, WritesCut}
 use Rattle.nrm_session.specs.declared.serving.End.TheVariants as end
 use Rattle.nrm_stream.specs.Commands.{whole_commands}
@@ -49,6 +51,7 @@ sold_once plan = record {
   bookings = record { number = 1; product = 0; party = 1 } ∷ [];
   next = 2;
   requests = record { product = 0; party = 1 } ∷ record { product = 0; party = 1 } ∷ [];
+  withheld = 0;
 }
 
 -- both legs refuse the second request, and the first in the product's own order is named; the request is remembered
@@ -133,12 +136,13 @@ standing = record {
   bookings = record { number = 1; product = 0; party = 1 } ∷ [];
   next = 2;
   tallies = 1 ∷ 0 ∷ [];
+  withheld = 0;
 }
 
 the_second_leg : reply_in standing (answered.NoLeg 1) ≡ no_leg (codes "BC")
 the_second_leg = refl
 
-the_leg_told : text_of (reply_in standing (answered.Leg 1)) ≡ codes "leg BC seats 1 sold 1 left 0\non BC BACK 1\n"
+the_leg_told : text_of (reply_in standing (answered.Leg 1)) ≡ codes "leg BC seats 1 authorised 1 sold 1 left 0\non BC BACK 1\n"
 unfolding digits
 the_leg_told = refl
 
@@ -176,8 +180,8 @@ text_of_optimised_none = refl
 text_of_overflow : text_of overflow ≡ codes "overflow\n"
 text_of_overflow = refl
 
-text_of_hindsight : (value : Fraction) → value.num ≡ pos 301 → value.den ≡ 2 → text_of (hindsight_told value 101)
-    ≡ codes "hindsight 301/2 revenue 101\n"
+text_of_hindsight : (value : Fraction) → value.num ≡ pos 301 → value.den ≡ 2 → text_of (hindsight_told value 101 202)
+    ≡ codes "hindsight 301/2 revenue 101 withheld 202\n"
 unfolding digits
 text_of_hindsight value num den = rw (num, den) refl
 
@@ -228,3 +232,40 @@ one_byte_too_many whole cut served = served
 -- ---- with a failed put nothing is said of what was kept back, and else it is nothing
 kept_back_at_the_end : SentOn [] (codes "ok 1\n") end.Done → ⊥
 kept_back_at_the_end sent = let no : codes "ok 1\n" ≡ [] = sent refl in cc no
+
+-- ---- money, where a third is given back: 398 was paid and 131 given back, then 597 was paid; the refused party paid nothing
+abbrev money_lines : List Command
+money_lines = command.Book (codes "LOC") 2 ∷ command.Cancel 1 ∷ command.Cancel 1 ∷ command.Book (codes "THRU") 2 ∷ command.Book (codes "LOC") 3
+    ∷ command.Book (codes "NONE") 1 ∷ []
+
+abbrev money_replies : List Reply
+money_replies = sold 1 ∷ cancelled 1 131 ∷ unknown ∷ no_leg (codes "BC") ∷ sold 2 ∷ unknown ∷ []
+
+abbrev sold_two : SeatState
+sold_two = after_request two_legs_authorised (opening first) 1 2
+
+abbrev gave_back : SeatState
+gave_back = after_cancellation two_legs_authorised sold_two 1
+
+abbrev refused_two : SeatState
+refused_two = after_request two_legs_authorised gave_back 0 2
+
+abbrev sold_three : SeatState
+sold_three = after_request two_legs_authorised refused_two 1 3
+
+money_run : Run two_legs_authorised (opening first) money_lines money_replies sold_three
+money_run = (sold_two, (refl, refl), (gave_back, (refl, refl), (gave_back, (refl, refl), (refused_two, (refl, refl), (sold_three, (refl, refl),
+    (sold_three, (refl, refl), refl))))))
+
+sold_by_hand : sold_in_all two_legs_authorised money_lines money_replies ≡ 995
+sold_by_hand = refl
+
+given_back_by_hand : given_back_in_all money_replies ≡ 131
+given_back_by_hand = refl
+
+-- the three parts of 995 are other numbers
+standing_by_hand : revenue_of (inventory_of two_legs_authorised) sold_three.bookings ≡ 597
+standing_by_hand = refl
+
+withheld_by_hand : sold_three.withheld ≡ 267
+withheld_by_hand = refl

@@ -14,7 +14,7 @@ use Rattle.nrm_dlp.specs.Hindsight.{IsAttained, IsHindsight}
 use Rattle.nrm_dlp.specs.Programs.{hindsight_program}
 use Rattle.nrm_dlp.proofs.Attained.{attained}
 use Rattle.nrm_book.specs.declared.booking.Booking.{Booking}
-use Rattle.nrm_book.specs.Bookings.{booking_numbered, revenue_of, sold_on, worth_of}
+use Rattle.nrm_book.specs.Bookings.{booking_numbered, revenue_of, sold_on}
 use Rattle.nrm_hindsight.specs.Requests.{Request, request_of, requests_of, tallies_of}
 use Rattle.nrm_hindsight.specs.Selections.{BoundsSelections, ChosenFrom, IsSelection}
 use Rattle.nrm_hindsight.specs.Selections.ChosenFrom.{none}
@@ -22,6 +22,7 @@ use Rattle.nrm_hindsight.proofs.Choices.{chosen-push, kept-chosen, left-out-push
 use Rattle.nrm_hindsight.proofs.Selections.{bookings-selected, selections-bounded}
 use Rattle.nrm_hindsight.proofs.Tallies.{tallies-capped}
 use Rattle.nrm_control.specs.Standing.{ControlValue, IsControl, StandsFor}
+use Rattle.nrm_control.specs.Refunds.{refund_of}
 use Rattle.nrm_control.specs.State.{SeatState, after_answer, after_cancellation, after_request, answer_in, opening}
 use Rattle.nrm_control.specs.declared.answer.Answer.{Answer}
 use Rattle.nrm_control.specs.declared.answer.Answer.TheVariants as answer
@@ -80,7 +81,7 @@ after-step net s (command.Book name party) reply s' step = by (product_named net
 after-step net s (command.Cancel number) reply s' step = by (booking_numbered s.bookings number) step
   where
     by : (o : Option Booking) → MatchOption o ((reply ≡ unknown) × (s' ≡ s))
-        (λ b. (reply ≡ cancelled number (worth_of (inventory_of net) b)) × (s' ≡ after_cancellation s number)) → Remembers s [] s'
+        (λ b. (reply ≡ cancelled number (refund_of net b)) × (s' ≡ after_cancellation net s number)) → Remembers s [] s'
     by None told = same-requests s s' told.1
     by (Some b) told =
         subst (Remembers s []) (sym told.1)
@@ -125,20 +126,20 @@ after-run net s (c ∷ commands) (reply ∷ replies) s' (mid, step, run) =
     }
 
 -- what a line of hindsight tells
-told-so : (net : NetworkValue) (s : SeatState) (reply : Reply) (value : Fraction) (revenue : ℕ) → LooksBack net s reply → reply
-    ≡ hindsight_told value revenue
-    → IsHindsight net (tallies_of net s.requests) value × (revenue_of (inventory_of net) s.bookings ≡ revenue)
-told-so net s reply value revenue (tells found is) e =
+pub told-so : (net : NetworkValue) (s : SeatState) (reply : Reply) (value : Fraction) (revenue withheld : ℕ) → LooksBack net s reply
+    → reply ≡ hindsight_told value revenue withheld
+    → IsHindsight net (tallies_of net s.requests) value × (revenue_of (inventory_of net) s.bookings ≡ revenue) × (s.withheld ≡ withheld)
+told-so net s reply value revenue withheld (tells found is) e =
     let same : found ≡ value = cc in
-    (subst (IsHindsight net (tallies_of net s.requests)) same is, cc)
-told-so net s reply value revenue (is_large n number large) e = cc
-told-so net s reply value revenue lacks_memory e = cc
+    (subst (IsHindsight net (tallies_of net s.requests)) same is, cc, cc)
+told-so net s reply value revenue withheld (is_large n number large) e = cc
+told-so net s reply value revenue withheld lacks_memory e = cc
 
 pub bounded : HindsightBoundsOn
-bounded net s ok keeps choice commands replies mid after value revenue run step =
+bounded net s ok keeps choice commands replies mid after value revenue withheld run step =
     let remembers = after-run net s commands replies mid run in
     let held = kept.1 net s mid commands replies keeps run in
-    let (is, worth) = told-so net mid (hindsight_told value revenue) value revenue step.0 refl in
+    let (is, worth, rest) = told-so net mid (hindsight_told value revenue withheld) value revenue withheld step.0 refl in
     let (selection, earned) = bookings-selected net mid.requests mid.bookings (remembers.choice choice) held.seats in
     record {
       bound = subst (λ (requests : List Request). BoundsSelections net requests value) remembers.requests

@@ -63,7 +63,7 @@ module _ (net : NetworkValue) (is : IsNetwork net) (m : Mode) where
   step-keeps s (command.Book name party) reply s' planned told =
       by-option (product_named net name) s s' reply _ _ _ planned (λ j. answered-plan s j party (answer_in net s j party)) told
   step-keeps s (command.Cancel number) reply s' planned told =
-      by-option (booking_numbered s.bookings number) s s' reply _ _ (λ booking. after_cancellation s number) planned (λ booking. refl) told
+      by-option (booking_numbered s.bookings number) s s' reply _ _ (λ booking. after_cancellation net s number) planned (λ booking. refl) told
   step-keeps s (command.Reoptimise k) reply s' planned told = period-keeps (lacks_period net k) s k reply s' planned told
   step-keeps s (command.Leg name) reply s' planned told = by-option (leg_named net name) s s' reply _ _ (λ i. s) planned (λ i. refl) told
   step-keeps s command.Hindsight reply s' planned told = stays s s' planned told.1

@@ -5,6 +5,7 @@ pub mod Examples  -- lines answered on a small network, which a reader can check
 pub mod FirstParts  -- each first part of a run is a run
 pub mod Hindsights  -- the value of hindsight bounds every selection of the requests so far
 pub mod InForce  -- the plan in force stays one of the network
+pub mod Money  -- what was sold in all is the revenue, what was given back, and what is withheld
 pub mod OtherLines  -- lines that take no memory never want for it
 pub mod Periods  -- periods that a network has, and one that it lacks
 pub mod PhysicalSeats  -- two networks that differ in their physical seats alone have the same runs, but for the texts of legs
@@ -18,3 +19,4 @@ pub mod Seats  -- no step oversells a leg
 pub mod SessionEnds  -- from the bytes that were taken so far to what each end of a session says
 pub mod Steps  -- what the controller's calls answer is a step
 pub mod Verdicts  -- the reply to a request is the one that the headline says
+pub mod Wholes  -- how long a whole number of 128 bits is

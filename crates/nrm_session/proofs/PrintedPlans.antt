@@ -94,7 +94,7 @@ step-plans net s (command.Book name party) reply s' told =
     inl (by-option (product_named net name) s s' reply unknown _ _ no-unknown (λ j. answered net (answer_in net s j party))
     (λ j. answered-plan s j party (answer_in net s j party)) told)
 step-plans net s (command.Cancel number) reply s' told =
-    inl (by-option (booking_numbered s.bookings number) s s' reply unknown _ (λ booking. after_cancellation s number) no-unknown
+    inl (by-option (booking_numbered s.bookings number) s s' reply unknown _ (λ booking. after_cancellation net s number) no-unknown
     (λ b. not-told _ (λ v e. cc) (λ e. cc)) (λ b. refl) told)
 step-plans net s (command.Reoptimise k) reply s' told = in-period net (lacks_period net k) s k reply s' told
 step-plans net s (command.Leg name) reply s' told =

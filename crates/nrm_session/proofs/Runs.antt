@@ -62,7 +62,7 @@ look-back net s = by (has-a-hindsight net (tallies_of net s.requests))
     by : ((value : Fraction) × IsHindsight net (tallies_of net s.requests) value)
         ⊎ ((n : ℕ) × (number : ℤ) × HindsightOverflows net (tallies_of net s.requests) n number) → (reply : Reply) × LooksBack net s reply
         × (reply ≢ memory)
-    by (inl (value, is)) = (hindsight_told value (revenue_of (inventory_of net) s.bookings), tells value is, λ e. cc)
+    by (inl (value, is)) = (hindsight_told value (revenue_of (inventory_of net) s.bookings) s.withheld, tells value is, λ e. cc)
     by (inr (n, number, large)) = (overflow, is_large n number large, λ e. cc)
 
 step : (net : NetworkValue) (s : SeatState) (c : Command) → (reply : Reply) × (s' : SeatState) × Step net s c reply s' × (reply ≢ memory)

@@ -11,10 +11,11 @@ use Rattle.nrm_model.specs.Network.{NetworkValue, leg_named, product_named, prod
 use Rattle.nrm_model.proofs.Inventories.{legs-are}
 use Rattle.nrm_model.proofs.NameLemmas.{number-below, position_from-map}
 use Rattle.nrm_book.specs.declared.booking.Booking.{Booking}
-use Rattle.nrm_book.specs.Bookings.{booking_numbered, left_on, worth_of}
+use Rattle.nrm_book.specs.Bookings.{booking_numbered, left_on}
 use Rattle.nrm_book.proofs.Kept.{seats-added, sold_on-without}
 use Rattle.nrm_book.proofs.Sold.{AreProducts, sold_on-by_booking}
 use Rattle.nrm_plan.specs.Plans.{PlanValue, fare_refuses, kept_from}
+use Rattle.nrm_control.specs.Refunds.{refund_of}
 use Rattle.nrm_control.specs.State.{SeatState, after_answer, after_cancellation, after_request, answer_in, opening}
 use Rattle.nrm_control.specs.Verdict.{leg_refuses}
 use Rattle.nrm_control.specs.declared.answer.Answer.TheVariants as answer
@@ -63,7 +64,7 @@ kept-request net s j party kept below = by (find (leg_refuses net s.plan s.booki
     by None e = by-fare (fare_refuses net s.plan j) e
     by (Some i) e = record { products = kept.products; seats = kept.seats }
 
-kept-cancelled : (net : NetworkValue) (s : SeatState) (number : ℕ) → Kept net s → Kept net (after_cancellation s number)
+kept-cancelled : (net : NetworkValue) (s : SeatState) (number : ℕ) → Kept net s → Kept net (after_cancellation net s number)
 kept-cancelled net s number kept = record {
   products = All-filter (λ (b : Booking). not (b.number == number)) (λ (b : Booking). b.product < length (inventory_of net).legs)
       s.bookings kept.products;
@@ -90,7 +91,7 @@ step-keeps net s (command.Book name party) reply s' kept step = by (product_name
 step-keeps net s (command.Cancel number) reply s' kept step = by (booking_numbered s.bookings number) step
   where
     by : (o : Option Booking) → MatchOption o ((reply ≡ unknown) × (s' ≡ s))
-        (λ b. (reply ≡ cancelled number (worth_of (inventory_of net) b)) × (s' ≡ after_cancellation s number)) → Kept net s'
+        (λ b. (reply ≡ cancelled number (refund_of net b)) × (s' ≡ after_cancellation net s number)) → Kept net s'
     by None told = stays net s s' kept told.1
     by (Some b) told = subst (Kept net) (sym told.1) (kept-cancelled net s number kept)
 step-keeps net s (command.Reoptimise k) reply s' kept step = by (lacks_period net k) step

@@ -1,5 +1,5 @@
 -- The steps that a controller makes, and their replies.
-use Rattle.std.proofs.Common.{ℕ, ℤ, ◌≡◌, ◌≢◌, ◌∙◌, Bool, false, List, Option, Some, None, MatchOption, option_map, refl, sym, ap}
+use Rattle.std.proofs.Common.{ℕ, ℤ, ◌≡◌, ◌≢◌, ◌∙◌, ◌+◌, Bool, false, List, Option, Some, None, MatchOption, option_map, refl, sym, ap}
 use Rattle.std.proofs.Common.{subst, arith}
 use Rattle.std.specs.Bool.{MatchBool}
 use Rattle.nrm_fraction.specs.Fraction.{Fraction}
@@ -9,7 +9,8 @@ use Rattle.nrm_model.specs.declared.mode.Mode.{Mode}
 use Rattle.nrm_model.specs.declared.mode.Mode.TheVariants as mode
 use Rattle.nrm_dlp.specs.Hindsight.{HindsightOverflows, IsHindsight}
 use Rattle.nrm_book.specs.declared.booking.Booking.{Booking}
-use Rattle.nrm_book.specs.Bookings.{booking_numbered, revenue_of, without, worth_of}
+use Rattle.nrm_book.specs.Bookings.{booking_numbered, revenue_of, without}
+use Rattle.nrm_control.specs.Refunds.{refund_of, withheld_by}
 use Rattle.nrm_control.specs.State.{SeatState, after_cancellation, after_request, answer_in, seats_left, with_plan}
 use Rattle.nrm_control.specs.Standing.{ControlValue, StandsFor, with_answer}
 use Rattle.nrm_control.specs.Verdict.{verdict_of}
@@ -84,30 +85,29 @@ leg-steps control name i found = record {
 }
 
 -- a booking that was cancelled is one that was live
-live-booking : (net : NetworkValue) (found : Option Booking) (refund : ℕ) → Some refund ≡ option_map (worth_of (inventory_of net)) found
-    → (booking : Booking) × (found ≡ Some booking) × (refund ≡ worth_of (inventory_of net) booking)
+live-booking : (net : NetworkValue) (found : Option Booking) (refund : ℕ) → Some refund ≡ option_map (refund_of net) found
+    → (booking : Booking) × (found ≡ Some booking) × (refund ≡ refund_of net booking)
 live-booking net None refund is = cc
 live-booking net (Some booking) refund is = (booking, refl, cc)
 
 pub cancel-steps : (old new : ControlValue) (number refund : ℕ) → Some refund
-    ≡ option_map (worth_of (inventory_of old.net)) (booking_numbered old.bookings number)
-    → new ≡ record old { bookings = without old.bookings number } → ((s : SeatState) → StandsFor old s
-    → StandsFor new (after_cancellation s number))
+    ≡ option_map (refund_of old.net) (booking_numbered old.bookings number)
+    → new ≡ record old { bookings = without old.bookings number; withheld = old.withheld + withheld_by old.net old.bookings number }
+    → ((s : SeatState) → StandsFor old s → StandsFor new (after_cancellation old.net s number))
     → Steps old new (command.Cancel number) (cancelled number refund)
 cancel-steps old new number refund is removed stay =
-    let (booking, live, worth) = live-booking old.net (booking_numbered old.bookings number) refund is in
+    let (booking, live, given) = live-booking old.net (booking_numbered old.bookings number) refund is in
     record {
       network = ap (λ (control : ControlValue). control.net) removed;
       next = let same = ap (λ (control : ControlValue). control.next) removed in omega (arith, same);
       step = λ s stands.
           let there : Some booking ≡ booking_numbered s.bookings number =
           sym live ∙ ap (λ bookings. booking_numbered bookings number) (sym stands.bookings) in
-          let told : (cancelled number refund ≡ cancelled number (worth_of (inventory_of old.net) booking))
-          × (after_cancellation s number ≡ after_cancellation s number) = (ap (cancelled number) worth, refl) in (
-            after_cancellation s number,
-            subst (λ (o : Option Booking). MatchOption o (Gives unknown (cancelled number refund) s (after_cancellation s number))
-                (λ b. (cancelled number refund ≡ cancelled number (worth_of (inventory_of old.net) b))
-                × (after_cancellation s number ≡ after_cancellation s number))) there told,
+          let after : SeatState = after_cancellation old.net s number in
+          let told : (cancelled number refund ≡ cancelled number (refund_of old.net booking)) × (after ≡ after) = (ap (cancelled number) given, refl) in (
+            after,
+            subst (λ (o : Option Booking). MatchOption o (Gives unknown (cancelled number refund) s after)
+                (λ b. (cancelled number refund ≡ cancelled number (refund_of old.net b)) × (after ≡ after))) there told,
             stay s stands,
           );
     }
@@ -118,12 +118,13 @@ module _ (control : ControlValue) where
       → Steps control control command.Hindsight reply
   looks reply told = record { network = refl; next = omega arith; step = λ s stands. (s, (told s stands, refl), stands) }
 
-  pub hindsight-steps : (value : Fraction) (revenue : ℕ) → IsHindsight control.net control.tallies value → revenue
-      ≡ revenue_of (inventory_of control.net) control.bookings → Steps control control command.Hindsight (hindsight_told value revenue)
-  hindsight-steps value revenue is worth =
-      looks (hindsight_told value revenue)
-      (λ s stands. subst (λ (r : ℕ). LooksBack control.net s (hindsight_told value r))
-      (ap (revenue_of (inventory_of control.net)) stands.bookings ∙ sym worth)
+  pub hindsight-steps : (value : Fraction) (revenue withheld : ℕ) → IsHindsight control.net control.tallies value
+      → revenue ≡ revenue_of (inventory_of control.net) control.bookings → withheld ≡ control.withheld
+      → Steps control control command.Hindsight (hindsight_told value revenue withheld)
+  hindsight-steps value revenue withheld is worth rest =
+      looks (hindsight_told value revenue withheld)
+      (λ s stands. subst (LooksBack control.net s)
+      (λ k. hindsight_told value ((ap (revenue_of (inventory_of control.net)) stands.bookings ∙ sym worth) k) ((stands.withheld ∙ sym rest) k))
       (tells value (subst (λ (tallies : List ℕ). IsHindsight control.net tallies value) (sym stands.tallies) is)))
 
   pub hindsight-overflows : (n : ℕ) (number : ℤ) → HindsightOverflows control.net control.tallies n number

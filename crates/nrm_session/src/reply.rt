@@ -20,7 +20,8 @@ use nrm_stream::Command;
 use nrm_text::{Name, Text};
 use std::alloc::Global;
 
-// The most bytes of a reply with a fraction, and of one of hindsight. A call clears its room before it begins, so each kind of line has a call of its own.
+// The most bytes of a reply with a fraction, and of one of hindsight. A call clears its room before it begins, so each kind of line
+// has a call of its own.
 const ROOM: usize = 128;
 const HINDSIGHT_ROOM: usize = 176;
 
@@ -222,7 +223,7 @@ fn put_optimised<K: Sink>(num: u64, den: u64, sink: &mut K) -> Result<(), Failed
 }
 
 // Puts the line of hindsight, with the revenue of the bookings that stand and the sum withheld.
-#[tactic(auto, using(nrm_text::proofs::Fractions::short_fraction, nrm_text::proofs::Decimals::short_decimal))]
+#[tactic(auto, using(nrm_text::proofs::Fractions::short_fraction, nrm_text::proofs::Decimals::short_decimal, crate::proofs::Wholes::short_whole))]
 #[inline(never)]
 fn put_hindsight<K: Sink>(
     num: u64,

@@ -1,11 +1,12 @@
-//! Sessions worked by hand: legs AB with 3 seats and BC with 2, a through product for 500 and a local one for 200.
+//! Sessions worked by hand: legs AB with 3 seats and BC with 2, a through product for 500 and a local one for 200; and the same legs
+//! with 4 and 1 authorised seats, and a local product for 199 of which a third is given back.
 ghost use Rattle.std.specs.Prelude.{◌≡◌, ◌≤◌, ◌^◌, IfOk};
 
 use crate::{End, serve};
 use nrm_control::Controller;
 use nrm_edge::{MemSink, MemSource};
 use nrm_model::Mode;
-use nrm_samples::two_legs;
+use nrm_samples::{two_legs, two_legs_authorised};
 use nrm_simplex::SolveFault;
 use std::alloc::Global;
 use std::process::Abort;
@@ -30,7 +31,19 @@ struct Asked<'a> {
 fn session_as(alloc: Global, mode: Mode, asked: &Asked<'_>) -> Result<(End, MemSink), SolveFault>
     requires { asked.now.limit ≤ 2 ^ 32 }
 {
-    let mut controller = begin(alloc, mode)?;
+    serve_asked(alloc, begin(alloc, mode)?, asked)
+}
+
+// The same of a controller that has begun.
+fn serve_asked(
+    alloc: Global,
+    begun: Controller,
+    asked: &Asked<'_>,
+) -> Result<(End, MemSink), SolveFault>
+    requires next { begun.next ≡ 1 }
+    requires limit { asked.now.limit ≤ 2 ^ 32 }
+{
+    let mut controller = begun;
     let mut source = MemSource::new(
         asked.stream.to_vec(alloc)?,
         asked.cuts.to_vec(alloc)?,
@@ -86,6 +99,38 @@ fn lines_are_answered_by_hand(rt: HostRuntime) {
         End::Done,
         b"ok 1\ncancelled 1 1000\nunknown\nok 2\nleg AB seats 3 authorised 3 sold 1 left 2\non AB LOC 1\nfirst\noptimised none\nunknown\n\
             hindsight 1200/1 revenue 200 withheld 0\nbad\n",
+    );
+}
+
+fn begin_authorised(alloc: Global) -> Result<Controller, SolveFault>
+    ensures { IfOk result (λ controller. controller.next ≡ 1) }
+{
+    Controller::start(alloc, two_legs_authorised(alloc)?, Mode::FirstCome)
+}
+
+// Lines of a session by first come, first served on the network with authorised seats.
+fn session_authorised(alloc: Global, stream: &[u8]) -> Result<(End, MemSink), SolveFault> {
+    let asked = Asked {
+        stream,
+        cuts: &[],
+        failing_takes: &[],
+        failing_puts: &[],
+        limit: 512,
+    };
+    serve_asked(alloc, begin_authorised(alloc)?, &asked)
+}
+
+// Of 398 a third is given back, 131, and 267 withheld. Five local seats were asked for, of which four might have been sold.
+#[test]
+fn refunds_and_authorised_seats_by_hand(rt: HostRuntime) {
+    assert_ends(
+        &rt,
+        session_authorised(
+            rt.alloc(),
+            b"book LOC 2\ncancel 1\nbook LOC 3\nhindsight\nleg AB\n",
+        ),
+        End::Done,
+        b"ok 1\ncancelled 1 131\nok 2\nhindsight 796/1 revenue 597 withheld 267\nleg AB seats 3 authorised 4 sold 3 left 1\non AB LOC 3\n",
     );
 }
 

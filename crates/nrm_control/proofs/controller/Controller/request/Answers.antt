@@ -31,7 +31,7 @@ returns-in-Some-clause-state c =
     let place : c.args.product < length inside.tallies.items = omega (arith, short, c.self.invariant.tallied.capped.products) in
     let grown = tally-written inside.network inside.tallies.items c.args.product c.args.party c.index.result.now c.tally_after.result place c.index.ensures c.tally_after.ensures in
     request-stands-through _ c.args.self.now _ c.args.product c.args.party (answer.Leg c.in-Some.leg) c.self.view_is c.requires.product (returns-in-Some-clause-answer c)
-    (tallied-is inside.network inside.plan inside.book inside.tallies.items _ c.args.product c.args.party grown)
+    (tallied-is inside.network inside.plan inside.book inside.tallies.items _ inside.withheld c.args.product c.args.party grown)
 
 pub returns-then-fare_refuses-clause-answer : goal.returns-then-fare_refuses-clause-answer
 returns-then-fare_refuses-clause-answer c =
@@ -48,7 +48,7 @@ returns-then-fare_refuses-clause-state c =
     let place : c.args.product < length inside.tallies.items = omega (arith, short, c.self.invariant.tallied.capped.products) in
     let grown = tally-written inside.network inside.tallies.items c.args.product c.args.party c.index.result.now c.tally_after.result place c.index.ensures c.tally_after.ensures in
     request-stands-through _ c.args.self.now _ c.args.product c.args.party answer.Fare c.self.view_is c.requires.product (returns-then-fare_refuses-clause-answer c)
-    (tallied-is inside.network inside.plan inside.book inside.tallies.items _ c.args.product c.args.party grown)
+    (tallied-is inside.network inside.plan inside.book inside.tallies.items _ inside.withheld c.args.product c.args.party grown)
 
 pub returns-clause-answer : goal.returns-clause-answer
 returns-clause-answer c =
@@ -66,7 +66,7 @@ returns-clause-state c =
     let place : c.args.product < length inside.tallies.items = omega (arith, short, c.self.invariant.tallied.capped.products) in
     let grown = tally-written inside.network inside.tallies.items c.args.product c.args.party c.index.result.now c.tally_after.result place c.index.ensures c.tally_after.ensures in
     request-stands-through _ c.args.self.now _ c.args.product c.args.party (answer.Sold c.add.result) c.self.view_is c.requires.product (returns-clause-answer c)
-    (sold-is inside.network inside.plan inside.book c.add.new.self inside.tallies.items _ c.args.product c.args.party c.add.result c.add.ensures.number c.add.ensures.added grown)
+    (sold-is inside.network inside.plan inside.book c.add.new.self inside.tallies.items _ inside.withheld c.args.product c.args.party c.add.result c.add.ensures.number c.add.ensures.added grown)
 
 pub returns-in-Some-clause-leg : goal.returns-in-Some-clause-leg
 returns-in-Some-clause-leg c =
@@ -86,8 +86,8 @@ invariant_of-self-2 c =
     let short = subst (λ (control : ControlValue). c.args.product < length control.net.products) (sym c.self.view_is) c.requires.product in
     let place : c.args.product < length inside.tallies.items = omega (arith, short, c.self.invariant.tallied.capped.products) in
     let grown = tally-written inside.network inside.tallies.items c.args.product c.args.party c.index.result.now c.tally_after.result place c.index.ensures c.tally_after.ensures in
-    subst (λ (tallies : List ℕ). IsInForce inside.network inside.plan c.add.new.self tallies) (sym grown)
-    (kept-sold inside.network inside.plan inside.book inside.tallies.items c.self.invariant c.add.new.self c.args.product c.args.party short c.add.ensures.added c.add.ensures.kept)
+    subst (λ (tallies : List ℕ). IsInForce inside.network inside.plan c.add.new.self tallies inside.withheld) (sym grown)
+    (kept-sold inside.network inside.plan inside.book inside.tallies.items inside.withheld c.self.invariant c.add.new.self c.args.product c.args.party short c.add.ensures.added c.add.ensures.kept)
 
 pub returns-clause-kept : goal.returns-clause-kept
-returns-clause-kept c = control-of c.self.inside.network c.self.inside.plan c.add.new.self _ (invariant_of-self-2 c)
+returns-clause-kept c = control-of c.self.inside.network c.self.inside.plan c.add.new.self _ c.self.inside.withheld (invariant_of-self-2 c)
