@@ -8,9 +8,13 @@ pub mod InForce  -- the plan in force stays one of the network
 pub mod Money  -- what was sold in all is the revenue, what was given back, and what is withheld
 pub mod OtherLines  -- lines that take no memory never want for it
 pub mod Periods  -- periods that a network has, and one that it lacks
+pub mod PhysicalSeats  -- two networks that differ in their physical seats alone have the same runs, but for the texts of legs
 pub mod Pieces  -- what one call of the splitter adds to the lines that were answered
 pub mod PrintedPlans  -- the prices of a `plan` line are those of the last line that was answered `optimised`
 pub mod Runs  -- each list of commands has a run
+pub mod SeatlessLegs  -- what two networks that differ in their physical seats alone have alike: all else of their legs
+pub mod SeatlessNests  -- the buckets and protections of two such networks
+pub mod SeatlessPlans  -- the plans of two such networks, and their texts
 pub mod Seats  -- no step oversells a leg
 pub mod SessionEnds  -- from the bytes that were taken so far to what each end of a session says
 pub mod Steps  -- what the controller's calls answer is a step
