@@ -23,7 +23,7 @@ use Rattle.nrm_network.specs.declared.draft.Draft.{Draft}
 use Rattle.nrm_network.proofs.NumberFields.{bytes-same}
 use Rattle.nrm_network.proofs.CheckedRows.{begins-as, first-checked}
 use Rattle.nrm_network.proofs.DemandRows.{find-none}
-use Rattle.nrm_network.proofs.GoodRows.{DemandFits, push-yes, push-no}
+use Rattle.nrm_network.proofs.GoodRows.{DemandFits, push-yes}
 use Rattle.nrm_network.proofs.ReadNetwork.{found-fits, names-apart}
 use Rattle.nrm_network.proofs.ChecksAfterShape.{word-of, demand-shape}
 use Rattle.nrm_network.proofs.DraftGrowth.{apart, stands-by, good-taken, accepts-more}

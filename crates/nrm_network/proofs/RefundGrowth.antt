@@ -13,7 +13,7 @@ use Rattle.nrm_network.specs.Rows.{Row, refund_kind, field, begins, leg_rows, pr
 use Rattle.nrm_network.specs.Rows.{periods_in, is_named, further}
 use Rattle.nrm_network.specs.Checks.{why_refused}
 use Rattle.nrm_network.specs.File.{number_of_leg, product_in, refund_given}
-use Rattle.nrm_network.specs.Inner.Draft.{Accepts, SetsRefund, Stands, names_of, refunded_by}
+use Rattle.nrm_network.specs.Inner.Draft.{SetsRefund, Stands, names_of, refunded_by}
 use Rattle.nrm_network.specs.Inner.Entries.{HasShape}
 use Rattle.nrm_network.specs.declared.draft.Draft.{Draft}
 use Rattle.nrm_network.proofs.NumberFields.{bytes-same}

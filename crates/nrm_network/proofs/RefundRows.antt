@@ -1,19 +1,17 @@
 -- The refund rows of a canonical file: what tests find among them, that they are taken, and that they give back the percentages.
-use Rattle.std.proofs.Common.{ℕ, zero, suc, ◌≡◌, ◌≢◌, ◌∙◌, ◌+◌, ◌^◌, ◌<◌, ◌≤◌, Bool, true, false, ◌||◌, ◌==◌, List, [], ◌∷◌, ◌++◌, length, get_or, map}
-use Rattle.std.proofs.Common.{flat_map, bytes_eq, codes, refl, sym, ap, arith, inl, inr, All, AllPairs, None, filter}
-use Rattle.std.specs.Prelude.{decimal, find}
-use Rattle.std.specs.Option.{option_map_or}
+use Rattle.std.proofs.Common.{ℕ, zero, suc, ◌≡◌, ◌≢◌, ◌∙◌, ◌^◌, ◌<◌, ◌≤◌, Bool, true, false, ◌==◌, List, [], ◌∷◌, ◌++◌, length, get_or, map}
+use Rattle.std.proofs.Common.{flat_map, bytes_eq, codes, refl, sym, arith, inl, inr, All, AllPairs, None}
+use Rattle.std.specs.Prelude.{decimal}
 use Rattle.std.specs.List.{list_any, list_all}
 use Rattle.std.proofs.lemmas.Bool.{and_from, cases_Bool, eqb-true, not_from_true, or_from}
-use Rattle.std.proofs.lemmas.List.{append-nil, get_or-map, length-map}
+use Rattle.std.proofs.lemmas.List.{append-nil}
 use Rattle.std.proofs.lemmas.List.Elements.{All-cons, All-head, All-nil, All-tail, filter-append}
-use Rattle.std.proofs.lemmas.List.Folds.{list_any-append}
 use Rattle.nrm_text.specs.Names.{is_name}
 use Rattle.nrm_text.specs.Numbers.{is_whole, value_of}
 use Rattle.nrm_text.proofs.Decimals.{is_whole-decimal, value_of-decimal}
 use Rattle.nrm_model.specs.declared.product.Product.{Product}
 use Rattle.nrm_model.specs.Network.{NetworkValue}
-use Rattle.nrm_model.specs.Limits.{IsNetwork, IsProduct}
+use Rattle.nrm_model.specs.Limits.{IsProduct}
 use Rattle.nrm_model.proofs.NameLemmas.{bytes_eq-apart}
 use Rattle.nrm_network.specs.Rows.{Row, begins, field, leg_rows, product_rows, demand_rows, refund_rows, is_named}
 use Rattle.nrm_network.specs.Checks.{is_within, why_refused}
@@ -24,7 +22,7 @@ use Rattle.nrm_network.proofs.CanonicalRows.{decimal-plain, name-plain, row-plai
 use Rattle.nrm_network.proofs.CanonicalTaken.{named-push, names-differ-from}
 use Rattle.nrm_network.proofs.ChecksByName.{not-refused}
 use Rattle.nrm_network.proofs.DemandRows.{filter-all, filter-none, find-none}
-use Rattle.nrm_network.proofs.NumberFields.{AllPairs-head, AllPairs-tail, bytes-same, within-field}
+use Rattle.nrm_network.proofs.NumberFields.{AllPairs-tail, bytes-same, within-field}
 use Rattle.nrm_network.proofs.PlainRows.{IsPlain, IsPlainRow}
 
 -- the row of a product, and those of some products

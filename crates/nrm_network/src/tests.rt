@@ -20,10 +20,10 @@ fn what_is_read_is_printed(rt: HostRuntime) -> Result<(), Fail> {
 #[test]
 fn version_2_is_printed_as_it_was_read(rt: HostRuntime) -> Result<(), Fail> {
     let file =
-        b"periods,1,1,2\nleg,AB,3,4\nleg,BC,2,0,5\nproduct,THRU,500,AB,BC\nproduct,LOC,199,AB\nrefund,LOC,33\ndemand,LOC,1,2\n";
+        b"periods,1,1,2\nleg,AB,3,4,9\nleg,BC,2,0,5\nproduct,THRU,500,AB,BC\nproduct,LOC,199,AB\nrefund,LOC,33\ndemand,LOC,1,2\n";
     let net = parse(rt.alloc(), file)?;
     assert_eq!(rt; (net.leg_at(0).seats, net.leg_at(0).authorised), (3, 4));
-    assert_eq!(rt; net.leg_at(1).cuts.as_slice(), [5].as_slice());
+    assert_eq!(rt; net.leg_at(0).cuts.as_slice(), [9].as_slice());
     let printed = print(rt.alloc(), &net)?;
     assert_eq!(rt; printed.as_slice(), file.as_slice());
     Ok(())

@@ -1,5 +1,5 @@
 -- A row of four fields has one behind the third.
-use Rattle.std.proofs.Common.{ℕ, ◌≡◌, ◌∙◌, ◌&&◌, ◌+◌, ◌<◌, Bool, true, false, List, [], ◌∷◌, length, drop, ap, sym, arith, rules, subst, Err, Ok, Some, None, refl}
+use Rattle.std.proofs.Common.{ℕ, ◌≡◌, ◌∙◌, ◌&&◌, Bool, true, false, List, [], ◌∷◌, length, ap, sym, arith, rules, subst, Err, refl}
 use Rattle.std.specs.List.{list_all}
 use Rattle.std.proofs.lemmas.List.{drop_all}
 use Rattle.std.proofs.lemmas.Bool.{eq-eqb}
@@ -7,7 +7,7 @@ use Rattle.csv.specs.Records.{fields_of}
 use Rattle.nrm_text.specs.Numbers.{is_whole}
 use Rattle.nrm_network.specs.Rows.{Row, field, further, version_in}
 use Rattle.nrm_network.specs.Checks.{is_within}
-use Rattle.nrm_network.specs.Inner.Fields.{NumberIn, VersionIn, are_whole, bounded}
+use Rattle.nrm_network.specs.Inner.Fields.{are_whole, bounded}
 use Rattle.nrm_network.proofs.RowFields.{next_field}
 use Rattle.nrm_network.proofs.row.version_of.Goals as goal
 

@@ -1,7 +1,5 @@
 -- A refund is refused by the first of two checks, or it is the percentage of its product.
-use Rattle.std.proofs.Common.{ℕ, ◌≡◌, ◌∙◌, List, true, false, bytes_eq, sym, subst, None, Some, arith, ap, Option}
-use Rattle.std.proofs.lemmas.List.Folds.{list_any_none}
-use Rattle.nrm_text.specs.Numbers.{value_of}
+use Rattle.std.proofs.Common.{ℕ, ◌≡◌, ◌∙◌, List, true, false, sym, subst, None, arith}
 use Rattle.nrm_network.specs.Rows.{Row, field, product_rows, refund_rows, is_named}
 use Rattle.nrm_network.specs.Inner.Draft.{SetsRefund, Stands}
 use Rattle.nrm_network.specs.Inner.Entries.{IsRead}
