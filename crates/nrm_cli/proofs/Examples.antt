@@ -37,8 +37,12 @@ two_legs = record {
   demand = 0 ∷ 0 ∷ [];
 }
 
+-- as a file of the first version, and as it is printed
 abbrev two_legs_file : List ℕ
 two_legs_file = codes "periods,1,1\nleg,AB,3\nleg,BC,2\nproduct,THRU,500,AB,BC\nproduct,LOC,200,AB\n"
+
+abbrev two_legs_printed : List ℕ
+two_legs_printed = codes "periods,1,1,2\nleg,AB,3,3\nleg,BC,2,2\nproduct,THRU,500,AB,BC\nproduct,LOC,200,AB\n"
 
 -- the opening plan of first come, first served
 abbrev first : PlanValue
@@ -56,7 +60,7 @@ opened : network_under (Some two_legs_file) ≡ Ok two_legs
 unfolding network_on_literals
 opened = refl
 
-printed : canonical_file two_legs ≡ two_legs_file
+printed : canonical_file two_legs ≡ two_legs_printed
 unfolding digits
 printed = refl
 
@@ -92,17 +96,17 @@ abbrev mixed : List ℕ
 mixed = codes "book THRU 2\ncancel 1\ncancel 1\nleg AB\nplan\n\nbook  LOC 1\nbook LOC 1"
 
 abbrev after_cancel : SeatState
-after_cancel = after_cancellation after_two_seats 1
+after_cancel = after_cancellation two_legs after_two_seats 1
 
 abbrev after_mixed : SeatState
 after_mixed = after_request two_legs after_cancel 1 1
 
-answered_mixed : RunWrites two_legs first (commands_of mixed) (codes "ok 1\ncancelled 1 1000\nunknown\nleg AB seats 3 sold 0 left 3\nfirst\nbad\nbad\nok 2\n")
+answered_mixed : RunWrites two_legs first (commands_of mixed) (codes "ok 1\ncancelled 1 1000\nunknown\nleg AB seats 3 authorised 3 sold 0 left 3\nfirst\nbad\nbad\nok 2\n")
 unfolding digits
 answered_mixed = (
   after_mixed,
   record {
-    replies = sold 1 ∷ cancelled 1 1000 ∷ unknown ∷ leg_told (codes "leg AB seats 3 sold 0 left 3\n") ∷ plan_told (codes "first\n") ∷ bad ∷ bad ∷ sold 2 ∷ [];
+    replies = sold 1 ∷ cancelled 1 1000 ∷ unknown ∷ leg_told (codes "leg AB seats 3 authorised 3 sold 0 left 3\n") ∷ plan_told (codes "first\n") ∷ bad ∷ bad ∷ sold 2 ∷ [];
     run = (after_two_seats, (refl, refl), (after_cancel, (refl, refl), (after_cancel, (refl, refl), (after_cancel, (refl, refl), (after_cancel, (refl, refl), (after_cancel, (refl, refl), (after_cancel, (refl, refl), (after_mixed, (refl, refl), refl))))))));
     output = refl;
   },
@@ -162,7 +166,7 @@ number_with_a_nought_before_it = refl
 -- a run is summed up by the counts of all its replies but the last, and by what the last one tells
 abbrev some_replies : List Reply
 some_replies =
-    sold 1 ∷ no_leg (codes "AB") ∷ sold 2 ∷ no_fare ∷ overflow ∷ optimised_none ∷ cancelled 2 200 ∷ unknown ∷ leg_told [] ∷ leg_told [] ∷ bad ∷ hindsight_told (whole (pos 1200)) 1000 ∷ []
+    sold 1 ∷ no_leg (codes "AB") ∷ sold 2 ∷ no_fare ∷ overflow ∷ optimised_none ∷ cancelled 2 200 ∷ unknown ∷ leg_told [] ∷ leg_told [] ∷ bad ∷ hindsight_told (whole (pos 1200)) 1000 0 ∷ []
 
 abbrev their_counts : Counts
 their_counts = record { sold = 2; no_leg = 1; no_fare = 1; cancelled = 1; unknown = 1; legs = 2; optimised = 1; overflow = 1 }
@@ -170,7 +174,7 @@ their_counts = record { sold = 2; no_leg = 1; no_fare = 1; cancelled = 1; unknow
 counts : counts_from nothing_counted some_replies ≡ their_counts
 counts = refl
 
-last_told : last_of some_replies ≡ hindsight_told (whole (pos 1200)) 1000
+last_told : last_of some_replies ≡ hindsight_told (whole (pos 1200)) 1000 0
 last_told = refl
 
 summed_up : text_line (summary_words their_counts 1000 (codes "1200/1")) ≡ codes "made lines 10000 ok 2 no 1 fare 1 cancelled 1 unknown 1 legs 2 optimised 1 overflow 1 revenue 1000 hindsight 1200/1\n"

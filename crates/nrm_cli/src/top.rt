@@ -5,6 +5,8 @@ ghost use Rattle.nrm_session.specs.Hindsight.{HindsightBounds};
 ghost use Rattle.nrm_session.specs.LastPlan.{PrintedPricesAreOptimal};
 ghost use Rattle.nrm_session.specs.Laws.{EachListHasARun, OtherLinesNeedNoMemory, PlansAreKept, RepliesAreDetermined, RunsHaveFirstParts};
 ghost use Rattle.nrm_session.specs.Laws.{SeatsAreKept, StatesAreDetermined};
+ghost use Rattle.nrm_session.specs.Money.{MoneyAddsUp};
+ghost use Rattle.nrm_session.specs.PhysicalSeats.{PhysicalSeatsDecideNothing};
 ghost use Rattle.nrm_outside.specs.Outside.{outside};
 ghost use Rattle.nrm_cli.specs.Call.{Call};
 ghost use Rattle.nrm_cli.specs.Ends.{SentOn};
@@ -93,6 +95,8 @@ pub fn run<F: Files, S: Source, K: Sink>(
     ensures optimal { PlansAreKept }
     ensures printed { PrintedPricesAreOptimal }
     ensures hindsight { HindsightBounds }
+    ensures money { MoneyAddsUp }
+    ensures physical { PhysicalSeatsDecideNothing }
     ensures determined { RepliesAreDetermined }
     ensures there { EachListHasARun }
     ensures states { StatesAreDetermined }

@@ -180,7 +180,7 @@ pub record AnswersMade (old new : ControlValue) (commands : List Command) (count
 
 -- a controller of a network that has just begun, with its plan
 abbrev pub HasBegun : NetworkValue → ControlValue → Type 0
-HasBegun net control = control ≡ record { net = net; plan = control.plan; bookings = []; next = 1; tallies = tallies_of net [] }
+HasBegun net control = control ≡ record { net = net; plan = control.plan; bookings = []; next = 1; tallies = tallies_of net []; withheld = 0 }
 
 -- the summary of a run from the opening is put, or nothing for want of memory
 abbrev pub PutsSummary : NetworkValue → PlanValue → ℕ → Option (List ℕ) → Option (List ℕ) → ℕ → ℕ → Status → Type 0

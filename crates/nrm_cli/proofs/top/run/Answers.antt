@@ -2,7 +2,9 @@ use Rattle.nrm_session.proofs.Determined.{determined, states-determined}
 use Rattle.nrm_session.proofs.FirstParts.{first-parts}
 use Rattle.nrm_session.proofs.Hindsights.{openings-bounded}
 use Rattle.nrm_session.proofs.InForce.{plans-kept}
+use Rattle.nrm_session.proofs.Money.{adds-up}
 use Rattle.nrm_session.proofs.OtherLines.{other-lines}
+use Rattle.nrm_session.proofs.PhysicalSeats.{decide-nothing}
 use Rattle.nrm_session.proofs.PrintedPlans.{printed-optimal}
 use Rattle.nrm_session.proofs.Runs.{runs}
 use Rattle.nrm_session.proofs.Seats.{kept}
@@ -20,6 +22,12 @@ returns-clause-optimal g c = plans-kept
 
 pub returns-clause-hindsight : goal.returns-clause-hindsight
 returns-clause-hindsight g c = openings-bounded
+
+pub returns-clause-money : goal.returns-clause-money
+returns-clause-money g c = adds-up
+
+pub returns-clause-physical : goal.returns-clause-physical
+returns-clause-physical g c = decide-nothing
 
 pub returns-clause-requests : goal.returns-clause-requests
 returns-clause-requests g c = requests-answered
