@@ -4,7 +4,7 @@
     tests/hindsight.py [--program WORD...]
 
 Each network has a few legs of a few seats and up to four products, and each stream up to ten requests with cancellations
-between them, at more places than one of which it looks back. Every other file is of version 2, with authorised seats that
+between them, at more places than one of which it looks back. Half of the files are of version 2, with authorised seats that
 aren't the seats and with refund percentages. There each selection of the requests so far is tried, each request whole and at
 most once: the one that earns most must earn no more than the value that is told, the bookings that stand must be one and
 earn the revenue that is told, and the value must be the greatest of the program's corners, so that it isn't above the bound
