@@ -22,6 +22,7 @@ STYLES = {"first": (ORANGE, "o", ":"), "bid": (BLUE, "s", "-"), "davn": (VERMILL
 BANDS = [(VERMILLION, "////"), (ORANGE, "----"), (GREEN, "\\\\\\\\"), (YELLOW, "||||"), (PURPLE, "xxxx"), (SKY, "++++"),
          (VERMILLION, "----"), (ORANGE, "////"), (GREEN, "||||")]
 SOLD, OPEN = (BLUE, ""), ("#FFFFFF", "")
+SEATS_LINE = {"color": BLACK, "linewidth": 1.3, "linestyle": "--"}
 LINE = "line of the stream"
 WIDTH = 8.3  # inches of 100 dots: as wide as a page of a repository
 SETTINGS = {"svg.hashsalt": "nrm", "svg.fonttype": "none", "font.size": 8.5, "axes.titlesize": 8.5,
@@ -78,7 +79,8 @@ def bid_prices(network, stream, seasons):
         for it in seasons[1:]:
             axis.plot([point.number for point in it.points], [float(point.prices[leg]) for point in it.points],
                       drawstyle="steps-post", **style(it.mode))
-        axis.set_title(f"{leg}, {network.seats[leg]} seats")
+        seats_told = "seats" if network.authorised[leg] == network.seats[leg] else "authorised"
+        axis.set_title(f"{leg}, {network.authorised[leg]} {seats_told}")
     most = max(1, *[float(price) for it in seasons[1:] for point in it.points for price in point.prices.values()])
     axes[0].set_ylim(-0.05 * most, 1.05 * most)
     told(figure, LINE, "bid price, currency units",
@@ -87,8 +89,8 @@ def bid_prices(network, stream, seasons):
 
 
 def bands(season, seats, leg):
-    """A leg's seats behind each line that changes them, with the numbers of these lines: from the top those protected for
-    bucket 1, for buckets 1 and 2, and so on, then those left to all, then those sold."""
+    """A leg's authorised seats behind each line that changes them, with the numbers of these lines: from the top those protected
+    for bucket 1, for buckets 1 and 2, and so on, then those left to all, then those sold."""
     levels, points, numbers, found = [], list(season.points), [], []
     for number, sold in enumerate(season.course):
         while points and points[0].number <= number:
@@ -102,22 +104,26 @@ def bands(season, seats, leg):
 
 
 def seats(network, stream, seasons, leg):
-    """The seats of a leg in each mode: sold, left, and of those left, protected by bucket."""
-    looks = BANDS[:len(network.thresholds[leg])]
-    figure, axes = panels(len(seasons), 3, 2.5, -(-(3 + len(looks)) // 3))
+    """The authorised seats of a leg in each mode: sold, left, and of those left, protected by bucket; and a line at its seats
+    where these are fewer or more."""
+    looks, authorised = BANDS[:len(network.thresholds[leg])], network.authorised[leg]
+    marks = [] if authorised == network.seats[leg] else [Line2D([], [], **SEATS_LINE, label=f"the leg's {network.seats[leg]} seats")]
+    figure, axes = panels(len(seasons), 3, 2.5, -(-(3 + len(looks) + len(marks)) // 3))
     for axis, it in zip(axes, seasons):
-        numbers, found = bands(it, network.seats[leg], leg)
-        top = [network.seats[leg]] * len(numbers)
+        numbers, found = bands(it, authorised, leg)
+        top = [authorised] * len(numbers)
         for (colour, hatch), band in zip([*looks[:len(found) - 2], OPEN, SOLD], found):
             bottom = [a - b for a, b in zip(top, band)]
             axis.fill_between(numbers, bottom, top, step="post", facecolor=colour, hatch=hatch, edgecolor=BLACK, linewidth=0)
             top = bottom
         axis.plot(numbers, found[-1], drawstyle="steps-post", color=BLACK, linewidth=0.8)
         mark_plans(axis, stream.points)
+        if marks:
+            axis.axhline(network.seats[leg], **SEATS_LINE)
         axis.set_title(f"{leg} under {it.mode}")
         axis.margins(x=0, y=0)
     kept = [patch(look, f"left, protected for bucket{f's 1 to {b}' if b > 1 else ' 1'}") for b, look in enumerate(looks, 1)]
-    told(figure, LINE, "seats", [patch(SOLD, "sold"), patch(OPEN, "left, not protected"), *kept, plan_mark()], 3)
+    told(figure, LINE, "seats", [patch(SOLD, "sold"), patch(OPEN, "left, not protected"), *kept, *marks, plan_mark()], 3)
     return figure
 
 
