@@ -917,8 +917,11 @@ def season_tells_what_was_withheld(tools):
     want([it.split()[:3] for it in withheld.splitlines()][2:], [["period", "2", "536"], ["end", last[5], withheld.split()[-2]]])
     want_in(out, "Seats of AB, 3 seats, 5 authorised, under first: sold, left\n")
     want_in(out, "\n  opening      0     5\n")
-    plain = tools.told("season.py", EXAMPLES / "log" / "network.csv", EXAMPLES / "log" / "commands.txt", *words[2:4], *words[6:])
+    plain, season = (tools.told("season.py", EXAMPLES / it / "network.csv", EXAMPLES / it / "commands.txt", *words[2:4], *words[6:])
+                     for it in ("log", "season"))
     want(("Withheld" in plain, "authorised" in plain), (False, False))
+    want_in(season, "  period 4    736   736   736\n  end        1149  1149  1149\n")  # of 1530 that were paid for seven bookings
+    want_in(season, "Seats of VIE-LHR-2, 48 seats, 50 authorised, under davn: sold, left, and protected for buckets\n")
 
 
 def reference_replies(mode, network, lines):
