@@ -21,13 +21,15 @@ BLACK, ORANGE, SKY, GREEN, YELLOW, BLUE, VERMILLION, PURPLE = (
 STYLES = {"first": (ORANGE, "o", ":"), "bid": (BLUE, "s", "-"), "davn": (VERMILLION, "^", "--"), "bound": (BLACK, "D", "-.")}
 BANDS = [(VERMILLION, "////"), (ORANGE, "----"), (GREEN, "\\\\\\\\"), (YELLOW, "||||"), (PURPLE, "xxxx"), (SKY, "++++"),
          (VERMILLION, "----"), (ORANGE, "////"), (GREEN, "||||")]
-SOLD, OPEN = (BLUE, ""), ("#FFFFFF", "")
+SOLD, OPEN, CLOSED = (BLUE, ""), ("#FFFFFF", ""), ("#BBBBBB", "")
+SEATS_LINE = {"color": BLACK, "linewidth": 1.3, "linestyle": "--", "clip_on": False}
 LINE = "line of the stream"
 WIDTH = 8.3  # inches of 100 dots: as wide as a page of a repository
 SETTINGS = {"svg.hashsalt": "nrm", "svg.fonttype": "none", "font.size": 8.5, "axes.titlesize": 8.5,
             "axes.spines.top": False, "axes.spines.right": False,
             "hatch.linewidth": 0.5, "lines.markersize": 4.5, "lines.linewidth": 1.3, "legend.frameon": False, "figure.dpi": 100}
 PRODUCTS_IN_A_PANEL = 32
+WIDEST_TITLE = 22  # letters that fit above one of five panels
 
 
 def panels(count, columns, height, legend, left=0.65, across=0.25, share_y=True):
@@ -73,12 +75,15 @@ def plan_mark():
 def bid_prices(network, stream, seasons):
     """The bid price of each leg, under the modes that have prices."""
     figure, axes = panels(len(network.seats), 5, 1.25 if len(network.seats) > 5 else 2, 1)
+    titles = {leg: f"{leg}, {authorised} {'seats' if authorised == network.seats[leg] else 'authorised'}"
+              for leg, authorised in network.authorised.items()}
+    size = SETTINGS["axes.titlesize"] * min(1, WIDEST_TITLE / max(map(len, titles.values())))
     for axis, leg in zip(axes, network.seats):
         mark_plans(axis, stream.points)
         for it in seasons[1:]:
             axis.plot([point.number for point in it.points], [float(point.prices[leg]) for point in it.points],
                       drawstyle="steps-post", **style(it.mode))
-        axis.set_title(f"{leg}, {network.seats[leg]} seats")
+        axis.set_title(titles[leg], fontsize=size)
     most = max(1, *[float(price) for it in seasons[1:] for point in it.points for price in point.prices.values()])
     axes[0].set_ylim(-0.05 * most, 1.05 * most)
     told(figure, LINE, "bid price, currency units",
@@ -87,8 +92,8 @@ def bid_prices(network, stream, seasons):
 
 
 def bands(season, seats, leg):
-    """A leg's seats behind each line that changes them, with the numbers of these lines: from the top those protected for
-    bucket 1, for buckets 1 and 2, and so on, then those left to all, then those sold."""
+    """A leg's authorised seats behind each line that changes them, with the numbers of these lines: from the top those protected
+    for bucket 1, for buckets 1 and 2, and so on, then those left to all, then those sold."""
     levels, points, numbers, found = [], list(season.points), [], []
     for number, sold in enumerate(season.course):
         while points and points[0].number <= number:
@@ -102,22 +107,28 @@ def bands(season, seats, leg):
 
 
 def seats(network, stream, seasons, leg):
-    """The seats of a leg in each mode: sold, left, and of those left, protected by bucket."""
-    looks = BANDS[:len(network.thresholds[leg])]
-    figure, axes = panels(len(seasons), 3, 2.5, -(-(3 + len(looks)) // 3))
+    """The authorised seats of a leg in each mode: sold, left, and of those left, protected by bucket; and a line at its seats
+    where these are fewer, or more, of which some are not authorised."""
+    looks, authorised = BANDS[:len(network.thresholds[leg])], network.authorised[leg]
+    marks = [] if authorised == network.seats[leg] else [Line2D([], [], **SEATS_LINE, label=f"the leg's {network.seats[leg]} seats")]
+    marks += [patch(CLOSED, "not authorised")] if authorised < network.seats[leg] else []
+    figure, axes = panels(len(seasons), 3, 2.5, -(-(3 + len(looks) + len(marks)) // 3))
     for axis, it in zip(axes, seasons):
-        numbers, found = bands(it, network.seats[leg], leg)
-        top = [network.seats[leg]] * len(numbers)
+        numbers, found = bands(it, authorised, leg)
+        top = [authorised] * len(numbers)
         for (colour, hatch), band in zip([*looks[:len(found) - 2], OPEN, SOLD], found):
             bottom = [a - b for a, b in zip(top, band)]
             axis.fill_between(numbers, bottom, top, step="post", facecolor=colour, hatch=hatch, edgecolor=BLACK, linewidth=0)
             top = bottom
         axis.plot(numbers, found[-1], drawstyle="steps-post", color=BLACK, linewidth=0.8)
         mark_plans(axis, stream.points)
+        if marks:
+            axis.axhline(network.seats[leg], **SEATS_LINE)
+            axis.axhspan(authorised, max(authorised, network.seats[leg]), facecolor=CLOSED[0], linewidth=0)
         axis.set_title(f"{leg} under {it.mode}")
         axis.margins(x=0, y=0)
     kept = [patch(look, f"left, protected for bucket{f's 1 to {b}' if b > 1 else ' 1'}") for b, look in enumerate(looks, 1)]
-    told(figure, LINE, "seats", [patch(SOLD, "sold"), patch(OPEN, "left, not protected"), *kept, plan_mark()], 3)
+    told(figure, LINE, "seats", [patch(SOLD, "sold"), patch(OPEN, "left, not protected"), *kept, *marks, plan_mark()], 3)
     return figure
 
 
