@@ -137,9 +137,10 @@ def tell(leg, emsr):
     table("Mean revenue of a history, in currency units", ["", "revenue", "share"],
           [["optimum", f"{float(leg.value):,.2f}", ""], ["EMSR-b", f"{float(earned):,.2f}", share]])
     if leg.others:
-        print(f"\n{leg.others} more products use {leg.name} and other legs: they have no part in this")
-    if not any(leg.classes[-1][2]):
-        print(f"\nnobody asked for {leg.classes[-1][0]}: so `nrm` takes the fare of its bucket as 0, and may keep more from it than need be")
+        print(f"\nproducts that use {leg.name} and other legs, which have no part in this: {leg.others}")
+    lowest = leg.classes[-1][1]
+    if emsr.kept[-1] and not any(any(demand) for _, fare, demand in leg.classes if fare == lowest):
+        print(f"\nnobody asked at {lowest}, the lowest fare: so `nrm` takes the last bucket's fare as 0, and EMSR-b keeps the more from it")
 
 
 def main():
