@@ -32,14 +32,14 @@ class Made:
     def __init__(self, seed):
         draw = random.Random(seed)
         self.second = seed % 2 == 0  # version 2 of the file
-        is_large = seed % 50 == 49
+        is_large = seed % 30 == 29  # the value's denominator is the tenth power of 32 then, before it is in lowest terms
         self.histories = draw.randint(1, 4) if not is_large else 32
         self.periods = draw.randint(1, 3)
-        self.authorised = draw.choice([0, 1, 2, 3, 5, 8, 12, 16])
+        self.authorised = draw.choice([0, 1, 2, 3, 5, 8, 12, 16]) if not is_large else 12
         self.seats = self.authorised if not self.second else draw.randint(0, 20)
-        count = draw.choice([0, 1, 2, 2, 3, 3, 4, 4, 5, 6, 10, 11]) if not is_large else 4
-        top = draw.choice([3, 20, 999, 99_999_999])
-        most = draw.choice([0, 1, 2, 4, 9, 30])
+        count = draw.choice([0, 1, 2, 2, 3, 3, 4, 4, 5, 6, 10, 11]) if not is_large else 10
+        top = draw.choice([3, 20, 999, 99_999_999]) if not is_large else 99_999_999
+        most = draw.choice([0, 1, 2, 4, 9, 30]) if not is_large else 2
         self.products = [(f"C{at}", draw.randint(1, top), ["HERE"]) for at in range(count)]
         self.products += [("OVER", 700, ["HERE", "AWAY"]), ("AFTER", 300, ["AWAY", "HERE"]), ("ELSE", 99, ["AWAY"])]
         draw.shuffle(self.products)
