@@ -3,11 +3,11 @@
 
     tests/leg_program.py [--program WORD...]
 
-Each network has a leg with a few classes, some at one fare, each with its demand in a few histories; there are products of other legs
-and of more than one. The value is worked out in exact fractions by trying every number of seats that may be sold, in each state:
-the class that asks, the seats left and what it asks for. The value that is told must be this one, and each protection the
-greatest number of seats of which the last is worth more to the classes above than the next fare. A policy that sells what the
-protections leave must earn the value, and one by EMSR-b's protections at most the value. With no --program it is the script
+Each network has a leg with a few classes, some at one fare, each with its demand in a few histories; there are products of other
+legs and of more than one. The value is worked out in exact fractions by trying every number of seats that may be sold, in each
+state: the class that asks, the seats left and what it asks for. The value that is told must be this one, and each protection
+the greatest number of seats of which the last is worth more to the classes above than the next fare. A policy that sells what
+the protections leave must earn the value, and one by EMSR-b's protections at most the value. With no --program it is the script
 `nrm` at the top of the repository. The last lines tell how often EMSR-b earns less, and how many legs passed.
 """
 import argparse

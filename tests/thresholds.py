@@ -3,12 +3,12 @@
 
     tests/thresholds.py [--program WORD...]
 
-Each network has a leg whose products have a few fares, some of them more than once, and demand that is the weight of each fare; other
-legs have products too. All ways are tried to put the fares into so many groups, which needn't be neighbours, each with the
-best centre among the fares, and where the fares lie close together among all whole numbers between: none may cost less than the cost
-that is told. And of all divisions of the falling list into neighbouring pieces the one that is told must cost the least, of
-those have the fewest pieces, and of those the first list of lengths. With no --program it is the script `nrm` at the top of
-the repository. The last lines tell how often a rule had to choose, and how many lists passed.
+Each network has a leg whose products have a few fares, some of them more than once, and demand that is the weight of each fare;
+other legs have products too. All ways are tried to put the fares into so many groups, which needn't be neighbours, each with
+the best centre among the fares, and where the fares lie close together among all whole numbers between: none may cost less
+than the cost that is told. And of all divisions of the falling list into neighbouring pieces the one that is told must cost the
+least, of those have the fewest pieces, and of those the first list of lengths. With no --program it is the script `nrm` at the
+top of the repository. The last lines tell how often a rule had to choose, and how many lists passed.
 """
 import argparse
 import itertools
@@ -43,7 +43,8 @@ class Made:
             fares = fares[:1] * size
         most = draw.choice([0, 1, 1, 2, 5, 499])
         self.histories, self.periods = draw.randint(1, 3), draw.randint(1, 2)
-        self.products = [(f"P{at}", draw.choice(fares) if at >= size else fares[at], self.legs_of(draw)) for at in range(size + draw.randrange(3))]
+        fares += draw.choices(fares, k=draw.randrange(3))
+        self.products = [(f"P{at}", fare, self.legs_of(draw)) for at, fare in enumerate(fares)]
         self.demand = [(name, history, [draw.randint(0, most) for _ in range(self.periods)]) for name, _, _ in self.products
                        for history in range(1, self.histories + 1) if draw.randrange(4)]
         draw.shuffle(self.demand)
@@ -123,8 +124,8 @@ def compared(made, told):
     if total != least:
         raise Wrong(f"a division that costs {least}, as the best grouping does, and none costs less than {total}")
     parts = pieces(items, sizes)
-    wanted = [["cuts", "HERE", *[piece[-1][0] for piece in parts[:-1]]], ["centres", "HERE", *map(centre, parts)], ["cost", "HERE", total]]
-    wanted = [" ".join(map(str, line)) for line in wanted]
+    cuts, centres = [piece[-1][0] for piece in parts[:-1]], map(centre, parts)
+    wanted = [" ".join(map(str, line)) for line in (["cuts", "HERE", *cuts], ["centres", "HERE", *centres], ["cost", "HERE", total])]
     if told.splitlines() != wanted or not told.endswith("\n"):
         raise Wrong("\n".join(wanted))
     same = [(many, some) for spent, many, some in divided if spent == total]

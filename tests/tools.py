@@ -800,9 +800,11 @@ demand,S,1,0,4
 def thresholds_are_told_and_written(tools):
     network, program = EXAMPLES / "certificate" / "network.csv", ["--program", *tools.program]
     out = tools.told("thresholds.py", network, 2, "--out", "made.csv", *program)
-    want(out.splitlines()[3:], ["  leg  cuts  centres   cost  for a seat", "  AB    400  500 150  1,200        21.4",
-                                "  BC    500   500 80      0         0.0", "", "made.csv"])
-    want((tools.folder / "made.csv").read_text(), network.read_text().replace("AB,10,300,100", "AB,10,400").replace("BC,10,300,100", "BC,10,500"))
+    want(out.splitlines()[3:], ["  leg  cuts  centres   cost  for a seat",
+                                "  AB    400  500 150  1,200        21.4",
+                                "  BC    500   500 80      0         0.0", "  all                 1,200        11.5", "", "made.csv"])
+    wanted = network.read_text().replace("AB,10,300,100", "AB,10,400").replace("BC,10,300,100", "BC,10,500")
+    want((tools.folder / "made.csv").read_text(), wanted)
     want_in(tools.nrm("plan", "davn", "made.csv"), "nest AB ABL 150/1 2\n")
 
 
@@ -874,7 +876,8 @@ def optimum_keeps_nothing_from_a_class_at_the_same_fare(tools):
 
 @test
 def optimum_tells_of_a_leg_that_has_no_such_classes(tools):
-    many = [["periods", 1, 1], ["leg", "X", 5], ["leg", "Y", 5], ["product", "OVER", 5, "X", "Y"], *[["product", f"P{it}", 5, "X"] for it in range(11)]]
+    many = [["periods", 1, 1], ["leg", "X", 5], ["leg", "Y", 5], ["product", "OVER", 5, "X", "Y"],
+            *[["product", f"P{it}", 5, "X"] for it in range(11)]]
     path, program = tools.file("many.csv", text_of(many)), ["--program", *tools.program]
     for leg, wanted in (("X", "the products whose only leg is X are 11, and it takes 1 to 10"), ("Y", "only leg is Y are 0, and"),
                         ("Z", "there is no leg Z")):

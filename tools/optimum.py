@@ -3,24 +3,24 @@
 
     tools/optimum.py NETWORK LEG [--out FOLDER] [--program WORD...]
 
-The classes are the products whose only leg is LEG, 1 to 10 of them, and they have all its authorised seats to themselves: what is
-sold over several legs has no part in this. The optimum is that of `nrm dp`. EMSR-b's protections are those of `nrm plan davn` on a
-network of this leg and these classes alone, with a bucket for each fare. Told are, for each class, its fare, its mean demand in a
-history, and how many seats are kept from it by each for the classes above; and the mean revenue of a history by each, the second one
-worked out in exact fractions by the same model, with its share of the optimum.
+The classes are the products whose only leg is LEG, 1 to 10 of them, and they have all its authorised seats to themselves: what
+is sold over several legs has no part in this. The optimum is that of `nrm dp`. EMSR-b's protections are those of `nrm plan davn`
+on a network of this leg and these classes alone, with a bucket for each fare. Told are, for each class, its fare, its mean
+demand in a history, and how many seats are kept from it by each for the classes above; and the mean revenue of a history by
+each, the second one worked out in exact fractions by the same model, with its share of the optimum.
 
 With --out the revenue over the number of seats, what each further seat adds to it, which is the bid price of that seat, and the
 protections are drawn, as optimum.png and optimum.svg in FOLDER. That needs matplotlib (Debian's python3-matplotlib). With no
 --program it is the `nrm` above this folder, or the one on the path.
 
-WHAT THE NUMBERS MEAN. The model has the classes come one after the other, from the lowest fare to the highest. Each class asks for
-what it did in one of the histories, each as likely, and whatever the other classes ask for. If it comes so, no rule of control
-earns more on the mean than the optimum. Where it doesn't come so, the optimum is no bound and no forecast. If classes come in
-another order, what a dear class asks for may be known before the seats are gone, and a control that makes use of that can
-earn more. If the demand of classes rises and falls together, as it does where some days are busy for all, then the same
-protections earn more or less than is told here. EMSR-b itself reads the histories as they are, with what is common to the classes in
-them. So the share says how near EMSR-b's rule comes on this leg in a plain model. What protections earn in your seasons, with the
-other legs and with new plans, `tools/replay.py` says.
+WHAT THE NUMBERS MEAN. The model has the classes come one after the other, from the lowest fare to the highest. Each class asks
+for what it did in one of the histories, each as likely, and whatever the other classes ask for. If it comes so, no rule of
+control earns more on the mean than the optimum. Where it doesn't come so, the optimum is no bound and no forecast. If classes
+come in another order, what a dear class asks for may be known before the seats are gone, and a control that makes use of that
+can earn more. If the demand of classes rises and falls together, as it does where some days are busy for all, then the same
+protections earn more or less than is told here. EMSR-b itself reads the histories as they are, with what is common to the
+classes in them. So the share says how near EMSR-b's rule comes on this leg in a plain model. What protections earn in your
+seasons, with the other legs and with new plans, `tools/replay.py` says.
 """
 import os
 import re

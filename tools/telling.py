@@ -1,4 +1,4 @@
-"""What tools tell, and from what: the lines that the program answers to its words, tables of text, and why there are no pictures."""
+"""What tools tell, and from what: the lines that the program answers to words, tables of text, and why there are no pictures."""
 import os
 import subprocess
 import sys
@@ -44,8 +44,8 @@ def no_pictures():
     """Tells on standard error that there is no matplotlib, and for which Python there may be one."""
     advice = ("Debian's package is python3-matplotlib" if sys.executable == DEBIANS_PYTHON else
               f"Debian's python3-matplotlib is for {DEBIANS_PYTHON}: {DEBIANS_PYTHON} {' '.join(sys.argv)}")
-    print(f"{os.path.basename(sys.argv[0])}: no pictures, since {sys.executable}, the Python that was asked, has no matplotlib; {advice}",
-          file=sys.stderr)
+    tool = os.path.basename(sys.argv[0])
+    print(f"{tool}: no pictures, since {sys.executable}, the Python that was asked, has no matplotlib; {advice}", file=sys.stderr)
 
 
 if __name__ == "__main__":

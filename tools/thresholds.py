@@ -3,14 +3,14 @@
 
     tools/thresholds.py NETWORK GROUPS [--out FILE] [--pictures FOLDER] [--program WORD...]
 
-For each leg that a product uses, `nrm cuts` divides the fares on it into at most GROUPS groups, 1 to 10, so that the seats that were
-asked for lie as close to the centres of their groups as can be: the cost is the sum, over the seats of all histories, of the
-distance of the fare from the centre. Told are, for each leg, the cuts, the centres, the cost, and the cost for each seat. A cut is the
-least fare of its group, and as a threshold of the leg it ends a bucket there: NETWORK's own thresholds have no say.
+For each leg that a product uses, `nrm cuts` divides the fares on it into at most GROUPS groups, 1 to 10, so that the seats that
+were asked for lie as close to the centres of their groups as can be: the cost is the sum, over the seats of all histories, of
+the distance of the fare from the centre. Told are, for each leg, the cuts, the centres, the cost, and the cost for each seat. A
+cut is the least fare of its group, and as a threshold of the leg it ends a bucket there: NETWORK's own thresholds have no say.
 
-With --out the network is written to FILE, with the cuts as the thresholds of the legs and all other rows as they stand. A leg that no
-product uses keeps its thresholds. `nrm run davn FILE` then controls by them, and `tools/replay.py FILE` says what they would have
-earned.
+With --out the network is written to FILE, with the cuts as the thresholds of the legs and all other rows as they stand. A leg
+that no product uses keeps its thresholds. `nrm run davn FILE` then controls by them, and `tools/replay.py FILE` says what they
+would have earned.
 
 With --pictures the fares of each leg are drawn with their cuts and centres, as thresholds.png and thresholds.svg in FOLDER. That
 needs matplotlib (Debian's python3-matplotlib): without it the fares are told in a table. With no --program it is the `nrm` above
@@ -37,11 +37,9 @@ class Grouping:
         if len(self.centres) != len(self.cuts) + 1 or not {*self.cuts, *self.centres} <= asked.keys():
             raise ValueError
 
-    def row(self):
-        """What is told of it in a table."""
-        seats = sum(self.asked.values())
-        return [self.leg, " ".join(map(str, self.cuts)), " ".join(map(str, self.centres)), f"{self.cost:,}",
-                f"{self.cost / seats:.1f}" if seats else ""]
+    def seats(self):
+        """How many seats were asked for on the leg."""
+        return sum(self.asked.values())
 
     def group(self, fare):
         """The number of the group that a fare is in, from 1."""
@@ -68,10 +66,22 @@ def groupings(path, network, groups, words_of_nrm):
                 raise no_answer(*words)
 
 
+def told_in_rows(found):
+    """The rows of a table: the cuts, the centres, the cost and the cost for a seat of each leg, and of all legs together."""
+    for it in found:
+        yield [it.leg, " ".join(map(str, it.cuts)), " ".join(map(str, it.centres)), *costs(it.cost, it.seats())]
+    if len(found) > 1:
+        yield ["all", "", "", *costs(sum(it.cost for it in found), sum(it.seats() for it in found))]
+
+
+def costs(cost, seats):
+    return [f"{cost:,}", f"{cost / seats:.1f}" if seats else ""]
+
+
 def rows_with(rows, cuts):
     """The rows of a network, with cuts as the thresholds of their legs."""
-    before = len(rows[0])  # thresholds stand behind the third field of a leg in version 1, in which the first row has three fields, and
-    for row in rows:       # behind the fourth in version 2, in which it has four
+    before = len(rows[0])  # fields of a leg before its thresholds: 3 in version 1, and 4 in version 2, as in the first row
+    for row in rows:
         yield [*row[:before], *cuts[row[1]]] if row[0] == "leg" and row[1] in cuts else row
 
 
@@ -86,7 +96,7 @@ def main():
     network, rows = Network.read(given.network), [row.fields for row in rows_in(given.network)]
     found = list(groupings(given.network, network, given.groups, program(given.program)))
     table(f"The fares on each leg in {given.groups} groups at most", ["leg", "cuts", "centres", "cost", "for a seat"],
-          [it.row() for it in found])
+          told_in_rows(found))
     unused = [leg for leg in network.seats if leg not in {it.leg for it in found}]
     if unused:
         print(f"\nno product uses {', '.join(unused)}")
