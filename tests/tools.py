@@ -856,7 +856,7 @@ def optimum_tells_what_is_worked_out_by_hand(tools):
     want(out.splitlines()[3:], ["  class  fare  mean demand  optimum  EMSR-b", "  HI      600         1.50        0       0",
                                 "  MID     300         1.00        1       1", "  LO      200         0.50        2       3", "",
                                 "Mean revenue of a history, in currency units", "", "            revenue     share",
-                                "  optimum  1,075.00          ", "  EMSR-b   1,050.00  97.674 %", "",
+                                "  optimum  1,075.00", "  EMSR-b   1,050.00  97.674 %", "",
                                 "products that use X and other legs, which have no part in this: 1"])
     second = THREE_CLASSES.replace("periods,4,1", "periods,4,1,2").replace("leg,X,3", "leg,X,9,3").replace("leg,Y,2", "leg,Y,2,2")
     want(tools.told("optimum.py", tools.file("second.csv", second), "X", "--program", *tools.program), out)
@@ -884,7 +884,7 @@ def optimum_tells_of_a_leg_that_has_no_such_classes(tools):
         want_in(tools.stopped("optimum.py", path, leg, *program), wanted)
     few = tools.file("few.csv", text_of([it for it in many if it[1] not in ("P0", "OVER")]))
     out = tools.told("optimum.py", few, "X", *program)  # ten, at one fare, for which nobody asked
-    want(out.splitlines()[-2:], ["  optimum     0.00       ", "  EMSR-b      0.00       "])
+    want(out.splitlines()[-2:], ["  optimum     0.00", "  EMSR-b      0.00"])
 
 
 @test

@@ -37,7 +37,7 @@ def table(title, heads, rows, decimal=False):
     widths = [max(map(len, column)) for column in zip(*rows)]
     print(f"\n{title}\n")
     for row in rows:
-        print(f"  {row[0]:<{widths[0]}}", *[f"{it:>{width}}" for it, width in zip(row[1:], widths[1:])], sep="  ")
+        print("  ".join([f"  {row[0]:<{widths[0]}}", *[f"{it:>{width}}" for it, width in zip(row[1:], widths[1:])]]).rstrip())
 
 
 def no_pictures():
