@@ -999,6 +999,128 @@ def resume_goes_on_with_a_live_sender(tools):
         want((done.returncode, *found), (0, replies, b"".join(lines)), f"cut at {at}")
 
 
+# thresholds.py, optimum.py
+
+
+FARES_OF_LEGS = """periods,2,2,2
+leg,AB,9,8,700,1
+leg,IDLE,5,5,300,100
+leg,BC,7,9
+product,P,500,AB
+refund,P,50
+product,Q,150,AB
+product,R,400,AB,BC
+demand,P,2,1,3
+demand,Q,1,5,5
+product,S,400,AB
+demand,R,1,2,0
+demand,S,1,0,4
+"""
+
+
+@test
+def thresholds_are_told_and_written(tools):
+    network, program = EXAMPLES / "certificate" / "network.csv", ["--program", *tools.program]
+    out = tools.told("thresholds.py", network, 2, "--out", "made.csv", *program)
+    want(out.splitlines()[3:], ["  leg  cuts  centres   cost  for a seat",
+                                "  AB    400  500 150  1,200        21.4",
+                                "  BC    500   500 80      0         0.0", "  all                 1,200        11.5", "", "made.csv"])
+    wanted = network.read_text().replace("AB,10,300,100", "AB,10,400").replace("BC,10,300,100", "BC,10,500")
+    want((tools.folder / "made.csv").read_text(), wanted)
+    want_in(tools.nrm("plan", "davn", "made.csv"), "nest AB ABL 150/1 2\n")
+
+
+@test
+def thresholds_leave_all_else_as_it_stands(tools):
+    """In version 2 too, and a leg that no product uses keeps its own; and the file may be written over."""
+    path, program = tools.file("network.csv", FARES_OF_LEGS), ["--program", *tools.program]
+    for groups, cuts in ((1, ""), (2, ",400"), (3, ",500,400"), (10, ",500,400")):
+        out = tools.told("thresholds.py", path, groups, "--out", path, *program)
+        want((tools.folder / "network.csv").read_text(), FARES_OF_LEGS.replace("AB,9,8,700,1", f"AB,9,8{cuts}"))
+        want_in(out, "\nno product uses IDLE\n")
+    want_in(tools.nrm("print", path), "leg,AB,9,8,500,400\n")
+
+
+@test
+def thresholds_are_told_in_a_table_where_nothing_is_drawn(tools):
+    words = [tools.file("network.csv", FARES_OF_LEGS), 2, "--pictures", "pictures", "--program", *tools.program]
+    out, err, status = tools.ran("thresholds.py", *words)
+    want((err.startswith("thresholds.py: no pictures, since "), status), (True, 0), err)
+    want(out.partition("The fares on AB\n")[2].splitlines()[1:6],
+         ["  group  fare  seats  centre", "  1       500      4     400", "  1       400      6     400", "  2       150     10     150", ""])
+    if not tools.ran("thresholds.py", *words, env=os.environ)[1]:  # where there is matplotlib
+        want(sorted(it.name for it in (tools.folder / "pictures").iterdir()), ["thresholds.png", "thresholds.svg"])
+
+
+THREE_CLASSES = """periods,4,1
+leg,X,3
+leg,Y,2
+product,LO,200,X
+product,HI,600,X
+product,MID,300,X
+product,OVER,900,X,Y
+demand,HI,1,1
+demand,HI,2,1
+demand,HI,3,2
+demand,HI,4,2
+demand,MID,2,2
+demand,MID,4,2
+demand,LO,2,1
+demand,LO,3,1
+demand,OVER,1,9
+"""
+
+
+@test
+def optimum_tells_what_is_worked_out_by_hand(tools):
+    """The third class is sold one seat where the first two are kept 2, and none where they are kept 3."""
+    out = tools.told("optimum.py", tools.file("network.csv", THREE_CLASSES), "X", "--program", *tools.program)
+    want(out.splitlines()[3:], ["  class  fare  mean demand  optimum  EMSR-b", "  HI      600         1.50        0       0",
+                                "  MID     300         1.00        1       1", "  LO      200         0.50        2       3", "",
+                                "Mean revenue of a history, in currency units", "", "            revenue     share",
+                                "  optimum  1,075.00", "  EMSR-b   1,050.00  97.674 %", "",
+                                "products that use X and other legs, which have no part in this: 1"])
+    second = THREE_CLASSES.replace("periods,4,1", "periods,4,1,2").replace("leg,X,3", "leg,X,9,3").replace("leg,Y,2", "leg,Y,2,2")
+    want(tools.told("optimum.py", tools.file("second.csv", second), "X", "--program", *tools.program), out)
+
+
+@test
+def optimum_keeps_nothing_from_a_class_at_the_same_fare(tools):
+    """Classes of one fare share a bucket, which has a mean of their demand."""
+    network = "periods,1,1\nleg,X,5\nproduct,A,100,X\nproduct,B,300,X\nproduct,C,100,X\ndemand,A,1,9\ndemand,B,1,2\n"
+    out = tools.told("optimum.py", tools.file("network.csv", network), "X", "--program", *tools.program)
+    want(out.splitlines()[4:7], ["  B       300         2.00        0       0", "  A       100         9.00        2       2",
+                                 "  C       100         0.00        2       2"])
+    want("nobody asked" in out, False)
+    out = tools.told("optimum.py", tools.file("network.csv", network.replace("A,1,9", "A,1,0")), "X", "--program", *tools.program)
+    want_in(out, "\nnobody asked at 100, the lowest fare: so ")
+
+
+@test
+def optimum_tells_of_a_leg_that_has_no_such_classes(tools):
+    many = [["periods", 1, 1], ["leg", "X", 5], ["leg", "Y", 5], ["product", "OVER", 5, "X", "Y"],
+            *[["product", f"P{it}", 5, "X"] for it in range(11)]]
+    path, program = tools.file("many.csv", text_of(many)), ["--program", *tools.program]
+    for leg, wanted in (("X", "the products whose only leg is X are 11, and it takes 1 to 10"), ("Y", "only leg is Y are 0, and"),
+                        ("Z", "there is no leg Z")):
+        want_in(tools.stopped("optimum.py", path, leg, *program), wanted)
+    few = tools.file("few.csv", text_of([it for it in many if it[1] not in ("P0", "OVER")]))
+    out = tools.told("optimum.py", few, "X", *program)  # ten, at one fare, for which nobody asked
+    want(out.splitlines()[-2:], ["  optimum     0.00", "  EMSR-b      0.00"])
+
+
+@test
+def optimum_tells_the_textbook_example(tools):
+    for name, optimum, emsr in (("first", "0 17 43 73", "0 17 50 83"), ("second", "0 10 54 98", "0 10 53 95")):
+        path = EXAMPLES / "textbook" / f"{name}.csv"
+        made = subprocess.run([sys.executable, "-B", EXAMPLES / "textbook" / "make.py", name], stdout=subprocess.PIPE).stdout
+        want(made, path.read_bytes())
+        out = tools.told("optimum.py", path, "AB", "--out", "pictures", "--program", *tools.program, env=os.environ)
+        rows = [it.split() for it in out.splitlines()[4:8]]
+        want([" ".join(it) for it in zip(*rows)][3:], [optimum, emsr])
+        want((tools.folder / "pictures").exists(), "pictures/optimum.svg\n" in out)
+
+
 # How every tool begins and ends
 
 
@@ -1010,7 +1132,8 @@ def words_of_tools(tools):
     certificate = tools.file("certificate", tools.nrm("plan", "bid", network))
     return {"audit.py": [network, certificate], "explain.py": [network, certificate], "lp.py": [network], "log.py": log,
             "split.py": [network, "parts"], "season.py": [network, stream, "--out", "pictures", *program], "replay.py": [network, *program],
-            "resume.py": [network, "bid", stream, kept, *program]}
+            "resume.py": [network, "bid", stream, kept, *program], "thresholds.py": [network, "3", "--out", "made.csv", *program],
+            "optimum.py": [network, "ZRH-VIE", *program]}
 
 
 @test
@@ -1068,6 +1191,12 @@ def tools_that_run_the_program_tell_where_it_is_another(tools):
         want_in(tools.stopped("season.py", network, stream, *program), sentences[0])
         want_in(tools.stopped("replay.py", network, *program), sentences[1])
         want(tools.ran("replay.py", network, *program)[0], "")  # and no heads of a table
+    for script in ("", "echo ok 1", "echo class P 5", "echo cost A 0", "echo value A 1/0"):
+        program = ["--program", "sh", tools.file("script", script)]
+        want_in(tools.stopped("thresholds.py", network, 2, *program), f"what `cuts {network} A 2` wrote is no answer to it")
+        want_in(tools.stopped("optimum.py", network, "A", *program), f"what `dp {network} A` wrote is no answer to it")
+    program = ["--program", "sh", tools.file("script", "echo no leg; exit 10")]
+    want_in(tools.stopped("thresholds.py", network, 2, *program), f"`cuts {network} A 2` ended with status 10: no leg\n")
     refused, program = tools.file("refused.csv", "periods,1,1\nleg,a,1\n"), ["--program", *tools.program]
     for wrong, sentence in ((refused, "ended with status 3: refused row 2 why 5 name; `tools/explain.py` tells"),
                             (tools.folder, "status 9: file fault")):
@@ -1088,7 +1217,7 @@ def tools_name_the_file_that_cant_be_read(tools):
 
 @test
 def parts_of_tools_say_that_they_are_none(tools):
-    for path in (TOOLS / "nrm_tools.py", TOOLS / "pictures.py", TOP / "bench" / "networks.py"):
+    for path in (TOOLS / "nrm_tools.py", TOOLS / "pictures.py", TOOLS / "telling.py", TOP / "bench" / "networks.py"):
         for words in ([], ["--help"]):
             out, err, status = tools.ran(path, *words)
             want((out, err.startswith(f"{path.name}: no tool, but a part of "), status), ("", True, 1), err)
@@ -1123,10 +1252,11 @@ def scripts_of_bench_name_themselves_and_give_no_traceback(tools):
 
 @test
 def tools_end_at_ctrl_c(tools):
-    for name in ("season.py", "replay.py"):
+    for name in ("season.py", "replay.py", "thresholds.py", "optimum.py"):
         begun = tools.folder / f"{name}-begun"
         program = tools.file("slow", f"touch '{begun}'\nexec sleep 60\n")
-        words = [*words_of_tools(tools)[name][:2 if name == "season.py" else 1], "--program", "sh", program]
+        words = words_of_tools(tools)[name]
+        words = [*words[:words.index("--program")], "--program", "sh", program]
         process = subprocess.Popen([sys.executable, "-B", TOOLS / name, *words], cwd=tools.folder, stdout=subprocess.PIPE,
                                    stderr=subprocess.PIPE, start_new_session=True,
                                    # a shell has what it runs behind it ignore the signal

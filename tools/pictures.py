@@ -1,4 +1,4 @@
-"""The pictures of a season, for tools/season.py: with matplotlib, and the same each time.
+"""The pictures of tools/season.py, tools/thresholds.py and tools/optimum.py: with matplotlib, and the same each time.
 
 Colours are those of Okabe and Ito, which colour-blind readers tell apart; each has a mark, a dash or a hatch of its own too.
 """
@@ -32,14 +32,14 @@ PRODUCTS_IN_A_PANEL = 32
 WIDEST_TITLE = 22  # letters that fit above one of five panels
 
 
-def panels(count, columns, height, legend, left=0.65, across=0.25, share_y=True):
+def panels(count, columns, height, legend, left=0.65, across=0.25, share_x=True, share_y=True):
     """A figure with that many panels, each of a height in inches, and room below for so many rows of a legend."""
     columns = min(columns, count)
     rows = -(-count // columns)
     below = 0.7 + 0.18 * legend
     tall = 0.3 + rows * height + (rows - 1) * 0.42 + below
     wide = (WIDTH - left - 0.2 - (columns - 1) * across) / columns
-    figure, axes = pyplot.subplots(rows, columns, squeeze=False, sharex=True, sharey=share_y, figsize=(WIDTH, tall))
+    figure, axes = pyplot.subplots(rows, columns, squeeze=False, sharex=share_x, sharey=share_y, figsize=(WIDTH, tall))
     figure.subplots_adjust(left=left / WIDTH, right=1 - 0.2 / WIDTH, top=1 - 0.3 / tall, bottom=below / tall,
                            wspace=across / wide, hspace=0.42 / height)
     for axis in axes.flat[count:]:
@@ -179,14 +179,76 @@ def refused(seasons):
 
 
 def drawn(network, stream, seasons, leg, folder):
-    """Draws all, and gives the paths of the files."""
+    """Draws a season, and gives the paths of the files."""
+    def figures():
+        yield "bid-prices", bid_prices(network, stream, seasons)
+        yield "seats", seats(network, stream, seasons, leg)
+        yield "revenue", revenue(stream, seasons)
+        if any(seasons[0].asked.values()):
+            yield "refused", refused(seasons)
+    return written(figures(), folder)
+
+
+def thresholds(groupings):
+    """The fares on each leg, as high as the seats that were asked for, in their groups, with the cuts and the centres."""
+    figure, axes = panels(len(groupings), 3, 1.35, 1, across=0.3, share_x=False, share_y=False)
+    centre = dict(color=VERMILLION, marker="^", linestyle="", clip_on=False, zorder=3)
+    for axis, it in zip(axes, groupings):
+        fares = list(it.asked)
+        edges = [(cut + below) / 2 for cut, below in zip(fares, fares[1:]) if cut in it.cuts]
+        wide = (fares[0] - fares[-1]) / 20 or fares[0] / 20
+        ends = [fares[0] + wide, *edges, fares[-1] - wide]
+        for high, low in list(zip(ends, ends[1:]))[1::2]:
+            axis.axvspan(low, high, color="#EEEEEE", linewidth=0)
+        axis.vlines(fares, 0, list(it.asked.values()), color=BLUE, linewidth=2)
+        axis.plot(fares, list(it.asked.values()), color=BLUE, marker="o", linestyle="", markersize=3)
+        for cut in it.cuts:
+            axis.axvline(cut, color=BLACK, linewidth=0.7, linestyle=(0, (3, 2)))
+        axis.plot(it.centres, [0] * len(it.centres), **centre)
+        axis.set_xlim(ends[-1], ends[0])
+        axis.set_ylim(bottom=0)
+        axis.xaxis.set_major_locator(matplotlib.ticker.MaxNLocator(4, integer=True))
+        axis.yaxis.set_major_locator(matplotlib.ticker.MaxNLocator(4, integer=True))
+        axis.set_title(it.leg)
+    told(figure, "fare, currency units", "seats asked for, in all histories",
+         [Line2D([], [], color=BLUE, marker="o", markersize=3, linewidth=2, label="a fare"),
+          Line2D([], [], color=BLACK, linewidth=0.7, linestyle=(0, (3, 2)), label="cut: the least fare of its group"),
+          Line2D([], [], **centre, label="centre of a group"), Patch(facecolor="#EEEEEE", label="every other group")])
+    return figure
+
+
+def optimum(classes, optimal, emsr):
+    """The mean revenue from each number of seats, what the last of them adds, and the seats that are kept from each class."""
+    figure, (value, price, kept) = panels(3, 1, 1.9, 1, left=1.35, share_y=False)
+    looks = [(optimal, dict(color=BLUE, linestyle="-"), "s", "optimum"), (emsr, dict(color=VERMILLION, linestyle="--"), "^", "EMSR-b")]
+    for (policy, look, mark, _), shift in zip(looks, (-0.12, 0.12)):
+        means = [float(it) for it in policy.values]
+        value.plot(range(len(means)), means, **look)
+        price.plot(range(1, len(means)), [b - a for a, b in zip(means, means[1:])], **look, drawstyle="steps-mid")
+        kept.plot(policy.kept, [at + shift for at in range(len(classes))], color=look["color"], linestyle="", marker=mark, clip_on=False)
+    value.set_title("mean revenue of a history from so many seats, currency units")
+    price.set_title("bid price: what the last of so many seats adds, currency units")
+    kept.set_title("seats that are kept from each class")
+    kept.set_yticks(range(len(classes)), [f"{name}\n{fare}" for name, fare, _ in classes])
+    kept.set_ylim(len(classes) - 0.5, -0.5)
+    value.set_xlim(0, max(1, len(optimal.values) - 1))
+    for axis in (value, price):
+        axis.set_ylim(bottom=0)
+        axis.yaxis.set_major_formatter(matplotlib.ticker.StrMethodFormatter("{x:,.0f}"))
+    told(figure, "seats", "", [Line2D([], [], **look, marker=mark, label=label) for _, look, mark, label in looks])
+    return figure
+
+
+def drawn_one(name, figure_of, folder):
+    """Draws one figure, which is made by a function, and gives the paths of the files."""
+    return written(((name, make()) for make in [figure_of]), folder)
+
+
+def written(figures, folder):
+    """Writes figures as they are made, each with its name, and gives the paths of the files."""
     make_folder(folder)
     with matplotlib.rc_context(SETTINGS):
-        figures = {"bid-prices": bid_prices(network, stream, seasons), "seats": seats(network, stream, seasons, leg),
-                   "revenue": revenue(stream, seasons)}
-        if any(seasons[0].asked.values()):
-            figures["refused"] = refused(seasons)
-        for name, figure in figures.items():
+        for name, figure in figures:
             for kind, metadata in (("png", {"Software": None}), ("svg", {"Date": None, "Creator": None})):
                 path = os.path.join(folder, f"{name}.{kind}")
                 figure.savefig(path, metadata=metadata)

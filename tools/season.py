@@ -20,13 +20,10 @@ lines that begin with `product`, `leg` and a fraction, `nest` or `protect`, and 
 So the replies are dealt out to the lines in order, and those to the lines put in are taken away.
 """
 import re
-import sys
 from fractions import Fraction
 
 from nrm_tools import MODES, Network, Stop, add_program, bytes_in, end, parser, program, replies
-
-
-DEBIANS_PYTHON = "/usr/bin/python3"
+from telling import no_pictures, table
 
 
 class Stream:
@@ -137,22 +134,6 @@ def leg_most_asked_for(network, stream):
 # Tables
 
 
-def cell(value, decimal):
-    """The text of a number, a name or of nothing."""
-    if decimal and isinstance(value, Fraction):
-        return f"{float(value):.2f}"
-    return "" if value is None else str(value)
-
-
-def table(title, heads, rows, decimal):
-    """A table of text, its columns to the right but for the first."""
-    rows = [[cell(it, decimal) for it in row] for row in [heads, *rows]]
-    widths = [max(map(len, column)) for column in zip(*rows)]
-    print(f"\n{title}\n")
-    for row in rows:
-        print(f"  {row[0]:<{widths[0]}}", *[f"{it:>{width}}" for it, width in zip(row[1:], widths[1:])], sep="  ")
-
-
 def tables(network, stream, seasons, leg, decimal=False):
     names = [name for _, name in stream.points]
     print("Each point of the season is behind a line of the stream:",
@@ -197,9 +178,7 @@ def main():
     try:
         import pictures
     except ImportError:
-        advice = ("Debian's package is python3-matplotlib" if sys.executable == DEBIANS_PYTHON else
-                  f"Debian's python3-matplotlib is for {DEBIANS_PYTHON}: {DEBIANS_PYTHON} {' '.join(sys.argv)}")
-        print(f"season.py: no pictures, since {sys.executable}, the Python that was asked, has no matplotlib; {advice}", file=sys.stderr)
+        no_pictures()
         return
     print()
     for path in pictures.drawn(network, stream, seasons, leg, given.out):
