@@ -6,10 +6,10 @@
 It takes each case of `tests/run.py` with the words `check FILE CERT` whose two files are there and whose network file isn't
 refused. The last line that `tools/audit.py` writes and its status must be those that the case wants; where it is `optimal`,
 the gain and the cost that it tells must be equal. So each certificate that a case wants of `plan bid` is taken, and must be
-`optimal`. Of each network file that a case prints it must read what it reads of the canonical one. PATTERN picks cases as in
-`tests/run.py`. Where `glpsol` is installed (Debian's glpk-utils), it solves the program
-that `tools/lp.py` writes of the network of each such plan and of each example, exactly; its value must be the plan's times
-the number of histories, the plan of an example being that of `tests/reference.py`. What fails is told; the last line is
+`optimal`. Of each network file that a case prints it must read what it reads of the canonical one, but for the version.
+PATTERN picks cases as in `tests/run.py`. Where `glpsol` is installed (Debian's glpk-utils), it solves the program that
+`tools/lp.py` writes of the network of each such plan and of each example, exactly; its value must be the plan's times the
+number of histories, the plan of an example being that of `tests/reference.py`. What fails is told; the last line is
 `N certificates, M failed`.
 """
 import glob
@@ -83,6 +83,7 @@ def readings(cases):
                 written(folder, network=printed, canonical=case.stdout)
                 try:
                     network, canonical = (vars(audit.Network(os.path.join(folder, it))) for it in ("network", "canonical"))
+                    network["version"] = 2  # as the canonical one's is
                 except audit.Refused as refusal:
                     network, canonical = str(refusal), "the network"
             yield case.name, None if network == canonical else f"{network} is read, and not {canonical}"

@@ -4,11 +4,13 @@
     tests/hindsight.py [--program WORD...]
 
 Each network has a few legs of a few seats and up to four products, and each stream up to ten requests with cancellations
-between them, at more places than one of which it looks back. There each selection of the requests so far is tried, each
-request whole and at most once: the one that earns most must earn no more than the value that is told, the bookings that
-stand must be one and earn the revenue that is told, and the value must be the greatest of the program's corners, so that
-it isn't above the bound that parts of seats allow. With no --program it is the script `nrm` at the top of the repository. The
-last line tells how many lines were compared, and at how many of them a selection earns the whole value.
+between them, at more places than one of which it looks back. Half of the files are of version 2, with authorised seats that
+aren't the seats and with refund percentages. There each selection of the requests so far is tried, each request whole and at
+most once: the one that earns most must earn no more than the value that is told, the bookings that stand must be one and
+earn the revenue that is told, and the value must be the greatest of the program's corners, so that it isn't above the bound
+that parts of seats allow. What cancellations gave back and what they didn't must be the fares that they were sold at. With
+no --program it is the script `nrm` at the top of the repository. The last line tells how many lines were compared, and at how
+many of them a selection earns the whole value.
 """
 import argparse
 import itertools
@@ -35,11 +37,15 @@ class Made:
     def __init__(self, seed):
         draw = random.Random(seed)
         self.mode = MODES[seed % len(MODES)]
-        self.legs = {f"L{n}": draw.randint(0, 6) for n in range(draw.randint(1, 4))}
+        self.version = 1 + seed // len(MODES) % 2
+        self.legs = {f"L{n}": draw.randint(0, 6) for n in range(draw.randint(1, 4))}  # the seats that may be booked
         self.products = {f"P{n}": (draw.randint(1, 999), draw.sample(list(self.legs), draw.randint(1, min(3, len(self.legs)))))
                          for n in range(draw.randint(1, 4))}
+        self.refunds = {name: draw.choice([0, 1, 33, 50, 99, 100]) for name in self.products
+                        if self.version == 2 and draw.randrange(3)}
         self.histories = draw.randint(1, 3)
         self.demand = [(name, history + 1, draw.randint(0, 4)) for name in self.products for history in range(self.histories)]
+        self.seats = {name: draw.randint(0, 9) if self.version == 2 else seats for name, seats in self.legs.items()}
         self.lines = [line for line in self.drawn(draw)]
 
     def drawn(self, draw):
@@ -52,9 +58,11 @@ class Made:
         yield "hindsight"
 
     def file(self):
-        rows = [("periods", self.histories, 1)]
-        rows += [("leg", name, seats, 300, 100) for name, seats in self.legs.items()]
+        is_second = self.version == 2
+        rows = [("periods", self.histories, 1, 2) if is_second else ("periods", self.histories, 1)]
+        rows += [("leg", name, seats, *([self.legs[name]] if is_second else []), 300, 100) for name, seats in self.seats.items()]
         rows += [("product", name, fare, *legs) for name, (fare, legs) in self.products.items()]
+        rows += [("refund", *row) for row in self.refunds.items()]
         rows += [("demand", *row) for row in self.demand]
         return "".join(",".join(map(str, row)) + "\n" for row in rows)
 
@@ -107,7 +115,7 @@ def compared(made, replies):
     """For each line of hindsight, whether a selection earns the whole value that is told."""
     if len(replies) != len(made.lines):
         raise Wrong(f"{len(made.lines)} replies")
-    requests, booked = [], {}
+    requests, booked, withheld = [], {}, 0
     for line, reply in zip(made.lines, replies):
         match line.split(" ") + reply.split(" "):
             case ["book", "NONE", _, told]:
@@ -117,9 +125,13 @@ def compared(made, replies):
                 requests.append((product, int(party)))
                 if told[0] == "ok":
                     booked[told[1]] = requests[-1]
-            case ["cancel", number, "cancelled", *_]:
+            case ["cancel", number, "cancelled", _, amount]:
+                paid, refund = made.earned([booked[number]]), made.refunds.get(booked[number][0], 100)
+                if not 100 * int(amount) <= paid * refund < 100 * (int(amount) + 1):
+                    raise Wrong(f"{refund} in 100 of {paid} given back, and not {amount}")
+                withheld += paid - int(amount)
                 del booked[number]
-            case ["hindsight", "hindsight", value, "revenue", revenue]:
+            case ["hindsight", "hindsight", value, "revenue", revenue, "withheld", sum_withheld]:
                 num, den = map(int, value.split("/"))
                 best, bound = made.best(requests), max(made.corners(requests))
                 if gcd(num, den) != 1 or Fraction(num, den) != bound:
@@ -128,6 +140,8 @@ def compared(made, replies):
                     raise Wrong(f"no selection that earns {best}, above {bound}")
                 if int(revenue) != made.earned(booked.values()) or not made.fits(booked.values()):
                     raise Wrong(f"revenue {made.earned(booked.values())}, and not {revenue}")
+                if int(sum_withheld) != withheld:
+                    raise Wrong(f"withheld {withheld}, and not {sum_withheld}")
                 yield best == bound
             case ["hindsight", *told]:
                 raise Wrong(f"a value, and not {' '.join(told)}")
@@ -136,7 +150,8 @@ def compared(made, replies):
 def main():
     parser = argparse.ArgumentParser(usage="tests/hindsight.py [--program WORD...]")
     parser.add_argument("--program", nargs="+", default=[os.path.join(TOP, "nrm")])
-    program, lines, reached, failed = parser.parse_args().program, 0, 0, 0
+    program = [os.path.abspath(it) if os.path.exists(it) else it for it in parser.parse_args().program]
+    lines, reached, failed = 0, 0, 0
     for seed in range(STREAMS):
         made = Made(seed)
         with tempfile.TemporaryDirectory() as folder:

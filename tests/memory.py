@@ -8,8 +8,8 @@ library and stands before its malloc, calloc, realloc, memalign, aligned_alloc a
 makes the Nth fail, alone or with all that come after it. It also has memory that is new or given back filled with other bytes
 (MALLOC_PERTURB_), so that what is read of it shows.
 
-The runs are `run` in the three modes on the network of examples/hub, over its lines and some that take memory, and `check`,
-`plan`, `print`, `gen` and some that end early. Each is done for every N, from 1 to the number of calls. Where there are more than
+The runs are `run` in the three modes on the network of examples/hub, over its lines and some that take memory, `run` on a file
+of version 2, and `check`, `plan`, `print`, `gen`, `cuts`, `dp` and some that end early. Each is done for every N, from 1 to the number of calls. Where there are more than
 3,000, it is done for the first 1,000 and then in steps of a prime, or with --all for every one. Each must end
 
     as with ample memory,
@@ -115,8 +115,8 @@ def lines_on_the_hub():
 
 
 def cases():
-    """The cases of `tests/run.py` that are too large, by their names."""
-    return {case.name: case for case in run.cases_of("too-large")}
+    """The cases of `tests/run.py`, by their names."""
+    return {case.name: case for case in run.cases_of("")}
 
 
 def replies(mode, lines, wanting=(), path=HUB):
@@ -166,6 +166,9 @@ def all_jobs(folder):
     known = cases()
     case = known["reoptimise-too-large-and-again-when-it-is-not"]
     yield Job.session("run overflow", "bid", case.stdin.splitlines(), file("later", case.files["network.csv"]))
+    case = known["refund-under-davn"]
+    second = file("second", case.files["network.csv"])
+    yield Job.session("run version 2", "davn", case.stdin.splitlines(), second)
     case = known["plan-bid-too-large"]
     yield Job("plan overflow", ["plan", "bid", file("large", case.files["network.csv"])], case.stdout, case.status)
     for mode in MODES:
@@ -176,6 +179,11 @@ def all_jobs(folder):
     yield Job("check wrong", ["check", example[0], file("other", wrong_certificate(example[1]))], b"wrong value\n", 1)
     yield Job("check refused", ["check", HUB, example[1]], refused_certificate(example[1]), 3)
     yield Job("print", ["print", HUB], reference.canonical(reference.network_in(HUB)))
+    yield Job("print version 2", ["print", second], reference.canonical(reference.network_in(second)))
+    yield Job("cuts", ["cuts", HUB, "FRA-JFK", "2"], reference.cuts_text(reference.network_in(HUB), b"FRA-JFK", 2))
+    yield Job("cuts no leg", ["cuts", HUB, "FRA", "2"], b"no leg\n", 10)
+    yield Job("dp", ["dp", HUB, "FRA-JFK"], reference.dp_text(reference.network_in(HUB), b"FRA-JFK"))
+    yield Job("dp no class", ["dp", HUB, "FRA"], b"classes 0\n", 11)
     yield Job("print refused", ["print", file("refused", b"periods,2,2\nleg,PAR-LYO,1000\n")], b"refused row 2 why 7 range\n", 3)
     yield Job("run not there", ["run", "bid", os.path.join(folder, "none")], b"refused no file\n", 3)
     yield Job("run folder", ["run", "davn", folder], b"file fault\n", 9)

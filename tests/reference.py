@@ -2,10 +2,12 @@
 """An independent account of the rules: a plain, slow model against which cases are made.
 
     tests/reference.py run MODE FILE          the replies to standard input on the network of FILE
-    tests/reference.py plan MODE FILE         the plan of the network of FILE at period 1, with every seat left
+    tests/reference.py plan MODE FILE         the plan of the network of FILE at period 1, with every authorised seat left
     tests/reference.py check FILE CERT        what the certificate CERT is for the network of FILE
     tests/reference.py print FILE             the canonical form of FILE
     tests/reference.py gen MODE NUMBER        what becomes of the commands that are made of NUMBER, on the network made of it
+    tests/reference.py cuts FILE LEG GROUPS   the fares of LEG in at most GROUPS groups, at the least cost
+    tests/reference.py dp FILE LEG            the dynamic program of LEG alone: its classes, its value and its protections
     tests/reference.py stream MODE FILE SEED N
                                               a made stream of N mixed lines for the network of FILE; a seed gives one stream
 
@@ -13,11 +15,13 @@ MODE is `first`, `bid` or `davn`. It was written from the rules alone and shares
 counters: seats are summed anew from the list of bookings at each line. A certificate is checked on exact fractions, which
 are brought to no common denominator. A plan's prices are worked out on the whole tableau, a row at a time, in whole
 numbers of any size; only then is it asked whether one is too large. Buckets are worked out anew for each product, and a
-protection level by trying one number of seats after the other.
+protection level by trying one number of seats after the other. Of a leg's fares every division into groups is tried, and in
+its dynamic program every number of seats that a class could be sold.
 
 The words but `stream`, the texts and the statuses are those of the program, so `tests/run.py --program tests/reference.py`
 takes it as the program for the cases. The files in tests/streams are streams of `stream` and the replies of `run`.
 """
+import functools
 import os
 import random
 import re
@@ -31,6 +35,7 @@ LONGEST_STREAM = 2**32
 LONGEST_LINE = 22  # of a good one, with its carriage return
 PIECE = 65_536
 MOST_LEGS, MOST_PRODUCTS = 64, 256
+MOST_GROUPS, MOST_CLASSES = 10, 10
 MOST_MONEY = 99_999_999
 GREATEST = 2**63 - 1  # of a number in a certificate
 LIMIT = 2**48  # no number of a tableau's row or of a certificate, over their common denominators, reaches it
@@ -114,47 +119,66 @@ class Network:
 
     def __init__(self):
         self.rows = 0
-        self.histories = self.periods = 0
-        self.legs = {}  # name: (seats, thresholds), in file order
+        self.version = self.histories = self.periods = 0
+        self.seats = {}  # of each leg, in file order
+        self.authorised = {}  # of each leg: how many seats may be booked, be it fewer than it has or more
+        self.thresholds = {}  # of each leg
         self.products = {}  # name: (fare, leg names), in file order
+        self.refunds = {}  # of each product that has a row of it, the percentage of its fare that is given back
         self.demand = {}  # (product, history): demand by period
 
-    def seats(self):
-        return {leg: seats for leg, (seats, _) in self.legs.items()}
+    def refund(self, product):
+        return self.refunds.get(product, 100)
+
+    def first_threshold(self):
+        """The number of fields that stand before the thresholds of a leg."""
+        return 4 if self.version == 2 else 3
 
     def allowed_fields(self, kind):
-        return {b"periods": [3], b"leg": range(3, 13), b"product": range(4, 8), b"demand": [3 + self.periods]}[kind]
+        return {b"periods": [3, 4], b"leg": range(self.first_threshold(), self.first_threshold() + 10), b"product": range(4, 8),
+                b"refund": [3], b"demand": [3 + self.periods]}[kind]
 
     def is_full(self, kind):
-        return kind == b"leg" and len(self.legs) >= MOST_LEGS or kind == b"product" and len(self.products) >= MOST_PRODUCTS
+        return kind == b"leg" and len(self.seats) >= MOST_LEGS or kind == b"product" and len(self.products) >= MOST_PRODUCTS
 
     def limits(self, row):
         """Each number field of a row, with its least and its greatest value."""
         kind, rest = row[0], row[3:]
         if kind == b"periods":
-            return [(row[1], 1, 32), (row[2], 1, 16)]
+            return [(row[1], 1, 32), (row[2], 1, 16)] + [(field, 2, 2) for field in rest]
         if kind == b"leg":
-            return [(row[2], 0, 999)] + [(field, 1, MOST_MONEY) for field in rest]
+            first = self.first_threshold()
+            return [(field, 0, 999) for field in row[2:first]] + [(field, 1, MOST_MONEY) for field in row[first:]]
         if kind == b"product":
             return [(row[2], 1, MOST_MONEY)]
+        if kind == b"refund":
+            return [(row[2], 0, 100)]
         return [(row[2], 1, self.histories)] + [(field, 0, 999) for field in rest]
 
     def is_twice(self, row):
         kind, name, rest = row[0], row[1], row[3:]
         if kind == b"leg":
-            return name in self.legs
+            return name in self.seats
         if kind == b"product":
             return name in self.products or len(set(rest)) < len(rest)
+        if kind == b"refund":
+            return name in self.refunds
         return kind == b"demand" and (name, int(row[2])) in self.demand
 
     def lacks(self, row):
         kind, name, rest = row[0], row[1], row[3:]
-        return kind == b"product" and any(leg not in self.legs for leg in rest) or kind == b"demand" and name not in self.products
+        if kind == b"product":
+            return any(leg not in self.seats for leg in rest)
+        return kind in (b"refund", b"demand") and name not in self.products
+
+    def kinds(self):
+        """The first fields that a row may have; refunds are known only behind a first row that says version 2."""
+        return (b"periods", b"leg", b"product", b"demand") + ((b"refund",) if self.version == 2 else ())
 
     def fault(self, row):
         """The first check that a row fails, against the rows before it."""
         kind, rest = row[0], row[3:]
-        if kind not in (b"periods", b"leg", b"product", b"demand"):
+        if kind not in self.kinds():
             return "1 kind"
         if (kind == b"periods") != (self.rows == 0):
             return "2 order"
@@ -162,7 +186,7 @@ class Network:
             return "3 fields"
         if self.is_full(kind):
             return "4 many"
-        names = {b"periods": [], b"leg": row[1:2], b"product": row[1:2] + rest, b"demand": row[1:2]}[kind]
+        names = {b"periods": [], b"product": row[1:2] + rest}.get(kind, row[1:2])
         if not all(NAME.fullmatch(name) for name in names):
             return "5 name"
         if not all(WHOLE.fullmatch(field) for field, _, _ in self.limits(row)):
@@ -173,21 +197,25 @@ class Network:
             return "8 twice"
         if self.lacks(row):
             return "9 missing"
-        numbers = [int(field) for field in rest] if kind in (b"leg", b"demand") else []
-        if kind == b"leg" and any(high <= low for high, low in zip(numbers, numbers[1:])):
+        thresholds = [int(field) for field in row[self.first_threshold():]] if kind == b"leg" else []
+        if any(high <= low for high, low in zip(thresholds, thresholds[1:])):
             return "10 thresholds"
-        if kind == b"demand" and sum(numbers) > 999:
+        if kind == b"demand" and sum(int(field) for field in rest) > 999:
             return "11 sum"
         return None
 
     def take(self, row):
         kind, name, rest = row[0], row[1], row[3:]
         if kind == b"periods":
-            self.histories, self.periods = int(row[1]), int(row[2])
+            self.histories, self.periods, self.version = int(row[1]), int(row[2]), len(row) - 2
         elif kind == b"leg":
-            self.legs[name] = (int(row[2]), [int(field) for field in rest])
+            first = self.first_threshold()
+            self.seats[name], self.authorised[name] = int(row[2]), int(row[first - 1])
+            self.thresholds[name] = [int(field) for field in row[first:]]
         elif kind == b"product":
             self.products[name] = (int(row[2]), rest)
+        elif kind == b"refund":
+            self.refunds[name] = int(row[2])
         else:
             self.demand[name, int(row[2])] = [int(field) for field in rest]
         self.rows += 1
@@ -203,16 +231,17 @@ def network_of(data):
         if why:
             raise Refused(f"refused row {number} why {why}")
         network.take(row)
-    if not network.legs or not network.products:
+    if not network.seats or not network.products:
         raise Refused(f"refused row {network.rows + 1} why 12 empty")
     return network
 
 
 def canonical(network):
-    """The canonical file: no quotes, one order, and no demand that is 0 in all periods."""
-    rows = [[b"periods", network.histories, network.periods]]
-    rows += [[b"leg", name, seats] + thresholds for name, (seats, thresholds) in network.legs.items()]
+    """The canonical file, of version 2: no quotes, one order, no refund of 100 and no demand that is 0 in all periods."""
+    rows = [[b"periods", network.histories, network.periods, 2]]
+    rows += [[b"leg", name, seats, network.authorised[name]] + network.thresholds[name] for name, seats in network.seats.items()]
     rows += [[b"product", name, fare] + legs for name, (fare, legs) in network.products.items()]
+    rows += [[b"refund", name, network.refund(name)] for name in network.products if network.refund(name) != 100]
     for name in network.products:
         for history in range(1, network.histories + 1):
             demand = network.demand.get((name, history), [])
@@ -239,7 +268,7 @@ def without_return(line):
 
 
 class Program:
-    """The seats of each leg, and the fare, the legs and the demand of each product."""
+    """The seats that may be sold of each leg, and the fare, the legs and the demand of each product."""
 
     def __init__(self, network, legs, demand):
         self.legs, self.demand = legs, demand
@@ -249,8 +278,8 @@ class Program:
     @staticmethod
     def to_come(network, left=None, period=1):
         """Over all histories together, with the demand to come."""
-        left = left or network.seats()
-        return Program(network, {leg: network.histories * left[leg] for leg in network.legs},
+        left = left or network.authorised
+        return Program(network, {leg: network.histories * left[leg] for leg in network.seats},
                        {product: sum(sum(network.demand.get((product, history + 1), [])[period - 1:])
                                      for history in range(network.histories)) for product in network.products})
 
@@ -288,7 +317,7 @@ def certificate_of(network, data):
     if len(data) > LONGEST_CERTIFICATE:
         raise Refused("refused certificate long")
     wanted = [(b"value",)]
-    wanted += [(b"product", name) for name in network.products] + [(b"leg", name) for name in network.legs]
+    wanted += [(b"product", name) for name in network.products] + [(b"leg", name) for name in network.seats]
     given = {}
     for number, line in enumerate(lines_of(data), 1):
         *words, last = without_return(line).split(b" ")
@@ -302,7 +331,7 @@ def certificate_of(network, data):
         if what not in given:
             raise Refused(f"refused certificate no {b' '.join(what).decode()}")
     certificate = Certificate({product: network.histories * given[b"product", product] for product in network.products},
-                              {leg: given[b"leg", leg] for leg in network.legs}, network.histories * given[b"value",])
+                              {leg: given[b"leg", leg] for leg in network.seats}, network.histories * given[b"value",])
     if certificate.is_too_fine():
         raise Refused("refused certificate too fine")
     return certificate
@@ -442,7 +471,7 @@ class Nests:
 
     def __init__(self, network, p, period):
         self.network, self.p, self.period = network, p, period
-        self.levels = {leg: self.levels_of(leg) for leg in network.legs}
+        self.levels = {leg: self.levels_of(leg) for leg in network.seats}
 
     def adjusted(self, leg, product):
         """What a product brings on one of its legs: its fare, less the prices of its other legs."""
@@ -450,7 +479,7 @@ class Nests:
         return fare - sum(self.p[other] for other in legs if other != leg)
 
     def bucket(self, leg, product):
-        return 1 + sum(1 for threshold in self.network.legs[leg][1] if threshold > self.adjusted(leg, product))
+        return 1 + sum(1 for threshold in self.network.thresholds[leg] if threshold > self.adjusted(leg, product))
 
     def products_in(self, leg, buckets):
         return [product for product, (_, legs) in self.network.products.items()
@@ -464,19 +493,20 @@ class Nests:
     def fare(self, leg, buckets):
         """The mean of the adjusted fares in some buckets, each as often as there is demand to come for it."""
         weights = {product: sum(self.demand([product])) for product in self.products_in(leg, buckets)}
-        thresholds, total = self.network.legs[leg][1], sum(weights.values())
+        thresholds, total = self.network.thresholds[leg], sum(weights.values())
         if total > 0:
             mean = sum(self.adjusted(leg, product) * weight for product, weight in weights.items()) / Fraction(total)
             return max(mean, Fraction(0)) if buckets == [len(thresholds) + 1] else mean
         return Fraction(thresholds[buckets[0] - 1]) if buckets[0] <= len(thresholds) else Fraction(0)
 
     def computed(self, leg, bucket):
-        """The least number of seats that is enough for this bucket and those above it, or the leg's seats if it is more."""
+        """The least number of seats that is enough for this bucket and those above it, or the leg's authorised seats if it
+        is more."""
         above = list(range(1, bucket + 1))
         demand = self.demand(self.products_in(leg, above))
         if sum(demand) == 0:
             return 0
-        fare, next_fare, seats = self.fare(leg, above), self.fare(leg, [bucket + 1]), self.network.legs[leg][0]
+        fare, next_fare, seats = self.fare(leg, above), self.fare(leg, [bucket + 1]), self.network.authorised[leg]
         for y in range(seats):
             if len([1 for it in demand if it > y]) * fare <= self.network.histories * next_fare:
                 return y
@@ -485,7 +515,7 @@ class Nests:
     def levels_of(self, leg):
         """The seats that are kept for no bucket, for bucket 1, for buckets 1 and 2, and so on but for the last."""
         levels = [0]
-        for bucket in range(1, len(self.network.legs[leg][1]) + 1):
+        for bucket in range(1, len(self.network.thresholds[leg]) + 1):
             levels.append(max(levels[-1], self.computed(leg, bucket)))
         return levels
 
@@ -495,7 +525,7 @@ class Nests:
 
     def text(self):
         nests = [b"nest %s %s " % it + b"%s %d\n" % (fraction(Fraction(self.adjusted(*it))), self.bucket(*it))
-                 for it in [(leg, product) for leg in self.network.legs
+                 for it in [(leg, product) for leg in self.network.seats
                             for product, (_, legs) in self.network.products.items() if leg in legs]]
         return b"".join(nests + [b" ".join([b"protect", leg] + [b"%d" % level for level in levels[1:]]) + b"\n"
                                  for leg, levels in self.levels.items()])
@@ -505,7 +535,7 @@ class Nests:
 
 
 class Session:
-    """The surviving bookings, the number of the next one, the seats asked for, and the plan in force.
+    """The surviving bookings, the number of the next one, the seats asked for, the sum withheld, and the plan in force.
 
     The plan is, under `bid`, a certificate, and under `davn` a certificate and the nests of its prices.
     """
@@ -516,12 +546,13 @@ class Session:
         self.book = []  # (number, product, party), in the order in which they were made
         self.next = 1
         self.asked = {product: 0 for product in network.products}  # the seats that were asked for, sold or not
+        self.withheld = 0  # what cancellations didn't give back
         if mode != "first":
             self.optimise(1)
 
     def optimise(self, period):
         """Makes a plan of the seats left; where it is too large, the one in force stays."""
-        left = {leg: self.left(leg) for leg in self.network.legs}
+        left = {leg: self.left(leg) for leg in self.network.seats}
         self.certificate = solved(Program.to_come(self.network, left, period))
         if self.mode == "davn":
             self.nests = Nests(self.network, self.certificate.p, period)
@@ -532,7 +563,7 @@ class Session:
                    if leg in self.network.products[name][1] and product in (None, name))
 
     def left(self, leg):
-        return self.network.legs[leg][0] - self.sold(leg)
+        return self.network.authorised[leg] - self.sold(leg)
 
     def request(self, product, party):
         if product not in self.network.products:
@@ -555,7 +586,11 @@ class Session:
         for booking in self.book:
             if booking[0] == number:
                 self.book.remove(booking)
-                return b"cancelled %d %d\n" % (number, booking[2] * self.network.products[booking[1]][0])
+                _, product, party = booking
+                paid = party * self.network.products[product][0]
+                amount = paid * self.network.refund(product) // 100
+                self.withheld += paid - amount
+                return b"cancelled %d %d\n" % (number, amount)
         return b"unknown\n"
 
     def reoptimise(self, period):
@@ -571,14 +606,14 @@ class Session:
 
     def hindsight(self):
         """The most that the requests so far could have earned, were parts of seats sold, and what is earned."""
-        seats = self.network.seats()
+        seats = self.network.authorised
         tallies = {product: min([asked] + [seats[leg] for leg in self.network.products[product][1]])
                    for product, asked in self.asked.items()}
         try:
             value = solved(Program(self.network, seats, tallies)).value
         except Ended:
             return b"overflow\n"
-        return b"hindsight %s revenue %d\n" % (fraction(value), self.revenue())
+        return b"hindsight %s revenue %d withheld %d\n" % (fraction(value), self.revenue(), self.withheld)
 
     def revenue(self):
         return sum(party * self.network.products[product][0] for _, product, party in self.book)
@@ -589,9 +624,10 @@ class Session:
         return certificate_text(self.network, self.certificate) + (self.nests.text() if self.mode == "davn" else b"")
 
     def report(self, leg):
-        if leg not in self.network.legs:
+        if leg not in self.network.seats:
             return b"unknown\n"
-        text = b"leg %s seats %d sold %d left %d\n" % (leg, self.network.legs[leg][0], self.sold(leg), self.left(leg))
+        seats = self.network.seats[leg], self.network.authorised[leg]
+        text = b"leg %s seats %d authorised %d sold %d left %d\n" % (leg, *seats, self.sold(leg), self.left(leg))
         for product in self.network.products:
             if self.sold(leg, product) > 0:
                 text += b"on %s %s %d\n" % (leg, product, self.sold(leg, product))
@@ -655,10 +691,11 @@ class Draws:
 def made_network(draws):
     """A hub of six legs in and six out, with a dear and a cheap product on each and one from each leg in to each leg out."""
     network = Network()
-    network.histories, network.periods = 8, 4
+    network.version, network.histories, network.periods = 2, 8, 4
     legs = [b"%s%d" % (side, number) for side in (b"I", b"O") for number in range(1, 7)]
     for leg in legs:
-        network.legs[leg] = (40 + draws.below(40), [400, 200, 100])
+        network.seats[leg] = network.authorised[leg] = 40 + draws.below(40)
+        network.thresholds[leg] = [400, 200, 100]
     for leg in legs:
         network.products[leg + b"-H"] = (300 + draws.below(200), [leg])
         network.products[leg + b"-L"] = (100 + draws.below(100), [leg])
@@ -674,7 +711,7 @@ def made_network(draws):
 
 def made_lines(network, draws):
     """The 10,000 lines: most are requests, and the last one is `hindsight`."""
-    products, legs = list(network.products), list(network.legs)
+    products, legs = list(network.products), list(network.seats)
     for number in range(1, 10_001):
         if number == 10_000:
             yield b"hindsight"
@@ -709,6 +746,95 @@ def is_number(word):
     return bool(WHOLE.fullmatch(word.encode())) and len(word) <= 10 and int(word) < 2**32
 
 
+# The fares of a leg in groups
+
+
+class Fares:
+    """The fares of a leg, each once and falling, and how many seats were asked for at each."""
+
+    def __init__(self, network, leg):
+        on_leg = {product: fare for product, (fare, legs) in network.products.items() if leg in legs}
+        self.values = sorted(set(on_leg.values()), reverse=True)
+        asked = {product: sum(sum(demand) for (name, _), demand in network.demand.items() if name == product) for product in on_leg}
+        self.weights = [sum(asked[product] for product in on_leg if on_leg[product] == value) for value in self.values]
+        self.best = functools.cache(self.best)
+        self.cost = functools.cache(self.cost)
+
+    def centre(self, first, last):
+        """The first value of a piece, from one place to before another, at which half of its weight has come."""
+        whole = sum(self.weights[first:last])
+        return next(self.values[at] for at in range(first, last) if 2 * sum(self.weights[first:at + 1]) >= whole)
+
+    def cost(self, first, last):
+        """What a piece costs: the distance to its centre for each seat that was asked for."""
+        centre = self.centre(first, last)
+        return sum(self.weights[at] * abs(self.values[at] - centre) for at in range(first, last))
+
+    def best(self, first, groups):
+        """The least of the divisions of the values from a place on into at most so many pieces: by its cost, then by the
+        number of its pieces, then by their lengths."""
+        if first == len(self.values):
+            return 0, 0, []
+        if groups == 0:
+            return None
+        found = [(last, self.best(last, groups - 1)) for last in range(first + 1, len(self.values) + 1)]
+        return min((self.cost(first, last) + rest[0], 1 + rest[1], [last - first] + rest[2]) for last, rest in found if rest)
+
+
+def cuts_text(network, leg, groups):
+    """The last fares of all groups but the last, the centres of the groups, and what they cost."""
+    fares = Fares(network, leg)
+    if not fares.values:
+        raise Ended("no leg", 10)
+    cost, _, lengths = fares.best(0, groups)
+    ends = [sum(lengths[:count]) for count in range(len(lengths) + 1)]
+    cuts = [fares.values[end - 1] for end in ends[1:-1]]
+    centres = [fares.centre(first, last) for first, last in zip(ends, ends[1:])]
+    lines = [[b"cuts", leg] + [b"%d" % it for it in cuts], [b"centres", leg] + [b"%d" % it for it in centres],
+             [b"cost", leg, b"%d" % cost]]
+    return b"".join(b" ".join(line) + b"\n" for line in lines)
+
+
+# The dynamic program of a leg
+
+
+class Classes:
+    """The products whose only leg is this one, the dearest first; each class's demand is one of its histories, by chance and
+    whatever the others are, and the cheapest comes first."""
+
+    def __init__(self, network, leg):
+        self.seats = network.authorised.get(leg, 0)
+        alone = [product for product, (_, legs) in network.products.items() if legs == [leg]]
+        self.products = sorted(alone, key=lambda product: -network.products[product][0])
+        self.fares = [network.products[product][0] for product in self.products]
+        self.demands = [[sum(network.demand.get((product, history + 1), [])) for history in range(network.histories)]
+                        for product in self.products]
+        self.value = functools.cache(self.value)
+
+    def value(self, count, seats):
+        """The most that the first so many classes bring on the mean with so many seats."""
+        if count == 0:
+            return Fraction(0)
+        fare, demands = self.fares[count - 1], self.demands[count - 1]
+        return sum(max(fare * sold + self.value(count - 1, seats - sold) for sold in range(min(demand, seats) + 1))
+                   for demand in demands) / Fraction(len(demands))
+
+    def protection(self, count):
+        """The most seats of which the last is worth more to the first so many classes than to the one behind them."""
+        worth = [y for y in range(1, self.seats + 1) if self.fares[count] < self.value(count, y) - self.value(count, y - 1)]
+        return max(worth, default=0)
+
+
+def dp_text(network, leg):
+    classes = Classes(network, leg)
+    if not 1 <= len(classes.products) <= MOST_CLASSES:
+        raise Ended(f"classes {len(classes.products)}", 11)
+    text = b"".join(b"class %s %d\n" % it for it in zip(classes.products, classes.fares))
+    text += b"value %s %s\n" % (leg, fraction(classes.value(len(classes.products), classes.seats)))
+    protections = [b"%d" % classes.protection(count) for count in range(1, len(classes.products))]
+    return text + b" ".join([b"protect", leg] + protections) + b"\n"
+
+
 # A made stream
 
 BAD = [b"", b" ", b"book", b"cancel", b"leg", b"reoptimise", b"reoptimise 0", b"reoptimise 01", b"reoptimise 100", b"plan 1",
@@ -722,7 +848,7 @@ BAD = [b"", b" ", b"book", b"cancel", b"leg", b"reoptimise", b"reoptimise 0", b"
 
 def made_line(session, draw):
     """A line; `draw` is the source of chance, and the session knows which numbers are live."""
-    products, legs = list(session.network.products), list(session.network.legs)
+    products, legs = list(session.network.products), list(session.network.seats)
     kind = draw.randrange(100)
     if kind < 48:
         party = draw.choice([draw.randint(1, 4), draw.randint(1, 4), draw.randint(1, 30), draw.randint(1, 999)])
@@ -757,7 +883,17 @@ def made_stream(session, seed, count):
     return b"\n".join(lines[:-1] + [b"book %s 1" % next(iter(session.network.products))])
 
 
-USAGE = "usage: nrm run MODE FILE, plan MODE FILE, check FILE CERT, print FILE, gen MODE NUMBER"
+USAGE = ("usage: nrm run MODE FILE, plan MODE FILE, check FILE CERT, print FILE, gen MODE NUMBER, cuts FILE LEG GROUPS, "
+         "dp FILE LEG")
+
+
+def is_name(word):
+    return bool(NAME.fullmatch(word.encode()))
+
+
+def is_groups(word):
+    """Whether a word is a number of groups."""
+    return bool(WHOLE.fullmatch(word.encode())) and len(word) <= 2 and 1 <= int(word) <= MOST_GROUPS
 
 
 def told(words):
@@ -777,6 +913,10 @@ def told(words):
             return [canonical(network_in(path))]
         case ["gen", "first" | "bid" | "davn" as mode, number] if is_number(number):
             return [summary(mode, int(number))]
+        case ["cuts", path, leg, groups] if is_name(leg) and is_groups(groups):
+            return [cuts_text(network_in(path), leg.encode(), int(groups))]
+        case ["dp", path, leg] if is_name(leg):
+            return [dp_text(network_in(path), leg.encode())]
         case ["stream", "first" | "bid" | "davn" as mode, path, seed, count]:
             return [made_stream(Session(network_in(path), mode), int(seed), int(count))]
     raise Ended(USAGE, 2)

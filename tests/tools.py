@@ -32,11 +32,12 @@ HERE = Path(__file__).resolve().parent
 TOP, TOOLS, EXAMPLES = HERE.parent, HERE.parent / "tools", HERE.parent / "examples"
 sys.dont_write_bytecode = True
 sys.path.insert(0, str(TOOLS))
+import audit
 import explain
 import lp
 import reference
 import run
-from nrm_tools import NAME, Network, Stop, fitting, named, replies_of, rows_of, text_of
+from nrm_tools import MODES, NAME, Network, Stop, fitting, named, replies_of, rows_of, text_of
 
 NOT_BUILT = 70  # what the script `nrm` ends with where there is no program to run
 SECONDS = 60
@@ -108,13 +109,72 @@ class Tools:
         return done.stdout.decode()
 
 
+# How the tools read a network file
+
+SECOND = """periods,2,2,2
+leg,AB,3,5,300,90
+leg,BC,9,2
+leg,CD,4,4,80
+product,AC,500,AB,BC
+product,AB,200,AB
+refund,AB,33
+product,BC,120,BC
+product,CD,90,CD
+refund,AC,0
+refund,CD,100
+demand,AC,1,1,2
+demand,AB,2,4,3
+demand,AB,1,5,0
+demand,BC,1,6,1
+demand,CD,2,0,3
+"""
+
+
+@test
+def both_versions_are_read_alike(tools):
+    """By the tools, and by the auditor, who reads for himself."""
+    for path in [*EXAMPLES.glob("*/network.csv"), tools.file("second.csv", SECOND)]:
+        printed = tools.file("printed.csv", tools.nrm("print", path))
+        for reader in (Network.read, audit.Network):
+            network, canonical = vars(reader(path)), vars(reader(printed))
+            want({**network, "version": 2}, canonical, f"{path} by {reader}")
+    for network in (Network.read(tools.folder / "second.csv"), audit.Network(tools.folder / "second.csv")):
+        want((network.version, network.histories, network.periods), (2, 2, 2))
+        want((network.seats, network.authorised), ({"AB": 3, "BC": 9, "CD": 4}, {"AB": 5, "BC": 2, "CD": 4}))
+        want(network.thresholds, {"AB": [300, 90], "BC": [], "CD": [80]})
+        want(network.refund, {"AC": 0, "AB": 33, "BC": 100, "CD": 100})
+    first = Network.read(tools.file("first.csv", "periods,1,1\nleg,AB,3,300\nproduct,P,5,AB\n"))
+    want((first.version, first.seats, first.authorised, first.thresholds, first.refund),
+         (1, {"AB": 3}, {"AB": 3}, {"AB": [300]}, {"P": 100}))
+    want(tools.nrm("print", tools.file("again.csv", text_of(Network.read(tools.folder / "second.csv").rows()))),
+         tools.nrm("print", tools.folder / "second.csv"))
+
+
+NO_NETWORKS = ["leg,AB,3\nperiods,1,1\nproduct,P,5,AB\n", "periods,1,1,3\nleg,AB,3,3\nproduct,P,5,AB\n",
+               "periods,1,1,2\nleg,AB,3\nproduct,P,5,AB\n", "periods,1,1,\nleg,AB,3\nproduct,P,5,AB\n",
+               "periods,1,1\nleg,AB,3\nproduct,P,5,AB\nrefund,P,50\n", "periods,1,1,2\nleg,AB,3,3\nproduct,P,5,AB\nrefund,Q,50\n",
+               "periods,1,1,2\nleg,AB,3,3\nproduct,P,5,AB\nrefund,P\n", "periods,1,1,2\nleg,AB,3,3\nproduct,P,5,AB\nrefund,P,5,5\n",
+               "periods,1,1,2\nleg,AB,3,3\nproduct,P,5,AB\nrefund,P,half\n", "periods,1,1,2\nperiods,1,1,2\nleg,AB,3,3\nproduct,P,5,AB\n"]
+
+
+@test
+def tools_say_what_explains_a_file_that_is_refused(tools):
+    for text in NO_NETWORKS:
+        path = tools.file("no.csv", text)
+        want_in(tools.stopped("lp.py", path), f"{path} is refused: `tools/explain.py {path}` tells which rows")
+        told = tools.ran("explain.py", path)
+        want((told[2], told[0].partition("\n")[0] + "\n"), (3, tools.nrm("print", path, status=3)), repr(text))
+
+
 # explain.py
 
 
 def files_of(case):
     """The words of a case that name files."""
     words = [it.decode("utf-8", "surrogateescape") for it in case.words]
-    return {"print": words[1:], "check": words[1:], "run": words[2:], "plan": words[2:]}.get(words[0] if words else "", [])
+    places = {"print": slice(1, None), "check": slice(1, None), "run": slice(2, None), "plan": slice(2, None), "cuts": slice(1, 2),
+              "dp": slice(1, 2)}
+    return words[places[words[0]]] if words and words[0] in places else []
 
 
 def explained(case, run):
@@ -195,6 +255,78 @@ def explain_tells_every_row_with_its_line_and_how_to_mend_it(tools):
         want_in(out, f", {wanted}\n")
 
 
+FAULTS_OF_VERSION_2 = """refund,ZV-Y,50
+periods,3,3,02
+leg,ZRH-VIE,40
+leg,VIE-BUD,40,1090,200
+leg,BUD-SOF,40,36,90,90
+leg,SOF-IST,1000,09
+product,ZV-Y,250,ZRH-VIE
+product,ZV-Q,110,ZRH-VIE
+refund,ZV-Q,33.5
+refund,ZV-Y,33%
+refund,ZV-M,20
+refund,ZV-Q,120
+Refund,ZV-Q,20
+refund,ZV-Q,20,
+refund,zv_q,20
+fare,ZV-Y,3
+product,ZV-M,170,ZRH-VIE
+"""
+FAULTS_TOLD_OF_VERSION_2 = [  # the row, the cause, the field, and a part of the advice
+    (1, "1 kind", "field 1, the kind: refund", "the row of periods comes first: move up line 2"),
+    (2, "6 number", "field 4, the version: 02", "write 2"),
+    (3, "3 fields", None, "takes leg,NAME,SEATS,AUTHORISED and up to 9 thresholds, since line 2 says version 2"),
+    (4, "7 range", "field 4, the authorised seats: 1090", "it is to be 0 to 999; is it a threshold?"),
+    (5, "10 thresholds", "field 6, threshold 2: 90", "below 90"), (6, "6 number", "field 4, the authorised seats: 09", "write 9"),
+    (9, "6 number", "field 3, the percentage: 33.5", "write a whole number, a percentage: round it"),
+    (10, "6 number", "field 3, the percentage: 33%", "write digits alone: 33"),
+    (11, "9 missing", "field 2, the product: ZV-M", "line 17, below, makes it"),
+    (12, "7 range", "field 3, the percentage: 120", "it is to be 0 to 100"),
+    (13, "1 kind", "field 1, the kind: Refund", "write refund, in lower case"), (14, "3 fields", None, "takes refund,PRODUCT,PERCENTAGE"),
+    (15, "5 name", "field 2, the product: zv_q", "write ZV-Q"),
+    (16, "1 kind", "field 1, the kind: fare", "none of periods, leg, product, refund and demand")]
+
+
+@test
+def explain_tells_every_row_of_version_2(tools):
+    out, _, status = tools.ran("explain.py", tools.file("many.csv", FAULTS_OF_VERSION_2))
+    entries = re.split(r"^(?=refused )", out, flags=re.M)[1:]
+    want((len(entries), status), (len(FAULTS_TOLD_OF_VERSION_2), 3), out)
+    for entry, (row, why, field, advice) in zip(entries, FAULTS_TOLD_OF_VERSION_2):
+        want_in(entry, f"refused row {row} why {why}\n    line {row}{f', {field}' if field else ''}\n")
+        want_in(entry, advice)
+    want_in(entries[5], "    line 6, field 3, the seats: 1000\n")
+    want_in(entries[7], "    line 10, field 2, the product: ZV-Y\n        line 1 has the refund of ZV-Y")
+
+
+TWO_VERSIONS = [  # a file, and the first advice
+    ("periods,1,1\nleg,AB,9,12,300,100\nproduct,P,5,AB\n", "if 12 are authorised seats, the file is to be of version 2, with ,2 at the "
+                                                             "end of line 1"),
+    ("periods,1,1\nleg,AB,9\nproduct,P,5,AB\nrefund,P,50\n", "a file of version 1 has no refunds: make it version 2, with ,2 at the end of "
+                                                               "line 1"),
+    ("periods,1,1\nleg,AB,9\nproduct,P,5,AB\nRefund,P,50\n", "a file of version 1 has no refunds"),
+    ("periods,1,1,1\nleg,AB,9\nproduct,P,5,AB\n", "it is to be 2, or left out for version 1"),
+    ("periods,1,1,\nleg,AB,9\nproduct,P,5,AB\n", "a number is wanted; where the row ends in commas"),
+    ("periods,1,1,,\nleg,AB,9,,\nproduct,P,5,AB,\n", "a spreadsheet padded it"),
+    ("periods,1,1,3\nleg,AB,9,9\nproduct,P,5,AB\nrefund,P,0\n", "it is to be 2, or left out"),
+    ("periods,1,1,2\nleg,AB,9,9\nproduct,P,5,AB\nrefund,P,50\nrefund,P,100\n", "line 4 has the refund of P: delete one of the two"),
+    ("leg,AB,9,9\nproduct,P,5,AB\nrefund,P,50\n", "the row of periods comes first: add periods,HISTORIES,PERIODS,2 above"),
+    ("periods,1,1,2\nproduct,P,5,AB\n", "no row makes a leg of this name")]
+
+
+@test
+def explain_tells_the_two_versions_apart(tools):
+    for text, advice in TWO_VERSIONS:
+        path = tools.file("versions.csv", text)
+        out, err, status = tools.ran("explain.py", path)
+        want((status, err, out.partition("\n")[0] + "\n"), (3, "", tools.nrm("print", path, status=3)), repr(text))
+        want_in(out.splitlines()[2], advice)
+    want(tools.ran("explain.py", tools.file("one.csv", TWO_VERSIONS[3][0]))[0].count("refused row"), 1)
+    want(tools.ran("explain.py", tools.file("one.csv", TWO_VERSIONS[4][0]))[0].count("refused row"), 1)
+    want(tools.ran("explain.py", tools.file("one.csv", TWO_VERSIONS[6][0]))[0].count("refused row"), 1)
+
+
 @test
 def explain_tells_a_padded_row_once(tools):
     out = tools.ran("explain.py", tools.file("padded.csv", "periods,1,1\nleg,A,5\nproduct,P,5,A,,,\nproduct,,5,A\nproduct,,5,A\n"))[0]
@@ -257,7 +389,7 @@ def spoilt_anywhere(data, draw):
     for _ in range(draw.randint(1, 4)):
         at = draw.randrange(len(data) + 1)
         put = draw.choice([b"", b"", b",", b'"', b"\n", b"\r\n", b"\r", b"0", b"9", b"999", b"a", b"A", b" ", b"\xef\xbb\xbf", b"\xff",
-                           b"\nleg,", b"\nproduct,"])
+                           b"\nleg,", b"\nproduct,", b"\nrefund,", b",2", b"refund"])
         data = data[:at] + put + data[at + draw.choice([0, 0, 1, 1, 2, 9]):]
     return data
 
@@ -265,8 +397,9 @@ def spoilt_anywhere(data, draw):
 @test
 def explain_and_the_reader_agree_with_the_reference_on_any_bytes(tools):
     files = [(EXAMPLES / it / "network.csv").read_bytes() for it in ("two-legs", "hub", "log", "certificate")]
+    files += [SECOND.encode(), b"periods,2,1,2\nleg,A,3,4\nproduct,P,5,A\nrefund,P,50\ndemand,P,1,3\n"]
     refused, draw = Counter(), random.Random(9)
-    for _ in range(1000):
+    for _ in range(2000):
         data = spoilt_anywhere(draw.choice(files), draw)
         want([row.fields for row in rows_of(data)],
              [[it.decode("utf-8", "backslashreplace") for it in row] for row in reference.rows_of(data)], repr(data))
@@ -325,7 +458,7 @@ def log_makes_the_network_of_the_example(tools):
     log = EXAMPLES / "log"
     made = tools.told("log.py", log / "requests.csv", *LOG_COLUMNS, "--cuts", "30,7", "--network", log / "rows.csv", "--names", "names.csv")
     want(made, (log / "network.csv").read_text())
-    want(tools.nrm("print", tools.file("made.csv", made))[:12], "periods,3,3\n")
+    want(tools.nrm("print", tools.file("made.csv", made)).splitlines()[0], "periods,3,3,2")
     want_in((tools.folder / "names.csv").read_text(), "ZV-Q,ZV_Q\n")
 
 
@@ -395,10 +528,22 @@ def log_goes_on_to_a_session(tools):
     products = sorted({it.split(",")[1] for it in rows[1:]})
     made = [rows[0], "leg,LH454,40,200", *[f"product,{it},{100 + 50 * at},LH454" for at, it in enumerate(products)], *rows[1:]]
     path = tools.file("network.csv", "\n".join(made) + "\n")
-    want(tools.nrm("print", path).splitlines()[:2], made[:2])
+    want(tools.nrm("print", path).splitlines()[:2], ["periods,5,2,2", "leg,LH454,40,40,200"])
     want(tools.nrm("run", "bid", path, given=f"book {products[-1]} 1\n".encode()), "ok 1\n")
     completed = tools.told("log.py", "log.csv", *LOG_COLUMNS, "--cuts", "30,7", "--network", path)
     want((completed.splitlines()[0], completed.count("\nleg,")), ("periods,5,3", 1))
+
+
+@test
+def log_keeps_the_version_of_the_network(tools):
+    """And its authorised seats and refunds; a padded row of periods is of version 1."""
+    log = tools.file("log.csv", "Booked on,Departure,Fare product,Seats\n2025-03-01,2025-03-07,AB,2\n")
+    words = [log, *LOG_COLUMNS, "--cuts", "3", "--network"]
+    made = tools.told("log.py", *words, tools.file("second.csv", SECOND)).splitlines()
+    kept = [it for it in SECOND.splitlines() if not it.startswith(("periods", "demand"))]
+    want(made, ["periods,1,2,2", *kept, "demand,AB,1,2,0"])
+    first = "periods,9,9,,\nleg,X,3\nproduct,AB,5,X\n"
+    want(tools.told("log.py", *words, tools.file("first.csv", first)).splitlines()[:2], ["periods,1,2", "leg,X,3"])
 
 
 @test
@@ -603,6 +748,20 @@ def split_names_what_is_too_large(tools):
     want_in(out, "it would fall apart without any one of these products: P0-")
 
 
+@test
+def split_keeps_the_version_authorised_seats_and_refunds(tools):
+    tools.told("split.py", tools.file("second.csv", SECOND), "parts")
+    want(sorted(it.name for it in (tools.folder / "parts").glob("part-*.csv")), ["part-1.csv", "part-2.csv"])
+    rows = {it: (tools.folder / "parts" / it).read_text().splitlines() for it in ("part-1.csv", "part-2.csv")}
+    want(rows["part-1.csv"], ["periods,2,2,2", "leg,AB,3,5,300,90", "leg,BC,9,2", "product,AC,500,AB,BC", "product,AB,200,AB",
+                              "product,BC,120,BC", "refund,AC,0", "refund,AB,33", "demand,AC,1,1,2", "demand,AB,1,5,0",
+                              "demand,AB,2,4,3", "demand,BC,1,6,1"])
+    want(rows["part-2.csv"], ["periods,2,2,2", "leg,CD,4,4,80", "product,CD,90,CD", "demand,CD,2,0,3"])
+    parts = [tools.folder / "parts" / it for it in rows]
+    want(sum(value_of(tools, it) for it in parts), value_of(tools, "second.csv"))
+    want("".join(tools.nrm("print", it) for it in parts), "".join("\n".join(it) + "\n" for it in rows.values()))
+
+
 # lp.py
 
 WITH_THIRDS = """periods,2,1
@@ -673,6 +832,23 @@ SLACK:
 
 
 @test
+def lp_has_the_authorised_seats_as_caps(tools):
+    """The same program as of a file of version 1 with as many seats; the certificate is one for the authorised seats alone."""
+    rows = [row.fields for row in rows_of(WITH_THIRDS.encode())]
+    second = [[*row, 2] if row[0] == "periods" else [*row[:2], 7, *row[2:]] if row[0] == "leg" else row for row in rows]
+    first, second = tools.file("first.csv", WITH_THIRDS), tools.file("second.csv", text_of([*second, ["refund", "ABC", 5]]))
+    want(tools.told("lp.py", second), tools.told("lp.py", first))
+    solution = tools.file("solution", WRITTEN_BY_GLPSOL)
+    path = tools.file("certificate", tools.told("lp.py", second, "--solution", solution))
+    want(tools.nrm("check", second, path), "optimal\n")
+    want(tools.told("audit.py", second, path).splitlines()[-1], "optimal")
+    seven = tools.file("seven.csv", text_of([row[:3] if row[0] in ("periods", "leg") else row for row in map(
+        list, (row.fields for row in rows_of(Path(second).read_bytes()))) if row[0] != "refund"]))
+    want(tools.nrm("check", seven, path, status=1), "wrong leg A\n")
+    want(tools.ran("audit.py", seven, path)[0].splitlines()[-1], "wrong leg A")
+
+
+@test
 def lp_makes_a_certificate_of_fractions(tools):
     network, solution = tools.file("thirds.csv", WITH_THIRDS), tools.file("solution", WRITTEN_BY_ESOLVER)
     made = tools.told("lp.py", network, "--solution", solution)
@@ -726,6 +902,34 @@ def season_tells_what_the_documents_show(tools):
     want("/" in decimal.replace("pictures/", ""), False, "fractions in decimals")
 
 
+OF_REFUNDS = ["book AB 4", "cancel 1", "book AC 1", "reoptimise 2", "book AC 1", "cancel 2", "book AB 2", "book CD 3", "cancel 9", "cancel 3"]
+
+
+@test
+def season_tells_what_was_withheld(tools):
+    """And counts the seats that are left by the authorised ones. 33 in 100 of 800 are 264, and AC gives back nothing."""
+    network, stream = tools.file("second.csv", SECOND), tools.file("stream", "".join(f"{it}\n" for it in OF_REFUNDS))
+    words = [network, stream, "--out", "pictures", "--leg", "AB", "--program", *tools.program]
+    out = tools.told("season.py", *words, env=os.environ)
+    withheld = out.partition("Withheld of the bookings that were cancelled, in currency units\n\n")[2].partition("\n\n")[0]
+    last = reference_replies("first", SECOND, [*OF_REFUNDS, "hindsight"])[-1].split()
+    want([it.split() for it in withheld.splitlines()][1], ["opening", "0", "0", "0"])
+    want([it.split()[:3] for it in withheld.splitlines()][2:], [["period", "2", "536"], ["end", last[5], withheld.split()[-2]]])
+    want_in(out, "Seats of AB, 3 seats, 5 authorised, under first: sold, left\n")
+    want_in(out, "\n  opening      0     5\n")
+    plain, season = (tools.told("season.py", EXAMPLES / it / "network.csv", EXAMPLES / it / "commands.txt", *words[2:4], *words[6:])
+                     for it in ("log", "season"))
+    want(("Withheld" in plain, "authorised" in plain), (False, False))
+    want_in(season, "  period 4    736   736   736\n  end        1149  1149  1149\n")  # of 1530 that were paid for seven bookings
+    want_in(season, "Seats of VIE-LHR-2, 48 seats, 50 authorised, under davn: sold, left, and protected for buckets\n")
+
+
+def reference_replies(mode, network, lines):
+    """What tests/reference.py answers."""
+    session = reference.Session(reference.network_of(network.encode()), mode)
+    return [session.reply(line.encode()).decode() for line in lines]
+
+
 @test
 def season_deals_replies_to_their_lines(tools):
     """A stream that asks for plans and legs itself, and has lines that are bad."""
@@ -752,6 +956,24 @@ def replay_tells_each_history(tools):
     want(out.splitlines()[-1].split(), ["all", "7,760", "4,410", "57", "%", "5,600", "72", "%", "6,600", "85", "%"])
     one = tools.file("one.csv", "periods,1,1\nleg,A,1\nproduct,P,5,A\n")
     want_in(tools.stopped("replay.py", one, "--program", *tools.program), "two histories")
+    rows = [row.fields for row in rows_of((EXAMPLES / "log" / "network.csv").read_bytes())]
+    rows = [[*row, 2] if row[0] == "periods" else [*row[:2], 0, *row[2:]] if row[0] == "leg" else row for row in rows]
+    want(tools.told("replay.py", tools.file("second.csv", text_of(rows)), "--program", *tools.program), out)
+    # In history 1 are asked for 3 seats of AC, 5 of AB and 7 of BC: AC has both seats of BC, and AB the other three of its leg.
+    told = tools.told("replay.py", tools.file("second.csv", SECOND), "--program", *tools.program)
+    want(told.splitlines()[1].split()[:2], ["1", "1,600"])
+
+
+@test
+def resume_goes_on_to_the_same_sum_withheld(tools):
+    network, stream = tools.file("second.csv", SECOND), [*OF_REFUNDS, "hindsight", "leg AB"]
+    for mode in MODES:
+        answers = reference_replies(mode, SECOND, stream)
+        for count in (1, 3, 7, len(stream) - 1):
+            words = ["resume.py", network, mode, tools.file("stream", "".join(f"{it}\n" for it in stream[:count])),
+                     tools.file("kept", "".join(answers[:count])), "--go-on", "--program", *tools.program]
+            out = tools.told(*words, input="".join(f"{it}\n" for it in stream[count:]).encode())
+            want(out, "".join(answers[count:]), f"{mode} from line {count + 1}")
 
 
 @test
@@ -777,6 +999,128 @@ def resume_goes_on_with_a_live_sender(tools):
         want((done.returncode, *found), (0, replies, b"".join(lines)), f"cut at {at}")
 
 
+# thresholds.py, optimum.py
+
+
+FARES_OF_LEGS = """periods,2,2,2
+leg,AB,9,8,700,1
+leg,IDLE,5,5,300,100
+leg,BC,7,9
+product,P,500,AB
+refund,P,50
+product,Q,150,AB
+product,R,400,AB,BC
+demand,P,2,1,3
+demand,Q,1,5,5
+product,S,400,AB
+demand,R,1,2,0
+demand,S,1,0,4
+"""
+
+
+@test
+def thresholds_are_told_and_written(tools):
+    network, program = EXAMPLES / "certificate" / "network.csv", ["--program", *tools.program]
+    out = tools.told("thresholds.py", network, 2, "--out", "made.csv", *program)
+    want(out.splitlines()[3:], ["  leg  cuts  centres   cost  for a seat",
+                                "  AB    400  500 150  1,200        21.4",
+                                "  BC    500   500 80      0         0.0", "  all                 1,200        11.5", "", "made.csv"])
+    wanted = network.read_text().replace("AB,10,300,100", "AB,10,400").replace("BC,10,300,100", "BC,10,500")
+    want((tools.folder / "made.csv").read_text(), wanted)
+    want_in(tools.nrm("plan", "davn", "made.csv"), "nest AB ABL 150/1 2\n")
+
+
+@test
+def thresholds_leave_all_else_as_it_stands(tools):
+    """In version 2 too, and a leg that no product uses keeps its own; and the file may be written over."""
+    path, program = tools.file("network.csv", FARES_OF_LEGS), ["--program", *tools.program]
+    for groups, cuts in ((1, ""), (2, ",400"), (3, ",500,400"), (10, ",500,400")):
+        out = tools.told("thresholds.py", path, groups, "--out", path, *program)
+        want((tools.folder / "network.csv").read_text(), FARES_OF_LEGS.replace("AB,9,8,700,1", f"AB,9,8{cuts}"))
+        want_in(out, "\nno product uses IDLE\n")
+    want_in(tools.nrm("print", path), "leg,AB,9,8,500,400\n")
+
+
+@test
+def thresholds_are_told_in_a_table_where_nothing_is_drawn(tools):
+    words = [tools.file("network.csv", FARES_OF_LEGS), 2, "--pictures", "pictures", "--program", *tools.program]
+    out, err, status = tools.ran("thresholds.py", *words)
+    want((err.startswith("thresholds.py: no pictures, since "), status), (True, 0), err)
+    want(out.partition("The fares on AB\n")[2].splitlines()[1:6],
+         ["  group  fare  seats  centre", "  1       500      4     400", "  1       400      6     400", "  2       150     10     150", ""])
+    if not tools.ran("thresholds.py", *words, env=os.environ)[1]:  # where there is matplotlib
+        want(sorted(it.name for it in (tools.folder / "pictures").iterdir()), ["thresholds.png", "thresholds.svg"])
+
+
+THREE_CLASSES = """periods,4,1
+leg,X,3
+leg,Y,2
+product,LO,200,X
+product,HI,600,X
+product,MID,300,X
+product,OVER,900,X,Y
+demand,HI,1,1
+demand,HI,2,1
+demand,HI,3,2
+demand,HI,4,2
+demand,MID,2,2
+demand,MID,4,2
+demand,LO,2,1
+demand,LO,3,1
+demand,OVER,1,9
+"""
+
+
+@test
+def optimum_tells_what_is_worked_out_by_hand(tools):
+    """The third class is sold one seat where the first two are kept 2, and none where they are kept 3."""
+    out = tools.told("optimum.py", tools.file("network.csv", THREE_CLASSES), "X", "--program", *tools.program)
+    want(out.splitlines()[3:], ["  class  fare  mean demand  optimum  EMSR-b", "  HI      600         1.50        0       0",
+                                "  MID     300         1.00        1       1", "  LO      200         0.50        2       3", "",
+                                "Mean revenue of a history, in currency units", "", "            revenue     share",
+                                "  optimum  1,075.00", "  EMSR-b   1,050.00  97.674 %", "",
+                                "products that use X and other legs, which have no part in this: 1"])
+    second = THREE_CLASSES.replace("periods,4,1", "periods,4,1,2").replace("leg,X,3", "leg,X,9,3").replace("leg,Y,2", "leg,Y,2,2")
+    want(tools.told("optimum.py", tools.file("second.csv", second), "X", "--program", *tools.program), out)
+
+
+@test
+def optimum_keeps_nothing_from_a_class_at_the_same_fare(tools):
+    """Classes of one fare share a bucket, which has a mean of their demand."""
+    network = "periods,1,1\nleg,X,5\nproduct,A,100,X\nproduct,B,300,X\nproduct,C,100,X\ndemand,A,1,9\ndemand,B,1,2\n"
+    out = tools.told("optimum.py", tools.file("network.csv", network), "X", "--program", *tools.program)
+    want(out.splitlines()[4:7], ["  B       300         2.00        0       0", "  A       100         9.00        2       2",
+                                 "  C       100         0.00        2       2"])
+    want("nobody asked" in out, False)
+    out = tools.told("optimum.py", tools.file("network.csv", network.replace("A,1,9", "A,1,0")), "X", "--program", *tools.program)
+    want_in(out, "\nnobody asked at 100, the lowest fare: so ")
+
+
+@test
+def optimum_tells_of_a_leg_that_has_no_such_classes(tools):
+    many = [["periods", 1, 1], ["leg", "X", 5], ["leg", "Y", 5], ["product", "OVER", 5, "X", "Y"],
+            *[["product", f"P{it}", 5, "X"] for it in range(11)]]
+    path, program = tools.file("many.csv", text_of(many)), ["--program", *tools.program]
+    for leg, wanted in (("X", "the products whose only leg is X are 11, and it takes 1 to 10"), ("Y", "only leg is Y are 0, and"),
+                        ("Z", "there is no leg Z")):
+        want_in(tools.stopped("optimum.py", path, leg, *program), wanted)
+    few = tools.file("few.csv", text_of([it for it in many if it[1] not in ("P0", "OVER")]))
+    out = tools.told("optimum.py", few, "X", *program)  # ten, at one fare, for which nobody asked
+    want(out.splitlines()[-2:], ["  optimum     0.00", "  EMSR-b      0.00"])
+
+
+@test
+def optimum_tells_the_textbook_example(tools):
+    for name, optimum, emsr in (("first", "0 17 43 73", "0 17 50 83"), ("second", "0 10 54 98", "0 10 53 95")):
+        path = EXAMPLES / "textbook" / f"{name}.csv"
+        made = subprocess.run([sys.executable, "-B", EXAMPLES / "textbook" / "make.py", name], stdout=subprocess.PIPE).stdout
+        want(made, path.read_bytes())
+        out = tools.told("optimum.py", path, "AB", "--out", "pictures", "--program", *tools.program, env=os.environ)
+        rows = [it.split() for it in out.splitlines()[4:8]]
+        want([" ".join(it) for it in zip(*rows)][3:], [optimum, emsr])
+        want((tools.folder / "pictures").exists(), "pictures/optimum.svg\n" in out)
+
+
 # How every tool begins and ends
 
 
@@ -788,7 +1132,8 @@ def words_of_tools(tools):
     certificate = tools.file("certificate", tools.nrm("plan", "bid", network))
     return {"audit.py": [network, certificate], "explain.py": [network, certificate], "lp.py": [network], "log.py": log,
             "split.py": [network, "parts"], "season.py": [network, stream, "--out", "pictures", *program], "replay.py": [network, *program],
-            "resume.py": [network, "bid", stream, kept, *program]}
+            "resume.py": [network, "bid", stream, kept, *program], "thresholds.py": [network, "3", "--out", "made.csv", *program],
+            "optimum.py": [network, "ZRH-VIE", *program]}
 
 
 @test
@@ -846,6 +1191,12 @@ def tools_that_run_the_program_tell_where_it_is_another(tools):
         want_in(tools.stopped("season.py", network, stream, *program), sentences[0])
         want_in(tools.stopped("replay.py", network, *program), sentences[1])
         want(tools.ran("replay.py", network, *program)[0], "")  # and no heads of a table
+    for script in ("", "echo ok 1", "echo class P 5", "echo cost A 0", "echo value A 1/0"):
+        program = ["--program", "sh", tools.file("script", script)]
+        want_in(tools.stopped("thresholds.py", network, 2, *program), f"what `cuts {network} A 2` wrote is no answer to it")
+        want_in(tools.stopped("optimum.py", network, "A", *program), f"what `dp {network} A` wrote is no answer to it")
+    program = ["--program", "sh", tools.file("script", "echo no leg; exit 10")]
+    want_in(tools.stopped("thresholds.py", network, 2, *program), f"`cuts {network} A 2` ended with status 10: no leg\n")
     refused, program = tools.file("refused.csv", "periods,1,1\nleg,a,1\n"), ["--program", *tools.program]
     for wrong, sentence in ((refused, "ended with status 3: refused row 2 why 5 name; `tools/explain.py` tells"),
                             (tools.folder, "status 9: file fault")):
@@ -866,7 +1217,7 @@ def tools_name_the_file_that_cant_be_read(tools):
 
 @test
 def parts_of_tools_say_that_they_are_none(tools):
-    for path in (TOOLS / "nrm_tools.py", TOOLS / "pictures.py", TOP / "bench" / "networks.py"):
+    for path in (TOOLS / "nrm_tools.py", TOOLS / "pictures.py", TOOLS / "telling.py", TOP / "bench" / "networks.py"):
         for words in ([], ["--help"]):
             out, err, status = tools.ran(path, *words)
             want((out, err.startswith(f"{path.name}: no tool, but a part of "), status), ("", True, 1), err)
@@ -901,10 +1252,11 @@ def scripts_of_bench_name_themselves_and_give_no_traceback(tools):
 
 @test
 def tools_end_at_ctrl_c(tools):
-    for name in ("season.py", "replay.py"):
+    for name in ("season.py", "replay.py", "thresholds.py", "optimum.py"):
         begun = tools.folder / f"{name}-begun"
         program = tools.file("slow", f"touch '{begun}'\nexec sleep 60\n")
-        words = [*words_of_tools(tools)[name][:2 if name == "season.py" else 1], "--program", "sh", program]
+        words = words_of_tools(tools)[name]
+        words = [*words[:words.index("--program")], "--program", "sh", program]
         process = subprocess.Popen([sys.executable, "-B", TOOLS / name, *words], cwd=tools.folder, stdout=subprocess.PIPE,
                                    stderr=subprocess.PIPE, start_new_session=True,
                                    # a shell has what it runs behind it ignore the signal

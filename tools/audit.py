@@ -5,9 +5,10 @@
 
 The files are those of docs/network-file.md and docs/certificate.md, and the network file is one that `nrm print` accepts.
 Of each condition it is told whether it holds, then what the allocation gains and what the prices cost, in a history on the
-mean. The last line and the status are those of `nrm check`: `optimal` and 0, the first condition that fails and 1, or why
-a file is refused and 3. Nothing of the program or of its tests is used, all numbers are exact fractions, and all are means
-of a history, where the program counts in whole numbers over all histories.
+mean. What a leg can give are its authorised seats, which in a file of version 1 are its seats. The last line and the status are
+those of `nrm check`: `optimal` and 0, the first condition that fails and 1, or why a file is refused and 3. Nothing of the
+program or of its tests is used, all numbers are exact fractions, and all are means of a history, where the program counts in
+whole numbers over all histories.
 """
 import argparse
 import csv
@@ -28,10 +29,13 @@ class Refused(Exception):
 
 
 class Network:
-    """Seats and thresholds of each leg; fare, legs and demand, in all histories and periods together, of each product."""
+    """Seats, authorised seats and thresholds of each leg; fare, legs, refund percentage and demand, in all histories and periods
+    together, of each product."""
 
     def __init__(self, path):
-        self.histories, self.seats, self.thresholds, self.fare, self.legs, self.demand = 0, {}, {}, {}, {}, {}
+        self.histories = self.version = 0
+        self.seats, self.authorised, self.thresholds = {}, {}, {}
+        self.fare, self.legs, self.refund, self.demand = {}, {}, {}, {}
         with open(path, encoding="utf-8-sig", newline="") as file:  # a mark at the start is skipped, line ends are kept
             try:
                 for row in filter(None, csv.reader(file)):  # a blank line is an empty row, and counts for nothing
@@ -43,13 +47,20 @@ class Network:
 
     def take(self, kind, name, rest):
         if kind == "periods":
-            self.histories, self.periods = int(name), int(rest[0])
+            self.histories, self.periods, self.version = int(name), int(rest[0]), len(rest)
         elif kind == "leg":
-            self.seats[name], *self.thresholds[name] = map(int, rest)
+            seats, *thresholds = map(int, rest)
+            self.seats[name] = seats
+            self.authorised[name] = thresholds.pop(0) if self.version == 2 else seats
+            self.thresholds[name] = thresholds
         elif kind == "product":
-            self.fare[name], self.legs[name], self.demand[name] = int(rest[0]), rest[1:], 0
-        else:
+            self.fare[name], self.legs[name], self.refund[name], self.demand[name] = int(rest[0]), rest[1:], 100, 0
+        elif kind == "refund" and self.version == 2 and name in self.fare:
+            [self.refund[name]] = map(int, rest)
+        elif kind == "demand":
             self.demand[name] += sum(map(int, rest[1:]))  # the first number is that of the history
+        else:
+            raise ValueError
 
 
 def bytes_of(path):
@@ -101,15 +112,15 @@ def audit(network, certificate):
     worth = {it: sum(certificate.price[leg] for leg in legs) for it, legs in network.legs.items()}
     sold = {leg: sum(seats for it, seats in certificate.seats.items() if leg in network.legs[it]) for leg in network.seats}
     gain = sum(network.fare[it] * seats for it, seats in certificate.seats.items())
-    cost = sum(network.seats[leg] * price for leg, price in certificate.price.items())
+    cost = sum(network.authorised[leg] * price for leg, price in certificate.price.items())
     cost += sum(bound[it] * max(network.fare[it] - worth[it], 0) for it in bound)
     conditions = {
         "2 no product has more seats than its demand":
             [f"product {it}" for it, seats in certificate.seats.items() if seats > bound[it]],
-        "3 no leg gives more seats than it has":
-            [f"leg {leg}" for leg in sold if sold[leg] > network.seats[leg]],
+        "3 no leg gives more seats than are authorised":
+            [f"leg {leg}" for leg in sold if sold[leg] > network.authorised[leg]],
         "4 each leg with a price is full":
-            [f"leg {leg}" for leg, price in certificate.price.items() if price > 0 and sold[leg] < network.seats[leg]],
+            [f"leg {leg}" for leg, price in certificate.price.items() if price > 0 and sold[leg] < network.authorised[leg]],
         "5 each product that is worth more than its legs has all its demand":
             [f"product {it}" for it, seats in certificate.seats.items() if seats < bound[it] and network.fare[it] > worth[it]],
         "6 each product that has seats is worth its legs":

@@ -27,9 +27,10 @@ it is too long, and a name of its own. --names FILE writes the list, `name,stand
 in it stay, and new ones are added. So better ones may be written into it.
 
 What is written is the demand, as rows `demand`, with the row of periods above them. With --network FILE, which has rows of legs
-and products, it is the whole network file: the demand and the periods of FILE are replaced. If these are more than a network file
-takes, `tools/split.py` cuts it. What is still to be done, such as the products to which FILE has no row, is told on standard
-error. A log that has a row that can't be read is refused: the first 20 such rows are told, and how many more there are.
+and products, it is the whole network file: the demand and the periods of FILE are replaced; its version, authorised seats and
+refunds stay. If these are more than a network file takes, `tools/split.py` cuts it. What is still to be done, such as the
+products to which FILE has no row, is told on standard error. A log that has a row that can't be read is refused: the first 20
+such rows are told, and how many more there are.
 """
 import csv
 import datetime
@@ -307,7 +308,7 @@ def write_names(path, names):
 
 
 def completed(path, demand, names):
-    """The rows of the network file at a path, with the periods and the demand of the log."""
+    """The rows of the network file at a path, of the same version, with the periods and the demand of the log."""
     rows = [row.fields for row in rows_in(path)]
     there = {row[1] for row in rows if row[0] == "product" and row[1:]}
     if not there:
@@ -318,7 +319,9 @@ def completed(path, demand, names):
                                  *missing]))
     if idle := sorted(there - {names[it] for it in demand.products}):
         tell(f"no request of the log is for {', '.join(idle)}")
-    return [["periods", len(demand.departures), demand.periods], *[it for it in rows if it[0] not in ("periods", "demand")]]
+    version = next((row[3:4] for row in rows if row[0] == "periods"), [])
+    return [["periods", len(demand.departures), demand.periods, *[it for it in version if it == "2"]],
+            *[it for it in rows if it[0] not in ("periods", "demand")]]
 
 
 def tell(text):

@@ -194,18 +194,22 @@ def whole(field):
 class Network:
     """What a network file says.
 
+    version               of the file, 1 or 2
     histories, periods    how many there are
     seats, thresholds     of each leg
+    authorised            of each leg, the seats that may be booked: in version 1 its seats
     fare, legs            of each product
+    refund                of each product, the percentage of its fare that a cancellation gives back: 100 where no row says it
     demand                of each product, by the number of the history, the seats asked for in each period
 
-    It sees that each name and number has its form and that each name was made before. That the file is within all its limits
-    is for `nrm print` to say, and what is wrong with it for `tools/explain.py`.
+    It sees that the row of periods comes first, that each name and number has its form and that each name was made before. That
+    the file is within all its limits is for `nrm print` to say, and what is wrong with it for `tools/explain.py`.
     """
 
     def __init__(self):
-        self.histories = self.periods = 0
-        self.seats, self.thresholds, self.fare, self.legs, self.demand = {}, {}, {}, {}, {}
+        self.version = self.histories = self.periods = 0
+        self.seats, self.authorised, self.thresholds = {}, {}, {}
+        self.fare, self.legs, self.refund, self.demand = {}, {}, {}, {}
 
     @classmethod
     def read(cls, path):
@@ -226,21 +230,42 @@ class Network:
         return network
 
     def take(self, kind, name, rest):
+        if (kind == "periods") == bool(self.version):
+            raise ValueError
         if kind == "periods":
-            [periods] = rest
-            self.histories, self.periods = whole(name), whole(periods)
+            self.histories, self.periods, self.version = whole(name), whole(rest[0]), len(rest)
+            if rest[1:] not in ([], ["2"]):
+                raise ValueError
             return
         if not NAME.fullmatch(name):
             raise ValueError
         numbers = [whole(it) for it in (rest[:1] if kind == "product" else rest)]
         if kind == "leg" and name not in self.seats:
-            self.seats[name], *self.thresholds[name] = numbers
+            self.seats[name], *numbers = numbers
+            self.authorised[name], *self.thresholds[name] = numbers if self.version == 2 else [self.seats[name], *numbers]
         elif kind == "product" and name not in self.fare and self.seats.keys() >= set(rest[1:]) != set():
-            self.fare[name], self.legs[name], self.demand[name] = numbers[0], rest[1:], {}
+            self.fare[name], self.legs[name], self.refund[name], self.demand[name] = numbers[0], rest[1:], 100, {}
+        elif kind == "refund" and self.version == 2 and name in self.fare:
+            [self.refund[name]] = numbers
         elif kind == "demand" and len(numbers) == 1 + self.periods:
             self.demand[name][numbers[0]] = numbers[1:]
         else:
             raise ValueError
+
+    def rows(self, legs=None, products=None):
+        """The rows of a network file of the same version with these legs and products, or with all."""
+        legs, products = self.seats if legs is None else legs, self.fare if products is None else products
+        is_second = self.version == 2
+        yield ["periods", self.histories, self.periods, *([2] if is_second else [])]
+        yield from (["leg", it, self.seats[it], *([self.authorised[it]] if is_second else []), *self.thresholds[it]] for it in legs)
+        yield from (["product", it, self.fare[it], *self.legs[it]] for it in products)
+        yield from (["refund", it, self.refund[it]] for it in products if self.refund[it] != 100)
+        yield from (["demand", it, history, *seats] for it in products for history, seats in sorted(self.demand[it].items()))
+
+    def seats_of(self, leg):
+        """How many seats a leg has, in words, and how many are authorised if these aren't as many."""
+        seats, authorised = self.seats[leg], self.authorised[leg]
+        return f"{seats} seats{'' if authorised == seats else f', {authorised} authorised'}"
 
     def demand_in_all(self, product):
         """The seats that were asked for of a product, in all histories and periods together."""

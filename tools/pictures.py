@@ -1,4 +1,4 @@
-"""The pictures of a season, for tools/season.py: with matplotlib, and the same each time.
+"""The pictures of tools/season.py, tools/thresholds.py and tools/optimum.py: with matplotlib, and the same each time.
 
 Colours are those of Okabe and Ito, which colour-blind readers tell apart; each has a mark, a dash or a hatch of its own too.
 """
@@ -21,23 +21,25 @@ BLACK, ORANGE, SKY, GREEN, YELLOW, BLUE, VERMILLION, PURPLE = (
 STYLES = {"first": (ORANGE, "o", ":"), "bid": (BLUE, "s", "-"), "davn": (VERMILLION, "^", "--"), "bound": (BLACK, "D", "-.")}
 BANDS = [(VERMILLION, "////"), (ORANGE, "----"), (GREEN, "\\\\\\\\"), (YELLOW, "||||"), (PURPLE, "xxxx"), (SKY, "++++"),
          (VERMILLION, "----"), (ORANGE, "////"), (GREEN, "||||")]
-SOLD, OPEN = (BLUE, ""), ("#FFFFFF", "")
+SOLD, OPEN, CLOSED = (BLUE, ""), ("#FFFFFF", ""), ("#BBBBBB", "")
+SEATS_LINE = {"color": BLACK, "linewidth": 1.3, "linestyle": "--", "clip_on": False}
 LINE = "line of the stream"
 WIDTH = 8.3  # inches of 100 dots: as wide as a page of a repository
 SETTINGS = {"svg.hashsalt": "nrm", "svg.fonttype": "none", "font.size": 8.5, "axes.titlesize": 8.5,
             "axes.spines.top": False, "axes.spines.right": False,
             "hatch.linewidth": 0.5, "lines.markersize": 4.5, "lines.linewidth": 1.3, "legend.frameon": False, "figure.dpi": 100}
 PRODUCTS_IN_A_PANEL = 32
+WIDEST_TITLE = 22  # letters that fit above one of five panels
 
 
-def panels(count, columns, height, legend, left=0.65, across=0.25, share_y=True):
+def panels(count, columns, height, legend, left=0.65, across=0.25, share_x=True, share_y=True):
     """A figure with that many panels, each of a height in inches, and room below for so many rows of a legend."""
     columns = min(columns, count)
     rows = -(-count // columns)
     below = 0.7 + 0.18 * legend
     tall = 0.3 + rows * height + (rows - 1) * 0.42 + below
     wide = (WIDTH - left - 0.2 - (columns - 1) * across) / columns
-    figure, axes = pyplot.subplots(rows, columns, squeeze=False, sharex=True, sharey=share_y, figsize=(WIDTH, tall))
+    figure, axes = pyplot.subplots(rows, columns, squeeze=False, sharex=share_x, sharey=share_y, figsize=(WIDTH, tall))
     figure.subplots_adjust(left=left / WIDTH, right=1 - 0.2 / WIDTH, top=1 - 0.3 / tall, bottom=below / tall,
                            wspace=across / wide, hspace=0.42 / height)
     for axis in axes.flat[count:]:
@@ -73,12 +75,15 @@ def plan_mark():
 def bid_prices(network, stream, seasons):
     """The bid price of each leg, under the modes that have prices."""
     figure, axes = panels(len(network.seats), 5, 1.25 if len(network.seats) > 5 else 2, 1)
+    titles = {leg: f"{leg}, {authorised} {'seats' if authorised == network.seats[leg] else 'authorised'}"
+              for leg, authorised in network.authorised.items()}
+    size = SETTINGS["axes.titlesize"] * min(1, WIDEST_TITLE / max(map(len, titles.values())))
     for axis, leg in zip(axes, network.seats):
         mark_plans(axis, stream.points)
         for it in seasons[1:]:
             axis.plot([point.number for point in it.points], [float(point.prices[leg]) for point in it.points],
                       drawstyle="steps-post", **style(it.mode))
-        axis.set_title(f"{leg}, {network.seats[leg]} seats")
+        axis.set_title(titles[leg], fontsize=size)
     most = max(1, *[float(price) for it in seasons[1:] for point in it.points for price in point.prices.values()])
     axes[0].set_ylim(-0.05 * most, 1.05 * most)
     told(figure, LINE, "bid price, currency units",
@@ -87,8 +92,8 @@ def bid_prices(network, stream, seasons):
 
 
 def bands(season, seats, leg):
-    """A leg's seats behind each line that changes them, with the numbers of these lines: from the top those protected for
-    bucket 1, for buckets 1 and 2, and so on, then those left to all, then those sold."""
+    """A leg's authorised seats behind each line that changes them, with the numbers of these lines: from the top those protected
+    for bucket 1, for buckets 1 and 2, and so on, then those left to all, then those sold."""
     levels, points, numbers, found = [], list(season.points), [], []
     for number, sold in enumerate(season.course):
         while points and points[0].number <= number:
@@ -102,22 +107,28 @@ def bands(season, seats, leg):
 
 
 def seats(network, stream, seasons, leg):
-    """The seats of a leg in each mode: sold, left, and of those left, protected by bucket."""
-    looks = BANDS[:len(network.thresholds[leg])]
-    figure, axes = panels(len(seasons), 3, 2.5, -(-(3 + len(looks)) // 3))
+    """The authorised seats of a leg in each mode: sold, left, and of those left, protected by bucket; and a line at its seats
+    where these are fewer, or more, of which some are not authorised."""
+    looks, authorised = BANDS[:len(network.thresholds[leg])], network.authorised[leg]
+    marks = [] if authorised == network.seats[leg] else [Line2D([], [], **SEATS_LINE, label=f"the leg's {network.seats[leg]} seats")]
+    marks += [patch(CLOSED, "not authorised")] if authorised < network.seats[leg] else []
+    figure, axes = panels(len(seasons), 3, 2.5, -(-(3 + len(looks) + len(marks)) // 3))
     for axis, it in zip(axes, seasons):
-        numbers, found = bands(it, network.seats[leg], leg)
-        top = [network.seats[leg]] * len(numbers)
+        numbers, found = bands(it, authorised, leg)
+        top = [authorised] * len(numbers)
         for (colour, hatch), band in zip([*looks[:len(found) - 2], OPEN, SOLD], found):
             bottom = [a - b for a, b in zip(top, band)]
             axis.fill_between(numbers, bottom, top, step="post", facecolor=colour, hatch=hatch, edgecolor=BLACK, linewidth=0)
             top = bottom
         axis.plot(numbers, found[-1], drawstyle="steps-post", color=BLACK, linewidth=0.8)
         mark_plans(axis, stream.points)
+        if marks:
+            axis.axhline(network.seats[leg], **SEATS_LINE)
+            axis.axhspan(authorised, max(authorised, network.seats[leg]), facecolor=CLOSED[0], linewidth=0)
         axis.set_title(f"{leg} under {it.mode}")
         axis.margins(x=0, y=0)
     kept = [patch(look, f"left, protected for bucket{f's 1 to {b}' if b > 1 else ' 1'}") for b, look in enumerate(looks, 1)]
-    told(figure, LINE, "seats", [patch(SOLD, "sold"), patch(OPEN, "left, not protected"), *kept, plan_mark()], 3)
+    told(figure, LINE, "seats", [patch(SOLD, "sold"), patch(OPEN, "left, not protected"), *kept, *marks, plan_mark()], 3)
     return figure
 
 
@@ -168,14 +179,76 @@ def refused(seasons):
 
 
 def drawn(network, stream, seasons, leg, folder):
-    """Draws all, and gives the paths of the files."""
+    """Draws a season, and gives the paths of the files."""
+    def figures():
+        yield "bid-prices", bid_prices(network, stream, seasons)
+        yield "seats", seats(network, stream, seasons, leg)
+        yield "revenue", revenue(stream, seasons)
+        if any(seasons[0].asked.values()):
+            yield "refused", refused(seasons)
+    return written(figures(), folder)
+
+
+def thresholds(groupings):
+    """The fares on each leg, as high as the seats that were asked for, in their groups, with the cuts and the centres."""
+    figure, axes = panels(len(groupings), 3, 1.35, 1, across=0.3, share_x=False, share_y=False)
+    centre = dict(color=VERMILLION, marker="^", linestyle="", clip_on=False, zorder=3)
+    for axis, it in zip(axes, groupings):
+        fares = list(it.asked)
+        edges = [(cut + below) / 2 for cut, below in zip(fares, fares[1:]) if cut in it.cuts]
+        wide = (fares[0] - fares[-1]) / 20 or fares[0] / 20
+        ends = [fares[0] + wide, *edges, fares[-1] - wide]
+        for high, low in list(zip(ends, ends[1:]))[1::2]:
+            axis.axvspan(low, high, color="#EEEEEE", linewidth=0)
+        axis.vlines(fares, 0, list(it.asked.values()), color=BLUE, linewidth=2)
+        axis.plot(fares, list(it.asked.values()), color=BLUE, marker="o", linestyle="", markersize=3)
+        for cut in it.cuts:
+            axis.axvline(cut, color=BLACK, linewidth=0.7, linestyle=(0, (3, 2)))
+        axis.plot(it.centres, [0] * len(it.centres), **centre)
+        axis.set_xlim(ends[-1], ends[0])
+        axis.set_ylim(bottom=0)
+        axis.xaxis.set_major_locator(matplotlib.ticker.MaxNLocator(4, integer=True))
+        axis.yaxis.set_major_locator(matplotlib.ticker.MaxNLocator(4, integer=True))
+        axis.set_title(it.leg)
+    told(figure, "fare, currency units", "seats asked for, in all histories",
+         [Line2D([], [], color=BLUE, marker="o", markersize=3, linewidth=2, label="a fare"),
+          Line2D([], [], color=BLACK, linewidth=0.7, linestyle=(0, (3, 2)), label="cut: the least fare of its group"),
+          Line2D([], [], **centre, label="centre of a group"), Patch(facecolor="#EEEEEE", label="every other group")])
+    return figure
+
+
+def optimum(classes, optimal, emsr):
+    """The mean revenue from each number of seats, what the last of them adds, and the seats that are kept from each class."""
+    figure, (value, price, kept) = panels(3, 1, 1.9, 1, left=1.35, share_y=False)
+    looks = [(optimal, dict(color=BLUE, linestyle="-"), "s", "optimum"), (emsr, dict(color=VERMILLION, linestyle="--"), "^", "EMSR-b")]
+    for (policy, look, mark, _), shift in zip(looks, (-0.12, 0.12)):
+        means = [float(it) for it in policy.values]
+        value.plot(range(len(means)), means, **look)
+        price.plot(range(1, len(means)), [b - a for a, b in zip(means, means[1:])], **look, drawstyle="steps-mid")
+        kept.plot(policy.kept, [at + shift for at in range(len(classes))], color=look["color"], linestyle="", marker=mark, clip_on=False)
+    value.set_title("mean revenue of a history from so many seats, currency units")
+    price.set_title("bid price: what the last of so many seats adds, currency units")
+    kept.set_title("seats that are kept from each class")
+    kept.set_yticks(range(len(classes)), [f"{name}\n{fare}" for name, fare, _ in classes])
+    kept.set_ylim(len(classes) - 0.5, -0.5)
+    value.set_xlim(0, max(1, len(optimal.values) - 1))
+    for axis in (value, price):
+        axis.set_ylim(bottom=0)
+        axis.yaxis.set_major_formatter(matplotlib.ticker.StrMethodFormatter("{x:,.0f}"))
+    told(figure, "seats", "", [Line2D([], [], **look, marker=mark, label=label) for _, look, mark, label in looks])
+    return figure
+
+
+def drawn_one(name, figure_of, folder):
+    """Draws one figure, which is made by a function, and gives the paths of the files."""
+    return written(((name, make()) for make in [figure_of]), folder)
+
+
+def written(figures, folder):
+    """Writes figures as they are made, each with its name, and gives the paths of the files."""
     make_folder(folder)
     with matplotlib.rc_context(SETTINGS):
-        figures = {"bid-prices": bid_prices(network, stream, seasons), "seats": seats(network, stream, seasons, leg),
-                   "revenue": revenue(stream, seasons)}
-        if any(seasons[0].asked.values()):
-            figures["refused"] = refused(seasons)
-        for name, figure in figures.items():
+        for name, figure in figures:
             for kind, metadata in (("png", {"Software": None}), ("svg", {"Date": None, "Creator": None})):
                 path = os.path.join(folder, f"{name}.{kind}")
                 figure.savefig(path, metadata=metadata)

@@ -6,7 +6,7 @@
 Each history in its turn is taken out of NETWORK and becomes the season: its requests, a seat each, in the order of the periods
 and mixed within each period by the seed, with a line `reoptimise` at the start of each period but the first. `nrm` answers
 them in the three modes on the network of the other histories. Told are the bound of hindsight, and how much of it each mode
-earns. With no --program it is the `nrm` above this folder, or the one on the path.
+earns; nothing is cancelled, so nothing is withheld. With no --program it is the `nrm` above this folder, or the one on the path.
 """
 import os
 import random
@@ -20,7 +20,7 @@ def rows_without(rows, history):
     """The rows of the network without a history; those behind it move up."""
     for kind, *rest in rows:
         if kind == "periods":
-            yield [kind, int(rest[0]) - 1, rest[1]]
+            yield [kind, int(rest[0]) - 1, *rest[1:]]
         elif kind != "demand":
             yield [kind, *rest]
         elif int(rest[1]) != history:
@@ -49,7 +49,7 @@ def replayed(rows, history, seed, words):
             file.write(text_of(rows_without(rows, history)))
         for mode in MODES:
             last = b"".join(replies(words, mode, path, stream)[-1:]).decode("latin-1").split()
-            if last[0:1] != ["hindsight"] or len(last) != 4:
+            if last[0:1] != ["hindsight"] or len(last) != 6:
                 raise Stop(f"`run {mode}` without history {history} has no bound: {' '.join(last)}")
             told.append(int(last[3]))
     return Fraction(last[1]), told

@@ -4,12 +4,14 @@
     tools/season.py NETWORK STREAM [--out FOLDER] [--leg LEG] [--decimal] [--program WORD...]
 
 `nrm` answers the lines of STREAM on NETWORK under `first`, `bid` and `davn`. Told are: the revenue of each mode beside the
-bound of hindsight, and the bid prices of each leg, at the opening, at each line `reoptimise` and at the end; the seats of one
-leg, sold, left and protected; and of how many requests each product was refused. The tables come on standard output; the
-pictures go to FOLDER, the current one where nothing is said, each as PNG and as SVG, and are the same each time. They
-need matplotlib (Debian's python3-matplotlib): without it there are the tables alone. LEG is the leg whose seats are drawn,
-by default the one of which most seats were asked for. With --decimal the tables have decimals in the place of fractions, as
-a spreadsheet wants them. With no --program it is the `nrm` above this folder, or the one on the path.
+bound of hindsight, what it has withheld of cancelled bookings where some product's refund is below 100 per cent, and the bid
+prices of each leg, at the opening, at each line `reoptimise` and at the end; the seats of one leg, sold, left and protected; and
+of how many requests each product was refused. The seats left are those of the authorised seats.
+
+The tables come on standard output; the pictures go to FOLDER, the current one where nothing is said, each as PNG and as SVG, and
+are the same each time. They need matplotlib (Debian's python3-matplotlib): without it there are the tables alone. LEG is the leg
+whose seats are drawn, by default the one of which most seats were asked for. With --decimal the tables have decimals in the place
+of fractions, as a spreadsheet wants them. With no --program it is the `nrm` above this folder, or the one on the path.
 
 HOW REPLIES ARE TOLD APART. Before the first line, behind each line `reoptimise K` of a period that the network has, and
 behind the last line, the lines `plan`, `leg LEG` for each leg, and `hindsight` are put into the stream. None of them changes
@@ -18,13 +20,10 @@ lines that begin with `product`, `leg` and a fraction, `nest` or `protect`, and 
 So the replies are dealt out to the lines in order, and those to the lines put in are taken away.
 """
 import re
-import sys
 from fractions import Fraction
 
 from nrm_tools import MODES, Network, Stop, add_program, bytes_in, end, parser, program, replies
-
-
-DEBIANS_PYTHON = "/usr/bin/python3"
+from telling import no_pictures, table
 
 
 class Stream:
@@ -48,12 +47,13 @@ class Stream:
 
 
 class Point:
-    """What is told at one place of a season: the prices and protections in force, the seats sold, the bound, the revenue."""
+    """What is told at one place of a season: the prices and protections in force, the seats sold, the bound, the revenue and
+    what was withheld."""
 
     def __init__(self, number):
         self.number = number
         self.prices, self.protections, self.sold = {}, {}, {}
-        self.bound = self.revenue = None
+        self.bound = self.revenue = self.withheld = None
 
     def take(self, line, reply):
         if line == "plan":
@@ -65,10 +65,10 @@ class Point:
         elif line == "hindsight":
             words = reply[0].split()
             if words[0] == "hindsight":  # and not `overflow` or `memory`
-                self.bound, self.revenue = Fraction(words[1]), int(words[3])
+                self.bound, self.revenue, self.withheld = Fraction(words[1]), int(words[3]), int(words[5])
         else:
             words = reply[0].split()
-            self.sold[words[1]] = int(words[5])
+            self.sold[words[1]] = int(words[7])
 
 
 class Season:
@@ -134,22 +134,6 @@ def leg_most_asked_for(network, stream):
 # Tables
 
 
-def cell(value, decimal):
-    """The text of a number, a name or of nothing."""
-    if decimal and isinstance(value, Fraction):
-        return f"{float(value):.2f}"
-    return "" if value is None else str(value)
-
-
-def table(title, heads, rows, decimal):
-    """A table of text, its columns to the right but for the first."""
-    rows = [[cell(it, decimal) for it in row] for row in [heads, *rows]]
-    widths = [max(map(len, column)) for column in zip(*rows)]
-    print(f"\n{title}\n")
-    for row in rows:
-        print(f"  {row[0]:<{widths[0]}}", *[f"{it:>{width}}" for it, width in zip(row[1:], widths[1:])], sep="  ")
-
-
 def tables(network, stream, seasons, leg, decimal=False):
     names = [name for _, name in stream.points]
     print("Each point of the season is behind a line of the stream:",
@@ -157,14 +141,18 @@ def tables(network, stream, seasons, leg, decimal=False):
     rows = zip(names, *[[point.revenue for point in it.points] for it in seasons], [it.bound for it in seasons[0].points])
     table("Revenue of the bookings that stand, and the bound of hindsight, in currency units", ["", *MODES, "bound"],
           rows, decimal)
+    if min(network.refund.values()) < 100:
+        rows = zip(names, *[[point.withheld for point in it.points] for it in seasons])
+        table("Withheld of the bookings that were cancelled, in currency units", ["", *MODES], rows, decimal)
     for it in seasons[1:]:
         rows = [[name, *[point.prices[name] for point in it.points]] for name in network.seats]
         table(f"Bid prices under {it.mode}, in currency units", ["leg", *names], rows, decimal)
+    authorised = "" if network.authorised[leg] == network.seats[leg] else f", {network.seats_of(leg)},"
     for it in seasons:
-        rows = [[name, point.sold[leg], network.seats[leg] - point.sold[leg],
+        rows = [[name, point.sold[leg], network.authorised[leg] - point.sold[leg],
                  *(point.protections[leg] if it.mode == "davn" else [])] for name, point in zip(names, it.points)]
         levels = [f"for 1 to {b}" if b > 1 else "for 1" for b in range(1, len(rows[0]) - 2)]
-        table(f"Seats of {leg} under {it.mode}: sold, left{', and protected for buckets' if levels else ''}",
+        table(f"Seats of {leg}{authorised} under {it.mode}: sold, left{', and protected for buckets' if levels else ''}",
               ["", "sold", "left", *levels], rows, decimal)
     rows = [[name, asked, *[it.refused[name] for it in seasons]] for name, asked in seasons[0].asked.items() if asked]
     table("Requests for each product, and how many of them were refused", ["product", "requests", *MODES], rows, decimal)
@@ -190,9 +178,7 @@ def main():
     try:
         import pictures
     except ImportError:
-        advice = ("Debian's package is python3-matplotlib" if sys.executable == DEBIANS_PYTHON else
-                  f"Debian's python3-matplotlib is for {DEBIANS_PYTHON}: {DEBIANS_PYTHON} {' '.join(sys.argv)}")
-        print(f"season.py: no pictures, since {sys.executable}, the Python that was asked, has no matplotlib; {advice}", file=sys.stderr)
+        no_pictures()
         return
     print()
     for path in pictures.drawn(network, stream, seasons, leg, given.out):

@@ -6,9 +6,9 @@
 TIMETABLE is written like a network file, but may have any number of legs and products. Legs that a product joins belong
 together, and so do those that products join to them in their turn: what is sold on such a part is worth the same whatever happens
 in another. Each part becomes a file of its own, FOLDER/part-1.csv and so on in the order of their first legs, with its products,
-their demand and the row of periods; FOLDER/parts.csv says of each product in which file it is, so that a request goes to the
-right session. A line for each part is told. A leg without a product is in no file, and told; and so is a part of an earlier run
-that is still in the folder.
+their refunds and demand, and the row of periods; it is of the version that TIMETABLE has. FOLDER/parts.csv says of each product
+in which file it is, so that a request goes to the right session. A line for each part is told. A leg without a product is in no
+file, and told; and so is a part of an earlier run that is still in the folder.
 
 A part with more than 64 legs or 256 products is told too, with its legs and the products without which it would fall apart, and
 not written; the status is then 1.
@@ -49,14 +49,6 @@ def holding(legs, products):
             and len(parts_of(legs, {other: used for other, used in products.items() if other != it})) > 1]
 
 
-def rows_of_part(network, legs, products):
-    """The rows of a part's network file."""
-    yield ["periods", network.histories, network.periods]
-    yield from (["leg", it, network.seats[it], *network.thresholds[it]] for it in legs)
-    yield from (["product", it, network.fare[it], *network.legs[it]] for it in products)
-    yield from (["demand", it, history, *seats] for it in products for history, seats in sorted(network.demand[it].items()))
-
-
 def tell_too_large(network, legs, products):
     print(f"too large: {len(legs)} legs and {len(products)} products, and a file takes {MOST_LEGS} and {MOST_PRODUCTS}; not written")
     print(f"    its legs: {' '.join(legs)}")
@@ -82,7 +74,7 @@ def split(network, folder):
                 number += 1
                 name = f"part-{number}.csv"
                 with open(os.path.join(folder, name), "w", encoding="ascii") as file:
-                    file.write(text_of(rows_of_part(network, legs, products)))
+                    file.write(text_of(network.rows(legs, products)))
                 list_of_products.write(text_of([[it, name] for it in products]))
                 print(f"{os.path.join(folder, name)}: legs {len(legs)}, the first {legs[0]}; products {len(products)}")
     tell_of_earlier_runs(folder, number)
