@@ -1,6 +1,8 @@
--- Four fares of a leg, in two groups, in ten and in one.
-use Rattle.std.specs.Prelude.{◌≡◌, [], ◌∷◌, refl, Some}
-use Rattle.nrm_cluster.specs.Points.{PointsValue}
+-- Four fares of a leg, in two groups, in ten and in one; and what is asked for on a leg.
+use Rattle.std.specs.Prelude.{◌≡◌, List, [], ◌∷◌, map, codes, refl, Some}
+use Rattle.nrm_model.specs.Network.{NetworkValue}
+use Rattle.nrm_cluster.specs.Points.{PointsValue, asked_on, fares_of, seats_at}
+use Rattle.nrm_cluster.specs.declared.points.Asked.{Asked}
 use Rattle.nrm_cluster.specs.Divisions.{cuts_of, distance, centre_of}
 use Rattle.nrm_cluster.specs.Inner.Table.{best_division}
 
@@ -32,3 +34,27 @@ either_way = (refl, refl)
 
 higher_of_two : centre_of (record { values = 9 ∷ 4 ∷ []; weights = 1 ∷ 1 ∷ [] }) 0 2 ≡ 9
 higher_of_two = refl
+
+-- ---- what is asked for on a leg, in two histories of two periods: two products have one fare, and a third uses another leg
+abbrev shared_fare : NetworkValue
+shared_fare = record {
+  histories = 2;
+  periods = 2;
+  legs = record { name = codes "AB"; seats = 3; authorised = 3; cuts = [] } ∷ record { name = codes "BC"; seats = 2; authorised = 2; cuts = [] } ∷ [];
+  products = record { name = codes "ONE"; fare = 200; refund = 100; legs = 0 ∷ [] } ∷ record { name = codes "BOTH"; fare = 300; refund = 100; legs = 0 ∷ 1 ∷ [] }
+      ∷ record { name = codes "OTHER"; fare = 200; refund = 100; legs = 0 ∷ [] } ∷ record { name = codes "FAR"; fare = 900; refund = 100; legs = 1 ∷ [] } ∷ [];
+  demand = 1 ∷ 2 ∷ 3 ∷ 4 ∷ 5 ∷ 0 ∷ 0 ∷ 6 ∷ 0 ∷ 0 ∷ 7 ∷ 0 ∷ 9 ∷ 9 ∷ 9 ∷ 9 ∷ [];
+}
+
+abbrev on_first_leg : List Asked
+on_first_leg = record { fare = 200; seats = 10 } ∷ record { fare = 300; seats = 11 } ∷ record { fare = 200; seats = 7 } ∷ []
+
+asked : asked_on shared_fare 0 ≡ on_first_leg
+asked = refl
+
+fares : fares_of on_first_leg ≡ 200 ∷ 300 ∷ 200 ∷ []
+fares = refl
+
+-- what is asked for at one fare is added
+seats : map (seats_at on_first_leg) (300 ∷ 200 ∷ 100 ∷ []) ≡ 11 ∷ 17 ∷ 0 ∷ []
+seats = refl
