@@ -67,7 +67,7 @@ never_asked plan stands = by (record { product = 0; party = 10 } ∷ []) (reques
     by requests chosen e f (left_out (taken choice)) = cc
     by requests chosen e f (taken choice) = let ten = ap first_party e in let two = ap first_party f in omega (arith, ten, two)
 
--- a request is tallied whatever the answer, up to the least seats
+-- a request is tallied whatever the answer, up to the least authorised seats
 tallied_twice : with_request two_legs_five_products (3 ∷ 0 ∷ 0 ∷ 0 ∷ 0 ∷ []) 2 4 ≡ 3 ∷ 0 ∷ 4 ∷ 0 ∷ 0 ∷ []
 tallied_twice = refl
 

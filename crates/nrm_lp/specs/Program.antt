@@ -3,7 +3,7 @@
 -- numbers: an allocation is x over a denominator q, bid prices are p over a denominator d.
 use Rattle.std.specs.Prelude.{ℕ, ◌+◌, ◌*◌, ◌-◌, ◌<◌, ◌≤◌, ◌≡◌, ◌||◌, Bool, false, List, [], ◌∷◌, length, if◌then◌else◌, ◌==◌, slice_index}
 
--- the seats of each leg, and for each product the most that can be sold, the fare and the numbers of its legs
+-- the seats of each leg that may be sold, and for each product the most that can be sold, the fare and the numbers of its legs
 pub record ProgramValue : Type 0 where
   pub caps : List ℕ
   pub bounds : List ℕ

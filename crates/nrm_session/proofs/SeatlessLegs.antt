@@ -70,6 +70,6 @@ module _ (net : NetworkValue) (legs : List Leg) (same : AreSameLegs net.legs leg
   pub inventory-same : inventory_of net ≡ inventory_of (with_legs net legs)
   inventory-same = λ k. record { authorised = authorised-list-same k; fares = (inventory_of net).fares; legs = (inventory_of net).legs }
 
-  -- the same least seats of each product
+  -- the same least authorised seats of each product
   pub least-same : (j : ℕ) → least_authorised_of net j ≡ least_authorised_of (with_legs net legs) j
   least-same j = λ k. least_of (map (λ i. authorised-same i k) (product_of net j).legs)

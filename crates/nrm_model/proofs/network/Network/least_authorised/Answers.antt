@@ -1,4 +1,4 @@
--- The least seats of the legs so far, and with all of them those of the product.
+-- The least authorised seats of the legs so far, and with all of them those of the product.
 use Rattle.std.proofs.Common.{◌≡◌, ◌∙◌, ◌<◌, length, get_or, ap, subst, arith}
 use Rattle.nrm_model.specs.declared.product.Product.{Product}
 use Rattle.nrm_model.specs.Limits.{IsNetwork}
