@@ -81,7 +81,7 @@ not-memory control (answered.Optimised num den) other is = cc
 not-memory control answered.OptimisedNone other is = cc
 not-memory control answered.Overflow other is = cc
 not-memory control answered.Memory other is = other refl
-not-memory control (answered.Hindsight num den revenue) other is = cc
+not-memory control (answered.Hindsight num den revenue withheld) other is = cc
 not-memory control (answered.Leg i) other is = cc
 not-memory control answered.Plan other is = cc
 

@@ -1,8 +1,7 @@
 -- How a run ends whose file gave a network, out of how the session over its stream ended.
-use Rattle.std.proofs.Common.{ℕ, ◌≡◌, List, [], take, Some, arith, inl, inr}
+use Rattle.std.proofs.Common.{ℕ, ◌≡◌, List, take, Some, arith, inl, inr}
 use Rattle.nrm_model.specs.declared.mode.Mode.{Mode}
 use Rattle.nrm_model.specs.Network.{NetworkValue}
-use Rattle.nrm_hindsight.specs.Requests.{tallies_of}
 use Rattle.nrm_control.specs.Standing.{ControlValue}
 use Rattle.nrm_outside.specs.Outside.{Goes, Outside}
 use Rattle.nrm_plan.specs.Plans.{IsOpeningPlan}
@@ -12,7 +11,7 @@ use Rattle.nrm_session.specs.declared.serving.End.{End}
 use Rattle.nrm_session.specs.declared.serving.End.TheVariants as end
 use Rattle.nrm_cli.specs.Ends.{Ends, Failures, Starts, stream_limit}
 use Rattle.nrm_cli.specs.Jobs.{run_file}
-use Rattle.nrm_cli.specs.Inner.Parts.{status_at}
+use Rattle.nrm_cli.specs.Inner.Parts.{HasBegun, status_at}
 use Rattle.nrm_cli.specs.Tells.{Opens}
 use Rattle.nrm_cli.proofs.SessionRuns.{run-stops, run-writes}
 
@@ -21,7 +20,7 @@ abbrev pub streams_of : Outside → Streams
 streams_of at = record { coming = at.coming; held = at.held; source_faults = at.source_faults; sink_faults = at.sink_faults }
 
 module _ (mode : Mode) (file : List ℕ) (net : NetworkValue) (start new : ControlValue) (before after : Outside) where
-  pub served-ends : start ≡ record { net = net; plan = start.plan; bookings = []; next = 1; tallies = tallies_of net [] } → Opens (Some (run_file mode file)) (run_file mode file) before net → IsOpeningPlan net mode start.plan
+  pub served-ends : HasBegun net start → Opens (Some (run_file mode file)) (run_file mode file) before net → IsOpeningPlan net mode start.plan
       → (e : End) → Serves start new (streams_of before) (streams_of after) stream_limit e → CountsFaults (streams_of before) (streams_of after) e → Ends (Some (run_file mode file)) before after (status_at e)
   served-ends begun opens planned e serves counts = by e serves counts
     where

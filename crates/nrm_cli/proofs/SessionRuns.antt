@@ -19,6 +19,7 @@ opened start net begun = record {
   next = sym (ap (λ (c : ControlValue). c.next) begun);
   tallies = ap (λ (n : NetworkValue). tallies_of n []) (ap (λ (c : ControlValue). c.net) begun) ∙ sym (ap (λ (c : ControlValue). c.tallies) begun);
   choice = none;
+  withheld = sym (ap (λ (c : ControlValue). c.withheld) begun);
 }
 
 module _ (start new : ControlValue) (net : NetworkValue) (commands : List Command) (output : List ℕ) (begun : HasBegun net start) where

@@ -27,7 +27,7 @@ counted c optimised_none = record c { optimised = c.optimised + 1 }
 counted c overflow = record c { overflow = c.overflow + 1 }
 counted c bad = c
 counted c memory = c
-counted c (hindsight_told value revenue) = c
+counted c (hindsight_told value revenue withheld) = c
 counted c (plan_told text) = c
 
 -- the counts of all replies but the last, after these
@@ -47,7 +47,7 @@ last_of (reply ∷ next ∷ more) = last_of (next ∷ more)
 
 -- the value that a reply to hindsight tells, or that its program is Large
 abbrev pub hindsight_word : Reply → List ℕ
-hindsight_word (hindsight_told value revenue) = fraction_text value
+hindsight_word (hindsight_told value revenue withheld) = fraction_text value
 hindsight_word bad = codes "overflow"
 hindsight_word unknown = codes "overflow"
 hindsight_word (sold number) = codes "overflow"

@@ -14,7 +14,8 @@ use Rattle.nrm_legdp.specs.Table.{row_of, AreClasses, LegTableValue, values_of}
 use Rattle.nrm_legdp.proofs.Values.{values-bounded, above-threshold-is-value, same-threshold}
 use Rattle.nrm_legdp.proofs.OneClass.{last-passes}
 
-power-below : (n j : ℕ) → n ≤ 32 → j ≤ 10 → n ^ j ≤ 32 ^ 10
+-- so many histories to the power of so many classes
+pub power-below : (n j : ℕ) → n ≤ 32 → j ≤ 10 → n ^ j ≤ 32 ^ 10
 power-below n j few low = omega (arith, pow-le-pow_left few j, pow-le-pow_right {n = 32} (omega arith) low)
 
 pub pay-below : (c : DemandValue) (j : ℕ) → AreClasses c → j < length c.fares → pay_after c j < 2 ^ 80
