@@ -23,14 +23,16 @@ use Rattle.nrm_stream.specs.Commands.{commands_of}
 use Rattle.nrm_session.specs.Run.{output_of}
 use Rattle.nrm_session.proofs.Runs.{runs}
 use Rattle.nrm_cli.specs.Certificates.{LacksCertificate, certificate_under, verdict_line}
-use Rattle.nrm_cli.specs.Jobs.{Job, run_file, plan_file, check_file, print_file, run_made, HasNetwork, NamesFile, TakesStream, mode_of_job}
-use Rattle.nrm_cli.specs.Jobs.{overflow_line, told_pivots}
+use Rattle.nrm_cli.specs.Jobs.{Job, run_file, plan_file, check_file, print_file, run_made, cut_leg, value_leg, HasNetwork, NamesFile}
+use Rattle.nrm_cli.specs.Jobs.{TakesStream, mode_of_job, overflow_line, told_pivots}
+use Rattle.nrm_cli.specs.LegThresholds.{CutsTold}
+use Rattle.nrm_cli.specs.LegValues.{ValuesTold}
 use Rattle.nrm_gen.specs.MadeCommands.{made_commands}
 use Rattle.nrm_gen.specs.MadeNetwork.{made_network}
 use Rattle.nrm_cli.specs.Made.{MadeRun, summary_line}
 use Rattle.nrm_cli.specs.Ends.{Completes, CompletesJob, Ends, NothingHinders, OrRanOut, RanOut, RunWrites, Starts, TellsOverflow, status_of}
 use Rattle.nrm_cli.specs.Tells.{Gives, GivesNetwork, Lacks, Opens, Reads, Refuses, RefusesNetwork, Tells, usage, refused, lacking, optimal}
-use Rattle.nrm_cli.specs.Tells.{wrong, planned, overflow, summed, printed, file_fault}
+use Rattle.nrm_cli.specs.Tells.{wrong, planned, overflow, summed, printed, cuts_told, values_told, file_fault}
 use Rattle.nrm_cli.specs.declared.status.Status.{Status}
 use Rattle.nrm_cli.specs.declared.status.Status.TheVariants as status
 
@@ -70,6 +72,8 @@ gives-for (plan_file m file) told net given has gives = on-file told file net gi
 gives-for (check_file file certificate) told net given has gives = on-file told file net given has gives
 gives-for (print_file file) told net given has gives = on-file told file net given has gives
 gives-for (run_made m number) told net given has gives = gives ∙ sym has
+gives-for (cut_leg file leg groups) told net given has gives = on-file told file net given has gives
+gives-for (value_leg file leg) told net given has gives = on-file told file net given has gives
 
 refuses-for : (job : Job) (told : Option Folder) (net : NetworkValue) (refusal : Refusal) → HasNetwork job told net
     → RefusesNetwork job told refusal → ⊥
@@ -78,6 +82,8 @@ refuses-for (plan_file m file) told net refusal has on = file-taken told file ne
 refuses-for (check_file file certificate) told net refusal has on = file-taken told file net refusal has on
 refuses-for (print_file file) told net refusal has on = file-taken told file net refusal has on
 refuses-for (run_made m number) told net refusal has never = never
+refuses-for (cut_leg file leg groups) told net refusal has on = file-taken told file net refusal has on
+refuses-for (value_leg file leg) told net refusal has on = file-taken told file net refusal has on
 
 -- a run over the lines of a stream is there, so its output is
 some-run : (net : NetworkValue) (plan : PlanValue) (stream : List ℕ) → (output : List ℕ) × RunWrites net plan (commands_of stream) output
@@ -101,6 +107,8 @@ ran-complete (run_file m file) net before after (kept, left) = (
 ran-complete (plan_file m file) net before after (kept, left) = ((λ n number large. inr (refl, kept)), (λ plan planned. inr (refl, kept)))
 ran-complete (check_file file certificate) net before after (kept, left) = λ files given told valid. inr (refl, kept)
 ran-complete (print_file file) net before after (kept, left) = inr (refl, kept)
+ran-complete (cut_leg file leg groups) net before after (kept, left) = inr (refl, kept)
+ran-complete (value_leg file leg) net before after (kept, left) = inr (refl, kept)
 ran-complete (run_made m number) net before after (kept, left) = (
   (λ n large-number large. inr (refl, kept)),
   (λ plan planned. let (text, sums) = some-made net plan number in (text, sums, inr (refl, kept))),
@@ -192,6 +200,8 @@ module _ (asked : Option Job) (before after : Outside) (job : Job) (net : Networ
       (large-told k n number own wrote, (λ plan planned. absurd ((one-plan net k (inventory_of net).authorised 1).apart plan n number planned own)))
   complete-large (check_file file certificate) m n number has large wrote = absurd (none-some m has)
   complete-large (print_file file) m n number has large wrote = absurd (none-some m has)
+  complete-large (cut_leg file leg groups) m n number has large wrote = absurd (none-some m has)
+  complete-large (value_leg file leg) m n number has large wrote = absurd (none-some m has)
   complete-large (run_made k made) m n number has large wrote =
       let own = subst (λ (mode : Mode). OpeningOverflows net mode n number) (sym (same_Some k m has)) large in
       (large-told k n number own wrote, (λ plan planned. absurd ((one-plan net k (inventory_of net).authorised 1).apart plan n number planned own)))
@@ -228,6 +238,12 @@ module _ (asked : Option Job) (before after : Outside) (job : Job) (net : Networ
   complete-told s text (printed file given-net opens) wrote =
       subst (Complete status.Done) (same-job (print_file file) opens.0)
       (inl (refl, subst (λ (n : NetworkValue). Wrote before after (canonical_file n)) (same-net (print_file file) given-net opens) wrote))
+  complete-told s text (cuts_told file leg groups given-net opens is) wrote =
+      subst (Complete s) (same-job (cut_leg file leg groups) opens.0)
+      (inl (text, subst (λ (n : NetworkValue). CutsTold n leg groups s text) (same-net (cut_leg file leg groups) given-net opens) is, wrote))
+  complete-told s text (values_told file leg given-net opens is) wrote =
+      subst (Complete s) (same-job (value_leg file leg) opens.0)
+      (inl (text, subst (λ (n : NetworkValue). ValuesTold n leg s text) (same-net (value_leg file leg) given-net opens) is, wrote))
   complete-told s text (file_fault other is names rose) wrote = absurd (nothing.files (subst NamesFile (same-job other is) names) rose)
 
   pub complete : (s : Status) → Ends asked before after s → CompletesJob job net before after s
@@ -262,6 +278,8 @@ module _ (asked : Option Job) (before after : Outside) (job : Job) (net : Networ
             absurd (omega (arith, few, long, short))),
       )
   complete status.Overflow t = complete-told status.Overflow t.text t.tells t.wrote
+  complete status.NoLeg t = complete-told status.NoLeg t.text t.tells t.wrote
+  complete status.NoClass t = complete-told status.NoClass t.text t.tells t.wrote
 
 -- what holds of a job holds of the words that ask for it
 pub same-job-ends : (asked known : Option Job) (before after : Outside) (s : Status) → asked ≡ known → Ends asked before after s

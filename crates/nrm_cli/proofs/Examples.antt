@@ -5,6 +5,7 @@ use Rattle.nrm_gen.specs.MadeNetwork.{made_network}
 use Rattle.std.specs.Fmt.{digits}
 use Rattle.nrm_text.specs.Words.{text_line}
 use Rattle.nrm_fraction.specs.Fraction.{whole}
+use Rattle.nrm_fraction.specs.Fraction as fraction
 use Rattle.nrm_model.specs.Network.{NetworkValue, leg_of}
 use Rattle.nrm_model.specs.declared.mode.Mode.TheVariants as mode
 use Rattle.nrm_network.specs.Canonical.{canonical_file}
@@ -19,8 +20,10 @@ use Rattle.nrm_dual.specs.declared.verdict.Verdict.TheVariants as verdict
 use Rattle.nrm_outside.specs.Outside.{Outside, FilesFailed, SourceFailed, SinkFailed}
 use Rattle.nrm_cli.specs.Certificates.{lacking_line, no_certificate, refused_for, verdict_line}
 use Rattle.nrm_cli.specs.Ends.{Completes, CompletesJob, Ends, Failures, OrRanOut, RunWrites, status_of, stream_limit}
-use Rattle.nrm_cli.specs.Jobs.{job_of, run_file, plan_file, check_file, print_file, run_made, usage_line, overflow_line, told_pivots}
-use Rattle.nrm_cli.specs.Tells.{Tells, usage as tells_usage, refused as tells_refused, lacking as tells_lacking, optimal as tells_optimal, wrong as tells_wrong, planned as tells_planned, overflow as tells_overflow, summed as tells_summed, printed as tells_printed, file_fault as tells_file_fault}
+use Rattle.nrm_cli.specs.Jobs.{job_of, run_file, plan_file, check_file, print_file, run_made, cut_leg, value_leg, usage_line, overflow_line, told_pivots}
+use Rattle.nrm_cli.specs.Tells.{Tells, usage as tells_usage, refused as tells_refused, lacking as tells_lacking, optimal as tells_optimal, wrong as tells_wrong, planned as tells_planned, overflow as tells_overflow, summed as tells_summed, printed as tells_printed, cuts_told as tells_cuts, values_told as tells_values, file_fault as tells_file_fault}
+use Rattle.nrm_cli.specs.LegThresholds.{CutsTold, cut, cuts_text, unused}
+use Rattle.nrm_cli.specs.LegValues.{ValuesTold, class_count, no_classes, no_classes_line, valued, values_text}
 use Rattle.nrm_cli.specs.Made.{counts_from, hindsight_word, last_of, nothing_counted, summary_words}
 use Rattle.nrm_cli.specs.declared.counts.Counts.{Counts}
 use Rattle.nrm_cli.specs.Numbers.{number_of}
@@ -203,8 +206,8 @@ one_word_more : job_of (codes "print" ∷ codes "F" ∷ codes "G" ∷ []) ≡ No
 one_word_more = refl
 
 -- ---- each status by its number
-numbers : map number_of (status.Done ∷ status.Wrong ∷ status.Usage ∷ status.Refused ∷ status.ReadFault ∷ status.WriteFault ∷ status.NoMemory ∷ status.Overflow ∷ status.TooLong ∷ status.FileFault ∷ [])
-    ≡ 0 ∷ 1 ∷ 2 ∷ 3 ∷ 4 ∷ 5 ∷ 6 ∷ 7 ∷ 8 ∷ 9 ∷ []
+numbers : map number_of (status.Done ∷ status.Wrong ∷ status.Usage ∷ status.Refused ∷ status.ReadFault ∷ status.WriteFault ∷ status.NoMemory ∷ status.Overflow ∷ status.TooLong ∷ status.FileFault ∷ status.NoLeg ∷ status.NoClass ∷ [])
+    ≡ 0 ∷ 1 ∷ 2 ∷ 3 ∷ 4 ∷ 5 ∷ 6 ∷ 7 ∷ 8 ∷ 9 ∷ 10 ∷ 11 ∷ []
 numbers = refl
 
 -- each verdict by its status and its line
@@ -223,11 +226,54 @@ lackings : map (lacking_line two_legs) (no_certificate ∷ refused_for too_long 
 unfolding digits
 lackings = refl
 
-usage : usage_line ≡ codes "usage: nrm run MODE FILE, plan MODE FILE, check FILE CERT, print FILE, gen MODE NUMBER\n"
+usage : usage_line ≡ codes "usage: nrm run MODE FILE, plan MODE FILE, check FILE CERT, print FILE, gen MODE NUMBER, cuts FILE LEG GROUPS, dp FILE LEG\n"
 usage = refl
 
 words_of_a_check : job_of (codes "check" ∷ codes "F" ∷ codes "C" ∷ []) ≡ Some (check_file (codes "F") (codes "C"))
 words_of_a_check = refl
+
+words_of_cuts : job_of (codes "cuts" ∷ codes "F" ∷ codes "AB" ∷ codes "10" ∷ []) ≡ Some (cut_leg (codes "F") (codes "AB") 10)
+words_of_cuts = refl
+
+too_many_groups : job_of (codes "cuts" ∷ codes "F" ∷ codes "AB" ∷ codes "11" ∷ []) ≡ None
+too_many_groups = refl
+
+no_groups : job_of (codes "cuts" ∷ codes "F" ∷ codes "AB" ∷ codes "0" ∷ []) ≡ None
+no_groups = refl
+
+cuts_of_no_name : job_of (codes "cuts" ∷ codes "F" ∷ codes "ab" ∷ codes "2" ∷ []) ≡ None
+cuts_of_no_name = refl
+
+words_of_values : job_of (codes "dp" ∷ codes "F" ∷ codes "AB" ∷ []) ≡ Some (value_leg (codes "F") (codes "AB"))
+words_of_values = refl
+
+values_of_no_name : job_of (codes "dp" ∷ codes "F" ∷ [] ∷ []) ≡ None
+values_of_no_name = refl
+
+-- ---- what is told of a leg
+lines_of_cuts : cuts_text (codes "AB") (record { cost = 1200; cuts = 400 ∷ []; centres = 500 ∷ 150 ∷ [] })
+    ≡ codes "cuts AB 400\ncentres AB 500 150\ncost AB 1200\n"
+unfolding digits
+lines_of_cuts = refl
+
+lines_of_one_group : cuts_text (codes "AB") (record { cost = 8600; cuts = []; centres = 400 ∷ [] })
+    ≡ codes "cuts AB\ncentres AB 400\ncost AB 8600\n"
+unfolding digits
+lines_of_one_group = refl
+
+-- LOC is the one class of AB; nothing is to come of it
+lines_of_values : values_text two_legs (codes "AB") 3 (1 ∷ []) (record { histories = 1; fares = 200 ∷ []; demands = 0 ∷ [] })
+    ≡ codes "class LOC 200\nvalue AB 0/1\nprotect AB\n"
+unfolding digits fraction.◌over◌
+lines_of_values = refl
+
+-- THRU uses both legs, so BC has no class, and nor has a leg that isn't there
+counts_of_classes : map (class_count two_legs) (codes "AB" ∷ codes "BC" ∷ codes "CD" ∷ []) ≡ 1 ∷ 0 ∷ 0 ∷ []
+counts_of_classes = refl
+
+line_of_no_classes : no_classes_line 11 ≡ codes "classes 11\n"
+unfolding digits
+line_of_no_classes = refl
 
 -- 4 GiB
 limit : stream_limit ≡ 4294967296
@@ -275,6 +321,14 @@ failed_twice : Failures status.FileFault (nowhere 0) (record (nowhere 0) { sourc
 failed_twice (source, sink) = omega (arith, source)
 
 -- ---- what each status says, once: a usage line only for words that ask for nothing, and no status but 0 for a plan
+no-usage-for-cuts : {net : NetworkValue} {leg : List ℕ} {groups : ℕ} {s : Status} {text : List ℕ} → CutsTold net leg groups s text → s ≡ status.Usage → ⊥
+no-usage-for-cuts (cut text is) e = cc
+no-usage-for-cuts (unused is) e = cc
+
+no-usage-for-values : {net : NetworkValue} {leg : List ℕ} {s : Status} {text : List ℕ} → ValuesTold net leg s text → s ≡ status.Usage → ⊥
+no-usage-for-values (valued text is) e = cc
+no-usage-for-values (no_classes is) e = cc
+
 usage_for_a_job : (before after : Outside) → Ends (Some (print_file (codes "F"))) before after status.Usage → ⊥
 usage_for_a_job before after ends = by ends.tells refl
   where
@@ -288,6 +342,8 @@ usage_for_a_job before after ends = by ends.tells refl
     by (tells_overflow job m net n number has opens large) is = cc
     by (tells_summed m number plan text asks for runs) is = cc
     by (tells_printed file net opens) is = cc
+    by (tells_cuts file leg groups net opens told) is = no-usage-for-cuts told is
+    by (tells_values file leg net opens told) is = no-usage-for-values told is
     by (tells_file_fault job asks names rose) is = cc
 
 -- running out of memory wrote nothing and took nothing

@@ -2,6 +2,10 @@ pub mod CheckEnds  -- how a check ends, out of what its parts say
 pub mod CompleteJobs  -- a job is done if the words are good, its file is valid and nothing failed
 pub mod CutTexts  -- a text that was put whole and couldn't be sent on, and one in which a put failed, are cut
 pub mod Examples  -- sessions, refusals, statuses and ends worked, from the bytes of the file and of the stream to those that are written
+pub mod LegClasses  -- where a leg has no points, and which products are in its classes
+pub mod LegEnds  -- how a job ends that tells of a leg
+pub mod LegTables  -- the rows of the table of a leg's values, and its protections
+pub mod LegTexts  -- the lines that tell of a leg, piece by piece
 pub mod MadeRuns  -- the commands of a maker are answered one after another, their replies counted and summed up
 pub mod NoNetworkEnds  -- how a job ends if its file gives no network
 pub mod OwnPasses  -- the text of the closing of a network's program is found optimal, and so is each optimal certificate

@@ -25,9 +25,10 @@ use Rattle.nrm_outside.specs.Outside.{Outside}
 use Rattle.nrm_outside.specs.Refusals.{Refusal, network_in, network_under}
 use Rattle.nrm_cli.specs.Certificates.{certificate_under, verdict_line}
 use Rattle.nrm_cli.specs.Ends.{Completes, Ends, OrRanOut, status_of}
-use Rattle.nrm_cli.specs.Jobs.{Job, run_file, plan_file, check_file, print_file, run_made}
+use Rattle.nrm_cli.specs.Jobs.{Job, run_file, plan_file, check_file, print_file, run_made, cut_leg, value_leg}
 use Rattle.nrm_cli.specs.Own.{PlannedPasses, WasPlanned}
-use Rattle.nrm_cli.specs.Tells.{Tells, usage, refused, lacking, optimal, wrong, planned, overflow, summed, printed, file_fault}
+use Rattle.nrm_cli.specs.Tells.{Tells, usage, refused, lacking, optimal, wrong, planned, overflow, summed, printed, cuts_told, values_told}
+use Rattle.nrm_cli.specs.Tells.{file_fault}
 use Rattle.nrm_cli.specs.declared.status.Status.{Status}
 use Rattle.nrm_cli.specs.declared.status.Status.TheVariants as status
 use Rattle.nrm_cli.proofs.OwnPasses.{own-passes}
@@ -103,6 +104,14 @@ module _ (file : List ℕ) (before after : Outside) (files : Folder) (told : bef
     where
       apart : (f : List ℕ) → plan_file mode.Bid file ≡ print_file f → ⊥
       apart f e = cc
+  of-told s text done (cuts_told f leg groups net opens is) = absurd (apart f leg groups (other-job (cut_leg f leg groups) opens.0))
+    where
+      apart : (f leg : List ℕ) (groups : ℕ) → plan_file mode.Bid file ≡ cut_leg f leg groups → ⊥
+      apart f leg groups e = cc
+  of-told s text done (values_told f leg net opens is) = absurd (apart f leg (other-job (value_leg f leg) opens.0))
+    where
+      apart : (f leg : List ℕ) → plan_file mode.Bid file ≡ value_leg f leg → ⊥
+      apart f leg e = cc
   of-told s text done (file_fault job is names rose) = cc
 
 -- the text that was written is the one that is told

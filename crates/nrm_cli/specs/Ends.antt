@@ -22,8 +22,10 @@ use Rattle.nrm_outside.specs.Outside.{Outside, FilesFailed, SourceFailed, SinkFa
 use Rattle.nrm_outside.specs.Outside.{LeftStream}
 use Rattle.nrm_outside.specs.Refusals.{file_fault_line}
 use Rattle.nrm_cli.specs.Certificates.{certificate_under, verdict_line}
-use Rattle.nrm_cli.specs.Jobs.{Job, run_file, plan_file, check_file, print_file, run_made, HasNetwork, NamesFile, TakesStream}
-use Rattle.nrm_cli.specs.Jobs.{overflow_line, told_pivots}
+use Rattle.nrm_cli.specs.Jobs.{Job, run_file, plan_file, check_file, print_file, run_made, cut_leg, value_leg}
+use Rattle.nrm_cli.specs.Jobs.{HasNetwork, NamesFile, TakesStream, overflow_line, told_pivots}
+use Rattle.nrm_cli.specs.LegThresholds.{CutsTold}
+use Rattle.nrm_cli.specs.LegValues.{ValuesTold}
 use Rattle.nrm_cli.specs.Made.{MadeRun}
 use Rattle.nrm_cli.specs.Tells.{Opens, Told, ToldCut}
 use Rattle.nrm_cli.specs.declared.status.Status.{Status}
@@ -101,6 +103,8 @@ Ends asked before after status.NoMemory = RanOut asked before after
 Ends asked before after status.TooLong = RanTooLong asked before after
 Ends asked before after status.FileFault = Told asked before after status.FileFault
 Ends asked before after status.Overflow = Told asked before after status.Overflow
+Ends asked before after status.NoLeg = Told asked before after status.NoLeg
+Ends asked before after status.NoClass = Told asked before after status.NoClass
 
 -- if an output failed, the files' count is as it was, or what was cut is the line that tells of their fault
 abbrev pub FilesFailedBefore : Outside → Outside → Type 0
@@ -120,6 +124,8 @@ Failures status.Refused before after = NothingFailed before after
 Failures status.NoMemory before after = NothingFailed before after
 Failures status.TooLong before after = NothingFailed before after
 Failures status.Overflow before after = NothingFailed before after
+Failures status.NoLeg before after = NothingFailed before after
+Failures status.NoClass before after = NothingFailed before after
 
 -- the status that goes with a verdict
 abbrev pub status_of : Verdict → Status
@@ -138,9 +144,15 @@ abbrev pub TellsOverflow : NetworkValue → Mode → Outside → Outside → Sta
 TellsOverflow net m before after s =
     (n : ℕ) (number : ℤ) → OpeningOverflows net m n number → OrRanOut before after s status.Overflow (overflow_line (told_pivots n) number)
 
+-- what is told is written whole with its status, or memory ran out and nothing was written
+abbrev pub OrRanOutTelling : (Status → List ℕ → Type 0) → Outside → Outside → Status → Type 0
+OrRanOutTelling told before after s =
+    ((text : List ℕ) × told s text × Wrote before after text) ⊎ ((s ≡ status.NoMemory) × WroteNothing before after)
+
 -- what is written of a job that has a network: of a run, where the network has an opening plan in the mode, and the stream is told
 -- and short, the replies to all its lines; of a plan, the opening plan, where there is one; of a check, where the second file is told and
--- gives a certificate, the verdict on it; of a print, the canonical file; of a made run, where there is an opening plan, its summary
+-- gives a certificate, the verdict on it; of a print, the canonical file; of a made run, where there is an opening plan, its summary; of a
+-- leg its thresholds or its values, or why there are none
 abbrev pub CompletesJob : Job → NetworkValue → Outside → Outside → Status → Type 0
 CompletesJob (run_file m file) net before after s =
     TellsOverflow net m before after s
@@ -157,6 +169,8 @@ CompletesJob (run_made m number) net before after s =
     TellsOverflow net m before after s
     × ((plan : PlanValue) → IsOpeningPlan net m plan → (text : List ℕ) × MadeRun net plan number text
     × OrRanOut before after s status.Done text)
+CompletesJob (cut_leg file leg groups) net before after s = OrRanOutTelling (CutsTold net leg groups) before after s
+CompletesJob (value_leg file leg) net before after s = OrRanOutTelling (ValuesTold net leg) before after s
 
 -- nothing failed that the job uses: the files if it names one, the stream if it takes it, the output
 pub record NothingHinders (job : Job) (before after : Outside) : Type 0 where

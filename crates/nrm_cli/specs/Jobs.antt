@@ -4,22 +4,27 @@ use Rattle.std.specs.Prelude.{Ok, if◌then◌else◌}
 use Rattle.nrm_edge.specs.Fetch.{Folder}
 use Rattle.nrm_text.specs.Numbers.{whole_between}
 use Rattle.nrm_text.specs.Fractions.{signed_text}
+use Rattle.nrm_text.specs.Names.{name_in}
 use Rattle.nrm_text.specs.Words.{text_line}
 use Rattle.nrm_model.specs.Network.{NetworkValue}
 use Rattle.nrm_model.specs.declared.mode.Mode.{Mode}
 use Rattle.nrm_model.specs.declared.mode.Mode.TheVariants as mode
 use Rattle.nrm_outside.specs.Refusals.{network_under}
+use Rattle.nrm_cluster.specs.declared.limits.TheConstants.{MOST_GROUPS}
 use Rattle.nrm_gen.specs.MadeNetwork.{made_network}
 use Rattle.nrm_cli.specs.declared.words.TheConstants.{LAST_MADE}
 
 -- to run the controller on a network file in a mode, to write its opening plan, to check a certificate against a network file, to print a
--- network file, and to run the controller in a mode on the network that is made of a number, over the commands that are made of it
+-- network file, to run the controller in a mode on the network that is made of a number, over the commands that are made of it, to cut the
+-- fares on a leg of a network file into at most so many groups, and to value the seats of such a leg
 pub data Job : Type 0 where
   run_file : Mode → List ℕ → Job
   plan_file : Mode → List ℕ → Job
   check_file : List ℕ → List ℕ → Job
   print_file : List ℕ → Job
   run_made : Mode → ℕ → Job
+  cut_leg : List ℕ → List ℕ → ℕ → Job
+  value_leg : List ℕ → List ℕ → Job
 
 -- the network of a job: that of its file, where the files are told; or that which is made of a number, whatever the files
 abbrev pub HasNetwork : Job → Option Folder → NetworkValue → Type 0
@@ -28,6 +33,8 @@ HasNetwork (plan_file m file) told net = (files : Folder) × (told ≡ Some file
 HasNetwork (check_file file certificate) told net = (files : Folder) × (told ≡ Some files) × (network_under (files file) ≡ Ok net)
 HasNetwork (print_file file) told net = (files : Folder) × (told ≡ Some files) × (network_under (files file) ≡ Ok net)
 HasNetwork (run_made m number) told net = net ≡ made_network number
+HasNetwork (cut_leg file leg groups) told net = (files : Folder) × (told ≡ Some files) × (network_under (files file) ≡ Ok net)
+HasNetwork (value_leg file leg) told net = (files : Folder) × (told ≡ Some files) × (network_under (files file) ≡ Ok net)
 
 -- a job that names a file, and one that takes the stream
 abbrev pub NamesFile : Job → Type 0
@@ -36,6 +43,8 @@ NamesFile (plan_file m file) = ⊤
 NamesFile (check_file file certificate) = ⊤
 NamesFile (print_file file) = ⊤
 NamesFile (run_made m number) = ⊥
+NamesFile (cut_leg file leg groups) = ⊤
+NamesFile (value_leg file leg) = ⊤
 
 abbrev pub TakesStream : Job → Type 0
 TakesStream (run_file m file) = ⊤
@@ -43,6 +52,8 @@ TakesStream (plan_file m file) = ⊥
 TakesStream (check_file file certificate) = ⊥
 TakesStream (print_file file) = ⊥
 TakesStream (run_made m number) = ⊥
+TakesStream (cut_leg file leg groups) = ⊥
+TakesStream (value_leg file leg) = ⊥
 
 -- the mode of a job that has an opening plan
 abbrev pub mode_of_job : Job → Option Mode
@@ -51,6 +62,8 @@ mode_of_job (plan_file m file) = Some m
 mode_of_job (check_file file certificate) = None
 mode_of_job (print_file file) = None
 mode_of_job (run_made m number) = Some m
+mode_of_job (cut_leg file leg groups) = None
+mode_of_job (value_leg file leg) = None
 
 -- the mode of a word
 abbrev pub mode_of : List ℕ → Option Mode
@@ -66,8 +79,17 @@ made_run_of (Some m) (Some number) = Some (run_made m number)
 made_run_of (Some m) None = None
 made_run_of None number = None
 
--- `run MODE FILE`, `plan MODE FILE`, `check FILE CERT`, `print FILE` and `gen MODE NUMBER`, of a whole number up to
--- 4,294,967,295; all other words ask for nothing
+-- thresholds of a leg, and its values, where the name of the leg is one and the number of groups is good
+abbrev pub cut_of : List ℕ → Option (List ℕ) → Option ℕ → Option Job
+cut_of file (Some leg) (Some groups) = Some (cut_leg file leg groups)
+cut_of file (Some leg) None = None
+cut_of file None groups = None
+
+abbrev pub valuing_of : List ℕ → Option (List ℕ) → Option Job
+valuing_of file leg = option_map (value_leg file) leg
+
+-- `run MODE FILE`, `plan MODE FILE`, `check FILE CERT`, `print FILE`, `gen MODE NUMBER`, of a whole number up to 4,294,967,295,
+-- `cuts FILE LEG GROUPS`, of a whole number from 1 to 10, and `dp FILE LEG`; all other words ask for nothing
 abbrev pub job_of : List (List ℕ) → Option Job
 job_of [] = None
 job_of (verb ∷ []) = None
@@ -77,12 +99,16 @@ job_of (verb ∷ second ∷ third ∷ []) =
     else if bytes_eq verb (codes "plan") then option_map (λ m. plan_file m third) (mode_of second)
     else if bytes_eq verb (codes "check") then Some (check_file second third)
     else if bytes_eq verb (codes "gen") then made_run_of (mode_of second) (whole_between 0 LAST_MADE third)
+    else if bytes_eq verb (codes "dp") then valuing_of second (name_in third)
     else None
-job_of (verb ∷ second ∷ third ∷ fourth ∷ more) = None
+job_of (verb ∷ second ∷ third ∷ fourth ∷ []) =
+    if bytes_eq verb (codes "cuts") then cut_of second (name_in third) (whole_between 1 MOST_GROUPS fourth) else None
+job_of (verb ∷ second ∷ third ∷ fourth ∷ fifth ∷ more) = None
 
 -- the line that says how to call the program
 abbrev pub usage_line : List ℕ
-usage_line = codes "usage: nrm run MODE FILE, plan MODE FILE, check FILE CERT, print FILE, gen MODE NUMBER\n"
+usage_line =
+    codes "usage: nrm run MODE FILE, plan MODE FILE, check FILE CERT, print FILE, gen MODE NUMBER, cuts FILE LEG GROUPS, dp FILE LEG\n"
 
 -- finished pivots as they are told: 4,294,967,295 stands for more
 abbrev pub told_pivots : ℕ → ℕ

@@ -14,3 +14,5 @@ number_of status.NoMemory = 6
 number_of status.Overflow = 7
 number_of status.TooLong = 8
 number_of status.FileFault = 9
+number_of status.NoLeg = 10
+number_of status.NoClass = 11

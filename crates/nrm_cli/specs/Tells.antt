@@ -18,8 +18,10 @@ use Rattle.nrm_gen.specs.MadeNetwork.{made_network}
 use Rattle.nrm_outside.specs.Outside.{Outside, OnFile, FilesFailed, Wrote, WroteCut, LeftStream}
 use Rattle.nrm_outside.specs.Refusals.{Refusal, network_under, refusal_line, file_fault_line}
 use Rattle.nrm_cli.specs.Certificates.{LacksCertificate, certificate_under, lacking_line, verdict_line}
-use Rattle.nrm_cli.specs.Jobs.{Job, run_file, plan_file, check_file, print_file, run_made, mode_of_job, NamesFile, usage_line}
-use Rattle.nrm_cli.specs.Jobs.{overflow_line, told_pivots}
+use Rattle.nrm_cli.specs.Jobs.{Job, run_file, plan_file, check_file, print_file, run_made, cut_leg, value_leg, mode_of_job, NamesFile}
+use Rattle.nrm_cli.specs.Jobs.{usage_line, overflow_line, told_pivots}
+use Rattle.nrm_cli.specs.LegThresholds.{CutsTold}
+use Rattle.nrm_cli.specs.LegValues.{ValuesTold}
 use Rattle.nrm_cli.specs.Made.{MadeRun}
 use Rattle.nrm_cli.specs.declared.status.Status.{Status}
 use Rattle.nrm_cli.specs.declared.status.Status.TheVariants as status
@@ -31,6 +33,8 @@ GivesNetwork (plan_file m file) files net = OnFile files file (λ contents. netw
 GivesNetwork (check_file file certificate) files net = OnFile files file (λ contents. network_under contents ≡ Ok net)
 GivesNetwork (print_file file) files net = OnFile files file (λ contents. network_under contents ≡ Ok net)
 GivesNetwork (run_made m number) files net = net ≡ made_network number
+GivesNetwork (cut_leg file leg groups) files net = OnFile files file (λ contents. network_under contents ≡ Ok net)
+GivesNetwork (value_leg file leg) files net = OnFile files file (λ contents. network_under contents ≡ Ok net)
 
 -- what a file gives is a network within the limits, as the laws of sessions ask for
 abbrev pub FilesGiveNetworks : Type 0
@@ -47,6 +51,8 @@ RefusesNetwork (plan_file m file) files refusal = OnFile files file (λ contents
 RefusesNetwork (check_file file certificate) files refusal = OnFile files file (λ contents. network_under contents ≡ Err refusal)
 RefusesNetwork (print_file file) files refusal = OnFile files file (λ contents. network_under contents ≡ Err refusal)
 RefusesNetwork (run_made m number) files refusal = ⊥
+RefusesNetwork (cut_leg file leg groups) files refusal = OnFile files file (λ contents. network_under contents ≡ Err refusal)
+RefusesNetwork (value_leg file leg) files refusal = OnFile files file (λ contents. network_under contents ≡ Err refusal)
 
 -- the words ask for a job whose file is refused so
 pub record Refuses (asked : Option Job) (before : Outside) (refusal : Refusal) : Type 0 where
@@ -70,8 +76,8 @@ Gives asked before net given = Reads asked before net (λ contents. certificate_
 abbrev pub Lacks : Option Job → Outside → NetworkValue → LacksCertificate → Type 0
 Lacks asked before net reason = Reads asked before net (λ contents. certificate_under net contents ≡ Err reason)
 
--- a text, the status that goes with it, and why it is told. A plan is that of period 1 with every seat left. A verdict
--- is that on the certificate for the program of period 1 with every seat left: `optimal` where allocation and bid
+-- a text, the status that goes with it, and why it is told. A plan is that of period 1 with every authorised seat left. A verdict
+-- is that on the certificate for the program of period 1 with every authorised seat left: `optimal` where allocation and bid
 -- prices are optimal, whoever made them, and else the first condition that fails
 pub data Tells (asked : Option Job) (before after : Outside) : Status → List ℕ → Type 0 where
   usage : asked ≡ None → Tells asked before after status.Usage usage_line
@@ -95,6 +101,12 @@ pub data Tells (asked : Option Job) (before after : Outside) : Status → List �
       → MadeRun (made_network number) plan number text → Tells asked before after status.Done text
   printed : (file : List ℕ) (net : NetworkValue) → Opens asked (print_file file) before net
       → Tells asked before after status.Done (canonical_file net)
+  cuts_told : {s : Status} {text : List ℕ} (file leg : List ℕ) (groups : ℕ) (net : NetworkValue)
+      → Opens asked (cut_leg file leg groups) before net → CutsTold net leg groups s text
+      → Tells asked before after s text
+  values_told : {s : Status} {text : List ℕ} (file leg : List ℕ) (net : NetworkValue) → Opens asked (value_leg file leg) before net
+      → ValuesTold net leg s text
+      → Tells asked before after s text
   file_fault : (job : Job) → asked ≡ Some job → NamesFile job → FilesFailed before after
       → Tells asked before after status.FileFault file_fault_line
 

@@ -74,7 +74,7 @@ fn check_certificate<F: Files, K: Sink>(
     }
 }
 
-/// Checks the certificate of the second file against the network of the first, at period 1 with every seat left.
+/// Checks the certificate of the second file against the network of the first, at period 1 with every authorised seat left.
 pub(crate) fn check_file<F: Files, K: Sink>(
     alloc: Global,
     name: &str,

@@ -4,6 +4,7 @@
 mod certificate;
 mod checked;
 mod counts;
+mod cut;
 mod made;
 mod planned;
 mod printed;
@@ -13,6 +14,7 @@ mod status;
 #[cfg(test)]
 mod tests;
 mod top;
+mod valued;
 mod words;
 
 pub use status::Status;

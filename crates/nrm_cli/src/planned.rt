@@ -46,7 +46,7 @@ fn put_plan<K: Sink>(alloc: Global, net: &Network, mode: Mode, sink: &mut K) -> 
     }
 }
 
-/// Writes the plan of period 1 with every seat left.
+/// Writes the plan of period 1 with every authorised seat left.
 pub(crate) fn plan_file<F: Files, K: Sink>(
     alloc: Global,
     mode: Mode,

@@ -25,6 +25,10 @@ pub enum Status {
     TooLong,
     /// The files failed; a line says so.
     FileFault,
+    /// No product uses a leg of this name; a line says so.
+    NoLeg,
+    /// No product uses a leg of this name and no other, or too many do; a line says how many.
+    NoClass,
 }
 
 impl Status {

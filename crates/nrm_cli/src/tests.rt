@@ -7,6 +7,10 @@ use std::test::Fail;
 const NETWORK: &[u8] =
     b"periods,1,1\nleg,AB,3\nleg,BC,2\nproduct,THRU,500,AB,BC\nproduct,LOC,200,AB\n";
 
+// The same network as it is printed.
+const PRINTED: &[u8] =
+    b"periods,1,1,2\nleg,AB,3,3\nleg,BC,2,2\nproduct,THRU,500,AB,BC\nproduct,LOC,200,AB\n";
+
 // Four histories of one period.
 const DEMANDED: &[u8] =
     b"periods,4,1\nleg,AB,10\nleg,BC,10\nproduct,ABH,400,AB\nproduct,ABL,150,AB\nproduct,ACH,500,AB,BC\n\
@@ -148,7 +152,7 @@ fn a_plan_is_written(rt: HostRuntime) -> Result<(), Fail> {
 fn a_network_is_printed(rt: HostRuntime) -> Result<(), Fail> {
     let (status, sink) = outcome(rt.alloc(), &["print", "F"])?;
     assert_eq!(rt; status, Status::Done);
-    assert_eq!(rt; sink.held(), NETWORK);
+    assert_eq!(rt; sink.held(), PRINTED);
     Ok(())
 }
 
@@ -228,7 +232,7 @@ fn other_words_get_the_usage_line(rt: HostRuntime) -> Result<(), Fail> {
     assert_eq!(rt; status, Status::Usage);
     assert_eq!(rt;
         sink.held(),
-        b"usage: nrm run MODE FILE, plan MODE FILE, check FILE CERT, print FILE, gen MODE NUMBER\n".as_slice()
+        b"usage: nrm run MODE FILE, plan MODE FILE, check FILE CERT, print FILE, gen MODE NUMBER, cuts FILE LEG GROUPS, dp FILE LEG\n".as_slice()
     );
     Ok(())
 }
@@ -322,5 +326,57 @@ fn a_made_run_is_summed_up(rt: HostRuntime) -> Result<(), Fail> {
         revenue 193932 hindsight 299535/1\n"
             .as_slice()
     );
+    Ok(())
+}
+
+// ACL was never asked for, so its fare costs nothing wherever it is.
+#[test]
+fn the_fares_on_a_leg_are_cut(rt: HostRuntime) -> Result<(), Fail> {
+    let (status, sink) = outcome(rt.alloc(), &["cuts", "DEMANDED", "AB", "2"])?;
+    assert_eq!(rt; status, Status::Done);
+    assert_eq!(rt;
+        sink.held(),
+        b"cuts AB 400\ncentres AB 500 150\ncost AB 1200\n".as_slice()
+    );
+
+    let (status, sink) = outcome(rt.alloc(), &["cuts", "DEMANDED", "CD", "2"])?;
+    assert_eq!(rt; status, Status::NoLeg);
+    assert_eq!(rt; status.number(), 10);
+    assert_eq!(rt; sink.held(), b"no leg\n".as_slice());
+
+    let (status, _) = outcome(rt.alloc(), &["cuts", "DEMANDED", "AB", "11"])?;
+    assert_eq!(rt; status, Status::Usage);
+    Ok(())
+}
+
+// Of ABH 2, 4, 3 and 3 seats are asked for, and three of them are worth more than those of ABL.
+#[test]
+fn the_seats_of_a_leg_are_valued(rt: HostRuntime) -> Result<(), Fail> {
+    let (status, sink) = outcome(rt.alloc(), &["dp", "DEMANDED", "AB"])?;
+    assert_eq!(rt; status, Status::Done);
+    assert_eq!(rt;
+        sink.held(),
+        b"class ABH 400\nclass ABL 150\nvalue AB 4175/2\nprotect AB 3\n".as_slice()
+    );
+
+    for leg in ["BC", "CD"] {
+        let (status, sink) = outcome(rt.alloc(), &["dp", "F", leg])?;
+        assert_eq!(rt; status, Status::NoClass);
+        assert_eq!(rt; status.number(), 11);
+        assert_eq!(rt; sink.held(), b"classes 0\n".as_slice());
+    }
+    Ok(())
+}
+
+#[test]
+fn a_failed_put_is_told_of_a_leg(rt: HostRuntime) -> Result<(), Fail> {
+    let outside = Outside {
+        puts: &[1],
+        ..SOUND
+    };
+    let (status, _) = outcome_over(rt.alloc(), &["cuts", "F", "CD", "1"], &outside)?;
+    assert_eq!(rt; status, Status::WriteFault);
+    let (status, _) = outcome_over(rt.alloc(), &["dp", "F", "AB"], &outside)?;
+    assert_eq!(rt; status, Status::WriteFault);
     Ok(())
 }

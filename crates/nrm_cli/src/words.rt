@@ -1,11 +1,14 @@
 //! The words of the command line.
-ghost use Rattle.std.specs.Prelude.{◌≡◌, is_some, map, option_map, string_bytes};
-ghost use Rattle.nrm_cli.specs.Inner.Parts.{job_in};
+ghost use Rattle.std.specs.Prelude.{◌≡◌, [], ◌∷◌, IfSome, is_some, map, option_map, string_bytes};
+ghost use Rattle.nrm_cli.specs.Inner.Parts.{IsWithin, job_in};
+ghost use Rattle.nrm_text.specs.Names.{name_in};
 ghost use Rattle.nrm_text.specs.Numbers.{whole_between};
-ghost use Rattle.nrm_cli.specs.Jobs.{job_of, made_run_of, mode_of};
+ghost use Rattle.nrm_cluster.specs.declared.limits.TheConstants.{MOST_GROUPS};
+ghost use Rattle.nrm_cli.specs.Jobs.{cut_of, job_of, made_run_of, mode_of, valuing_of};
 
+use nrm_cluster::MOST_GROUPS;
 use nrm_model::Mode;
-use nrm_text::{is_word, read_whole};
+use nrm_text::{is_word, name_of, read_whole};
 
 // The last number that a network and its commands are made of.
 const LAST_MADE: u32 = u32::MAX;
@@ -18,6 +21,8 @@ pub(crate) enum Asked<'a> {
     Check(&'a str, &'a str),
     Print(&'a str),
     Made(Mode, u32),
+    Cuts(&'a str, &'a str, u8),
+    Values(&'a str, &'a str),
 }
 
 // The mode of a word.
@@ -37,14 +42,37 @@ fn mode_in(word: &String) -> Option<Mode>
 
 // The made run of a mode and a number.
 fn made_run_in(mode: &String, number: &String) -> Option<Asked<'static>>
-    ensures { option_map job_in result
+    ensures job { option_map job_in result
         ≡ made_run_of (mode_of (string_bytes mode.now)) (whole_between 0 LAST_MADE (string_bytes number.now)) }
+    ensures within { IfSome result IsWithin }
 {
     let mode = mode_in(mode)?;
     match read_whole(number.as_bytes(), u64::from(LAST_MADE)) {
         Ok(number) => Some(Asked::Made(mode, number as u32)),
         Err(_) => None,
     }
+}
+
+// The thresholds of a leg of a file, in so many groups.
+fn cuts_in<'a>(file: &'a String, leg: &'a String, groups: &String) -> Option<Asked<'a>>
+    ensures job { option_map job_in result
+        ≡ cut_of (string_bytes file.now) (name_in (string_bytes leg.now)) (whole_between 1 MOST_GROUPS (string_bytes groups.now)) }
+    ensures within { IfSome result IsWithin }
+{
+    name_of(leg.as_bytes())?;
+    match read_whole(groups.as_bytes(), u64::from(MOST_GROUPS)) {
+        Ok(0) | Err(_) => None,
+        Ok(groups) => Some(Asked::Cuts(file.as_str(), leg.as_str(), groups as u8)),
+    }
+}
+
+// The values of a leg of a file.
+fn values_in<'a>(file: &'a String, leg: &'a String) -> Option<Asked<'a>>
+    ensures job { option_map job_in result ≡ valuing_of (string_bytes file.now) (name_in (string_bytes leg.now)) }
+    ensures within { IfSome result IsWithin }
+{
+    name_of(leg.as_bytes())?;
+    Some(Asked::Values(file.as_str(), leg.as_str()))
 }
 
 /// Whether the words (without the program's own name) ask for a job; all others get the usage line. It takes no memory.
@@ -54,24 +82,72 @@ pub fn asks_for_a_job(words: &[String]) -> bool
     asked_in(words).is_some()
 }
 
+// What a verb and one word ask for.
+fn asked_by_two<'a>(verb: &String, file: &'a String) -> Option<Asked<'a>>
+    ensures job { option_map job_in result ≡ job_of (string_bytes verb.now ∷ string_bytes file.now ∷ []) }
+    ensures within { IfSome result IsWithin }
+{
+    if is_word(verb.as_bytes(), b"print") {
+        Some(Asked::Print(file.as_str()))
+    } else {
+        None
+    }
+}
+
+// What a verb and two words ask for.
+fn asked_by_three<'a>(verb: &String, second: &'a String, third: &'a String) -> Option<Asked<'a>>
+    ensures job { option_map job_in result
+        ≡ job_of (string_bytes verb.now ∷ string_bytes second.now ∷ string_bytes third.now ∷ []) }
+    ensures within { IfSome result IsWithin }
+{
+    if is_word(verb.as_bytes(), b"run") {
+        match mode_in(second) {
+            Some(mode) => Some(Asked::Run(mode, third.as_str())),
+            None => None,
+        }
+    } else if is_word(verb.as_bytes(), b"plan") {
+        match mode_in(second) {
+            Some(mode) => Some(Asked::Plan(mode, third.as_str())),
+            None => None,
+        }
+    } else if is_word(verb.as_bytes(), b"check") {
+        Some(Asked::Check(second.as_str(), third.as_str()))
+    } else if is_word(verb.as_bytes(), b"gen") {
+        made_run_in(second, third)
+    } else if is_word(verb.as_bytes(), b"dp") {
+        values_in(second, third)
+    } else {
+        None
+    }
+}
+
+// What a verb and three words ask for.
+fn asked_by_four<'a>(
+    verb: &String,
+    second: &'a String,
+    third: &'a String,
+    fourth: &String,
+) -> Option<Asked<'a>>
+    ensures job { option_map job_in result
+        ≡ job_of (string_bytes verb.now ∷ string_bytes second.now ∷ string_bytes third.now ∷ string_bytes fourth.now ∷ []) }
+    ensures within { IfSome result IsWithin }
+{
+    if is_word(verb.as_bytes(), b"cuts") {
+        cuts_in(second, third, fourth)
+    } else {
+        None
+    }
+}
+
 /// The job that the words ask for, if they ask for one.
 pub(crate) fn asked_in(words: &[String]) -> Option<Asked<'_>>
-    ensures { option_map job_in result ≡ job_of (map string_bytes words.now) }
+    ensures job { option_map job_in result ≡ job_of (map string_bytes words.now) }
+    ensures within { IfSome result IsWithin }
 {
     match words {
-        [verb, file] if is_word(verb.as_bytes(), b"print") => Some(Asked::Print(file.as_str())),
-        [verb, mode, file] if is_word(verb.as_bytes(), b"run") => match mode_in(mode) {
-            Some(mode) => Some(Asked::Run(mode, file.as_str())),
-            None => None,
-        },
-        [verb, mode, file] if is_word(verb.as_bytes(), b"plan") => match mode_in(mode) {
-            Some(mode) => Some(Asked::Plan(mode, file.as_str())),
-            None => None,
-        },
-        [verb, file, certificate] if is_word(verb.as_bytes(), b"check") => {
-            Some(Asked::Check(file.as_str(), certificate.as_str()))
-        }
-        [verb, mode, number] if is_word(verb.as_bytes(), b"gen") => made_run_in(mode, number),
+        [verb, file] => asked_by_two(verb, file),
+        [verb, second, third] => asked_by_three(verb, second, third),
+        [verb, second, third, fourth] => asked_by_four(verb, second, third, fourth),
         _ => None,
     }
 }

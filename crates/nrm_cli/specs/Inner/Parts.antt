@@ -1,10 +1,12 @@
 -- What the parts of the top call promise one another.
 use Rattle.std.specs.Prelude.{ℕ, ◌≡◌, ◌≢◌, ◌+◌, ◌-◌, ◌≤◌, ◌⊎◌, List, [], length, Option, Some, None, Result, Ok, Err, MatchResult, IfSome}
 use Rattle.std.specs.Prelude.{option_map, ⊤}
+use Rattle.std.specs.Int.{IsInRange}
 use Rattle.std.specs.Io.KnownBytes.{Appends, Keeps}
 use Rattle.nrm_edge.specs.Causes.{Rose}
 use Rattle.nrm_edge.specs.Fetch.{Folder}
 use Rattle.nrm_edge.specs.Pieces.{AppendsCut}
+use Rattle.nrm_text.specs.Names.{name_in}
 use Rattle.nrm_model.specs.Network.{NetworkValue}
 use Rattle.nrm_model.specs.Inventory.{inventory_of}
 use Rattle.nrm_model.specs.declared.mode.Mode.{Mode}
@@ -16,6 +18,7 @@ use Rattle.nrm_fraction.specs.Large.{size_limit}
 use Rattle.nrm_lp.specs.declared.certificate.Certificate.{Certificate}
 use Rattle.nrm_lp.specs.Certified.{Certifies}
 use Rattle.nrm_dlp.specs.Programs.{opening_program}
+use Rattle.nrm_cluster.specs.declared.limits.TheConstants.{MOST_GROUPS}
 use Rattle.nrm_dual.specs.Conditions.{verdict_on}
 use Rattle.nrm_dual.specs.Named.{IsOfNetwork}
 use Rattle.nrm_dual.specs.Refusals.{refusal_of}
@@ -42,7 +45,7 @@ use Rattle.nrm_session.specs.declared.serving.End.TheVariants as end
 use Rattle.nrm_cli.specs.Ends.{status_of}
 use Rattle.nrm_cli.specs.Made.{MadeRun, counts_from, last_of, nothing_counted}
 use Rattle.nrm_cli.specs.declared.counts.Counts.{Counts}
-use Rattle.nrm_cli.specs.Jobs.{Job, run_file, plan_file, check_file, print_file, run_made, overflow_line}
+use Rattle.nrm_cli.specs.Jobs.{Job, run_file, plan_file, check_file, print_file, run_made, cut_leg, value_leg, overflow_line}
 use Rattle.nrm_cli.specs.declared.status.Status.{Status}
 use Rattle.nrm_cli.specs.declared.status.Status.TheVariants as status
 use Rattle.nrm_cli.specs.declared.words.Asked.{Asked}
@@ -57,6 +60,18 @@ job_in (asked.Plan mode file) = plan_file mode file.now
 job_in (asked.Check file certificate) = check_file file.now certificate.now
 job_in (asked.Print file) = print_file file.now
 job_in (asked.Made mode number) = run_made mode number
+job_in (asked.Cuts file leg groups) = cut_leg file.now leg.now groups
+job_in (asked.Values file leg) = value_leg file.now leg.now
+
+-- the name of a leg is one, and a number of groups lies within its limits
+abbrev pub IsWithin : Asked → Type 0
+IsWithin (asked.Run mode file) = ⊤
+IsWithin (asked.Plan mode file) = ⊤
+IsWithin (asked.Check file certificate) = ⊤
+IsWithin (asked.Print file) = ⊤
+IsWithin (asked.Made mode number) = ⊤
+IsWithin (asked.Cuts file leg groups) = (name_in leg.now ≡ Some leg.now) × IsInRange 1 MOST_GROUPS groups
+IsWithin (asked.Values file leg) = name_in leg.now ≡ Some leg.now
 
 -- a line was put and its status answered, or the line was cut
 abbrev pub PutsLine : List ℕ → Status → Option (List ℕ) → Option (List ℕ) → ℕ → ℕ → Status → Type 0
@@ -187,3 +202,9 @@ abbrev pub PutsSummary : NetworkValue → PlanValue → ℕ → Option (List ℕ
 PutsSummary net plan number held held' before now result =
     ((result ≡ status.NoMemory) × Keeps held held' × (now ≡ before))
     ⊎ ((text : List ℕ) × MadeRun net plan number text × PutsLine text status.Done held held' before now result)
+
+-- what is told is put with its status, or memory ran out and nothing was put
+abbrev pub PutsTold : (Status → List ℕ → Type 0) → Option (List ℕ) → Option (List ℕ) → ℕ → ℕ → Status → Type 0
+PutsTold told held held' before now result =
+    ((result ≡ status.NoMemory) × Keeps held held' × (now ≡ before))
+    ⊎ ((goes : Status) × (text : List ℕ) × told goes text × PutsLine text goes held held' before now result)

@@ -1,3 +1,5 @@
+use Rattle.nrm_cluster.proofs.Nearest.{no-grouping-costs-less}
+use Rattle.nrm_legdp.proofs.Values.{no-policy-earns-more, protections-earn-all}
 use Rattle.nrm_session.proofs.Determined.{determined, states-determined}
 use Rattle.nrm_session.proofs.FirstParts.{first-parts}
 use Rattle.nrm_session.proofs.Hindsights.{openings-bounded}
@@ -29,6 +31,15 @@ returns-clause-money g c = adds-up
 pub returns-clause-physical : goal.returns-clause-physical
 returns-clause-physical g c = decide-nothing
 
+pub returns-clause-groupings : goal.returns-clause-groupings
+returns-clause-groupings g c = no-grouping-costs-less
+
+pub returns-clause-policies : goal.returns-clause-policies
+returns-clause-policies g c = no-policy-earns-more
+
+pub returns-clause-protections : goal.returns-clause-protections
+returns-clause-protections g c = protections-earn-all
+
 pub returns-clause-requests : goal.returns-clause-requests
 returns-clause-requests g c = requests-answered
 
@@ -47,7 +58,7 @@ returns-clause-there g c = runs
 pub returns-clause-call : goal.returns-clause-call
 returns-clause-call g c =
     let does = c.run_asked.ensures.does in
-    let ends = same-job-ends _ _ _ _ c.run_asked.result c.asked_in.ensures does.ends in
+    let ends = same-job-ends _ _ _ _ c.run_asked.result c.asked_in.ensures.job does.ends in
     let complete = completes _ _ _ c.run_asked.result ends in
     record { ends = ends; complete = complete; failures = does.failures; goes = does.goes; passes = planned-passes _ _ _ c.run_asked.result complete }
 

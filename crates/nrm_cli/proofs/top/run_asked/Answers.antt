@@ -44,6 +44,20 @@ returns-in-Some-Made-clause-does g c =
     (of-words (Some made) _ _ _ c.run_made.result (ap Some is)
     (c.run_made.ensures.does (g.F.Files.contents c.args.files.now) (g.F.Files.faults c.args.files.now) (g.S.Source.coming c.args.source.now) (g.S.Source.faults c.args.source.now)))
 
+pub returns-in-Some-Cuts-clause-does : goal.returns-in-Some-Cuts-clause-does
+returns-in-Some-Cuts-clause-does g c =
+    let cuts = c.in-Some-Cuts.field-0 in
+    let is = rw c.in-Some-Cuts.is at c.in-Some-Cuts.field-0-is in
+    of-words c.args.asked (Some cuts) _ _ c.cut_leg.result c.in-Some-Cuts.is
+    (of-words (Some cuts) _ _ _ c.cut_leg.result (ap Some is) (c.cut_leg.ensures.does (g.S.Source.coming c.args.source.now) (g.S.Source.faults c.args.source.now)))
+
+pub returns-in-Some-Values-clause-does : goal.returns-in-Some-Values-clause-does
+returns-in-Some-Values-clause-does g c =
+    let values = c.in-Some-Values.field-0 in
+    let is = rw c.in-Some-Values.is at c.in-Some-Values.field-0-is in
+    of-words c.args.asked (Some values) _ _ c.value_leg.result c.in-Some-Values.is
+    (of-words (Some values) _ _ _ c.value_leg.result (ap Some is) (c.value_leg.ensures.does (g.S.Source.coming c.args.source.now) (g.S.Source.faults c.args.source.now)))
+
 pub returns-in-None-clause-does : goal.returns-in-None-clause-does
 returns-in-None-clause-does g c =
     of-words c.args.asked None _ _ c.put_line.result c.in-None.is (record {
