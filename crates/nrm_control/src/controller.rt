@@ -1,6 +1,6 @@
 //! The controller: a network, the plan in force, the book of what was sold of it, tallies of what was asked, and what was withheld
 //! from cancelled bookings.
-ghost use Rattle.std.specs.Prelude.{◌≡◌, ◌<◌, ◌≤◌, ◌+◌, ◌^◌, [], All, IfErr, IfNone, IfOk, IfSome, OnErr, OnOk, find, length};
+ghost use Rattle.std.specs.Prelude.{◌≡◌, ◌/◌, ◌*◌, ◌<◌, ◌≤◌, ◌+◌, ◌^◌, [], All, IfErr, IfNone, IfOk, IfSome, OnErr, OnOk, find, length};
 ghost use Rattle.std.specs.Prelude.{min, option_map, pos, slice_index, true};
 ghost use Rattle.std.specs.Int.{IsInRange};
 ghost use Rattle.nrm_number.specs.Gcd.{gcd};
@@ -136,6 +136,13 @@ fn tally_after(net: &Network, tally: u16, product: u16, party: u16) -> u16
     (tally + party).min(net.least_authorised(product))
 }
 
+// What is given back for a party: a percentage of its fares together, cut to a whole currency unit once.
+fn refund_for(party: u16, fare: u32, percent: u8) -> u64
+    ensures { result ≡ party * fare * percent / 100 }
+{
+    u64::from(party) * u64::from(fare) * u64::from(percent) / 100
+}
+
 impl Controller {
     ghost use Rattle.nrm_simplex.specs.Solving.{IsSolveFault};
     ghost use Rattle.nrm_dlp.specs.Hindsight.{IsHindsight};
@@ -211,7 +218,7 @@ impl Controller {
         let booking = self.book.remove(number)?;
         let product = self.network.product_at(booking.product);
         let worth = u64::from(booking.party) * u64::from(product.fare);
-        let refund = worth * u64::from(product.refund) / 100;
+        let refund = refund_for(booking.party, product.fare, product.refund);
         self.withheld += u128::from(worth - refund);
         Some(refund)
     }
