@@ -144,15 +144,14 @@ module _ (book : BookValue) (sold : SeatsValue) (product party : ℕ) (legs : Li
       subst P (sym own) (of-legs book.inventory (λ (legs : List ℕ). AllPairs (λ a b. a ≢ b) legs) product apart short, can-rise book sold product party is are short sized)
 
 -- what is counted after a sale
-pub sold-next : (book : BookValue) (sold next : SeatsValue) (product party : ℕ) (legs : List ℕ) (items : List Booking) → IsBook book → sold ≡ seats_sold book.inventory book.bookings → All (λ (legs : List ℕ). AllPairs (λ a b. a ≢ b) legs) book.inventory.legs
-    → product < length book.inventory.legs → legs ≡ legs_of book.inventory product → next ≡ changed (λ sold. sold + party) sold legs product → items ≡ book.bookings ++ record { number = book.next; product = product; party = party } ∷ [] → next ≡ seats_sold book.inventory items
-sold-next book sold next product party legs items is are apart short own changes pushed =
-    let b : Booking = record { number = book.next; product = product; party = party } in
-    let more : (i : ℕ) → sold_on book.inventory (book.bookings ++ record { number = book.next; product = product; party = party } ∷ []) i ≡ sold_on book.inventory book.bookings i + taken_on book.inventory i (record { number = book.next; product = product; party = party }) = λ i. sold_on-push book.inventory i book.bookings b is.products short in
-    let of_product : (j : ℕ) → sold_of (book.bookings ++ record { number = book.next; product = product; party = party } ∷ []) j ≡ sold_of book.bookings j + party_of j (record { number = book.next; product = product; party = party }) = λ j. sum_by_push (party_of j) book.bookings b in
-    let distinct = of-legs book.inventory (λ (legs : List ℕ). AllPairs (λ a b. a ≢ b) legs) product apart short in
+pub sold-next : (book : BookValue) (sold next : SeatsValue) (b : Booking) (legs : List ℕ) (items : List Booking) → IsBook book → sold ≡ seats_sold book.inventory book.bookings → All (λ (legs : List ℕ). AllPairs (λ a b. a ≢ b) legs) book.inventory.legs
+    → b.product < length book.inventory.legs → legs ≡ legs_of book.inventory b.product → next ≡ changed (λ sold. sold + b.party) sold legs b.product → items ≡ book.bookings ++ b ∷ [] → next ≡ seats_sold book.inventory items
+sold-next book sold next b legs items is are apart short own changes pushed =
+    let more : (i : ℕ) → sold_on book.inventory (book.bookings ++ b ∷ []) i ≡ sold_on book.inventory book.bookings i + taken_on book.inventory i b = λ i. sold_on-push book.inventory i book.bookings b is.products short in
+    let of_product : (j : ℕ) → sold_of (book.bookings ++ b ∷ []) j ≡ sold_of book.bookings j + party_of j b = λ j. sum_by_push (party_of j) book.bookings b in
+    let distinct = of-legs book.inventory (λ (legs : List ℕ). AllPairs (λ a b. a ≢ b) legs) b.product apart short in
     let is_so = sold-is book.inventory book.bookings (book.bookings ++ b ∷ []) b is.inventory short more of_product distinct in
-    changes ∙ (λ k. changed (λ sold. sold + party) (are k) (own k) product) ∙ is_so ∙ ap (seats_sold book.inventory) (sym pushed)
+    changes ∙ (λ k. changed (λ sold. sold + b.party) (are k) (own k) b.product) ∙ is_so ∙ ap (seats_sold book.inventory) (sym pushed)
 
 -- a booking that was read can be given back, and what is counted then
 module _ (book : BookValue) (sold : SeatsValue) (k : ℕ) (b : Booking) (legs : List ℕ) (items : List Booking) (is : IsBook book) (are : sold ≡ seats_sold book.inventory book.bookings) (apart : All (λ (legs : List ℕ). AllPairs (λ a b. a ≢ b) legs) book.inventory.legs)

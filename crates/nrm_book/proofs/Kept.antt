@@ -14,7 +14,7 @@ use Rattle.std.proofs.lemmas.Option.{cond_some, none-some, slice_get_past, slice
 use Rattle.nrm_model.specs.Inventory.{Inventory, authorised_of, legs_of, uses_leg}
 use Rattle.nrm_book.specs.declared.booking.Booking.{Booking}
 use Rattle.nrm_book.specs.Bookings.{NumbersRise, booking_numbered, left_on, sold_on, without}
-use Rattle.nrm_book.specs.Book.{BookValue, IsBook, with_booking}
+use Rattle.nrm_book.specs.Book.{BookValue, IsBook, IsLoadable, with_loaded}
 use Rattle.nrm_book.proofs.Sold.{no_booking, AreProducts, taken_on, sold_on-by_booking, sold_on-push, count-le-seats}
 
 -- a leg that the product uses is one of its legs, so the seats left there are as many
@@ -38,18 +38,18 @@ seats-added inventory bookings b i are short fits within =
           omega arith
     ]
 
--- with a party that is no larger than the seats left on each leg of its product
-pub IsBook-added : (book : BookValue) (product party : ℕ) → IsBook book → product < length book.inventory.legs → IsInRange 1 999 party → All (λ i. party ≤ left_on book.inventory book.bookings i) (legs_of book.inventory product) → book.next < 1000000000000 → IsBook (with_booking book product party)
-IsBook-added book product party is short sized fits low = record {
+-- with a booking that can be loaded
+pub IsBook-loaded : (book : BookValue) (b : Booking) → IsBook book → IsLoadable book b → IsBook (with_loaded book b)
+IsBook-loaded book b is can = record {
   inventory = is.inventory;
-  next = omega (arith, is.next);
-  rising = all_pairs_push (λ (earlier later : Booking). earlier.number < later.number) book.bookings (record { number = book.next; product = product; party = party }) is.rising
-      (λ k d at. (is.numbers k d at).1);
-  numbers = All-push (λ (booking : Booking). (1 ≤ booking.number) × (booking.number < book.next + 1)) book.bookings (record { number = book.next; product = product; party = party })
-      (λ k d at. let old = is.numbers k d at in (old.0, omega (arith, old.1))) (omega (arith, is.next), omega arith);
-  parties = All-push (λ (booking : Booking). IsInRange 1 999 booking.party) book.bookings (record { number = book.next; product = product; party = party }) is.parties sized;
-  products = All-push (λ (booking : Booking). booking.product < length book.inventory.legs) book.bookings (record { number = book.next; product = product; party = party }) is.products short;
-  seats = λ i at. seats-added book.inventory book.bookings (record { number = book.next; product = product; party = party }) i is.products short fits (is.seats i at);
+  next = omega (arith, is.next, can.number, can.low);
+  rising = all_pairs_push (λ (earlier later : Booking). earlier.number < later.number) book.bookings b is.rising
+      (λ k d at. omega (arith, (is.numbers k d at).1, can.number));
+  numbers = All-push (λ (booking : Booking). (1 ≤ booking.number) × (booking.number < b.number + 1)) book.bookings b
+      (λ k d at. let old = is.numbers k d at in (old.0, omega (arith, old.1, can.number))) (omega (arith, is.next, can.number), omega arith);
+  parties = All-push (λ (booking : Booking). IsInRange 1 999 booking.party) book.bookings b is.parties can.party;
+  products = All-push (λ (booking : Booking). booking.product < length book.inventory.legs) book.bookings b is.products can.product;
+  seats = λ i at. seats-added book.inventory book.bookings b i is.products can.product can.seats (is.seats i at);
 }
 
 -- without a booking no more is sold
@@ -124,24 +124,20 @@ absent-is bookings number at =
       sym (filter-all (λ (booking : Booking). not (booking.number == number)) bookings others),
     )
 
--- the book after a sale, of the parts that the list's own call tells
-pub IsBook-sold : (book now : BookValue) (product party : ℕ) (bookings : List Booking) → book ≡ now → IsBook book → product < length now.inventory.legs → IsInRange 1 999 party
-    → All (λ i. party ≤ left_on now.inventory now.bookings i) (legs_of now.inventory product) → now.next < 1000000000000 → bookings ≡ book.bookings ++ record { number = book.next; product = product; party = party } ∷ []
-    → IsBook (record { inventory = book.inventory; bookings = bookings; next = book.next + 1 })
-IsBook-sold book now product party bookings same is short sized fits low are =
-    let Sells : BookValue → Type 0 = λ book. (product < length book.inventory.legs) × All (λ i. party ≤ left_on book.inventory book.bookings i) (legs_of book.inventory product) × (book.next < 1000000000000) in
-    let sells : Sells book = subst Sells (sym same) (short, fits, low) in
-    let P : List Booking → Type 0 = λ bookings. IsBook (record { inventory = book.inventory; bookings = bookings; next = book.next + 1 }) in
-    subst P (sym are) (IsBook-added book product party is sells.0 sized sells.1 sells.2)
+-- the book with it, of the parts that the list's own call tells
+pub IsBook-grown : (book now : BookValue) (b : Booking) (bookings : List Booking) → book ≡ now → IsBook book → IsLoadable now b → bookings ≡ book.bookings ++ b ∷ []
+    → IsBook (record { inventory = book.inventory; bookings = bookings; next = b.number + 1 })
+IsBook-grown book now b bookings same is can are =
+    let here : IsLoadable book b = subst (λ (book : BookValue). IsLoadable book b) (sym same) can in
+    let P : List Booking → Type 0 = λ bookings. IsBook (record { inventory = book.inventory; bookings = bookings; next = b.number + 1 }) in
+    subst P (sym are) (IsBook-loaded book b is here)
 
 -- and so there was room for it
-pub room-left : (book now : BookValue) (product party : ℕ) → book ≡ now → IsBook book → product < length now.inventory.legs → IsInRange 1 999 party
-    → All (λ i. party ≤ left_on now.inventory now.bookings i) (legs_of now.inventory product) → now.next < 1000000000000 → length book.bookings < sum book.inventory.authorised
-room-left book now product party same is short sized fits low =
-    let b : Booking = record { number = book.next; product = product; party = party } in
-    let after = IsBook-sold book now product party (book.bookings ++ record { number = book.next; product = product; party = party } ∷ []) same is short sized fits low refl in
-    let count = count-le-seats (record { inventory = book.inventory; bookings = book.bookings ++ record { number = book.next; product = product; party = party } ∷ []; next = book.next + 1 }) after in
-    omega (arith, length-append book.bookings (record { number = book.next; product = product; party = party } ∷ []))
+pub room-left : (book now : BookValue) (b : Booking) → book ≡ now → IsBook book → IsLoadable now b → length book.bookings < sum book.inventory.authorised
+room-left book now b same is can =
+    let after = IsBook-grown book now b (book.bookings ++ b ∷ []) same is can refl in
+    let count = count-le-seats (record { inventory = book.inventory; bookings = book.bookings ++ b ∷ []; next = b.number + 1 }) after in
+    omega (arith, length-append book.bookings (b ∷ []))
 
 -- the book after a cancellation, likewise
 pub IsBook-removed : (book now : BookValue) (number k : ℕ) (bookings : List Booking) → book ≡ now → IsBook book → position (λ (booking : Booking). booking.number == number) now.bookings ≡ Some k → bookings ≡ remove book.bookings k

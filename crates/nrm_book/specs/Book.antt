@@ -1,10 +1,10 @@
 -- What callers see of a book, and what every book keeps.
 use Rattle.std.specs.Prelude.{ℕ, ◌≡◌, ◌<◌, ◌≤◌, ◌++◌, ◌∷◌, [], ◌+◌, List, All, length}
 use Rattle.std.specs.Int.{IsInRange}
-use Rattle.nrm_model.specs.Inventory.{Inventory, authorised_of}
+use Rattle.nrm_model.specs.Inventory.{Inventory, authorised_of, legs_of}
 use Rattle.nrm_model.specs.declared.limits.TheConstants.{BOOKING_LIMIT, MOST_FARE, MOST_LEGS, MOST_PARTY, MOST_PRODUCTS, MOST_SEATS}
 use Rattle.nrm_book.specs.declared.booking.Booking.{Booking}
-use Rattle.nrm_book.specs.Bookings.{NumbersRise, sold_on}
+use Rattle.nrm_book.specs.Bookings.{NumbersRise, left_on, sold_on}
 
 -- the authorised seats, fares and leg lists of a network, the bookings that stand, and the number of the next one
 pub record BookValue : Type 0 where
@@ -33,9 +33,19 @@ pub record IsBook (book : BookValue) : Type 0 where
   pub products : All (λ (booking : Booking). booking.product < length book.inventory.legs) book.bookings
   pub seats : (i : ℕ) → i < length book.inventory.authorised → sold_on book.inventory book.bookings i ≤ authorised_of book.inventory i
 
--- the book has this booking more, with the next number
+-- a booking can be loaded into a book: its number is no lower than the next one, its product is one of the book's, and its party is no
+-- larger than the seats left on each leg of the product
+pub record IsLoadable (book : BookValue) (booking : Booking) : Type 0 where
+  pub number : book.next ≤ booking.number
+  pub low : booking.number < BOOKING_LIMIT
+  pub product : booking.product < length book.inventory.legs
+  pub party : IsInRange 1 MOST_PARTY booking.party
+  pub seats : All (λ i. booking.party ≤ left_on book.inventory book.bookings i) (legs_of book.inventory booking.product)
+
+-- the book has this booking more, under its own number, and the next number is the one above it
+abbrev pub with_loaded : BookValue → Booking → BookValue
+with_loaded book booking = record book { bookings = book.bookings ++ booking ∷ []; next = booking.number + 1 }
+
+-- the book has a booking more, with the next number
 abbrev pub with_booking : BookValue → ℕ → ℕ → BookValue
-with_booking book product party = record book {
-  bookings = book.bookings ++ record { number = book.next; product = product; party = party } ∷ [];
-  next = book.next + 1;
-}
+with_booking book product party = with_loaded book (record { number = book.next; product = product; party = party })

@@ -51,7 +51,7 @@ impl Model for Book {
 }
 
 impl Book {
-    ghost use Rattle.nrm_book.specs.Book.{IsBook, with_booking};
+    ghost use Rattle.nrm_book.specs.Book.{IsBook, IsLoadable, with_booking, with_loaded};
 
     /// An empty book of a network, with the next number 1 and room for twice as many bookings as there are authorised seats
     /// in all.
@@ -148,16 +148,29 @@ impl Book {
         ensures kept { IsBook self.new }
     {
         let number = self.next;
-        let booking = Booking {
+        self.load(Booking {
             number,
             product,
             party,
-        };
-        self.bookings.push(booking);
-        self.next = number + 1;
-        self.sold.sell(legs_of(&self.legs, product), product, party);
-        self.revenue += worth(&self.fares, &booking);
+        });
         number
+    }
+
+    /// Books a booking that was kept elsewhere, under its own number; the next number is then the one above it. It takes no memory,
+    /// and moves bookings as `add` does.
+    pub fn load(&mut self, booking: Booking)
+        requires { IsLoadable self.old booking }
+        ensures loaded { self.new ≡ with_loaded self.old booking }
+        ensures kept { IsBook self.new }
+    {
+        self.bookings.push(booking);
+        self.next = booking.number + 1;
+        self.sold.sell(
+            legs_of(&self.legs, booking.product),
+            booking.product,
+            booking.party,
+        );
+        self.revenue += worth(&self.fares, &booking);
     }
 
     /// Takes a booking out of the book; the others and the next number stay. `None` exactly where it isn't live, and

@@ -58,6 +58,23 @@ fn sells_the_authorised_seats(rt: HostRuntime) -> Result<(), Fail> {
     Ok(())
 }
 
+// A booking that was kept has its own number, and the next one goes on behind it.
+#[test]
+fn loads_under_its_own_number(rt: HostRuntime) -> Result<(), Fail> {
+    let mut book = empty_book(rt.alloc())?;
+    let kept = Booking {
+        number: 5,
+        product: 0,
+        party: 2,
+    };
+    book.load(kept);
+    assert_eq!(rt; (book.left(0), book.left(1)), (1, 0));
+    assert_eq!(rt; book.find(5), Some(kept));
+    assert_eq!(rt; book.revenue(), 1000);
+    assert_eq!(rt; book.add(1, 1), 6);
+    Ok(())
+}
+
 #[test]
 fn cancels_by_hand(rt: HostRuntime) -> Result<(), Fail> {
     let mut book = empty_book(rt.alloc())?;

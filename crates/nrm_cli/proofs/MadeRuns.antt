@@ -16,7 +16,7 @@ use Rattle.nrm_control.specs.State.{opening}
 use Rattle.nrm_control.specs.Standing.{ControlValue, IsControl}
 use Rattle.nrm_stream.specs.declared.command.Command.{Command}
 use Rattle.nrm_session.specs.Answering.{IsTellable, Steps, reply_in}
-use Rattle.nrm_session.specs.Replies.{Reply, memory}
+use Rattle.nrm_session.specs.Replies.{Reply, memory, text_of}
 use Rattle.nrm_session.specs.Run.{Run}
 use Rattle.nrm_session.specs.Step.{Step}
 use Rattle.nrm_session.specs.declared.reply.Reply.{Reply as Answered}
@@ -104,7 +104,7 @@ module _ (old now new : ControlValue) (at_first left after : Making) (counts cou
                 s',
                 replies ++ told ∷ [],
                 stands',
-                run-joined old.net s made.front replies mid (command ∷ []) (told ∷ []) s' run (s', subst (λ (net : NetworkValue). Step net mid command told s') made.answers.network step, refl),
+                run-joined (Step old.net) text_of s made.front replies mid (command ∷ []) (told ∷ []) s' run (s', subst (λ (net : NetworkValue). Step net mid command told s') made.answers.network step, refl),
                 All-append (λ r. r ≢ memory) replies (told ∷ []) suffices (All-cons (λ r. r ≢ memory) told [] (not-memory new reply other) (All-nil (λ r. r ≢ memory))),
                 count now ∙ ap (λ (c : Counts). counted c (reply_in now last)) counts_are ∙ ap (counted (counts_from nothing_counted replies)) (sym last_is) ∙ sym (counts-more nothing_counted replies told),
                 last-more replies told,

@@ -6,7 +6,7 @@ use Rattle.nrm_model.specs.Inventory.{Inventory, inventory_of, authorised_of}
 use Rattle.nrm_model.specs.Limits.{IsNetwork}
 use Rattle.nrm_model.specs.Network.{NetworkValue}
 use Rattle.nrm_book.specs.declared.booking.Booking.{Booking}
-use Rattle.nrm_book.specs.Book.{BookValue, IsBook, with_booking}
+use Rattle.nrm_book.specs.Book.{BookValue, IsBook, with_loaded}
 use Rattle.nrm_book.specs.Bookings.{sold_on, without}
 use Rattle.nrm_hindsight.specs.Requests.{tallies_of}
 use Rattle.nrm_plan.specs.Plans.{IsPlanOf, PlanValue}
@@ -58,9 +58,10 @@ module _ (net : NetworkValue) (plan : PlanValue) (book : BookValue) (tallies : L
     withheld = is.withheld;
   }
 
-  -- after a sale
-  pub kept-sold : (new : BookValue) (j party : ℕ) → j < length net.products → new ≡ with_booking book j party → IsBook new → IsInForce net plan new (with_request net tallies j party) withheld
-  kept-sold new j party short added kept =
+  -- with a booking more
+  pub kept-loaded : (new : BookValue) (b : Booking) → b.product < length net.products → book.next ≤ b.number → new ≡ with_loaded book b → IsBook new
+      → IsInForce net plan new (with_request net tallies b.product b.party) withheld
+  kept-loaded new b short later added kept =
       let inventory = ap (λ (b : BookValue). b.inventory) added ∙ is.inventory in
       let booked = ap (λ (b : BookValue). b.bookings) added in
       record {
@@ -69,10 +70,10 @@ module _ (net : NetworkValue) (plan : PlanValue) (book : BookValue) (tallies : L
         inventory = inventory;
         kept = kept;
         tallied =
-            subst (λ (bookings : List Booking). AreTalliesBeside net bookings (with_request net tallies j party)) (sym booked)
-            (beside-sale net book.bookings tallies book.next j party is.network short
+            subst (λ (bookings : List Booking). AreTalliesBeside net bookings (with_request net tallies b.product b.party)) (sym booked)
+            (beside-sale net book.bookings tallies b.number b.product b.party is.network short
             (λ i few. subst (λ (bookings : List Booking). sold_on (inventory_of net) bookings i ≤ authorised_of (inventory_of net) i) booked (fits-of net new inventory kept i few)) is.tallied);
-        withheld = subst (λ (b : BookValue). IsWithheld b.bookings b.next withheld) (sym added) (withheld-sold book.bookings (record { number = book.next; product = j; party = party }) book.next withheld is.kept.next.0 is.withheld);
+        withheld = subst (λ (b : BookValue). IsWithheld b.bookings b.next withheld) (sym added) (withheld-sold book.bookings b book.next withheld is.kept.next.0 later is.withheld);
       }
 
   -- after a cancellation

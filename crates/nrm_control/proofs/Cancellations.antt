@@ -92,11 +92,11 @@ worth-most net book number b same is live =
     subst (λ (v : Inventory). worth_of v b ≤ most_worth) same own
 
 -- ---- the sum withheld: it stays below what the numbers that are gone allow
-sold-more : (n more next withheld : ℕ) → 1 ≤ next → more ≡ n + 1 → withheld + n * most_worth ≤ (next - 1) * most_worth → withheld + more * most_worth ≤ (next + 1 - 1) * most_worth
-sold-more n more next withheld some is within = omega (arith, some, is, within)
+sold-more : (n more next number withheld : ℕ) → 1 ≤ next → next ≤ number → more ≡ n + 1 → withheld + n * most_worth ≤ (next - 1) * most_worth → withheld + more * most_worth ≤ (number + 1 - 1) * most_worth
+sold-more n more next number withheld some later is within = omega (arith, some, later, is, within)
 
-pub withheld-sold : (bookings : List Booking) (b : Booking) (next withheld : ℕ) → 1 ≤ next → IsWithheld bookings next withheld → IsWithheld (bookings ++ b ∷ []) (next + 1) withheld
-withheld-sold bookings b next withheld some within = sold-more (length bookings) (length (bookings ++ b ∷ [])) next withheld some (length-append bookings (b ∷ [])) within
+pub withheld-sold : (bookings : List Booking) (b : Booking) (next withheld : ℕ) → 1 ≤ next → next ≤ b.number → IsWithheld bookings next withheld → IsWithheld (bookings ++ b ∷ []) (b.number + 1) withheld
+withheld-sold bookings b next withheld some later within = sold-more (length bookings) (length (bookings ++ b ∷ [])) next b.number withheld some later (length-append bookings (b ∷ [])) within
 
 none-gone : (n rest next withheld by : ℕ) → by ≡ 0 → rest ≤ n → withheld + n * most_worth ≤ (next - 1) * most_worth → (withheld + by) + rest * most_worth ≤ (next - 1) * most_worth
 none-gone n rest next withheld by is few within = omega (arith, is, few, within)

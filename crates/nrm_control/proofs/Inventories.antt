@@ -83,3 +83,23 @@ are-seats-left net bookings = record {
       let left : get_or (seats_left net bookings) i 0 ≡ left_on (inventory_of net) bookings i = get_or-map-range_with_len (left_on (inventory_of net) bookings) 0 (length net.legs) i i 0 short (omega arith) in
       omega (arith, left, authorised-are net i);
 }
+
+-- a product that the book can load is one of the network
+pub product-of-inventory : (net : NetworkValue) (j : ℕ) → j < length (inventory_of net).legs → j < length net.products
+product-of-inventory net j below = omega (arith, below, legs-count net)
+
+-- no other answer sells
+pub leg-unsold : {P : Type 0} (i number : ℕ) → answer.Leg i ≡ answer.Sold number → P
+leg-unsold i number same = absurd (cc)
+
+pub fare-unsold : {P : Type 0} (number : ℕ) → answer.Fare ≡ answer.Sold number → P
+fare-unsold number same = absurd (cc)
+
+-- a request that is sold gets the next number
+pub sold-next : (net : NetworkValue) (plan : PlanValue) (bookings : List Booking) (next party j number : ℕ) → answer.Sold number ≡ verdict_of net plan bookings next j party → number ≡ next
+sold-next net plan bookings next party j number is = by (find (leg_refuses net plan bookings j party) (product_of net j).legs) (fare_refuses net plan j) is
+  where
+    by : (refusing : Option ℕ) (refuses : Bool) → answer.Sold number ≡ option_map_or answer.Leg refusing (if refuses then answer.Fare else answer.Sold next) → number ≡ next
+    by (Some i) refuses e = cc
+    by None true e = cc
+    by None false e = cc

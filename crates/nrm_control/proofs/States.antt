@@ -4,15 +4,16 @@ use Rattle.std.proofs.lemmas.List.{map-append}
 use Rattle.nrm_model.specs.Network.{NetworkValue}
 use Rattle.nrm_plan.specs.Plans.{PlanValue}
 use Rattle.nrm_book.specs.declared.booking.Booking.{Booking}
-use Rattle.nrm_book.specs.Book.{BookValue, with_booking}
+use Rattle.nrm_book.specs.Book.{BookValue, with_booking, with_loaded}
 use Rattle.nrm_book.specs.Bookings.{without}
 use Rattle.nrm_hindsight.specs.Requests.{Request, request_of, requests_of, tallies_of}
 use Rattle.nrm_hindsight.specs.Selections.{ChosenFrom}
 use Rattle.nrm_hindsight.proofs.Choices.{chosen-push, kept-chosen, left-out-push}
+use Rattle.nrm_hindsight.proofs.Tallies.{requests-stand}
 use Rattle.nrm_control.specs.Refunds.{withheld_by}
 use Rattle.nrm_control.specs.Verdict.{verdict_of}
 use Rattle.nrm_control.specs.State.{SeatState, after_answer, after_cancellation, after_request, answer_in}
-use Rattle.nrm_control.specs.Standing.{ControlValue, StandsFor, with_answer, with_request}
+use Rattle.nrm_control.specs.Standing.{ControlValue, StandsFor, StandsForSome, with_answer, with_request}
 use Rattle.nrm_control.specs.declared.answer.Answer.{Answer}
 use Rattle.nrm_control.specs.declared.answer.Answer.TheVariants as answer
 use Rattle.nrm_control.proofs.Tallies.{tallies-after}
@@ -30,7 +31,7 @@ chosen : (requests : List Request) (bookings : List Booking) (b : Booking) → C
     → ChosenFrom (requests ++ request_of b ∷ []) (requests_of (bookings ++ b ∷ []))
 chosen requests bookings b choice = subst (ChosenFrom (requests ++ request_of b ∷ [])) (sym (map-append request_of bookings (b ∷ []))) (chosen-push (request_of b) choice)
 
-answered : (old : ControlValue) (s : SeatState) (j party : ℕ) (given : Answer) → j < length old.net.products → StandsFor old s → StandsFor (with_answer old j party given) (after_answer s j party given)
+pub answered : (old : ControlValue) (s : SeatState) (j party : ℕ) (given : Answer) → j < length old.net.products → StandsFor old s → StandsFor (with_answer old j party given) (after_answer s j party given)
 answered old s j party (answer.Sold number) short stands = record {
   plan = stands.plan;
   bookings = ap (λ bookings. bookings ++ record { number = number; product = j; party = party } ∷ []) stands.bookings;
@@ -97,3 +98,23 @@ pub tallied-is : (net : NetworkValue) (plan : PlanValue) (book : BookValue) (tal
     → ◌≡◌ {A = ControlValue} (record { net = net; plan = plan; bookings = book.bookings; next = book.next; tallies = more; withheld = withheld })
     (record { net = net; plan = plan; bookings = book.bookings; next = book.next; tallies = with_request net tallies j party; withheld = withheld })
 tallied-is net plan book tallies more withheld j party grown = λ k. record { net = net; plan = plan; bookings = book.bookings; next = book.next; tallies = grown k; withheld = withheld }
+
+-- what a booking that is loaded makes of the controller, and of the states that it stands for
+pub loaded-is : (net : NetworkValue) (plan : PlanValue) (book new : BookValue) (tallies more : List ℕ) (withheld : ℕ) (b : Booking) → new ≡ with_loaded book b → more ≡ with_request net tallies b.product b.party
+    → record { net = net; plan = plan; bookings = new.bookings; next = new.next; tallies = more; withheld = withheld }
+    ≡ with_answer (record { net = net; plan = plan; bookings = book.bookings; next = book.next; tallies = tallies; withheld = withheld }) b.product b.party (answer.Sold b.number)
+loaded-is net plan book new tallies more withheld b added grown = λ k. record { net = net; plan = plan; bookings = (added k).bookings; next = (added k).next; tallies = grown k; withheld = withheld }
+
+pub loaded-stands : (inside old new : ControlValue) (b : Booking) → inside ≡ old → b.product < length old.net.products → new ≡ with_answer inside b.product b.party (answer.Sold b.number)
+    → (s : SeatState) → StandsFor old s → StandsFor new (after_answer s b.product b.party (answer.Sold b.number))
+loaded-stands inside old new b is short changed s stands =
+    subst (λ (control : ControlValue). StandsFor control (after_answer s b.product b.party (answer.Sold b.number))) (sym (changed ∙ ap (λ (control : ControlValue). with_answer control b.product b.party (answer.Sold b.number)) is))
+    (answered old s b.product b.party (answer.Sold b.number) short stands)
+
+-- a controller stands for some state
+pub some-state : StandsForSome
+some-state control kept =
+    let (requests, tallies, choice) = requests-stand control.net control.bookings control.tallies kept.tallied.capped kept.tallied.booked in (
+      record { plan = control.plan; bookings = control.bookings; next = control.next; requests = requests; withheld = control.withheld },
+      record { plan = refl; bookings = refl; next = refl; tallies = tallies; choice = choice; withheld = refl },
+    )

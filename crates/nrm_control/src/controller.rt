@@ -1,22 +1,24 @@
 //! The controller: a network, the plan in force, the book of what was sold of it, tallies of what was asked, and what was withheld
 //! from cancelled bookings.
 ghost use Rattle.std.specs.Prelude.{◌≡◌, ◌/◌, ◌*◌, ◌<◌, ◌≤◌, ◌+◌, ◌^◌, [], All, IfErr, IfNone, IfOk, IfSome, OnErr, OnOk, find, length};
-ghost use Rattle.std.specs.Prelude.{min, option_map, pos, slice_index, true};
+ghost use Rattle.std.specs.Prelude.{ℕ, min, option_map, pos, slice_index, true};
 ghost use Rattle.std.specs.Int.{IsInRange};
 ghost use Rattle.nrm_number.specs.Gcd.{gcd};
 ghost use Rattle.nrm_fraction.specs.Fraction.{◌over◌};
-ghost use Rattle.nrm_model.specs.Inventory.{inventory_of, uses_leg};
+ghost use Rattle.nrm_model.specs.Inventory.{inventory_of, legs_of, uses_leg};
 ghost use Rattle.nrm_model.specs.Network.{least_authorised_of};
 ghost use Rattle.nrm_model.specs.declared.limits.TheConstants.{BOOKING_LIMIT, MOST_PARTY, MOST_SEATS};
-ghost use Rattle.nrm_book.specs.Bookings.{booking_numbered, without};
+ghost use Rattle.nrm_book.specs.Book.{IsLoadable};
+ghost use Rattle.nrm_book.specs.Bookings.{booking_numbered, left_on, without};
 ghost use Rattle.nrm_hindsight.specs.Requests.{tallies_of};
 ghost use Rattle.nrm_plan.specs.Plans.{IsPlanFault, IsPlanFor, IsPlanOf};
 ghost use Rattle.nrm_control.specs.Refunds.{refund_of, withheld_by};
+ghost use Rattle.nrm_control.specs.Standing.{IsOnNetwork};
 ghost use Rattle.nrm_control.specs.State.{seats_left};
-ghost use Rattle.nrm_control.specs.Verdict.{leg_refuses};
+ghost use Rattle.nrm_control.specs.Verdict.{leg_refuses, verdict_of};
 
 use crate::Answer;
-use nrm_book::Book;
+use nrm_book::{Book, Booking};
 use nrm_model::{Mode, Network};
 use nrm_plan::{Plan, SeatsLeft};
 use nrm_simplex::SolveFault;
@@ -86,6 +88,28 @@ fn refusing_leg(
     None
 }
 
+// What a request gets of a book and a plan of the network. Nothing changes.
+fn verdict_on(net: &Network, plan: &Plan, book: &Book, product: u16, party: u16) -> Answer
+    requires plan { IsPlanOf net.now plan.now }
+    requires book { book.now.inventory ≡ inventory_of net.now }
+    requires product { product < length net.now.products }
+    ensures answer { result ≡ verdict_of net.now plan.now book.now.bookings book.now.next product party }
+    ensures leg { IsOnNetwork net.now result }
+    ensures seats { (number : ℕ) → result ≡ Answer.Sold number
+        → All (λ i. party ≤ left_on book.now.inventory book.now.bookings i) (legs_of book.now.inventory product) }
+{
+    let legs = net.product_at(product).legs.as_slice();
+    if let Some(leg) = refusing_leg(net, plan, book, legs, product, party) {
+        return Answer::Leg(leg);
+    }
+    if plan.fare_refuses(net, product) {
+        return Answer::Fare;
+    }
+    Answer::Sold {
+        number: book.next(),
+    }
+}
+
 // The seats left on each leg.
 fn seats_left(net: &Network, book: &Book) -> SeatsLeft
     requires { book.now.inventory ≡ inventory_of net.now }
@@ -148,9 +172,8 @@ impl Controller {
     ghost use Rattle.nrm_dlp.specs.Hindsight.{IsHindsight};
     ghost use Rattle.nrm_dlp.specs.Programs.{hindsight_program};
     ghost use Rattle.nrm_plan.specs.Plans.{IsOpeningPlan, value_of};
-    ghost use Rattle.nrm_control.specs.Standing.{book_of, BoundsRequests, IsControl, IsOnNetwork, IsStartFault, StandsFor, with_answer};
-    ghost use Rattle.nrm_control.specs.State.{after_cancellation, after_request, SeatState, with_plan};
-    ghost use Rattle.nrm_control.specs.Verdict.{verdict_of};
+    ghost use Rattle.nrm_control.specs.Standing.{book_of, BoundsRequests, IsControl, IsStartFault, StandsFor, with_answer};
+    ghost use Rattle.nrm_control.specs.State.{after_answer, after_cancellation, after_request, SeatState, with_plan};
 
     /// A controller of a network with nothing sold, and the plan of period 1 with every authorised seat left.
     ///
@@ -187,19 +210,44 @@ impl Controller {
         ensures kept { IsControl self.new }
         ensures state { (s : SeatState) → StandsFor self.old s → StandsFor self.new (after_request self.old.net s product party) }
     {
-        let net = &self.network;
         let place = product as usize;
-        self.tallies[place] = tally_after(net, self.tallies[place], product, party);
-        let legs = net.product_at(product).legs.as_slice();
-        if let Some(leg) = refusing_leg(net, &self.plan, &self.book, legs, product, party) {
-            return Answer::Leg(leg);
+        self.tallies[place] = tally_after(&self.network, self.tallies[place], product, party);
+        match verdict_on(&self.network, &self.plan, &self.book, product, party) {
+            Answer::Sold { .. } => Answer::Sold {
+                number: self.book.add(product, party),
+            },
+            Answer::Leg(leg) => Answer::Leg(leg),
+            Answer::Fare => Answer::Fare,
         }
-        if self.plan.fare_refuses(net, product) {
-            return Answer::Fare;
-        }
-        Answer::Sold {
-            number: self.book.add(product, party),
-        }
+    }
+
+    /// What a request for seats of a product for a party would be answered now. Nothing changes, and it takes no memory.
+    pub fn verdict(&self, product: u16, party: u16) -> Answer
+        requires product { product < length self.now.net.products }
+        ensures answer { result ≡ verdict_of self.now.net self.now.plan self.now.bookings self.now.next product party }
+        ensures leg { IsOnNetwork self.now.net result }
+        ensures kept { IsControl self.now }
+    {
+        verdict_on(&self.network, &self.plan, &self.book, product, party)
+    }
+
+    /// Books a booking that was kept elsewhere, under its own number, and tallies it as a request that was sold. The plan in force and
+    /// the sum withheld stay. It takes no memory.
+    pub fn load(&mut self, booking: Booking)
+        requires { IsLoadable (book_of self.old) booking }
+        ensures loaded { self.new ≡ with_answer self.old booking.product booking.party (Answer.Sold booking.number) }
+        ensures kept { IsControl self.new }
+        ensures state { (s : SeatState) → StandsFor self.old s
+            → StandsFor self.new (after_answer s booking.product booking.party (Answer.Sold booking.number)) }
+    {
+        let place = booking.product as usize;
+        self.tallies[place] = tally_after(
+            &self.network,
+            self.tallies[place],
+            booking.product,
+            booking.party,
+        );
+        self.book.load(booking);
     }
 
     /// Cancels a booking, and gives the refund, in whole currency units: of party times fare the product's percentage, cut to a

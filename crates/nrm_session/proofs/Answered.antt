@@ -1,5 +1,5 @@
 -- Commands that a controller answered one after another, and one of them that was cut.
-use Rattle.std.proofs.Common.{ℕ, ◌≡◌, ◌∙◌, ◌<◌, ◌≤◌, List, [], ◌∷◌, ◌++◌, length, take, Option, Result, Ok, Err, refl, sym, ap, subst}
+use Rattle.std.proofs.Common.{ℕ, ◌≡◌, ◌∙◌, ◌<◌, ◌≤◌, List, [], ◌∷◌, ◌++◌, flat_map, length, take, Option, Result, Ok, Err, refl, sym, ap, subst}
 use Rattle.std.proofs.Common.{append-nil, append_assoc}
 use Rattle.std.proofs.lemmas.Grind.{flat_map-append}
 use Rattle.std.specs.Prelude.{OnOk, OnErr}
@@ -12,68 +12,73 @@ use Rattle.nrm_control.specs.Standing.{ControlValue, IsControl}
 use Rattle.nrm_stream.specs.declared.command.Command.{Command}
 use Rattle.nrm_session.specs.Answering.{AnswersLine, CutsLine, Steps}
 use Rattle.nrm_session.specs.Replies.{Reply, text_of}
-use Rattle.nrm_session.specs.Run.{Run, Writes, output_of}
+use Rattle.nrm_session.specs.Step.{Step}
+use Rattle.nrm_session.specs.Run.{RunBy, Writes, WritesBy}
 use Rattle.nrm_session.specs.Clerks.{AreMeanings, Answers, AnswersCut, is_control, refines, refines_cut}
-use Rattle.nrm_session.specs.Serving.{Refines, RefinesCut, WritesCut}
+use Rattle.nrm_session.specs.Serving.{CutBy, Refines, RefinesCut, WritesCut}
 
--- a run goes on by another
-pub run-joined : (net : NetworkValue) (s : SeatState) (commands : List Command) (replies : List Reply) (mid : SeatState)
-    (more : List Command) (others : List Reply) (s' : SeatState)
-    → Run net s commands replies mid → Run net mid more others s' → Run net s (commands ++ more) (replies ++ others) s'
-run-joined net s [] [] mid more others s' run rest = subst (λ (m : SeatState). Run net m more others s') run rest
-run-joined net s [] (r ∷ replies) mid more others s' run rest = absurd run
-run-joined net s (d ∷ commands) [] mid more others s' run rest = absurd run
-run-joined net s (d ∷ commands) (r ∷ replies) mid more others s' (next, first, run) rest =
-    (next, first, run-joined net next commands replies mid more others s' run rest)
+-- ---- runs by steps of any kind
+module _ {R : Type 0} (step_by : SeatState → Command → R → SeatState → Type 0) (text : R → List ℕ) where
+  -- a run goes on by another
+  pub run-joined : (s : SeatState) (commands : List Command) (replies : List R) (mid : SeatState)
+      (more : List Command) (others : List R) (s' : SeatState)
+      → RunBy step_by s commands replies mid → RunBy step_by mid more others s' → RunBy step_by s (commands ++ more) (replies ++ others) s'
+  run-joined s [] [] mid more others s' run rest = subst (λ (m : SeatState). RunBy step_by m more others s') run rest
+  run-joined s [] (r ∷ replies) mid more others s' run rest = absurd run
+  run-joined s (d ∷ commands) [] mid more others s' run rest = absurd run
+  run-joined s (d ∷ commands) (r ∷ replies) mid more others s' (next, first, run) rest =
+      (next, first, run-joined next commands replies mid more others s' run rest)
 
-writes-joined : (net : NetworkValue) (s mid s' : SeatState) (commands more : List Command) (output text : List ℕ)
-    → Writes net s commands output mid → Writes net mid more text s' → Writes net s (commands ++ more) (output ++ text) s'
-writes-joined net s mid s' commands more output text first rest = record {
-  replies = first.replies ++ rest.replies;
-  run = run-joined net s commands first.replies mid more rest.replies s' first.run rest.run;
-  output = ap (λ o. o ++ text) first.output ∙ ap (λ o. output_of first.replies ++ o) rest.output
-      ∙ sym (flat_map-append text_of first.replies rest.replies);
-}
+  abbrev pub writes-joined : (s mid s' : SeatState) (commands more : List Command) (output others : List ℕ)
+      → WritesBy step_by text s commands output mid → WritesBy step_by text mid more others s'
+      → WritesBy step_by text s (commands ++ more) (output ++ others) s'
+  writes-joined s mid s' commands more output others first rest = record {
+    replies = first.replies ++ rest.replies;
+    run = run-joined s commands first.replies mid more rest.replies s' first.run rest.run;
+    output = ap (λ o. o ++ others) first.output ∙ ap (λ o. flat_map text first.replies ++ o) rest.output
+        ∙ sym (flat_map-append text first.replies rest.replies);
+  }
 
--- and by one in which a reply was cut
-cut-joined : (net : NetworkValue) (s mid s' : SeatState) (commands more : List Command) (output text : List ℕ)
-    → Writes net s commands output mid → WritesCut net mid more text s' → WritesCut net s (commands ++ more) (output ++ text) s'
-cut-joined net s mid s' commands more output text first rest =
-    let front : List ℕ = take rest.count (text_of rest.reply) in
-    record {
-      before = commands ++ rest.before;
-      cut = rest.cut;
-      after = rest.after;
-      commands_are = ap (λ c. commands ++ c) rest.commands_are ∙ sym (append_assoc commands rest.before (rest.cut ∷ rest.after));
-      replies = first.replies ++ rest.replies;
-      mid = rest.mid;
-      run = run-joined net s commands first.replies mid rest.before rest.replies rest.mid first.run rest.run;
-      reply = rest.reply;
-      step = rest.step;
-      count = rest.count;
-      short = rest.short;
-      output = ap (λ o. o ++ text) first.output ∙ ap (λ o. output_of first.replies ++ o) rest.output
-          ∙ sym (append_assoc (output_of first.replies) (output_of rest.replies) front)
-          ∙ ap (λ o. o ++ front) (sym (flat_map-append text_of first.replies rest.replies));
-    }
+  -- and by one in which a reply was cut
+  abbrev pub cut-joined : (s mid s' : SeatState) (commands more : List Command) (output others : List ℕ)
+      → WritesBy step_by text s commands output mid → CutBy step_by text mid more others s'
+      → CutBy step_by text s (commands ++ more) (output ++ others) s'
+  cut-joined s mid s' commands more output others first rest =
+      let front : List ℕ = take rest.count (text rest.reply) in
+      record {
+        before = commands ++ rest.before;
+        cut = rest.cut;
+        after = rest.after;
+        commands_are = ap (λ c. commands ++ c) rest.commands_are ∙ sym (append_assoc commands rest.before (rest.cut ∷ rest.after));
+        replies = first.replies ++ rest.replies;
+        mid = rest.mid;
+        run = run-joined s commands first.replies mid rest.before rest.replies rest.mid first.run rest.run;
+        reply = rest.reply;
+        step = rest.step;
+        count = rest.count;
+        short = rest.short;
+        output = ap (λ o. o ++ others) first.output ∙ ap (λ o. flat_map text first.replies ++ o) rest.output
+            ∙ sym (append_assoc (flat_map text first.replies) (flat_map text rest.replies) front)
+            ∙ ap (λ o. o ++ front) (sym (flat_map-append text first.replies rest.replies));
+      }
 
--- more commands may come behind the one that was cut
-cut-longer : (net : NetworkValue) (s s' : SeatState) (commands more : List Command) (output : List ℕ) → WritesCut net s commands output s'
-    → WritesCut net s (commands ++ more) output s'
-cut-longer net s s' commands more output cut = record {
-  before = cut.before;
-  cut = cut.cut;
-  after = cut.after ++ more;
-  commands_are = ap (λ c. c ++ more) cut.commands_are ∙ append_assoc cut.before (cut.cut ∷ cut.after) more;
-  replies = cut.replies;
-  mid = cut.mid;
-  run = cut.run;
-  reply = cut.reply;
-  step = cut.step;
-  count = cut.count;
-  short = cut.short;
-  output = cut.output;
-}
+  -- more commands may come behind the one that was cut
+  abbrev pub cut-longer : (s s' : SeatState) (commands more : List Command) (output : List ℕ) → CutBy step_by text s commands output s'
+      → CutBy step_by text s (commands ++ more) output s'
+  cut-longer s s' commands more output cut = record {
+    before = cut.before;
+    cut = cut.cut;
+    after = cut.after ++ more;
+    commands_are = ap (λ c. c ++ more) cut.commands_are ∙ append_assoc cut.before (cut.cut ∷ cut.after) more;
+    replies = cut.replies;
+    mid = cut.mid;
+    run = cut.run;
+    reply = cut.reply;
+    step = cut.step;
+    count = cut.count;
+    short = cut.short;
+    output = cut.output;
+  }
 
 -- no command
 refines-nothing : (control : ControlValue) → Refines control control [] []
@@ -89,7 +94,7 @@ module _ (old mid new : ControlValue) (commands more : List Command) (output tex
         let (s', stands', others) = rest.run m stands_m in (
           s',
           stands',
-          writes-joined old.net s m s' commands more output text writes
+          writes-joined (Step old.net) text_of s m s' commands more output text writes
               (subst (λ (net : NetworkValue). Writes net m more text s') first.network others),
         );
   }
@@ -103,7 +108,7 @@ module _ (old mid new : ControlValue) (commands more : List Command) (output tex
         let (s', stands', others) = rest.run m stands_m in (
           s',
           stands',
-          cut-joined old.net s m s' commands more output text writes
+          cut-joined (Step old.net) text_of s m s' commands more output text writes
               (subst (λ (net : NetworkValue). WritesCut net m more text s') first.network others),
         );
   }
@@ -113,7 +118,7 @@ refines-behind : (old new : ControlValue) (commands more : List Command) (output
     → RefinesCut old new (commands ++ more) output
 refines-behind old new commands more output cut = record {
   network = cut.network;
-  run = λ s stands. let (s', stands', writes) = cut.run s stands in (s', stands', cut-longer old.net s s' commands more output writes);
+  run = λ s stands. let (s', stands', writes) = cut.run s stands in (s', stands', cut-longer (Step old.net) text_of s s' commands more output writes);
 }
 
 pub refines-are : {B : Type 0} → AreMeanings {V = ControlValue × B} refines refines_cut

@@ -72,7 +72,7 @@ kept-cancelled net s number kept = record {
 }
 
 -- a product that is found by its name is one of the network's
-product-below : (net : NetworkValue) (name : List ℕ) (j : ℕ) → product_named net name ≡ Some j → j < length net.products
+pub product-below : (net : NetworkValue) (name : List ℕ) (j : ℕ) → product_named net name ≡ Some j → j < length net.products
 product-below net name j found =
     number-below (λ (p : Product). p.name) name net.products (map (λ (p : Product). p.name) net.products) j refl
     (sym (position_from-map (λ (p : Product). p.name) (λ other. bytes_eq other name) 0 net.products ∙ found))

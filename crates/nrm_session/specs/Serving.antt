@@ -1,5 +1,5 @@
 -- How a session over a stream ends.
-use Rattle.std.specs.Prelude.{ℕ, ⊤, [], ◌≡◌, ◌+◌, ◌<◌, ◌≤◌, ◌⊎◌, List, ◌∷◌, ◌++◌, length, take, Option}
+use Rattle.std.specs.Prelude.{ℕ, ⊤, [], ◌≡◌, ◌+◌, ◌<◌, ◌≤◌, ◌⊎◌, List, ◌∷◌, ◌++◌, flat_map, length, take, Option}
 use Rattle.std.specs.Io.KnownBytes.{Appends, Consumes, IsAtEnd}
 use Rattle.nrm_edge.specs.Causes.{Rose}
 use Rattle.nrm_model.specs.Network.{NetworkValue}
@@ -7,27 +7,32 @@ use Rattle.nrm_control.specs.State.{SeatState}
 use Rattle.nrm_control.specs.Standing.{ControlValue, StandsFor}
 use Rattle.nrm_stream.specs.Commands.{commands_of, whole_commands}
 use Rattle.nrm_stream.specs.declared.command.Command.{Command}
-use Rattle.nrm_session.specs.Replies.{Reply, text_of}
+use Rattle.nrm_session.specs.Replies.{text_of}
 use Rattle.nrm_session.specs.Step.{Step}
-use Rattle.nrm_session.specs.Run.{Run, Writes, output_of}
+use Rattle.nrm_session.specs.Run.{RunBy, Writes}
 use Rattle.nrm_session.specs.declared.serving.End.{End}
 use Rattle.nrm_session.specs.declared.serving.End.TheVariants as end
 
 -- Of these commands one was cut, since a put failed: the replies to those before it stand whole, then a front of its own reply,
--- which isn't all of it, and s' is the state after it.
-pub record WritesCut (net : NetworkValue) (s : SeatState) (commands : List Command) (bytes : List ℕ) (s' : SeatState) : Type 0 where
+-- which isn't all of it, and s' is the state after it. Replies are given by steps, as in a run.
+pub record CutBy {R : Type 0} (step_by : SeatState → Command → R → SeatState → Type 0) (text : R → List ℕ) (s : SeatState)
+    (commands : List Command) (bytes : List ℕ) (s' : SeatState) : Type 0 where
   pub before : List Command
   pub cut : Command
   pub after : List Command
   pub commands_are : commands ≡ before ++ cut ∷ after
-  pub replies : List Reply
+  pub replies : List R
   pub mid : SeatState
-  pub run : Run net s before replies mid
-  pub reply : Reply
-  pub step : Step net mid cut reply s'
+  pub run : RunBy step_by s before replies mid
+  pub reply : R
+  pub step : step_by mid cut reply s'
   pub count : ℕ
-  pub short : count < length (text_of reply)
-  pub output : bytes ≡ output_of replies ++ take count (text_of reply)
+  pub short : count < length (text reply)
+  pub output : bytes ≡ flat_map text replies ++ take count (text reply)
+
+-- so it is of a controller's own steps
+abbrev pub WritesCut : NetworkValue → SeatState → List Command → List ℕ → SeatState → Type 0
+WritesCut net = CutBy (Step net) text_of
 
 -- The network stays. From each state that the controller stood for, a run over the commands gives this output, and the controller
 -- stands for the run's last state.
