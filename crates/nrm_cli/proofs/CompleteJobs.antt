@@ -18,13 +18,14 @@ use Rattle.nrm_plan.proofs.Plans.{one-plan}
 use Rattle.nrm_report.specs.Texts.{plan_text}
 use Rattle.nrm_outside.specs.Outside.{Outside, OnFile, Wrote}
 use Rattle.nrm_outside.specs.Refusals.{Refusal, network_under}
+use Rattle.nrm_outside.specs.Words.{overflow_line, told_pivots}
 use Rattle.nrm_control.specs.State.{opening}
 use Rattle.nrm_stream.specs.Commands.{commands_of}
 use Rattle.nrm_session.specs.Run.{output_of}
 use Rattle.nrm_session.proofs.Runs.{runs}
 use Rattle.nrm_cli.specs.Certificates.{LacksCertificate, certificate_under, verdict_line}
 use Rattle.nrm_cli.specs.Jobs.{Job, run_file, plan_file, check_file, print_file, run_made, cut_leg, value_leg, HasNetwork, NamesFile}
-use Rattle.nrm_cli.specs.Jobs.{TakesStream, mode_of_job, overflow_line, told_pivots}
+use Rattle.nrm_cli.specs.Jobs.{TakesStream, mode_of_job}
 use Rattle.nrm_cli.specs.LegThresholds.{CutsTold}
 use Rattle.nrm_cli.specs.LegValues.{ValuesTold}
 use Rattle.nrm_gen.specs.MadeCommands.{made_commands}

@@ -1,5 +1,5 @@
 -- Sessions and refusals written down, from the bytes of the file and of the stream to the bytes that are written.
-use Rattle.std.specs.Prelude.{◌≡◌, ◌≢◌, ◌<◌, ◌≤◌, ℕ, zero, suc, pos, negsuc, get_or, List, [], ◌∷◌, map, codes, refl, Option, Some, None, Ok, Err}
+use Rattle.std.specs.Prelude.{◌≡◌, ◌≢◌, ◌<◌, ◌≤◌, ℕ, zero, suc, pos, get_or, List, [], ◌∷◌, map, codes, refl, Option, Some, None, Ok, Err}
 use Rattle.std.proofs.Common.{ap, arith, inl, inr, take}
 use Rattle.nrm_gen.specs.MadeNetwork.{made_network}
 use Rattle.std.specs.Fmt.{digits}
@@ -20,7 +20,7 @@ use Rattle.nrm_dual.specs.declared.verdict.Verdict.TheVariants as verdict
 use Rattle.nrm_outside.specs.Outside.{Outside, FilesFailed, SourceFailed, SinkFailed}
 use Rattle.nrm_cli.specs.Certificates.{lacking_line, no_certificate, refused_for, verdict_line}
 use Rattle.nrm_cli.specs.Ends.{Completes, CompletesJob, Ends, Failures, OrRanOut, RunWrites, status_of, stream_limit}
-use Rattle.nrm_cli.specs.Jobs.{job_of, run_file, plan_file, check_file, print_file, run_made, cut_leg, value_leg, usage_line, overflow_line, told_pivots}
+use Rattle.nrm_cli.specs.Jobs.{job_of, run_file, plan_file, check_file, print_file, run_made, cut_leg, value_leg, usage_line}
 use Rattle.nrm_cli.specs.Tells.{Tells, usage as tells_usage, refused as tells_refused, lacking as tells_lacking, optimal as tells_optimal, wrong as tells_wrong, planned as tells_planned, overflow as tells_overflow, summed as tells_summed, printed as tells_printed, cuts_told as tells_cuts, values_told as tells_values, file_fault as tells_file_fault}
 use Rattle.nrm_cli.specs.LegThresholds.{CutsTold, cut, cuts_text, unused}
 use Rattle.nrm_cli.specs.LegValues.{ValuesTold, class_count, no_classes, no_classes_line, valued, values_text}
@@ -189,18 +189,6 @@ without_a_value = refl
 
 other_mode : job_of (codes "run" ∷ codes "fast" ∷ codes "F" ∷ []) ≡ None
 other_mode = refl
-
--- ---- the line of a program that is Large, with a sign before a negative number
-line_of_overflow : overflow_line 64 (pos 399599996004000) ≡ codes "overflow after 64 pivots at 399599996004000\n"
-unfolding digits
-line_of_overflow = refl
-
-line_of_a_negative_number : overflow_line 0 (negsuc 281474976710655) ≡ codes "overflow after 0 pivots at -281474976710656\n"
-unfolding digits
-line_of_a_negative_number = refl
-
-most_pivots_told : map told_pivots (0 ∷ 4294967295 ∷ 4294967296 ∷ []) ≡ 0 ∷ 4294967295 ∷ 4294967295 ∷ []
-most_pivots_told = refl
 
 one_word_more : job_of (codes "print" ∷ codes "F" ∷ codes "G" ∷ []) ≡ None
 one_word_more = refl

@@ -9,8 +9,9 @@ use Rattle.nrm_plan.specs.Plans.{IsPlanFault}
 use Rattle.nrm_control.specs.Standing.{IsStartFault}
 use Rattle.nrm_report.specs.Texts.{plan_text}
 use Rattle.nrm_outside.specs.Outside.{LeftStream, Outside}
+use Rattle.nrm_outside.specs.Words.{overflow_line, told_pivots}
 use Rattle.nrm_cli.specs.Ends.{Ends, Failures}
-use Rattle.nrm_cli.specs.Jobs.{Job, plan_file, mode_of_job, overflow_line, told_pivots}
+use Rattle.nrm_cli.specs.Jobs.{Job, plan_file, mode_of_job}
 use Rattle.nrm_cli.specs.Inner.Parts.{PutsLine, PutsPlan, PutsUnplanned}
 use Rattle.nrm_cli.specs.Tells.{Opens, overflow, planned}
 use Rattle.nrm_cli.specs.declared.status.Status.{Status}

@@ -21,9 +21,10 @@ use Rattle.nrm_report.specs.Texts.{plan_text}
 use Rattle.nrm_outside.specs.Outside.{Outside, FilesFailed, SourceFailed, SinkFailed, NothingFailed, Wrote, WroteCut, WroteNothing}
 use Rattle.nrm_outside.specs.Outside.{LeftStream}
 use Rattle.nrm_outside.specs.Refusals.{file_fault_line}
+use Rattle.nrm_outside.specs.Words.{overflow_line, told_pivots}
 use Rattle.nrm_cli.specs.Certificates.{certificate_under, verdict_line}
 use Rattle.nrm_cli.specs.Jobs.{Job, run_file, plan_file, check_file, print_file, run_made, cut_leg, value_leg}
-use Rattle.nrm_cli.specs.Jobs.{HasNetwork, NamesFile, TakesStream, overflow_line, told_pivots}
+use Rattle.nrm_cli.specs.Jobs.{HasNetwork, NamesFile, TakesStream}
 use Rattle.nrm_cli.specs.LegThresholds.{CutsTold}
 use Rattle.nrm_cli.specs.LegValues.{ValuesTold}
 use Rattle.nrm_cli.specs.Made.{MadeRun}

@@ -1,15 +1,13 @@
 -- What the words of the command line ask for.
-use Rattle.std.specs.Prelude.{ℕ, ℤ, ⊤, ◌≡◌, ◌-◌, ◌^◌, min, decimal, List, [], ◌∷◌, bytes_eq, codes, Option, Some, None, option_map}
+use Rattle.std.specs.Prelude.{ℕ, ⊤, ◌≡◌, List, [], ◌∷◌, bytes_eq, codes, Option, Some, None, option_map}
 use Rattle.std.specs.Prelude.{Ok, if◌then◌else◌}
 use Rattle.nrm_edge.specs.Fetch.{Folder}
 use Rattle.nrm_text.specs.Numbers.{whole_between}
-use Rattle.nrm_text.specs.Fractions.{signed_text}
 use Rattle.nrm_text.specs.Names.{name_in}
-use Rattle.nrm_text.specs.Words.{text_line}
 use Rattle.nrm_model.specs.Network.{NetworkValue}
 use Rattle.nrm_model.specs.declared.mode.Mode.{Mode}
-use Rattle.nrm_model.specs.declared.mode.Mode.TheVariants as mode
 use Rattle.nrm_outside.specs.Refusals.{network_under}
+use Rattle.nrm_outside.specs.Words.{mode_of}
 use Rattle.nrm_cluster.specs.declared.limits.TheConstants.{MOST_GROUPS}
 use Rattle.nrm_gen.specs.MadeNetwork.{made_network}
 use Rattle.nrm_cli.specs.declared.words.TheConstants.{LAST_MADE}
@@ -65,14 +63,6 @@ mode_of_job (run_made m number) = Some m
 mode_of_job (cut_leg file leg groups) = None
 mode_of_job (value_leg file leg) = None
 
--- the mode of a word
-abbrev pub mode_of : List ℕ → Option Mode
-mode_of word =
-    if bytes_eq word (codes "first") then Some mode.FirstCome
-    else if bytes_eq word (codes "bid") then Some mode.Bid
-    else if bytes_eq word (codes "davn") then Some mode.Davn
-    else None
-
 -- a made run, where its mode and its number are good
 abbrev pub made_run_of : Option Mode → Option ℕ → Option Job
 made_run_of (Some m) (Some number) = Some (run_made m number)
@@ -109,12 +99,3 @@ job_of (verb ∷ second ∷ third ∷ fourth ∷ fifth ∷ more) = None
 abbrev pub usage_line : List ℕ
 usage_line =
     codes "usage: nrm run MODE FILE, plan MODE FILE, check FILE CERT, print FILE, gen MODE NUMBER, cuts FILE LEG GROUPS, dp FILE LEG\n"
-
--- finished pivots as they are told: 4,294,967,295 stands for more
-abbrev pub told_pivots : ℕ → ℕ
-told_pivots n = min n (2 ^ 32 - 1)
-
--- the line that says that the opening program is Large: after so many pivots, at which number
-abbrev pub overflow_line : ℕ → ℤ → List ℕ
-overflow_line pivots number =
-    text_line (codes "overflow" ∷ codes "after" ∷ decimal pivots ∷ codes "pivots" ∷ codes "at" ∷ signed_text number ∷ [])

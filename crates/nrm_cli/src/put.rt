@@ -1,28 +1,12 @@
 //! One line, put with the status that goes with it.
-ghost use Rattle.std.specs.Prelude.{◌≡◌, ◌≤◌, [], OnErr, OnOk};
-ghost use Rattle.std.specs.Io.KnownBytes.{Appends};
-ghost use Rattle.nrm_edge.specs.Causes.{HasCause};
-ghost use Rattle.nrm_edge.specs.Pieces.{AppendsCut};
+ghost use Rattle.std.specs.Prelude.{◌≡◌, ◌≤◌};
 ghost use Rattle.nrm_cli.specs.Ends.{SentOn};
-ghost use Rattle.nrm_cli.specs.Jobs.{overflow_line};
 ghost use Rattle.nrm_cli.specs.Inner.Parts.{PutsLine, PutsReason, PutsUnplanned, status_for};
 
 use crate::Status;
-use nrm_edge::{Failed, Sink, put_all};
-use nrm_outside::NoNetwork;
+use nrm_edge::Sink;
+use nrm_outside::{NoNetwork, line_of_overflow, send_line};
 use nrm_simplex::SolveFault;
-use nrm_text::Line;
-
-// Puts a whole line, and sends it on.
-fn send<K: Sink>(sink: &mut K, line: &[u8]) -> Result<(), Failed>
-    ensures whole { OnOk result (Appends (K.held sink.old) (K.held sink.new) line.now) }
-    ensures cut { OnErr result (AppendsCut (K.held sink.old) (K.held sink.new) line.now) }
-    ensures sent { OnOk result (K.unsent sink.new ≡ []) }
-    ensures cause { HasCause (K.faults sink.old) (K.faults sink.new) result }
-{
-    put_all(sink, line)?;
-    sink.flush()
-}
 
 /// Puts a line that goes with a status.
 pub(crate) fn put_line<K: Sink>(sink: &mut K, line: &[u8], told: Status) -> Status
@@ -30,7 +14,7 @@ pub(crate) fn put_line<K: Sink>(sink: &mut K, line: &[u8], told: Status) -> Stat
     ensures later { K.faults sink.old ≤ K.faults sink.new }
     ensures sent { SentOn result (K.unsent sink.old) (K.unsent sink.new) }
 {
-    match send(sink, line) {
+    match send_line(sink, line) {
         Ok(()) => told,
         Err(_) => Status::WriteFault,
     }
@@ -57,19 +41,6 @@ pub(crate) fn put_reason<K: Sink>(sink: &mut K, reason: NoNetwork) -> Status
         Some(line) => put_line(sink, line.bytes(), status_for(reason)),
         None => Status::NoMemory,
     }
-}
-
-// The line of a program that is Large.
-#[tactic(auto, using(nrm_text::proofs::Decimals::short_decimal, nrm_text::proofs::Fractions::short_signed))]
-fn line_of_overflow(pivots: u32, number: i128) -> Line
-    ensures { result ≡ overflow_line pivots number }
-{
-    let mut line = Line::of_bytes(b"overflow after ");
-    line.push_u64(u64::from(pivots));
-    line.push_bytes(b" pivots at ");
-    line.push_signed(number);
-    line.push_bytes(b"\n");
-    line
 }
 
 /// Puts the line that says why nothing is planned, if one goes with it.

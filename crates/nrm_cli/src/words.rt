@@ -4,10 +4,12 @@ ghost use Rattle.nrm_cli.specs.Inner.Parts.{IsWithin, job_in};
 ghost use Rattle.nrm_text.specs.Names.{name_in};
 ghost use Rattle.nrm_text.specs.Numbers.{whole_between};
 ghost use Rattle.nrm_cluster.specs.declared.limits.TheConstants.{MOST_GROUPS};
-ghost use Rattle.nrm_cli.specs.Jobs.{cut_of, job_of, made_run_of, mode_of, valuing_of};
+ghost use Rattle.nrm_cli.specs.Jobs.{cut_of, job_of, made_run_of, valuing_of};
+ghost use Rattle.nrm_outside.specs.Words.{mode_of};
 
 use nrm_cluster::MOST_GROUPS;
 use nrm_model::Mode;
+use nrm_outside::mode_in;
 use nrm_text::{is_word, name_of, read_whole};
 
 // The last number that a network and its commands are made of.
@@ -23,21 +25,6 @@ pub(crate) enum Asked<'a> {
     Made(Mode, u32),
     Cuts(&'a str, &'a str, u8),
     Values(&'a str, &'a str),
-}
-
-// The mode of a word.
-fn mode_in(word: &String) -> Option<Mode>
-    ensures { result ≡ mode_of (string_bytes word.now) }
-{
-    if is_word(word.as_bytes(), b"first") {
-        Some(Mode::FirstCome)
-    } else if is_word(word.as_bytes(), b"bid") {
-        Some(Mode::Bid)
-    } else if is_word(word.as_bytes(), b"davn") {
-        Some(Mode::Davn)
-    } else {
-        None
-    }
 }
 
 // The made run of a mode and a number.

@@ -27,6 +27,7 @@ use Rattle.nrm_dual.specs.declared.verdict.Verdict.TheVariants as verdict
 use Rattle.nrm_outside.specs.NetworkFile.{reason_line}
 use Rattle.nrm_outside.specs.Outside.{OnFile}
 use Rattle.nrm_outside.specs.Refusals.{file_fault_line}
+use Rattle.nrm_outside.specs.Words.{overflow_line}
 use Rattle.nrm_outside.specs.declared.network_file.NoNetwork.{NoNetwork}
 use Rattle.nrm_outside.specs.declared.network_file.NoNetwork.TheVariants as none
 use Rattle.nrm_cli.specs.Certificates.{certificate_under, lacking_line, no_certificate, refused_for, verdict_line}
@@ -45,7 +46,7 @@ use Rattle.nrm_session.specs.declared.serving.End.TheVariants as end
 use Rattle.nrm_cli.specs.Ends.{status_of}
 use Rattle.nrm_cli.specs.Made.{MadeRun, counts_from, last_of, nothing_counted}
 use Rattle.nrm_cli.specs.declared.counts.Counts.{Counts}
-use Rattle.nrm_cli.specs.Jobs.{Job, run_file, plan_file, check_file, print_file, run_made, cut_leg, value_leg, overflow_line}
+use Rattle.nrm_cli.specs.Jobs.{Job, run_file, plan_file, check_file, print_file, run_made, cut_leg, value_leg}
 use Rattle.nrm_cli.specs.declared.status.Status.{Status}
 use Rattle.nrm_cli.specs.declared.status.Status.TheVariants as status
 use Rattle.nrm_cli.specs.declared.words.Asked.{Asked}

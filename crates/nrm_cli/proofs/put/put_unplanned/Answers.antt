@@ -2,7 +2,7 @@ use Rattle.std.proofs.Common.{List, ℕ, ◌≡◌, ◌∙◌, ap, subst, sym, t
 use mir.Syntax.{w128}
 use Rattle.nrm_simplex.specs.declared.fault.SolveFault.{SolveFault}
 use Rattle.nrm_cli.specs.Inner.Parts.{PutsLine, PutsUnplanned}
-use Rattle.nrm_cli.specs.Jobs.{overflow_line}
+use Rattle.nrm_outside.specs.Words.{overflow_line}
 use Rattle.nrm_cli.specs.declared.status.Status.TheVariants as status
 use Rattle.nrm_cli.proofs.put.put_unplanned.Goals as goal
 

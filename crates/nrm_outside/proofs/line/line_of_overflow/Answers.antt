@@ -1,8 +1,8 @@
 use Rattle.std.proofs.Common.{List, ℕ, ◌≡◌, ◌++◌, ◌∷◌, [], ◌∙◌, codes, decimal, ap, append_assoc, to_z-of_z}
 use Rattle.std.specs.Prelude.{ℤ}
 use Rattle.nrm_text.specs.Fractions.{signed_text}
-use Rattle.nrm_cli.specs.Jobs.{overflow_line}
-use Rattle.nrm_cli.proofs.put.line_of_overflow.Goals as goal
+use Rattle.nrm_outside.specs.Words.{overflow_line}
+use Rattle.nrm_outside.proofs.line.line_of_overflow.Goals as goal
 
 -- the pieces of the line, one after another
 line-is : (pivots : ℕ) (number : ℤ)

@@ -1,0 +1,1 @@
+pub mod Examples  -- the words for modes, and the line of a program that is Large, worked by hand
