@@ -1,0 +1,10 @@
+use Rattle.std.proofs.Common.{◌∙◌, ap, sym}
+use Rattle.nrm_book.specs.Book.{BookValue}
+use Rattle.nrm_book.specs.Bookings.{booking_numbered}
+use Rattle.nrm_keeping.proofs.Ahead.{live-kept}
+use Rattle.nrm_keeping.proofs.keeping.keep_cancellation.Goals as goal
+
+pub returns-in-Some-clause-kept : goal.returns-in-Some-clause-kept
+returns-in-Some-clause-kept g c =
+    let found = ap (λ (book : BookValue). booking_numbered book.bookings c.args.number) (sym c.book.ensures.book) ∙ sym c.find.ensures ∙ c.in-Some.is in
+    live-kept c.args.controller.now c.args.number (g.P.Keeper.rows c.args.keeper.now) (g.P.Keeper.rows c.drop_row.new.self) _ c.drop_row.result found c.drop_row.ensures.dropped

@@ -1,0 +1,61 @@
+-- Laws of sessions that keep their bookings, whatever the faults of their store.
+use Rattle.std.specs.Prelude.{ℕ, ◌≡◌, List, [], ◌∷◌, ◌++◌, Ok}
+use Rattle.nrm_fraction.specs.Fraction.{Fraction}
+use Rattle.nrm_model.specs.Inventory.{inventory_of}
+use Rattle.nrm_model.specs.Limits.{IsNetwork}
+use Rattle.nrm_model.specs.Network.{NetworkValue}
+use Rattle.nrm_book.specs.declared.booking.Booking.{Booking}
+use Rattle.nrm_book.specs.Book.{IsBook}
+use Rattle.nrm_hindsight.specs.Requests.{requests_of}
+use Rattle.nrm_plan.specs.Plans.{PlanValue}
+use Rattle.nrm_control.specs.State.{SeatState}
+use Rattle.nrm_stream.specs.declared.command.Command.{Command}
+use Rattle.nrm_stream.specs.declared.command.Command.TheVariants as command
+use Rattle.nrm_session.specs.Hindsight.{IsBounded, requests_in}
+use Rattle.nrm_session.specs.Laws.{IsKept}
+use Rattle.nrm_session.specs.Replies.{Reply, memory, hindsight_told}
+use Rattle.nrm_session.specs.Run.{Run}
+use Rattle.nrm_session.specs.Step.{Step}
+use Rattle.nrm_keeper.specs.declared.row.KeptRow.{KeptRow}
+use Rattle.nrm_keeping.specs.Rows.{LoadAgain, Loaded, load, loaded_state}
+use Rattle.nrm_keeping.specs.Run.{KeptRun}
+use Rattle.nrm_keeping.specs.Step.{KeptReply, told, store}
+
+-- the lines that were carried out, whose replies are neither `store` nor `memory`; and their replies
+abbrev pub carried_out : List Command → List KeptReply → List Command
+carried_out (command ∷ commands) (told memory ∷ replies) = carried_out commands replies
+carried_out (command ∷ commands) (told reply ∷ replies) = command ∷ carried_out commands replies
+carried_out (command ∷ commands) (store ∷ replies) = carried_out commands replies
+carried_out commands replies = []
+
+abbrev pub replies_to_those : List KeptReply → List Reply
+replies_to_those [] = []
+replies_to_those (told memory ∷ replies) = replies_to_those replies
+replies_to_those (told reply ∷ replies) = reply ∷ replies_to_those replies
+replies_to_those (store ∷ replies) = replies_to_those replies
+
+-- A line that was answered `store` or `memory` left everything as it was: without these lines a run is one of a session without a store.
+-- So what holds of all sessions holds of those that keep their bookings.
+abbrev pub FaultsLeaveNothing : Type 0
+FaultsLeaveNothing = (net : NetworkValue) (s s' : SeatState) (commands : List Command) (replies : List KeptReply)
+    → KeptRun net s commands replies s' → Run net s (carried_out commands replies) (replies_to_those replies) s'
+
+-- no leg has more seats sold than are authorised once rows have loaded, nor after any commands from there
+abbrev pub KeptSeatsAreKept : Type 0
+KeptSeatsAreKept = (net : NetworkValue) (plan : PlanValue) (rows : List KeptRow) (l : Loaded) → load net rows ≡ Ok l
+    → IsKept net (loaded_state plan l)
+    × ((s' : SeatState) (commands : List Command) (replies : List KeptReply) → KeptRun net (loaded_state plan l) commands replies s'
+    → IsKept net s')
+
+-- At each line of hindsight that tells a value, no selection of the loaded bookings and of the requests since, each whole and at most once,
+-- that fits the authorised seats earns more; and the bookings that stand are such a selection, of the revenue that is told.
+abbrev pub KeptHindsightBounds : Type 0
+KeptHindsightBounds = (net : NetworkValue) (plan : PlanValue) (rows : List KeptRow) (l : Loaded) → IsNetwork net → load net rows ≡ Ok l
+    → (mid after : SeatState) (commands : List Command) (replies : List KeptReply) (value : Fraction) (revenue withheld : ℕ)
+    → KeptRun net (loaded_state plan l) commands replies mid → Step net mid command.Hindsight (hindsight_told value revenue withheld) after
+    → IsBounded net (requests_of l.bookings ++ requests_in net (carried_out commands replies)) mid value revenue
+
+-- the bookings of a book of the network load again from their rows
+abbrev pub RowsLoadAgain : Type 0
+RowsLoadAgain = (net : NetworkValue) (bookings : List Booking) (next : ℕ) → IsNetwork net
+    → IsBook (record { inventory = inventory_of net; bookings = bookings; next = next }) → LoadAgain net bookings

@@ -1,0 +1,24 @@
+//! Laws of sessions that keep their bookings. Each is the contract of a function that does nothing.
+ghost use Rattle.nrm_keeping.specs.Laws.{FaultsLeaveNothing, KeptHindsightBounds, KeptSeatsAreKept, RowsLoadAgain};
+
+/// A line that is answered `store` or `memory` leaves everything as it was: without such lines a run is one of a session without a store.
+pub fn faults_leave_nothing()
+    ensures { FaultsLeaveNothing }
+{}
+
+/// No leg has more seats sold than are authorised once rows have loaded, nor after any commands from there, whatever the faults of the
+/// store.
+pub fn kept_seats_are_kept()
+    ensures { KeptSeatsAreKept }
+{}
+
+/// At each line of hindsight that tells a value, no selection of the loaded bookings and of the requests since that fits the authorised
+/// seats earns more; and the bookings that stand are such a selection.
+pub fn kept_hindsight_bounds()
+    ensures { KeptHindsightBounds }
+{}
+
+/// The bookings of a book load again from their rows, just as they stand, as long as a store can hold their numbers.
+pub fn rows_load_again()
+    ensures { RowsLoadAgain }
+{}

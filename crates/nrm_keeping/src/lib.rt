@@ -1,0 +1,17 @@
+//! A session that keeps its bookings in a store, so that a later run goes on with them. What a line changes of the book is kept first, and
+//! only then carried out: a fault of the store changes nothing.
+#![tactic(auto)]
+
+mod keeping;
+mod laws;
+mod loading;
+mod put;
+mod status;
+#[cfg(test)]
+mod tests;
+mod top;
+
+pub use laws::{faults_leave_nothing, kept_hindsight_bounds, kept_seats_are_kept, rows_load_again};
+pub use loading::LAST_KEPT;
+pub use status::KeptStatus;
+pub use top::run_kept;

@@ -1,0 +1,326 @@
+//! Whole calls over files, a stream, a sink and a keeper in memory. The worked ones are on legs AB with 3 seats and BC with 2; the others
+//! compare a session over a store with the same session without one.
+ghost use Rattle.std.specs.Prelude.{◌≡◌, ◌<◌, ◌≤◌, true, IfOk};
+ghost use Rattle.nrm_keeper.specs.Rows.{rise};
+
+use crate::{KeptStatus, run_kept};
+use nrm_control::Controller;
+use nrm_edge::{MemFiles, MemSink, MemSource};
+use nrm_keeper::{Keeper, KeptRow, MemKeeper};
+use nrm_model::Mode;
+use nrm_outside::open_network;
+use nrm_session::{End, serve};
+use nrm_text::name_of;
+use std::alloc::{AllocError, Global};
+use std::test::Fail;
+
+const NETWORK: &[u8] =
+    b"periods,1,1\nleg,AB,3\nleg,BC,2\nproduct,THRU,500,AB,BC\nproduct,LOC,200,AB\n";
+
+// Two histories of two periods, and a threshold on each leg, so that the three modes answer apart.
+const DEMANDED: &[u8] =
+    b"periods,2,2,2\nleg,AB,4,4,300\nleg,BC,3,2,400\nproduct,THRU,500,AB,BC\nproduct,LOC,200,AB\n\
+    refund,LOC,25\ndemand,THRU,1,1,1\ndemand,THRU,2,2,0\ndemand,LOC,1,2,1\ndemand,LOC,2,1,1\n";
+
+// A dozen lines, each of which has a reply of one line.
+const LINES: [&[u8]; 12] = [
+    b"book THRU 1\n",
+    b"book LOC 1\n",
+    b"book LOC 1\n",
+    b"cancel 1\n",
+    b"book THRU 2\n",
+    b"cancel 9\n",
+    b"book X 1\n",
+    b"book LOC 1\n",
+    b"cancel 2\n",
+    b"reoptimise 2\n",
+    b"book LOC 1\n",
+    b"hindsight\n",
+];
+
+// The lines, but for one if its place is given.
+fn stream_without(alloc: Global, left_out: Option<usize>) -> Result<Vec<u8>, AllocError> {
+    let mut stream = Vec::new(alloc);
+    for (place, line) in LINES.iter().enumerate() {
+        if left_out != Some(place) {
+            stream.extend_from_slice(line)?;
+        }
+    }
+    Ok(stream)
+}
+
+// The files: one network under the name F.
+fn files(alloc: Global, network: &[u8]) -> Result<MemFiles, AllocError> {
+    let mut list = Vec::new(alloc);
+    list.push((b"F".to_vec(alloc)?, network.to_vec(alloc)?))?;
+    Ok(MemFiles::new(list, Vec::new(alloc)))
+}
+
+fn source(alloc: Global, stream: &[u8]) -> Result<MemSource, AllocError> {
+    Ok(MemSource::new(stream.to_vec(alloc)?, Vec::new(alloc), Vec::new(alloc)))
+}
+
+fn sink(alloc: Global) -> Result<MemSink, AllocError> {
+    MemSink::new(alloc, 1024, Vec::new(alloc), Vec::new(alloc))
+}
+
+// How the program ends over a keeper, and the sink that it wrote to.
+fn outcome<P: Keeper>(
+    alloc: Global,
+    mode: &str,
+    network: &[u8],
+    keeper: &mut P,
+    stream: &[u8],
+) -> Result<(KeptStatus, MemSink), AllocError> {
+    let mut words = Vec::new(alloc);
+    for word in [mode, "F", "STORE"] {
+        words.push(String::from_str(alloc, word)?)?;
+    }
+    let mut files = files(alloc, network)?;
+    let mut source = source(alloc, stream)?;
+    let mut sink = sink(alloc)?;
+    let status = run_kept(alloc, &words, &mut files, &mut source, &mut sink, keeper);
+    Ok((status, sink))
+}
+
+fn row(number: u64, product: &[u8], party: u16) -> Result<KeptRow, Fail> {
+    match name_of(product) {
+        Some(product) => Ok(KeptRow {
+            number,
+            product,
+            party,
+        }),
+        None => Err(Fail::from("no name")),
+    }
+}
+
+// Whether the keeper lists these rows.
+fn keeps<P: Keeper>(keeper: &mut P, alloc: Global, wanted: &[(u64, &[u8], u16)]) -> bool {
+    let Ok(rows) = keeper.all(alloc) else {
+        return false;
+    };
+    if rows.len() != wanted.len() {
+        return false;
+    }
+    for (row, want) in rows.iter().zip(wanted) {
+        if row.number != want.0 || row.product.bytes() != want.1 || row.party != want.2 {
+            return false;
+        }
+    }
+    true
+}
+
+// A keeper of no rows, whose calls of these numbers fail.
+fn empty(alloc: Global, failing: &[u64]) -> Result<MemKeeper, AllocError> {
+    Ok(MemKeeper::new(Vec::new(alloc), failing.to_vec(alloc)?))
+}
+
+#[test]
+fn a_later_run_goes_on(rt: HostRuntime) -> Result<(), Fail> {
+    let alloc = rt.alloc();
+    let mut keeper = empty(alloc, &[])?;
+    let stream = b"book THRU 2\nbook LOC 1\ncancel 1\n";
+    let (status, sink) = outcome(alloc, "first", NETWORK, &mut keeper, stream)?;
+    assert_eq!(rt; status, KeptStatus::Done);
+    assert_eq!(rt; sink.held(), b"ok 1\nok 2\ncancelled 1 1000\n".as_slice());
+    assert!(rt; keeps(&mut keeper, alloc, &[(2, b"LOC", 1)]));
+    let stream = b"book THRU 2\nhindsight\n";
+    let (status, sink) = outcome(alloc, "first", NETWORK, &mut keeper, stream)?;
+    assert_eq!(rt; status, KeptStatus::Done);
+    assert_eq!(rt;
+        sink.held(),
+        b"ok 3\nhindsight 1200/1 revenue 1200 withheld 0\n".as_slice()
+    );
+    assert!(rt; keeps(&mut keeper, alloc, &[(2, b"LOC", 1), (3, b"THRU", 2)]));
+    Ok(())
+}
+
+// The first call lists the rows, the second adds one, and the third fails.
+#[test]
+fn a_booking_that_is_not_stored_is_not_made(rt: HostRuntime) -> Result<(), Fail> {
+    let alloc = rt.alloc();
+    let mut keeper = empty(alloc, &[3])?;
+    let stream = b"book THRU 2\nbook LOC 1\nbook LOC 1\n";
+    let (status, sink) = outcome(alloc, "first", NETWORK, &mut keeper, stream)?;
+    assert_eq!(rt; status, KeptStatus::Done);
+    assert_eq!(rt; sink.held(), b"ok 1\nstore\nok 2\n".as_slice());
+    assert!(rt; keeps(&mut keeper, alloc, &[(1, b"THRU", 2), (2, b"LOC", 1)]));
+    Ok(())
+}
+
+#[test]
+fn a_store_that_fails_at_once_is_told(rt: HostRuntime) -> Result<(), Fail> {
+    let mut keeper = empty(rt.alloc(), &[1])?;
+    let (status, sink) = outcome(rt.alloc(), "first", NETWORK, &mut keeper, b"book LOC 1\n")?;
+    assert_eq!(rt; status, KeptStatus::StoreFault);
+    assert_eq!(rt; sink.held(), b"store fault\n".as_slice());
+    Ok(())
+}
+
+// A keeper of one row.
+fn of_one(alloc: Global, row: KeptRow) -> Result<MemKeeper, AllocError> {
+    let rows = Vec::from_array(alloc, [row])?;
+    Ok(MemKeeper::new(rows, Vec::new(alloc)))
+}
+
+// A keeper of two rows.
+fn of_two(alloc: Global, one: KeptRow, other: KeptRow) -> Result<MemKeeper, AllocError>
+    requires { one.number < other.number }
+{
+    let rows = Vec::from_array(alloc, [one, other])?;
+    Ok(MemKeeper::new(rows, Vec::new(alloc)))
+}
+
+// An unknown product; and three local seats, which fill AB, ahead of a through seat.
+#[test]
+fn rows_that_do_not_load_are_refused(rt: HostRuntime) -> Result<(), Fail> {
+    let alloc = rt.alloc();
+    let mut unknown = of_one(alloc, row(5, b"NONE", 1)?)?;
+    let (status, sink) = outcome(alloc, "first", NETWORK, &mut unknown, b"book LOC 1\n")?;
+    assert_eq!(rt; status, KeptStatus::StoreRefused);
+    assert_eq!(rt; sink.held(), b"refused store number 5\n".as_slice());
+    let local = row(1, b"LOC", 3)?;
+    let through = row(2, b"THRU", 1)?;
+    if local.number < through.number {
+        let mut full = of_two(alloc, local, through)?;
+        let (status, sink) = outcome(alloc, "first", NETWORK, &mut full, b"book LOC 1\n")?;
+        assert_eq!(rt; status, KeptStatus::StoreRefused);
+        assert_eq!(rt; sink.held(), b"refused store number 2\n".as_slice());
+    }
+    Ok(())
+}
+
+// What a session without a store writes on the network with demand, and the controller after it.
+fn session(alloc: Global, mode: Mode, stream: &[u8]) -> Result<(Vec<u8>, Controller), Fail> {
+    let Ok(net) = open_network(alloc, &mut files(alloc, DEMANDED)?, "F") else {
+        return Err(Fail::from("no network"));
+    };
+    let Ok(started) = Controller::start(alloc, net, mode) else {
+        return Err(Fail::from("no controller"));
+    };
+    let mut controller = started;
+    if controller.book().next() != 1 {
+        return Err(Fail::from("a book that is not new"));
+    }
+    let mut source = source(alloc, stream)?;
+    let mut sink = sink(alloc)?;
+    let end = serve(alloc, &mut controller, &mut source, &mut sink, 1_000_000);
+    if end != End::Done {
+        return Err(Fail::from("a session that was cut"));
+    }
+    Ok((sink.held().to_vec(alloc)?, controller))
+}
+
+// The place of the line that was answered `store`.
+fn unstored(output: &[u8]) -> Option<usize> {
+    output
+        .split(|byte| *byte == b'\n')
+        .position(|line| line == b"store")
+}
+
+// Some lines of output with the line `store` put in at a place.
+fn with_store(alloc: Global, output: &[u8], place: usize) -> Result<Vec<u8>, AllocError> {
+    let mut whole = Vec::new(alloc);
+    for (at, line) in output.split(|byte| *byte == b'\n').enumerate() {
+        if at == place {
+            whole.extend_from_slice(b"store\n")?;
+        }
+        if !line.is_empty() {
+            whole.extend_from_slice(line)?;
+            whole.push(b'\n')?;
+        }
+    }
+    Ok(whole)
+}
+
+// Whether the keeper lists the bookings of a controller.
+fn keeps_book(alloc: Global, keeper: &mut MemKeeper, controller: &Controller) -> bool {
+    let Ok(rows) = keeper.all(alloc) else {
+        return false;
+    };
+    let bookings = controller.book().bookings();
+    if rows.len() != bookings.len() {
+        return false;
+    }
+    for (row, booking) in rows.iter().zip(bookings) {
+        let Some(product) = controller.network().find_product(&row.product) else {
+            return false;
+        };
+        if (row.number, product, row.party) != (booking.number, booking.product, booking.party) {
+            return false;
+        }
+    }
+    true
+}
+
+// A call of the keeper fails: the session is the one without the line that was answered `store`, its state and its rows too. Gives
+// whether a line was.
+fn fails_in_turn(rt: &HostRuntime, mode: (Mode, &str), call: u64) -> Result<bool, Fail> {
+    let alloc = rt.alloc();
+    let mut keeper = empty(alloc, &[call])?;
+    let all = stream_without(alloc, None)?;
+    let (status, sink) = outcome(alloc, mode.1, DEMANDED, &mut keeper, &all)?;
+    assert_eq!(rt; status, KeptStatus::Done);
+    let place = unstored(sink.held());
+    let (plain, controller) = session(alloc, mode.0, &stream_without(alloc, place)?)?;
+    let wanted = match place {
+        Some(place) => with_store(alloc, &plain, place)?,
+        None => plain,
+    };
+    assert_eq!(rt; sink.held(), wanted.as_slice());
+    assert!(rt; keeps_book(alloc, &mut keeper, &controller));
+    Ok(place.is_some())
+}
+
+// The calls behind the first, which lists the rows, until one comes that is never made.
+#[test]
+fn each_call_fails_in_turn(rt: HostRuntime) -> Result<(), Fail> {
+    for mode in [
+        (Mode::FirstCome, "first"),
+        (Mode::Bid, "bid"),
+        (Mode::Davn, "davn"),
+    ] {
+        let mut failed = 0;
+        for call in 2..20 {
+            if fails_in_turn(&rt, mode, call)? {
+                failed += 1;
+            }
+        }
+        assert!(rt; 5 <= failed && failed < 12, "{failed} calls failed");
+    }
+    Ok(())
+}
+
+// The first lines, up to a place; and those from there on.
+fn halves(alloc: Global, cut: usize) -> Result<(Vec<u8>, Vec<u8>), AllocError> {
+    let mut first = Vec::new(alloc);
+    let mut rest = Vec::new(alloc);
+    for (place, line) in LINES.iter().enumerate() {
+        if place < cut {
+            first.extend_from_slice(line)?;
+        } else {
+            rest.extend_from_slice(line)?;
+        }
+    }
+    Ok((first, rest))
+}
+
+// A run is cut after each line, and another goes on with its rows: first come, first served the replies are those of one run, but for the
+// line of hindsight, and so are the rows.
+#[test]
+fn a_cut_run_is_gone_on_with(rt: HostRuntime) -> Result<(), Fail> {
+    let alloc = rt.alloc();
+    let all = stream_without(alloc, Some(11))?;
+    let (plain, controller) = session(alloc, Mode::FirstCome, &all)?;
+    for cut in 0..11 {
+        let (first, rest) = halves(alloc, cut)?;
+        let mut keeper = empty(alloc, &[])?;
+        let (_, early) = outcome(alloc, "first", DEMANDED, &mut keeper, &first)?;
+        let (_, late) = outcome(alloc, "first", DEMANDED, &mut keeper, &rest)?;
+        let mut told = early.held().to_vec(alloc)?;
+        told.extend_from_slice(late.held())?;
+        assert!(rt; told.starts_with(&plain), "cut before line {cut}");
+        assert!(rt; keeps_book(alloc, &mut keeper, &controller), "cut before line {cut}");
+    }
+    Ok(())
+}
