@@ -3,22 +3,12 @@
 
 use nrm_cli::{Status, asks_for_a_job, run};
 use nrm_edge::{DirFiles, GatheringSink, StdSink, StdSource};
-use std::env;
-use std::io::{self, ErrorKind};
+use nrm_outside::words_given;
+use std::io;
 use std::process::ExitCode;
 
 // How many bytes of output are gathered before they are sent on.
 const GATHERED: usize = 65_536;
-
-// The words of the command line, without the program's own name. Where the system doesn't give them, since one is no
-// text, there are none.
-fn words_given(rt: &HostRuntime) -> io::Result<Vec<String>> {
-    match env::args(rt) {
-        Ok(words) => Ok(words.skip(1).collect(rt.alloc())?),
-        Err(error) if error.kind() == ErrorKind::OutOfMemory => Err(error),
-        Err(_) => Ok(Vec::new(rt.alloc())),
-    }
-}
 
 // The program, around its words. Memory to gather the output is taken only for words that ask for a job.
 fn status_of(rt: &HostRuntime) -> io::Result<Status> {

@@ -6,12 +6,13 @@ ghost use Rattle.nrm_keeper.specs.Rows.{rise};
 use crate::{KeptStatus, run_kept};
 use nrm_control::Controller;
 use nrm_edge::{MemFiles, MemSink, MemSource};
-use nrm_keeper::{Keeper, KeptRow, MemKeeper};
+use nrm_keeper::{KeepFault, Keeper, KeptRow, MemKeeper};
 use nrm_model::Mode;
 use nrm_outside::open_network;
 use nrm_session::{End, serve};
 use nrm_text::name_of;
 use std::alloc::{AllocError, Global};
+use std::process::Abort;
 use std::test::Fail;
 
 const NETWORK: &[u8] =
@@ -215,7 +216,7 @@ fn session(alloc: Global, mode: Mode, stream: &[u8]) -> Result<(Vec<u8>, Control
 fn unstored(output: &[u8]) -> Option<usize> {
     output
         .split(|byte| *byte == b'\n')
-        .position(|line| line == b"store")
+        .position(|line| line == b"store".as_slice())
 }
 
 // Some lines of output with the line `store` put in at a place.
@@ -233,9 +234,17 @@ fn with_store(alloc: Global, output: &[u8], place: usize) -> Result<Vec<u8>, All
     Ok(whole)
 }
 
+// The rows. The call that fails may be the first one here.
+fn rows_of(alloc: Global, keeper: &mut MemKeeper) -> Result<Vec<KeptRow>, KeepFault> {
+    match keeper.all(alloc) {
+        Ok(rows) => Ok(rows),
+        Err(_) => keeper.all(alloc),
+    }
+}
+
 // Whether the keeper lists the bookings of a controller.
 fn keeps_book(alloc: Global, keeper: &mut MemKeeper, controller: &Controller) -> bool {
-    let Ok(rows) = keeper.all(alloc) else {
+    let Ok(rows) = rows_of(alloc, keeper) else {
         return false;
     };
     let bookings = controller.book().bookings();
@@ -255,8 +264,12 @@ fn keeps_book(alloc: Global, keeper: &mut MemKeeper, controller: &Controller) ->
 
 // A call of the keeper fails: the session is the one without the line that was answered `store`, its state and its rows too. Gives
 // whether a line was.
-fn fails_in_turn(rt: &HostRuntime, mode: (Mode, &str), call: u64) -> Result<bool, Fail> {
-    let alloc = rt.alloc();
+fn fails_in_turn(
+    rt: &impl Abort,
+    alloc: Global,
+    mode: (Mode, &str),
+    call: u64,
+) -> Result<bool, Fail> {
     let mut keeper = empty(alloc, &[call])?;
     let all = stream_without(alloc, None)?;
     let (status, sink) = outcome(alloc, mode.1, DEMANDED, &mut keeper, &all)?;
@@ -282,7 +295,7 @@ fn each_call_fails_in_turn(rt: HostRuntime) -> Result<(), Fail> {
     ] {
         let mut failed = 0;
         for call in 2..20 {
-            if fails_in_turn(&rt, mode, call)? {
+            if fails_in_turn(&rt, rt.alloc(), mode, call)? {
                 failed += 1;
             }
         }

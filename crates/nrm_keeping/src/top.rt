@@ -1,5 +1,5 @@
 //! The top call of the program that keeps its bookings.
-ghost use Rattle.std.specs.Prelude.{◌≡◌, ◌≤◌, Some, map, option_map, string_bytes};
+ghost use Rattle.std.specs.Prelude.{◌≡◌, ◌≤◌, Some, is_some, map, option_map, string_bytes};
 ghost use Rattle.nrm_outside.specs.Outside.{Goes};
 ghost use Rattle.nrm_session.specs.Clerks.{is_control};
 ghost use Rattle.nrm_session.specs.Serving.{CountsFaults, ServesBy, streams};
@@ -46,6 +46,13 @@ fn asked_in(words: &[String]) -> Option<Asked<'_>>
         },
         _ => None,
     }
+}
+
+/// Whether the words (without the program's own name) ask for a session; all others get the usage line. It takes no memory.
+pub fn asks_for_a_session(words: &[String]) -> bool
+    ensures { result ≡ is_some (kept_job_of (map string_bytes words.now)) }
+{
+    asked_in(words).is_some()
 }
 
 // The status that goes with the end of a session.

@@ -10,4 +10,4 @@ mod words;
 
 pub use line::{line_of_overflow, send_line};
 pub use network_file::{NoNetwork, open_network};
-pub use words::mode_in;
+pub use words::{mode_in, words_given};

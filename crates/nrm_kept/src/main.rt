@@ -1,0 +1,40 @@
+//! `nrm_kept`, the program: the real files, standard input, standard output and the store's file around the top call.
+#![tactic(auto)]
+
+use nrm_edge::{DirFiles, GatheringSink, StdSink, StdSource};
+use nrm_keeper::FileKeeper;
+use nrm_keeping::{KeptStatus, asks_for_a_session, run_kept};
+use nrm_outside::words_given;
+use std::io;
+use std::process::ExitCode;
+
+// How many bytes of output are gathered before they are sent on.
+const GATHERED: usize = 65_536;
+
+// The store is the third word; without three words there is none, and nothing is opened.
+fn store_in(words: &[String]) -> &str {
+    match words {
+        [_mode, _file, store] => store.as_str(),
+        _ => "",
+    }
+}
+
+// The program, around its words. Memory to gather the output is taken only for words that ask for a session.
+fn status_of(rt: &HostRuntime) -> io::Result<KeptStatus> {
+    let alloc = rt.alloc();
+    let words = words_given(rt)?;
+    let mut files = DirFiles::new(rt);
+    let mut source = StdSource::new(rt.stdin());
+    let mut output = StdSink::new(io::writer(rt));
+    let mut keeper = FileKeeper::new(rt, store_in(&words));
+    if !asks_for_a_session(&words) {
+        return Ok(run_kept(alloc, &words, &mut files, &mut source, &mut output, &mut keeper));
+    }
+    let mut sink = GatheringSink::new(alloc, output, GATHERED)?;
+    Ok(run_kept(alloc, &words, &mut files, &mut source, &mut sink, &mut keeper))
+}
+
+fn main(rt: HostRuntime) -> ExitCode {
+    let status = status_of(&rt).unwrap_or(KeptStatus::NoMemory);
+    ExitCode::from(status.number())
+}
