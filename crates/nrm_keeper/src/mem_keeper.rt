@@ -7,7 +7,9 @@ use crate::{KeepFault, Keeper, KeptRow};
 use std::alloc::Global;
 use std::marker::Model;
 
-/// Rows, and the numbers of the calls that fail.
+/// Rows in memory, and the numbers of the calls that fail, for tests. It counts its calls, of all three kinds, from 1. A
+/// call whose number is among those that fail does nothing and answers `Failed`. A row that is dropped though no row has
+/// its number is no fault.
 #[derive(Drop)]
 pub struct MemKeeper {
     rows: Vec<KeptRow>,
@@ -25,10 +27,10 @@ impl Model for MemKeeper {
 }
 
 impl MemKeeper {
-    ghost use Rattle.std.specs.Prelude.{◌≡◌, ◌≤◌, true};
+    ghost use Rattle.std.specs.Prelude.{◌≡◌, true};
 
-    /// A keeper of these rows, whose numbers rise; the calls whose numbers, from 1 over all three kinds, stand in
-    /// `failing` fail. It takes no memory.
+    /// A keeper of these rows, whose numbers rise. The calls whose numbers, from 1 over all three kinds, stand in `failing`
+    /// fail. It takes no memory.
     pub fn new(rows: Vec<KeptRow>, failing: Vec<u64>) -> MemKeeper
         requires { rise rows.items ≡ true }
         ensures { result ≡ record { rows = rows.items; failing = failing.items; calls = 0; faults = 0 } }
@@ -41,11 +43,10 @@ impl MemKeeper {
         }
     }
 
-    // Counts a call, and its fault where it is one of those that fail.
+    // Counts a call, and its fault if it is one of those that fail.
     fn fails(&mut self) -> bool
         ensures fails { result ≡ fails_next self.old }
         ensures counts { self.new ≡ after_call self.old }
-        ensures later { self.old.faults ≤ self.new.faults }
     {
         self.calls = self.calls.saturating_add(1);
         let fails = self.failing.contains(&self.calls);
