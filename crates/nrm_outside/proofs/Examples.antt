@@ -1,5 +1,5 @@
 -- The words for modes, and the line of a program that is Large, worked by hand.
-use Rattle.std.specs.Prelude.{◌≡◌, List, [], ◌∷◌, map, codes, pos, negsuc, refl, Some, None}
+use Rattle.std.specs.Prelude.{◌≡◌, [], ◌∷◌, map, codes, pos, negsuc, refl, Some, None}
 use Rattle.std.specs.Fmt.{digits}
 use Rattle.nrm_model.specs.declared.mode.Mode.TheVariants as mode
 use Rattle.nrm_outside.specs.Words.{mode_of, overflow_line, told_pivots}

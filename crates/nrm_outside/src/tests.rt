@@ -1,4 +1,4 @@
-//! Opening over files in memory, words, and lines, worked by hand.
+//! Opening over files in memory, the words for modes, and lines, worked by hand.
 use crate::{NoNetwork, line_of_overflow, mode_in, open_network, send_line};
 use nrm_edge::{Failed, MemFiles, MemSink};
 use nrm_model::Mode;
