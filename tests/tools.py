@@ -1315,11 +1315,16 @@ def release_begins_nothing_where_no_folder_is_named(tools):
     want((done.returncode, "release.sh: " in done.stderr, "no git repository" in done.stderr), (1, True, True), done.stderr)
 
 
+# What stands in the place of each built program: the one of the tests, and one that answers no words as it should.
+PROGRAMS = {"nrm": '#!/bin/sh\nexec {program} "$@"\n', "nrm_kept": "#!/bin/sh\nexit 2\n"}
+
+
 @test
 def release_has_what_an_operator_needs(tools):
     """From a clone whose built program is one that runs the program of the tests."""
     version = (TOP / "VERSION").read_text().strip()
-    want_in((TOP / "docs" / "nrm.1").read_text(), f'"nrm {version}"')
+    for program in PROGRAMS:
+        want_in((TOP / "docs" / f"{program}.1").read_text(), f'"nrm {version}"')
     want_in((TOP / "CHANGELOG.md").read_text(), f"\n## {version}\n")
     clone, made = tools.folder / "clone", tools.folder / "out" / f"nrm-{version}"
     if not shutil.which("rt") or not (TOP / ".git").exists() or subprocess.run(
@@ -1327,19 +1332,20 @@ def release_has_what_an_operator_needs(tools):
         print("this is no git repository, or there is no kit: no release made")
         return
     words = [clone / "tools" / "release.sh", tools.folder / "out"]
-    built = clone / "crates" / "nrm" / "out" / "nrm"
-    built.parent.mkdir(exist_ok=True)
-    built.write_text('#!/bin/sh\nexec %s "$@"\n' % " ".join(f"'{it}'" for it in tools.program))
-    built.chmod(0o755)
+    for program, runs in PROGRAMS.items():
+        built = clone / "crates" / program / "out" / program
+        built.parent.mkdir(exist_ok=True)
+        built.write_text(runs.format(program=" ".join(f"'{it}'" for it in tools.program)))
+        built.chmod(0o755)
     done = subprocess.run([words[0], tools.file("no-folder", "")], capture_output=True, text=True)
     want((done.returncode, "release.sh: " in done.stderr), (1, True), done.stderr)
     want(subprocess.run(words, stdout=subprocess.DEVNULL).returncode, 0, "release.sh")
     files = sorted(str(it.relative_to(made)) for it in made.rglob("*") if it.is_file())
     want([it for it in files if not it.startswith("licences/")],
-         ["CHANGELOG.md", "LICENSE", "SHA256SUMS", "VERSION", "commands.md", "nrm", "nrm.1", "operating.md", "tools/explain.py",
-          "tools/nrm_tools.py", "tools/resume.py"])
+         ["CHANGELOG.md", "LICENSE", "SHA256SUMS", "VERSION", "commands.md", "nrm", "nrm.1", "nrm_kept", "nrm_kept.1", "operating.md",
+          "stores.md", "tools/explain.py", "tools/nrm_tools.py", "tools/resume.py"])
     want({it.partition("-")[0] for it in files if it.startswith("licences/")} >=
-         {f"licences/{it}" for it in ("csv", "indexmap", "itoa", "memchr", "ryu", "serde", "thiserror")}, True, files)
+         {f"licences/{it}" for it in ("csv", "indexmap", "itoa", "memchr", "ryu", "serde", "sqlite", "thiserror")}, True, files)
     want(subprocess.run(["sha256sum", "--quiet", "-c", "SHA256SUMS"], cwd=made).returncode, 0, "sha256sum")
     stream, kept = tools.file("stream", "book ZV-Y 1\nbook ZV-Y 1\n"), tools.file("kept", "ok 1\nok")
     done = subprocess.run([sys.executable, "-B", made / "tools" / "resume.py", EXAMPLES / "log" / "network.csv", "first", stream, kept],
