@@ -78,8 +78,8 @@ fn run_asked<F: Files, S: Source, K: Sink>(
 /// network is sold exactly when on every leg the party and what is kept from the product fit the seats left, and its
 /// fare reaches the sum of its legs' bid prices where the mode has them; else the first leg that is short is named, or
 /// the fare, and no other reply is given; what is sold stands (`requests`). No leg has more seats sold than are authorised
-/// (`seats`), and physical seats decide nothing: on networks that differ in them alone the replies differ in the text of a leg alone
-/// (`physical`). The plan in force is one of the network, and in the modes that solve programs its bid prices are optimal
+/// (`seats`), and physical seats decide nothing: from one state, with its plan, on networks that differ in them alone the replies differ
+/// in the text of a leg alone (`physical`). The plan in force is one of the network, and in the modes that solve programs its bid prices are optimal
 /// duals (`optimal`); what a `plan` line prints is the text of such a plan, for the seats left and from the period of
 /// the last line that was answered `optimised` (`printed`). At each line of hindsight that tells a value, no selection
 /// of the requests so far, sold or not, cancelled or not, each whole and at most once, that fits the authorised seats

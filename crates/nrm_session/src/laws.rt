@@ -68,7 +68,8 @@ pub fn money_adds_up()
     ensures { MoneyAddsUp }
 {}
 
-/// Two networks that differ in their physical seats alone have the same replies to the same commands, but for the text of a leg.
+/// From one state, with its plan, two networks that differ in their physical seats alone have the same replies to the same commands, but
+/// for the text of a leg.
 pub fn physical_seats_decide_nothing()
     ensures { PhysicalSeatsDecideNothing }
 {}
