@@ -1,0 +1,14 @@
+pub mod RowLemmas
+pub mod Texts
+pub mod StoredLemmas
+pub mod ToldLemmas
+pub mod Creates
+pub mod Inserts
+pub mod Deletes
+pub mod Selects
+pub mod AnySchema
+pub mod AnyState
+pub mod Steady
+pub mod Effects
+pub mod OverMemory
+pub mod ShownLemmas

@@ -1,0 +1,3 @@
+-- What private functions serve.
+pub mod Faults
+pub mod Statements

@@ -1,0 +1,5 @@
+pub mod Inner
+pub mod Memory
+pub mod Rows
+pub mod Stored
+pub mod Told

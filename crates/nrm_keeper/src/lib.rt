@@ -1,0 +1,21 @@
+//! Bookings that outlive a run: rows of a number, a product and a party, by rising number. They are kept behind one
+//! trait, in memory or in a table of `sqlite`.
+#![tactic(auto)]
+
+mod causes;
+mod file_keeper;
+mod keeper;
+mod mem_keeper;
+mod reading;
+mod row;
+mod sql_keeper;
+mod statements;
+mod table;
+#[cfg(test)]
+mod tests;
+
+pub use file_keeper::FileKeeper;
+pub use keeper::Keeper;
+pub use mem_keeper::MemKeeper;
+pub use row::{KeepFault, KeptRow};
+pub use sql_keeper::{MemConnection, SqlKeeper};

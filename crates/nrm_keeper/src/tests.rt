@@ -1,0 +1,215 @@
+//! What no clause tells: that the calls succeed with ample memory, what the store keeps, and what a file does.
+ghost use Rattle.std.specs.Prelude.{◌≡◌, ◌<◌, ◌^◌, [], ◌∷◌, Some, IfOk};
+
+use crate::{FileKeeper, KeepFault, Keeper, KeptRow, MemKeeper, SqlKeeper};
+use nrm_text::{Name, name_of};
+use sqlite::Connection;
+use std::alloc::{AllocError, Global};
+use std::test::Fail;
+use std::{env, fs};
+
+// A call, and the rows that are kept after it.
+struct Step<'a> {
+    call: Call<'a>,
+    kept: &'a [Line<'a>],
+}
+
+enum Call<'a> {
+    Add(Line<'a>),
+    Drop(u16),
+}
+
+// The number, the product and the party of a row.
+type Line<'a> = (u16, &'a [u8], u16);
+
+fn named(bytes: &[u8]) -> Result<Name, Fail> {
+    match name_of(bytes) {
+        Some(name) => Ok(name),
+        None => Err(Fail::from("no name")),
+    }
+}
+
+fn row(line: Line<'_>) -> Result<KeptRow, Fail>
+    ensures { IfOk result (λ row. row.number < 10 ^ 12) }
+{
+    Ok(KeptRow {
+        number: u64::from(line.0),
+        product: named(line.1)?,
+        party: line.2,
+    })
+}
+
+fn keeps<P: Keeper>(keeper: &mut P, alloc: Global, wanted: &[Line<'_>]) -> bool {
+    let Ok(rows) = keeper.all(alloc) else {
+        return false;
+    };
+    if rows.len() != wanted.len() {
+        return false;
+    }
+    for (row, want) in rows.iter().zip(wanted) {
+        if row.number != u64::from(want.0) || row.product.bytes() != want.1 || row.party != want.2 {
+            return false;
+        }
+    }
+    true
+}
+
+// Whether each call is done, and leaves the rows that it should.
+fn runs<P: Keeper>(keeper: &mut P, alloc: Global, steps: &[Step<'_>]) -> Result<bool, Fail> {
+    for step in steps {
+        let done = match step.call {
+            Call::Add(line) => keeper.add(alloc, row(line)?),
+            Call::Drop(number) => keeper.drop_row(alloc, u64::from(number)),
+        };
+        if done.is_err() || !keeps(keeper, alloc, step.kept) {
+            return Ok(false);
+        }
+    }
+    Ok(true)
+}
+
+// The same calls and answers over each keeper.
+fn first_run<P: Keeper>(keeper: &mut P, alloc: Global) -> Result<bool, Fail> {
+    let one = (1, b"THRU".as_slice(), 2);
+    let two = (2, b"LOC".as_slice(), 1);
+    let five = (5, b"THRU".as_slice(), 65535);
+    let steps = [
+        Step { call: Call::Add(one), kept: &[one] },
+        Step { call: Call::Add(two), kept: &[one, two] },
+        Step { call: Call::Add(five), kept: &[one, two, five] },
+        Step { call: Call::Drop(2), kept: &[one, five] },
+        Step { call: Call::Drop(1), kept: &[five] },
+    ];
+    Ok(keeps(keeper, alloc, &[]) && runs(keeper, alloc, &steps)?)
+}
+
+fn second_run<P: Keeper>(keeper: &mut P, alloc: Global) -> Result<bool, Fail> {
+    let five = (5, b"THRU".as_slice(), 65535);
+    let six = (6, b"LOC".as_slice(), 1);
+    let steps = [
+        Step { call: Call::Add(six), kept: &[five, six] },
+        Step { call: Call::Drop(5), kept: &[six] },
+    ];
+    Ok(keeps(keeper, alloc, &[five]) && runs(keeper, alloc, &steps)?)
+}
+
+// A new store tells the empty list, and a row that was added to it.
+fn new_keeper(alloc: Global) -> Result<SqlKeeper, AllocError>
+    ensures { IfOk result (λ keeper. keeper.rows ≡ Some []) }
+{
+    let connection = Connection::open_in_memory(alloc)?;
+    Ok(SqlKeeper::over(connection))
+}
+
+fn with_row(alloc: Global, row: KeptRow) -> Result<SqlKeeper, KeepFault>
+    requires { row.number < 10 ^ 12 }
+    ensures { IfOk result (λ keeper. keeper.rows ≡ Some (row ∷ [])) }
+{
+    let Ok(mut keeper) = new_keeper(alloc) else {
+        return Err(KeepFault::NoMemory);
+    };
+    keeper.add(alloc, row)?;
+    Ok(keeper)
+}
+
+#[test]
+fn rows_are_kept_in_memory(rt: HostRuntime) -> Result<(), Fail> {
+    let mut keeper = MemKeeper::new(Vec::new(rt.alloc()), Vec::new(rt.alloc()));
+    assert!(rt; first_run(&mut keeper, rt.alloc())?);
+    assert!(rt; second_run(&mut keeper, rt.alloc())?);
+    assert!(rt;
+        keeper.drop_row(rt.alloc(), 9).is_ok(),
+        "no row has the number"
+    );
+    Ok(())
+}
+
+#[test]
+fn the_third_call_fails(rt: HostRuntime) -> Result<(), Fail> {
+    let failing = Vec::from_array(rt.alloc(), [3])?;
+    let mut keeper = MemKeeper::new(Vec::new(rt.alloc()), failing);
+    assert!(rt; keeps(&mut keeper, rt.alloc(), &[]));
+    assert!(rt; keeper.add(rt.alloc(), row((1, b"THRU", 2))?).is_ok());
+    assert!(rt;
+        matches!(
+            keeper.add(rt.alloc(), row((2, b"LOC", 1))?),
+            Err(KeepFault::Failed)
+        )
+    );
+    assert!(rt; keeps(&mut keeper, rt.alloc(), &[(1, b"THRU", 2)]));
+    Ok(())
+}
+
+#[test]
+fn rows_are_kept_in_a_table(rt: HostRuntime) -> Result<(), Fail> {
+    let mut keeper = new_keeper(rt.alloc())?;
+    assert!(rt; first_run(&mut keeper, rt.alloc())?);
+    assert!(rt; second_run(&mut keeper, rt.alloc())?);
+    assert!(rt;
+        matches!(keeper.drop_row(rt.alloc(), 9), Err(KeepFault::Failed)),
+        "no row has the number"
+    );
+    Ok(())
+}
+
+#[test]
+fn a_row_is_added_before_any_other_call(rt: HostRuntime) -> Result<(), Fail> {
+    let Ok(mut keeper) = with_row(rt.alloc(), row((2, b"LOC", 1))?) else {
+        return Err(Fail::from("not added"));
+    };
+    assert!(rt; keeps(&mut keeper, rt.alloc(), &[(2, b"LOC", 1)]));
+    Ok(())
+}
+
+#[test]
+fn a_row_that_is_no_kept_row_is_a_fault(rt: HostRuntime) -> Result<(), Fail> {
+    let mut connection = Connection::open_in_memory(rt.alloc())?;
+    let made = connection.execute(
+        "CREATE TABLE kept (number INTEGER PRIMARY KEY, product TEXT NOT NULL, party INTEGER NOT NULL) STRICT",
+        &[],
+    );
+    assert!(rt; made.is_ok());
+    assert!(rt;
+        connection
+            .execute("INSERT INTO kept VALUES (1, 'none', 1)", &[])
+            .is_ok()
+    );
+    if !connection.is_autocommit() {
+        return Err(Fail::from("a transaction"));
+    }
+    let mut keeper = SqlKeeper::over(connection);
+    assert!(rt; matches!(keeper.all(rt.alloc()), Err(KeepFault::Failed)));
+    Ok(())
+}
+
+// A failed call lets the connection go, and the same keeper goes on with the next one.
+#[test]
+fn rows_are_kept_in_a_file(rt: HostRuntime) -> Result<(), Fail> {
+    let temp = env::temp_dir(&rt)?;
+    let temp = temp.as_path().to_str().ok_or("a folder that is text")?;
+    let folder = format!(in rt.alloc(); "{temp}/nrm_keeper_rows")?;
+    let store = format!(in rt.alloc(); "{folder}/store")?;
+    let log = format!(in rt.alloc(); "{store}-wal")?;
+    let _ = fs::remove_file(&rt, &store);
+    let _ = fs::remove_file(&rt, &log);
+    let _ = fs::remove_dir(&rt, &folder);
+    let mut keeper = FileKeeper::new(&rt, &store);
+    assert!(rt;
+        matches!(keeper.all(rt.alloc()), Err(KeepFault::Failed)),
+        "no folder is there"
+    );
+    fs::create_dir(&rt, &folder)?;
+    assert!(rt; first_run(&mut keeper, rt.alloc())?);
+    drop(keeper);
+    let mut keeper = FileKeeper::new(&rt, &store);
+    assert!(rt;
+        matches!(keeper.drop_row(rt.alloc(), 9), Err(KeepFault::Failed)),
+        "no row has the number"
+    );
+    assert!(rt; second_run(&mut keeper, rt.alloc())?);
+    drop(keeper);
+    fs::remove_file(&rt, &store)?;
+    fs::remove_file(&rt, &log)?;
+    fs::remove_dir(&rt, &folder)?;
+    Ok(())
+}
