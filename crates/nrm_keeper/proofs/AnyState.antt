@@ -21,7 +21,7 @@ use Rattle.sqlite.specs.Does.{Tally, Does, AtPlace, lacks_sequence, sequence_tex
 use Rattle.sqlite.specs.Listing.{understood}
 use Rattle.sqlite.specs.Clock.{timed}
 use Rattle.sqlite.specs.State.{State, IsUnchanged, IsRolledBack, Runs, RunsCommand, text_of, shows_rows, ExecutesIn, Executes, IsNotRun, Shown, ShowsRows, FailsToShow, FailsToQuery, mode_of}
-use Rattle.nrm_keeper.specs.Stored.{create_text, insert_text, delete_text, select_text}
+use Rattle.nrm_keeper.specs.Inner.Table.{create_text, insert_text, delete_text, select_text}
 use Rattle.nrm_keeper.proofs.Creates.{went, same_value}
 use Rattle.nrm_keeper.proofs.AnySchema.{is_delete, is_insert, is_create, delete_is_plain, insert_is_plain, create_is_plain, select_is_plain}
 

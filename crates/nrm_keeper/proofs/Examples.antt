@@ -10,7 +10,8 @@ use Rattle.nrm_keeper.specs.declared.row.KeepFault.TheVariants.{Failed, NoMemory
 use Rattle.nrm_keeper.specs.Inner.Faults.{fault_of, added_by, dropped_by}
 use Rattle.nrm_keeper.specs.Memory.{HeldRows, fails_next, after_call}
 use Rattle.nrm_keeper.specs.Rows.{rise, told_if_rising, is_kept, without, has_failed}
-use Rattle.nrm_keeper.specs.Stored.{kept_of, kept_row, kept_rows, stored}
+use Rattle.nrm_keeper.specs.Stored.{kept_of, kept_row, kept_rows}
+use Rattle.nrm_keeper.specs.Inner.Table.{stored}
 
 -- ---- rows
 
@@ -117,7 +118,7 @@ nothing_dropped = refl
 not_dropped : dropped_by (Err (SqliteFailure code.DiskFull)) ≡ Err Failed
 not_dropped = refl
 
-ok_is_no_failure : has_failed (Ok 3) ≡ false
+ok_is_no_failure : has_failed {T = ℕ} (Ok 3) ≡ false
 ok_is_no_failure = refl
 
 failed_is_a_failure : has_failed {T = ℕ} (Err Failed) ≡ true

@@ -12,3 +12,4 @@ pub mod Steady
 pub mod Effects
 pub mod OverMemory
 pub mod ShownLemmas
+mod Examples

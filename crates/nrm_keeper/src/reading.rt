@@ -2,8 +2,8 @@
 ghost use Rattle.std.specs.Prelude.{◌≡◌, map, IfOk};
 ghost use Rattle.sqlite.specs.Order.{column};
 ghost use Rattle.sqlite.specs.Value.{owned};
-ghost use Rattle.nrm_keeper.specs.Stored.{whole, product_in, party_in, kept_of, shown};
-ghost use Rattle.nrm_keeper.specs.Told.{front};
+ghost use Rattle.nrm_keeper.specs.Stored.{whole, product_in, party_in, kept_of};
+ghost use Rattle.nrm_keeper.specs.Inner.Table.{shown, front};
 
 use crate::{KeepFault, KeptRow};
 use nrm_text::{Name, name_of};

@@ -1,10 +1,11 @@
 //! The four fixed texts, each in a function of its own. Over a store that is clean and open, and in no transaction, each
-//! says what it does to the rows that are told.
+//! says what it does to the rows that are told. A store that is clean and open afterwards was so before.
 ghost use Rattle.std.specs.Prelude.{◌≡◌, pos, ◌<◌, ◌^◌, false, map, Some, IfOk, OnOk, OnErr};
 ghost use Rattle.sqlite.specs.Held.{state};
 ghost use Rattle.sqlite.specs.Value.{owned};
 ghost use Rattle.nrm_keeper.specs.Rows.{Adds, Drops};
-ghost use Rattle.nrm_keeper.specs.Stored.{told, shown, HoldsSome};
+ghost use Rattle.nrm_keeper.specs.Stored.{told};
+ghost use Rattle.nrm_keeper.specs.Inner.Table.{shown, HoldsSome};
 ghost use Rattle.nrm_keeper.specs.Inner.Statements.{IsSteady, Speaks};
 
 use crate::KeptRow;
@@ -32,10 +33,12 @@ fn party_value<'a>(party: u16) -> ValueRef<'a>
     ValueRef::Int(i64::from(party))
 }
 
-/// Makes the table, where it isn't there.
+/// Makes the table, if it isn't there.
 pub fn create_table<S: Alter>(conn: &mut Connection<S>) -> Result<usize, Error>
-    ensures tells { Speaks (state S.Store conn.old) (state S.Store conn.new) → told (state S.Store conn.new).now ≡ told (state S.Store conn.old).now }
-    ensures holds { Speaks (state S.Store conn.old) (state S.Store conn.new) → OnOk result (HoldsSome (state S.Store conn.new).now) }
+    ensures tells { Speaks (state S.Store conn.old) (state S.Store conn.new) →
+        told (state S.Store conn.new).now ≡ told (state S.Store conn.old).now }
+    ensures holds { Speaks (state S.Store conn.old) (state S.Store conn.new) →
+        OnOk result (HoldsSome (state S.Store conn.new).now) }
     ensures ends { Speaks (state S.Store conn.old) (state S.Store conn.new) → conn.new.in_transaction ≡ false }
 {
     let _settled = conn.is_autocommit();
@@ -48,8 +51,11 @@ pub fn create_table<S: Alter>(conn: &mut Connection<S>) -> Result<usize, Error>
 /// Puts a row into the table.
 pub fn insert_row<S: Alter>(conn: &mut Connection<S>, row: &KeptRow) -> Result<usize, Error>
     requires { row.now.number < 10 ^ 12 }
-    ensures adds { Speaks (state S.Store conn.old) (state S.Store conn.new) → HoldsSome (state S.Store conn.old).now → OnOk result (Adds row.now (told (state S.Store conn.old).now) (told (state S.Store conn.new).now)) }
-    ensures unchanged { Speaks (state S.Store conn.old) (state S.Store conn.new) → OnErr result (told (state S.Store conn.new).now ≡ told (state S.Store conn.old).now) }
+    ensures adds { Speaks (state S.Store conn.old) (state S.Store conn.new) →
+        HoldsSome (state S.Store conn.old).now →
+        OnOk result (Adds row.now (told (state S.Store conn.old).now) (told (state S.Store conn.new).now)) }
+    ensures unchanged { Speaks (state S.Store conn.old) (state S.Store conn.new) →
+        OnErr result (told (state S.Store conn.new).now ≡ told (state S.Store conn.old).now) }
     ensures ends { Speaks (state S.Store conn.old) (state S.Store conn.new) → conn.new.in_transaction ≡ false }
     ensures was { IsSteady (state S.Store conn.new) → IsSteady (state S.Store conn.old) }
 {
@@ -70,9 +76,13 @@ pub fn insert_row<S: Alter>(conn: &mut Connection<S>, row: &KeptRow) -> Result<u
 /// Takes the row of a number out of the table, and answers how many rows went.
 pub fn delete_row<S: Alter>(conn: &mut Connection<S>, number: u64) -> Result<usize, Error>
     requires { number < 10 ^ 12 }
-    ensures drops { Speaks (state S.Store conn.old) (state S.Store conn.new) → HoldsSome (state S.Store conn.old).now → OnOk result (Drops number (told (state S.Store conn.old).now) (told (state S.Store conn.new).now)) }
-    ensures none { Speaks (state S.Store conn.old) (state S.Store conn.new) → result ≡ Ok 0 → told (state S.Store conn.new).now ≡ told (state S.Store conn.old).now }
-    ensures unchanged { Speaks (state S.Store conn.old) (state S.Store conn.new) → OnErr result (told (state S.Store conn.new).now ≡ told (state S.Store conn.old).now) }
+    ensures drops { Speaks (state S.Store conn.old) (state S.Store conn.new) →
+        HoldsSome (state S.Store conn.old).now →
+        OnOk result (Drops number (told (state S.Store conn.old).now) (told (state S.Store conn.new).now)) }
+    ensures none { Speaks (state S.Store conn.old) (state S.Store conn.new) →
+        result ≡ Ok 0 → told (state S.Store conn.new).now ≡ told (state S.Store conn.old).now }
+    ensures unchanged { Speaks (state S.Store conn.old) (state S.Store conn.new) →
+        OnErr result (told (state S.Store conn.new).now ≡ told (state S.Store conn.old).now) }
     ensures ends { Speaks (state S.Store conn.old) (state S.Store conn.new) → conn.new.in_transaction ≡ false }
     ensures was { IsSteady (state S.Store conn.new) → IsSteady (state S.Store conn.old) }
 {
@@ -85,8 +95,11 @@ pub fn delete_row<S: Alter>(conn: &mut Connection<S>, number: u64) -> Result<usi
 
 /// Every row of the table, by rising number.
 pub fn select_rows<S: Alter>(conn: &mut Connection<S>) -> Result<Vec<Row>, Error>
-    ensures tells { Speaks (state S.Store conn.old) (state S.Store conn.new) → told (state S.Store conn.new).now ≡ told (state S.Store conn.old).now }
-    ensures lists { Speaks (state S.Store conn.old) (state S.Store conn.new) → HoldsSome (state S.Store conn.old).now → IfOk result (λ found. (rows : _) → told (state S.Store conn.old).now ≡ Some rows → found.items ≡ map shown rows) }
+    ensures tells { Speaks (state S.Store conn.old) (state S.Store conn.new) →
+        told (state S.Store conn.new).now ≡ told (state S.Store conn.old).now }
+    ensures lists { Speaks (state S.Store conn.old) (state S.Store conn.new) →
+        HoldsSome (state S.Store conn.old).now →
+        IfOk result (λ found. (rows : _) → told (state S.Store conn.old).now ≡ Some rows → found.items ≡ map shown rows) }
     ensures ends { Speaks (state S.Store conn.old) (state S.Store conn.new) → conn.new.in_transaction ≡ false }
     ensures was { IsSteady (state S.Store conn.new) → IsSteady (state S.Store conn.old) }
 {

@@ -9,11 +9,13 @@ use std::test::Fail;
 use std::{env, fs};
 
 // A call, and the rows that are kept after it.
+#[derive(Clone, Copy)]
 struct Step<'a> {
     call: Call<'a>,
     kept: &'a [Line<'a>],
 }
 
+#[derive(Clone, Copy)]
 enum Call<'a> {
     Add(Line<'a>),
     Drop(u16),

@@ -1,4 +1,4 @@
-use Rattle.nrm_keeper.specs.Stored.{delete_text}
+use Rattle.nrm_keeper.specs.Inner.Table.{delete_text}
 use Rattle.sqlite.specs.Held.{state}
 use Rattle.nrm_keeper.proofs.Steady.{was_clean}
 use Rattle.nrm_keeper.proofs.AnyState.{delete_was_open}

@@ -1,6 +1,6 @@
 use Rattle.std.proofs.Common.{arith}
 use Rattle.std.proofs.lemmas.Bool.{lt-ltb}
-use Rattle.nrm_keeper.specs.Stored.{insert_text}
+use Rattle.nrm_keeper.specs.Inner.Table.{insert_text}
 use Rattle.sqlite.specs.Held.{state}
 use Rattle.nrm_keeper.proofs.Steady.{was_clean}
 use Rattle.nrm_keeper.proofs.AnyState.{insert_was_open}
