@@ -1,6 +1,8 @@
 //! A keeper over a file of `sqlite`: a connection, if one is open, and a count of faults. A call opens the file if it is
 //! not open, and lets the connection go if it fails, so that the next call opens the file again. It tells no rows: the
 //! store of a file may cease to be clean at any call.
+ghost use Rattle.std.specs.Prelude.{◌≡◌, None, OnOk, OnErr};
+
 use crate::causes::{fault_of, raised};
 use crate::table::{drop_kept, keep, list};
 use crate::{KeepFault, Keeper, KeptRow};
@@ -47,15 +49,23 @@ impl<'a> FileKeeper<'a> {
         }
     }
 
-    // The answer of a call. After an Err the connection is let go, and one fault is counted if the keeper failed.
+    // The answer of a call, with its connection let go after an Err, and one fault counted if the keeper failed.
     fn settled<T>(&mut self, answer: Result<T, KeepFault>) -> Result<T, KeepFault>
         ensures answer { result ≡ answer }
         ensures counts { self.new ≡ counted (has_failed answer) self.old }
     {
-        if answer.is_err() {
-            self.connection = None;
-        }
+        let_go_on_err(&mut self.connection, &answer);
         raised(&mut self.faults, answer)
+    }
+}
+
+// Lets the connection go after an Err, and keeps it after an Ok.
+fn let_go_on_err<T>(connection: &mut Option<FileConnection>, answer: &Result<T, KeepFault>)
+    ensures gone { OnErr answer.now (connection.new ≡ None) }
+    ensures stays { OnOk answer.now (connection.new ≡ connection.old) }
+{
+    if answer.is_err() {
+        *connection = None;
     }
 }
 

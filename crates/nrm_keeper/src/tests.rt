@@ -5,6 +5,7 @@ use crate::{FileKeeper, KeepFault, Keeper, KeptRow, MemKeeper, SqlKeeper};
 use nrm_text::{Name, name_of};
 use sqlite::Connection;
 use std::alloc::{AllocError, Global};
+use std::rt::HostRuntime;
 use std::test::Fail;
 use std::{env, fs};
 
@@ -76,11 +77,26 @@ fn first_run<P: Keeper>(keeper: &mut P, alloc: Global) -> Result<bool, Fail> {
     let two = (2, b"LOC".as_slice(), 1);
     let five = (5, b"THRU".as_slice(), 65535);
     let steps = [
-        Step { call: Call::Add(one), kept: &[one] },
-        Step { call: Call::Add(two), kept: &[one, two] },
-        Step { call: Call::Add(five), kept: &[one, two, five] },
-        Step { call: Call::Drop(2), kept: &[one, five] },
-        Step { call: Call::Drop(1), kept: &[five] },
+        Step {
+            call: Call::Add(one),
+            kept: &[one],
+        },
+        Step {
+            call: Call::Add(two),
+            kept: &[one, two],
+        },
+        Step {
+            call: Call::Add(five),
+            kept: &[one, two, five],
+        },
+        Step {
+            call: Call::Drop(2),
+            kept: &[one, five],
+        },
+        Step {
+            call: Call::Drop(1),
+            kept: &[five],
+        },
     ];
     Ok(keeps(keeper, alloc, &[]) && runs(keeper, alloc, &steps)?)
 }
@@ -89,8 +105,14 @@ fn second_run<P: Keeper>(keeper: &mut P, alloc: Global) -> Result<bool, Fail> {
     let five = (5, b"THRU".as_slice(), 65535);
     let six = (6, b"LOC".as_slice(), 1);
     let steps = [
-        Step { call: Call::Add(six), kept: &[five, six] },
-        Step { call: Call::Drop(5), kept: &[six] },
+        Step {
+            call: Call::Add(six),
+            kept: &[five, six],
+        },
+        Step {
+            call: Call::Drop(5),
+            kept: &[six],
+        },
     ];
     Ok(keeps(keeper, alloc, &[five]) && runs(keeper, alloc, &steps)?)
 }
@@ -184,7 +206,12 @@ fn a_row_that_is_no_kept_row_is_a_fault(rt: HostRuntime) -> Result<(), Fail> {
     Ok(())
 }
 
-// A failed call lets the connection go, and the same keeper goes on with the next one.
+// Removes the two files of a store, as far as they are there.
+fn remove_store(rt: &HostRuntime, store: &str, log: &str) {
+    let _ = fs::remove_file(rt, store);
+    let _ = fs::remove_file(rt, log);
+}
+
 #[test]
 fn rows_are_kept_in_a_file(rt: HostRuntime) -> Result<(), Fail> {
     let temp = env::temp_dir(&rt)?;
@@ -192,8 +219,7 @@ fn rows_are_kept_in_a_file(rt: HostRuntime) -> Result<(), Fail> {
     let folder = format!(in rt.alloc(); "{temp}/nrm_keeper_rows")?;
     let store = format!(in rt.alloc(); "{folder}/store")?;
     let log = format!(in rt.alloc(); "{store}-wal")?;
-    let _ = fs::remove_file(&rt, &store);
-    let _ = fs::remove_file(&rt, &log);
+    remove_store(&rt, &store, &log);
     let _ = fs::remove_dir(&rt, &folder);
     let mut keeper = FileKeeper::new(&rt, &store);
     assert!(rt;
@@ -204,14 +230,18 @@ fn rows_are_kept_in_a_file(rt: HostRuntime) -> Result<(), Fail> {
     assert!(rt; first_run(&mut keeper, rt.alloc())?);
     drop(keeper);
     let mut keeper = FileKeeper::new(&rt, &store);
+    assert!(rt; second_run(&mut keeper, rt.alloc())?);
     assert!(rt;
         matches!(keeper.drop_row(rt.alloc(), 9), Err(KeepFault::Failed)),
         "no row has the number"
     );
-    assert!(rt; second_run(&mut keeper, rt.alloc())?);
+    remove_store(&rt, &store, &log);
+    assert!(rt;
+        keeps(&mut keeper, rt.alloc(), &[]),
+        "after a failed call the file is opened again"
+    );
     drop(keeper);
-    fs::remove_file(&rt, &store)?;
-    fs::remove_file(&rt, &log)?;
+    remove_store(&rt, &store, &log);
     fs::remove_dir(&rt, &folder)?;
     Ok(())
 }

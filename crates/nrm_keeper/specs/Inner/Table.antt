@@ -37,8 +37,8 @@ kept_table = record {
   name = codes "kept";
   tree = 0;
   columns =
-  column_of (codes "number") kind.Integer false ∷ column_of (codes "product") kind.Text true
-  ∷ column_of (codes "party") kind.Integer true ∷ [];
+      column_of (codes "number") kind.Integer false ∷ column_of (codes "product") kind.Text true
+      ∷ column_of (codes "party") kind.Integer true ∷ [];
   key = Some 0;
   primary = 0 ∷ [];
   uniques = [];
