@@ -12,7 +12,10 @@ use Rattle.nrm_samples.specs.Networks.{two_legs}
 use Rattle.nrm_session.specs.Replies.{bad, unknown, sold, no_leg, cancelled, memory}
 use Rattle.nrm_keeper.specs.declared.row.KeptRow.{KeptRow}
 use Rattle.nrm_keeping.specs.Jobs.{kept_job_of, store_refused_line}
-use Rattle.nrm_keeping.specs.Rows.{Loaded, load, loaded_state, nothing_loaded, rows_of}
+use Rattle.nrm_keeping.specs.Laws.{carried_out, replies_to_those}
+use Rattle.nrm_keeping.specs.Numbers.{number_of}
+use Rattle.nrm_keeping.specs.Rows.{Loaded, load, loaded_state, next_behind, nothing_loaded, rows_of}
+use Rattle.nrm_keeping.specs.declared.status.KeptStatus.TheVariants as status
 use Rattle.nrm_keeping.specs.Run.{KeptRun, count_after}
 use Rattle.nrm_keeping.specs.Step.{ChangesBook, KeptStep, as_ever, not_stored, lacks_memory, told, store, kept_text}
 
@@ -139,3 +142,29 @@ three_words = refl
 
 no_store : kept_job_of (codes "first" ∷ codes "F" ∷ []) ≡ None
 no_store = refl
+
+-- a word more, and a mode that is none
+four_words : kept_job_of (codes "first" ∷ codes "F" ∷ codes "STORE" ∷ codes "MORE" ∷ []) ≡ None
+four_words = refl
+
+no_mode : kept_job_of (codes "last" ∷ codes "F" ∷ codes "STORE" ∷ []) ≡ None
+no_mode = refl
+
+-- the count ends at the last value of u64
+counted_no_further : count_after (store ∷ store ∷ []) 18446744073709551614 ≡ 18446744073709551615
+counted_no_further = refl
+
+-- the number behind some bookings, and behind none
+next_numbers : (next_behind 1 [] ≡ 1) × (next_behind 1 (local 2 1 ∷ through 7 2 ∷ []) ≡ 8)
+next_numbers = (refl, refl)
+
+-- the lines that were carried out, of one that was, one whose booking wasn't stored, and one for which memory ran out
+those_carried_out : (carried_out (command.Cancel 1 ∷ command.Cancel 2 ∷ command.Cancel 3 ∷ []) (told (cancelled 1 500) ∷ store ∷ told memory ∷ []) ≡ command.Cancel 1 ∷ [])
+    × (replies_to_those (told (cancelled 1 500) ∷ store ∷ told memory ∷ []) ≡ cancelled 1 500 ∷ [])
+those_carried_out = (refl, refl)
+
+-- the exit statuses
+numbers : (number_of status.Done ≡ 0) × (number_of status.Usage ≡ 2) × (number_of status.Refused ≡ 3) × (number_of status.ReadFault ≡ 4)
+    × (number_of status.WriteFault ≡ 5) × (number_of status.NoMemory ≡ 6) × (number_of status.Overflow ≡ 7) × (number_of status.TooLong ≡ 8)
+    × (number_of status.FileFault ≡ 9) × (number_of status.StoreFault ≡ 12) × (number_of status.StoreRefused ≡ 13)
+numbers = (refl, refl, refl, refl, refl, refl, refl, refl, refl, refl, refl)
