@@ -12,7 +12,6 @@ use nrm_outside::open_network;
 use nrm_session::{End, serve};
 use nrm_text::name_of;
 use std::alloc::{AllocError, Global};
-use std::process::Abort;
 use std::test::Fail;
 
 const NETWORK: &[u8] =
@@ -262,30 +261,46 @@ fn keeps_book(alloc: Global, keeper: &mut MemKeeper, controller: &Controller) ->
     true
 }
 
-// A call of the keeper fails: the session is the one without the line that was answered `store`, its state and its rows too. Gives
-// whether a line was.
+// What is wanted of a session in which the line at a place was answered `store`: that of a session without the line.
+fn wanted(
+    alloc: Global,
+    mode: Mode,
+    place: Option<usize>,
+) -> Result<(Vec<u8>, Controller), Fail> {
+    let (plain, controller) = session(alloc, mode, &stream_without(alloc, place)?)?;
+    match place {
+        Some(place) => Ok((with_store(alloc, &plain, place)?, controller)),
+        None => Ok((plain, controller)),
+    }
+}
+
+// What a session over a keeper writes on the network with demand.
+fn replies(
+    alloc: Global,
+    mode: &str,
+    keeper: &mut MemKeeper,
+    stream: &[u8],
+) -> Result<Vec<u8>, AllocError> {
+    let (_, sink) = outcome(alloc, mode, DEMANDED, keeper, stream)?;
+    sink.held().to_vec(alloc)
+}
+
+// A call of the keeper fails. Gives the place of the line that was answered `store`, if one was, and whether replies, state and rows
+// are those that are wanted.
 fn fails_in_turn(
-    rt: &impl Abort,
     alloc: Global,
     mode: (Mode, &str),
     call: u64,
-) -> Result<bool, Fail> {
+) -> Result<(Option<usize>, bool), Fail> {
     let mut keeper = empty(alloc, &[call])?;
-    let all = stream_without(alloc, None)?;
-    let (status, sink) = outcome(alloc, mode.1, DEMANDED, &mut keeper, &all)?;
-    assert_eq!(rt; status, KeptStatus::Done);
-    let place = unstored(sink.held());
-    let (plain, controller) = session(alloc, mode.0, &stream_without(alloc, place)?)?;
-    let wanted = match place {
-        Some(place) => with_store(alloc, &plain, place)?,
-        None => plain,
-    };
-    assert_eq!(rt; sink.held(), wanted.as_slice());
-    assert!(rt; keeps_book(alloc, &mut keeper, &controller));
-    Ok(place.is_some())
+    let told = replies(alloc, mode.1, &mut keeper, &stream_without(alloc, None)?)?;
+    let place = unstored(&told);
+    let (wanted, controller) = wanted(alloc, mode.0, place)?;
+    let is_so = told == wanted && keeps_book(alloc, &mut keeper, &controller);
+    Ok((place, is_so))
 }
 
-// The calls behind the first, which lists the rows, until one comes that is never made.
+// The calls behind the first, which lists the rows, until some come that are never made.
 #[test]
 fn each_call_fails_in_turn(rt: HostRuntime) -> Result<(), Fail> {
     for mode in [
@@ -295,7 +310,9 @@ fn each_call_fails_in_turn(rt: HostRuntime) -> Result<(), Fail> {
     ] {
         let mut failed = 0;
         for call in 2..20 {
-            if fails_in_turn(&rt, rt.alloc(), mode, call)? {
+            let (place, is_so) = fails_in_turn(rt.alloc(), mode, call)?;
+            assert!(rt; is_so, "call {call}");
+            if place.is_some() {
                 failed += 1;
             }
         }
@@ -304,36 +321,33 @@ fn each_call_fails_in_turn(rt: HostRuntime) -> Result<(), Fail> {
     Ok(())
 }
 
-// The first lines, up to a place; and those from there on.
-fn halves(alloc: Global, cut: usize) -> Result<(Vec<u8>, Vec<u8>), AllocError> {
-    let mut first = Vec::new(alloc);
-    let mut rest = Vec::new(alloc);
+// The lines from a place on, up to another.
+fn lines_from(alloc: Global, from: usize, to: usize) -> Result<Vec<u8>, AllocError> {
+    let mut lines = Vec::new(alloc);
     for (place, line) in LINES.iter().enumerate() {
-        if place < cut {
-            first.extend_from_slice(line)?;
-        } else {
-            rest.extend_from_slice(line)?;
+        if from <= place && place < to {
+            lines.extend_from_slice(line)?;
         }
     }
-    Ok((first, rest))
+    Ok(lines)
 }
 
-// A run is cut after each line, and another goes on with its rows: first come, first served the replies are those of one run, but for the
-// line of hindsight, and so are the rows.
+// First come, first served, a run is cut before a line, and another goes on with its rows: whether the replies are those of one run, but
+// for the line of hindsight, and the rows are those of its bookings.
+fn goes_on(alloc: Global, cut: usize, plain: &[u8], controller: &Controller) -> Result<bool, Fail> {
+    let mut keeper = empty(alloc, &[])?;
+    let mut told = replies(alloc, "first", &mut keeper, &lines_from(alloc, 0, cut)?)?;
+    let late = replies(alloc, "first", &mut keeper, &lines_from(alloc, cut, 12)?)?;
+    told.extend_from_slice(&late)?;
+    Ok(told.starts_with(plain) && keeps_book(alloc, &mut keeper, controller))
+}
+
 #[test]
 fn a_cut_run_is_gone_on_with(rt: HostRuntime) -> Result<(), Fail> {
-    let alloc = rt.alloc();
-    let all = stream_without(alloc, Some(11))?;
-    let (plain, controller) = session(alloc, Mode::FirstCome, &all)?;
+    let all = lines_from(rt.alloc(), 0, 11)?;
+    let (plain, controller) = session(rt.alloc(), Mode::FirstCome, &all)?;
     for cut in 0..11 {
-        let (first, rest) = halves(alloc, cut)?;
-        let mut keeper = empty(alloc, &[])?;
-        let (_, early) = outcome(alloc, "first", DEMANDED, &mut keeper, &first)?;
-        let (_, late) = outcome(alloc, "first", DEMANDED, &mut keeper, &rest)?;
-        let mut told = early.held().to_vec(alloc)?;
-        told.extend_from_slice(late.held())?;
-        assert!(rt; told.starts_with(&plain), "cut before line {cut}");
-        assert!(rt; keeps_book(alloc, &mut keeper, &controller), "cut before line {cut}");
+        assert!(rt; goes_on(rt.alloc(), cut, &plain, &controller)?, "cut before line {cut}");
     }
     Ok(())
 }
