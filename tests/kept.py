@@ -8,9 +8,9 @@
              whose reply was read and not behind the last one that was sent: with each reply awaited, at most one line ahead.
              Another run goes on with a copy of the store, and so does the next run that is killed. There are N of them.
     faults   a small library in C makes the Nth call of one kind on the store's files fail, alone or with all that come after: a
-             write, one that forces a file to the disk, or one that cuts a file. For each N the replies must be those of a session
-             that left out the lines answered `store`, and the rows its bookings; if the first call of the store fails,
-             `store fault` with status 12. A later run goes on.
+             write, one that forces a file to the disk, or one that cuts a file. If forcing fails, what was written since it last
+             succeeded stays in the file, or is lost, as on a disk. For each N the replies must be those of a session that left
+             out the lines answered `store`, and the rows its bookings; or it is `store fault` with status 12. A later run goes on.
     disk     the store is on a small disk in memory that is full for a while. That needs the right to mount one.
     two      two programs have one store: the second says `store fault`, and the first goes on.
     memory   there is not enough memory for the program to begin: status 6.
@@ -286,9 +286,13 @@ LIBRARY = r"""
 
 enum { WRITES, FLUSHES, CUTS, KINDS };
 
-static unsigned long calls[KINDS], failing;
-static int kind, error, all_after;
+static unsigned long calls[KINDS], at_cut[KINDS], failing;
+static int kind, error, all_after, loses;
 static const char *store;
+
+/* What was written and not yet forced to the disk: the bytes before it, and how long the file was. */
+static struct { int fd; off64_t at, length; ssize_t size; char *old; } unsure[4096];
+static int count;
 
 __attribute__((constructor)) static void begin(void) {
   const char *number = getenv("FAILING"), *which = getenv("KIND"), *code = getenv("ERROR");
@@ -296,6 +300,7 @@ __attribute__((constructor)) static void begin(void) {
   kind = which ? atoi(which) : 0;
   error = code ? atoi(code) : EIO;
   all_after = getenv("ALL_AFTER") != 0;
+  loses = getenv("LOSES") != 0;
   store = getenv("STORE_FOLDER");
 }
 
@@ -304,7 +309,8 @@ __attribute__((destructor)) static void end(void) {
   int file = path ? open(path, O_WRONLY | O_CREAT | O_TRUNC, 0600) : -1;
   if (file >= 0) {
     char text[99];
-    int size = snprintf(text, sizeof text, "%lu %lu %lu", calls[WRITES], calls[FLUSHES], calls[CUTS]);
+    unsigned long *told = getenv("AT_CUT") ? at_cut : calls;
+    int size = snprintf(text, sizeof text, "%lu %lu %lu", told[WRITES], told[FLUSHES], told[CUTS]);
     ssize_t (*real)(int, const void *, size_t) = dlsym(RTLD_NEXT, "write");
     real(file, text, size);
     close(file);
@@ -319,6 +325,7 @@ static int fails(int of, int fd) {
   errno = then;
   if (size < 0 || !store || strncmp(name, store, strlen(store))) return 0;
   calls[of]++;
+  if (of == CUTS && calls[CUTS] == 1) memcpy(at_cut, calls, sizeof calls);
   int it = failing && of == kind && (calls[of] == failing || (all_after && calls[of] > failing));
   if (it) errno = error;
   return it;
@@ -326,32 +333,81 @@ static int fails(int of, int fd) {
 
 #define REAL(name) ((typeof(&name))dlsym(RTLD_NEXT, #name))
 
+static void forget(int fd) {
+  int left = 0;
+  for (int i = 0; i < count; i++) {
+    if (unsure[i].fd == fd) free(unsure[i].old);
+    else unsure[left++] = unsure[i];
+  }
+  count = left;
+}
+
+static void remember(int fd, size_t size, off64_t at) {
+  if (!loses || count == 4096) return;
+  char *old = calloc(size + 1, 1);
+  off64_t length = lseek64(fd, 0, SEEK_END);
+  unsure[count].fd = fd, unsure[count].at = at, unsure[count].length = length, unsure[count].old = old;
+  unsure[count++].size = pread64(fd, old, size, at);
+}
+
+static void lose(int fd) {
+  for (int i = count - 1; i >= 0; i--) {
+    if (unsure[i].fd != fd || unsure[i].size < 0) continue;
+    if (REAL(pwrite64)(fd, unsure[i].old, unsure[i].size, unsure[i].at) < 0) abort();
+    if (REAL(ftruncate64)(fd, unsure[i].length)) abort();
+  }
+  forget(fd);
+}
+
+static int flush(int fd, int is_failing, int (*real)(int)) {
+  int answer = is_failing ? -1 : real(fd), then = errno;
+  if (is_failing && loses) lose(fd);
+  else if (!answer) forget(fd);
+  errno = then;
+  return answer;
+}
+
+static ssize_t put(int fd, const void *bytes, size_t size, off64_t at) {
+  if (fails(WRITES, fd)) return -1;
+  remember(fd, size, at);
+  return REAL(pwrite64)(fd, bytes, size, at);
+}
+
+int close(int fd) {
+  forget(fd);
+  return REAL(close)(fd);
+}
+
 ssize_t write(int fd, const void *bytes, size_t size) { return fails(WRITES, fd) ? -1 : REAL(write)(fd, bytes, size); }
 ssize_t __write(int fd, const void *bytes, size_t size) { return write(fd, bytes, size); }
-ssize_t pwrite(int fd, const void *bytes, size_t size, off_t at) { return fails(WRITES, fd) ? -1 : REAL(pwrite)(fd, bytes, size, at); }
-ssize_t pwrite64(int fd, const void *bytes, size_t size, off64_t at) {
-  return fails(WRITES, fd) ? -1 : REAL(pwrite64)(fd, bytes, size, at);
-}
-int fsync(int fd) { return fails(FLUSHES, fd) ? -1 : REAL(fsync)(fd); }
-int fdatasync(int fd) { return fails(FLUSHES, fd) ? -1 : REAL(fdatasync)(fd); }
+ssize_t pwrite(int fd, const void *bytes, size_t size, off_t at) { return put(fd, bytes, size, at); }
+ssize_t pwrite64(int fd, const void *bytes, size_t size, off64_t at) { return put(fd, bytes, size, at); }
+int fsync(int fd) { return flush(fd, fails(FLUSHES, fd), REAL(fsync)); }
+int fdatasync(int fd) { return flush(fd, fails(FLUSHES, fd), REAL(fdatasync)); }
 int ftruncate(int fd, off_t size) { return fails(CUTS, fd) ? -1 : REAL(ftruncate)(fd, size); }
 int ftruncate64(int fd, off64_t size) { return fails(CUTS, fd) ? -1 : REAL(ftruncate64)(fd, size); }
 """
 
+WRITE, FLUSH, CUT = range(3)
 CALLS = ["write", "flush", "cut"]
+ERRORS = {"EIO": {"ERROR": str(errno.EIO)}, "ENOSPC": {"ERROR": str(errno.ENOSPC)}}
+# What was written since the last flush may be there or lost once one has failed.
+FATES = {"what was written stays": {}, "what was written is lost": {"LOSES": "1"}}
 DOZEN = [b"book HJ-Q 2", b"book HF-Y 1", b"cancel 1", b"leg HAM-FRA", b"book FN-Q 3", b"cancel 9", b"book HN-Y 1", b"cancel 2",
          b"book MF-Q 2", b"hindsight", b"book FJ-Q 4", b"cancel 3", b"book NJ-Y 1"]
 
 
-class Faults:
-    """Runs of a dozen lines behind the library, from a store with some rows or from none."""
+MANY = [line for at in range(300) for line in (b"book HJ-Q 1", b"cancel %d" % (at + 1))]  # after these the log was emptied once
+NEAR = 2  # the calls before and after that one that are made to fail
 
-    def __init__(self, program, mode, kind, folder, has_rows):
-        self.program, self.mode, self.kind, self.folder = program, mode, kind, folder
-        self.rows = [(3, "HF-Q", 2), (7, "NJ-Y", 1)] if has_rows else []
-        self.lines = DOZEN + [b"cancel 7", b"book HF-Q 1"] * has_rows
-        self.name = f"faults {mode} {CALLS[kind]} {'rows' if has_rows else 'new'}"
-        self.library = os.path.join(folder, "library.so")
+
+class Faults:
+    """Runs of some lines behind the library, from a store with some rows or from none."""
+
+    def __init__(self, given, mode, kind, lines, rows=()):
+        self.program, self.folder, self.library = given.program, given.quick, given.library
+        self.mode, self.kind, self.lines, self.rows = mode, kind, lines, list(rows)
+        self.name = f"faults {mode} {CALLS[kind]} {len(lines)} lines {len(rows)} rows"
 
     def run(self, place, lines, **variables):
         path = os.path.join(place, "STORE")
@@ -361,69 +417,85 @@ class Faults:
         environment = dict(os.environ, LD_PRELOAD=self.library, STORE_FOLDER=place, KIND=str(self.kind), **variables)
         return answered(self.program, self.mode, path, lines, env=environment)
 
-    def count(self, lines):
-        """How many calls of the kind a run has that nothing hinders."""
+    def count(self, **variables):
+        """How many calls of the kind a run has that nothing hinders, or has when its log is emptied for the first time."""
         preload.must_be_a_program(self.program)
-        told = os.path.join(self.folder, f"counted {self.name}")
         with tempfile.TemporaryDirectory(dir=self.folder) as place:
-            status, _ = self.run(place, lines, COUNTED=told)
-        if status or not os.path.exists(told):
-            raise preload.Wrong(f"{self.name}: status {status} with no fault, or {self.program} doesn't load the library")
-        with open(told) as file:
-            return int(file.read().split()[self.kind])
+            told = os.path.join(place, "COUNTED")
+            status, _ = self.run(place, self.lines, COUNTED=told, **variables)
+            if status or not os.path.exists(told):
+                raise preload.Wrong(f"status {status} with no fault, or {self.program} doesn't load the library")
+            with open(told) as file:
+                return int(file.read().split()[self.kind])
 
-    def fault(self, number, error, is_all):
+    def numbers(self):
+        """Which calls are made to fail."""
+        whole = self.count()
+        if self.lines is not MANY or self.kind == CUT:
+            return range(1, whole + 1)
+        place = self.count(AT_CUT="1")
+        if not place:
+            raise preload.Wrong(f"the log wasn't emptied in {len(self.lines)} lines")
+        return range(max(1, place - NEAR), min(whole, place + NEAR) + 1)
+
+    def fault(self, number, is_all, variables):
         """One run with faults, and a later one. What came of it."""
-        more = {"ALL_AFTER": "1"} if is_all else {}
+        more = variables | ({"ALL_AFTER": "1"} if is_all else {})
         with tempfile.TemporaryDirectory(dir=self.folder) as place:
-            status, output = self.run(place, self.lines, FAILING=str(number), ERROR=str(error), **more)
-            session, kind = self.judged(status, output, is_all)
+            status, output = self.run(place, self.lines, FAILING=str(number), **more)
+            session, refused, kind = self.judged(status, output, is_all)
             path = os.path.join(place, "STORE")
-            if status != STORE_FAULT:
-                must_be(stores.rows(path), rows_of(session), f"after the replies {output!r}")
-            goes_on(self.program, self.mode, path, rows_of(session))
-        return kind
+            rows = rows_of(session) if status == STORE_FAULT else stores.rows(path)
+            # if nothing can be forced to the disk any more, whether the first line that was answered `store` is there can't be known
+            may_be = is_all and self.kind == FLUSH and refused is not None and rows == rows_of(refused)
+            if not may_be:
+                must_be(rows, rows_of(session), f"after the replies {output[-300:]!r}")
+            goes_on(self.program, self.mode, path, rows)
+        return kind + may_be * " and the line is there"
 
     def judged(self, status, output, is_all):
-        """The session that these replies leave, and what came of it in a word."""
-        session = session_from(self.mode, self.rows)
+        """The session that these replies leave, that after the first line that was answered `store`, and what came in a word."""
+        session, refused, count = session_from(self.mode, self.rows), None, 0
         if (status, output) == (STORE_FAULT, b"store fault\n"):
-            return session, "store fault"
-        replies, refused = output.splitlines(keepends=True), 0
+            return session, refused, "store fault"
+        replies = output.splitlines(keepends=True)
+        replies.reverse()
         for line in self.lines:
-            other = copied(session)
-            wanted = other.reply(line)
-            got = b"".join(replies[:wanted.count(b"\n")])
-            if replies[:1] == [b"store\n"] and wanted.startswith((b"ok ", b"cancelled ")):
-                refused, replies = refused + 1, replies[1:]
-            elif got == wanted:
-                session, replies = other, replies[wanted.count(b"\n"):]
-            else:
-                raise Wrong(f"{wanted!r} to {line!r}, and not {got!r}, in {output!r}")
-        if status or replies or refused > 1 and not is_all:
-            raise Wrong(f"status 0, no more replies, and one `store` for one fault, and not status {status} and {output!r}")
-        return session, f"{'some' if is_all else 1} store" if refused else "no fault that shows"
+            if replies[-1:] == [b"store\n"]:
+                other = copied(session)
+                if not other.reply(line).startswith((b"ok ", b"cancelled ")):
+                    raise Wrong(f"no `store` to {line!r} in {output[-300:]!r}")
+                refused, count = refused or other, count + 1
+                replies.pop()
+                continue
+            wanted = session.reply(line)
+            got = b"".join(replies.pop() for _ in range(min(wanted.count(b"\n"), len(replies))))
+            if got != wanted:
+                raise Wrong(f"{wanted!r} to {line!r}, and not {got!r}, in {output[-300:]!r}")
+        if status or replies or count > 1 and not is_all:
+            raise Wrong(f"status 0, no more replies, and one `store` for one fault, and not status {status} and {output[-300:]!r}")
+        return session, refused, f"{'some' if is_all else 1} store" if count else "no fault that shows"
 
     def tried(self):
-        whole = self.count(self.lines)
-        found = []
-        for number, error, is_all in itertools.product(range(1, whole + 1), (errno.EIO, errno.ENOSPC), (False, True)):
+        found, ways = [], FATES if self.kind == FLUSH else ERRORS
+        for number, way, is_all in itertools.product(self.numbers(), ways, (False, True)):
             try:
-                found.append(self.fault(number, error, is_all))
-            except Wrong as wrong:
-                raise Wrong(f"call {number} of {whole}, {errno.errorcode[error]}{' and all after' * is_all}: {wrong}")
+                found.append(self.fault(number, is_all, ways[way]))
+            except (Wrong, stores.Unread) as wrong:
+                found.append(f"WRONG: {CALLS[self.kind]} {number}, {way}{', and all after' * is_all}: wanted {wrong}")
         return found
 
 
 def faults(given):
-    """None where there is no library."""
+    """In memory if there is such a disk, since no power is lost here."""
     if not preload.is_there():
         given.not_run.append(f"faults: {preload.WANTING}")
         return []
-    preload.built(LIBRARY, given.folder)
-    return [Faults(given.program, mode, kind, given.folder, has_rows)
-            for mode, kind, has_rows in [("first", 0, False), ("bid", 0, True), ("bid", 1, False), ("davn", 1, True), ("davn", 2, False),
-                                         ("first", 2, True)]]
+    given.library = preload.built(LIBRARY, given.folder)
+    rows = [(3, "HF-Q", 2), (7, "NJ-Y", 1)]
+    more = DOZEN + [b"cancel 7", b"book HF-Q 1"]
+    return [Faults(given, *it) for it in [("first", WRITE, DOZEN), ("bid", WRITE, more, rows), ("bid", FLUSH, DOZEN), ("davn", FLUSH, more, rows),
+                                          ("first", WRITE, MANY), ("first", FLUSH, MANY), ("first", CUT, MANY)]]
 
 
 # One by one
@@ -471,32 +543,35 @@ def disk_that_is_full(program, folder):
     os.remove(other)
     session = session_from("first")
     with Talk([program, "first", HUB, path], pipes()) as talk:
-        counts = collections.Counter(turn(talk, session, at, lambda: fill(other), lambda: os.remove(other)) for at in range(4_000))
+        counts = collections.Counter(turn(talk, session, at, lambda: fill(other), lambda: os.remove(other)) for at in range(LAST))
         talk.end_input()
-    if not counts["store"] or not counts["after"]:
+    if not counts["`store`"] or not counts["kept after that"]:
         raise Wrong(f"`store` on a full disk and bookings after it, and not {counts}")
     must_be(stores.rows(path), rows_of(session), "after a disk was full")
     goes_on(program, "first", path, rows_of(session))
     return [f"{count} {kind}" for kind, count in counts.items()]
 
 
+FULL, FREE, LAST = 100, 400, 800  # the lines from which on the disk is full, and free again
+
+
 def turn(talk, session, at, fill_it, free_it):
-    """Books and cancels on a disk that is full from line 1,000 on and free again after line 3,000."""
-    if at == 1_000:
+    """A booking or a cancellation, and what came of it."""
+    if at == FULL:
         fill_it()
-    if at == 3_000:
+    if at == FREE:
         free_it()
     line = b"book HF-Q 1" if at % 2 == 0 or not session.book else b"cancel %d" % session.book[0][0]
     other = copied(session)
     wanted = other.reply(line)
     talk.say(line + b"\n")
     got = talk.heard()
-    if got == b"store\n" and 1_000 <= at < 3_000:
-        return "store"
+    if got == b"store\n" and FULL <= at < FREE:
+        return "`store`"
     if got != wanted:
         raise Wrong(f"{wanted!r} to {line!r}, and not {got!r}, at line {at}")
     session.__dict__.update(other.__dict__)
-    return "after" if at >= 3_000 else "before"
+    return "kept after that" if at >= FREE else "kept before"
 
 
 def fill(path):
@@ -522,7 +597,7 @@ def on_a_small_disk(program, _folder):
 def disk_alone(program):
     """The trial of a full disk, on one that is mounted for it."""
     with tempfile.TemporaryDirectory() as folder:
-        subprocess.run(["mount", "-t", "tmpfs", "-o", "size=600k", "none", folder], check=True)
+        subprocess.run(["mount", "-t", "tmpfs", "-o", "size=8m", "none", folder], check=True)
         try:
             print("\n".join(disk_that_is_full(program, folder)))
         finally:
@@ -555,9 +630,12 @@ def outcome(trial):
         found = trial.tried()
     except (Wrong, preload.Wrong, stores.Unread, OSError, subprocess.SubprocessError) as wrong:
         return 0, 1, f"{trial.name}: {'wanted ' if isinstance(wrong, Wrong) else ''}{wrong}"
-    kinds = collections.Counter(found)
+    wrong = [it for it in found if it.startswith("WRONG: ")]
+    kinds = collections.Counter(it for it in found if not it.startswith("WRONG: "))
     named = ", ".join(f"{count} {kind}" for kind, count in sorted(kinds.items()))
-    return len(found), 0, f"{trial.name}: {named}; {time.monotonic() - begun:.1f} s"
+    told = [f"{trial.name}: {it}" for it in wrong[:MOST_TOLD]]
+    told += [f"{trial.name}: {len(wrong)} wrong, {named}; {time.monotonic() - begun:.1f} s"]
+    return len(found) - len(wrong), len(wrong), "\n".join(told)
 
 
 def all_trials(given):
@@ -591,7 +669,8 @@ def main():
         disk_alone(given.program)
         return 0
     passed = failed = 0
-    with given_folder as given.folder, concurrent.futures.ThreadPoolExecutor(os.cpu_count()) as pool:
+    memory = {"dir": "/dev/shm"} if os.access("/dev/shm", os.W_OK) else {}
+    with given_folder as given.folder, tempfile.TemporaryDirectory(**memory) as given.quick, concurrent.futures.ThreadPoolExecutor(os.cpu_count()) as pool:
         given.not_run, given.pace = [], Pace(given.program, given.folder)
         for good, bad, told in pool.map(outcome, [trial for trial in all_trials(given) if given.pattern in trial.name]):
             passed, failed = passed + good, failed + bad
