@@ -28,7 +28,6 @@ import argparse
 import collections
 import concurrent.futures
 import os
-import shutil
 import subprocess
 import sys
 import tempfile
@@ -38,6 +37,7 @@ HERE = os.path.dirname(os.path.realpath(__file__))
 TOP = os.path.dirname(HERE)
 sys.path.insert(0, HERE)
 sys.dont_write_bytecode = True
+import preload
 import reference
 import run
 
@@ -95,10 +95,6 @@ int posix_memalign(void **made, size_t to, size_t size) {
   return it ? 0 : ENOMEM;
 }
 """
-
-
-class Wrong(Exception):
-    """What stands against trying at all."""
 
 
 # What is wanted
@@ -204,7 +200,7 @@ def refused_certificate(path):
         reference.certificate_of(reference.network_in(HUB), reference.bytes_of(path, ""))
     except reference.Ended as ended:
         return ended.line.encode() + b"\n"
-    raise Wrong(f"{path} isn't refused")
+    raise preload.Wrong(f"{path} isn't refused")
 
 
 # Runs
@@ -215,15 +211,8 @@ class Runs:
 
     def __init__(self, program, folder):
         self.program, self.folder = program, folder
-        with open(program, "rb") as file:
-            if file.read(4) != b"\x7fELF":
-                raise Wrong(f"{program} is a script or another file, and must be the program itself")
-        source, self.library = os.path.join(folder, "library.c"), os.path.join(folder, "library.so")
-        with open(source, "w", encoding="ascii") as file:
-            file.write(LIBRARY)
-        built = subprocess.run(["cc", "-shared", "-fPIC", "-fno-builtin", "-o", self.library, source], capture_output=True)
-        if built.returncode:
-            raise Wrong(f"the library isn't built: {built.stderr.decode()}")
+        preload.must_be_a_program(program)
+        self.library = preload.built(LIBRARY, folder)
 
     def run(self, job, **variables):
         """How a run ended: its status and output, and what else must not be."""
@@ -247,9 +236,9 @@ class Runs:
         path = os.path.join(self.folder, "counted")
         status, output, also = self.run(job, COUNTED=path)
         if (status, output) != job.ample or also:
-            raise Wrong(f"{job.name} with ample memory: {told(status, output, also)}")
+            raise preload.Wrong(f"{job.name} with ample memory: {told(status, output, also)}")
         if not os.path.exists(path):
-            raise Wrong(f"{self.program} doesn't load the library")
+            raise preload.Wrong(f"{self.program} doesn't load the library")
         with open(path, "rb") as file:
             count = int(file.read())
         os.remove(path)
@@ -301,8 +290,8 @@ def main():
     parser.add_argument("--all", action="store_true")
     parser.add_argument("--program")
     given = parser.parse_args()
-    if not shutil.which("cc"):
-        print("Want of memory wasn't tried: that needs a C compiler, `cc`, and there is none here.")
+    if not preload.is_there():
+        print(f"Want of memory wasn't tried: {preload.WANTING}.")
         return 0
     script = os.path.join(TOP, "nrm")  # builds the program where it isn't
     if not given.program and subprocess.run([script], stdin=subprocess.DEVNULL, stdout=subprocess.DEVNULL).returncode == NOT_BUILT:
@@ -316,7 +305,7 @@ def main():
                 if given.pattern in job.name:
                     good, bad = tried(runs, job, given.all)
                     passed, failed = passed + good, failed + bad
-        except (Wrong, OSError) as wrong:
+        except (preload.Wrong, OSError) as wrong:
             print(wrong)
             return 1
     print(f"{passed} passed, {failed} failed")

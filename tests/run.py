@@ -1,11 +1,12 @@
 #!/usr/bin/env python3
 r"""The end-to-end cases, on the built program with real files, pipes and outputs.
 
-    tests/run.py [PATTERN] [--lay FOLDER] [--program WORD...]
+    tests/run.py [PATTERN] [--lay FOLDER] [--program WORD...] [--kept WORD...]
 
 PATTERN picks the cases whose name has it in it, or matches it whole where it has a * or a ?. With --lay nothing is run:
-what each case gives and wants is laid out in FOLDER/NAME, to be looked at and tried by hand. With no --program it is
-the script `nrm` at the top of the repository. Each case that fails is told; the last line is `N passed, M failed`.
+what each case gives and wants is laid out in FOLDER/NAME, to be looked at and tried by hand. With no --program and no --kept
+the programs are the scripts `nrm` and `nrm_kept` at the top of the repository. Each case that fails is told, and how many were not
+run and why; the last line is `N passed, M failed`.
 
 The cases stand in tests/tables/*.txt. A line at the margin opens an entry, and the indented lines below belong
 to it; a line that begins with # is a remark, and an empty line is nothing.
@@ -19,6 +20,7 @@ to it; a line that begins with # is a remark, and an empty line is nothing.
 
 A part is one of these lines, and what stands below it, indented once more:
 
+    program NAME          the program that the case runs: `nrm_kept`, and `nrm` where nothing is said
     words WORD WORD..     the words of the command line, none where none stand
     FILE                  a file of this name in the folder where the program runs
     stdin                 standard input, empty where nothing is said
@@ -27,7 +29,16 @@ A part is one of these lines, and what stands below it, indented once more:
     status N              the status that must come, 0 where nothing is said; `status N: TEXT` wants the line TEXT too
     outside               what is done to the outside, see below
 
-FILE, stdin, stdout and base have their lines below; one line may stand beside the word instead, `stdin: TEXT`. With
+and, of files that stay from run to run,
+
+    store FILE            an SQLite file of this name, which the statements of SQL below make
+    earlier [WORD..]      a run before, on the same files, in rows as those of `session`, with the words that stand here or else
+                          those of the case; there may be several, and each must end with status 0
+    rows FILE             the rows that the table `kept` of this SQLite file must have at the end, a blank between two columns
+    same FILE             at the end the file must have the bytes that it had before the run
+    none FILE             at the end there must be no file whose name begins so
+
+FILE, stdin, stdout, store, rows and base have their lines below; one line may stand beside the word instead, `stdin: TEXT`. With
 `of NAME` they have those of a base, or of a file that the case named before, and with `from PATH` those of a file of
 the repository. Changes of these stand below or, if it is one, after `with`:
 
@@ -50,6 +61,9 @@ A case with an outside of its own has a part `outside`, a line for each thing th
 
     mkdir NAME            a folder of that name stands in the folder where the program runs
     link NAME PATH        a link of that name stands in that folder, which leads to a path
+    hard NAME FILE        the file has that name too
+    fixed NAME            nobody may write to this file or folder; `.` is the folder where the program runs. If the cases are run
+                          by root, who may, the program is run by another user
     fifo FILE N           the file is a FIFO, which gives its bytes in pieces of N
     pieces N              standard input comes in pieces of N bytes
     stdin-missing         the program has no standard input at all
@@ -66,6 +80,7 @@ A case with an outside of its own has a part `outside`, a line for each thing th
 Whatever a case says, standard error must stay empty.
 """
 import argparse
+import collections
 import fnmatch
 import itertools
 import os
@@ -81,11 +96,21 @@ import time
 
 HERE = os.path.dirname(os.path.realpath(__file__))
 TOP = os.path.dirname(HERE)
+sys.path.insert(0, HERE)
+sys.dont_write_bytecode = True
+import stores
+
+PROGRAMS = ["nrm", "nrm_kept"]
+OTHER_USER = 65534  # `nobody`
 NOT_BUILT = 70  # what the script `nrm` ends with where there is no program to run
 
 
 class Bad(Exception):
     """A case that can't be read."""
+
+
+class NotRun(Exception):
+    """Why a case can't be run on this machine."""
 
 
 # Text
@@ -155,8 +180,11 @@ class Case:
 
     def __init__(self, name):
         self.name = name
-        self.words = None
+        self.program, self.words = PROGRAMS[0], None
         self.files, self.folders, self.links, self.fifos = {}, [], {}, {}
+        self.stores, self.rows, self.same, self.none = {}, {}, [], []
+        self.earlier = []  # of each run its words or none, and standard input and output
+        self.hard, self.fixed = {}, []
         self.stdin = self.stdout = b""
         self.status = 0
         self.stdin_missing = self.stdin_fails = self.stdin_breaks = False
@@ -170,6 +198,10 @@ class Case:
             self.folders.append(rest[0])
         elif verb == "link":
             self.links[rest[0]] = rest[1]
+        elif verb == "hard":
+            self.hard[rest[0]] = rest[1]
+        elif verb == "fixed":
+            self.fixed.append(rest[0])
         elif verb == "fifo":
             self.fifos[rest[0]] = int(rest[1])
         elif verb == "pieces":
@@ -197,18 +229,34 @@ class Case:
             os.makedirs(os.path.dirname(path), exist_ok=True)
             with open(path, "wb") as file:
                 file.write(content)
+        for name, statements in self.stores.items():
+            stores.make(os.path.join(folder, name), statements)
         for name, path in self.links.items():
             os.symlink(path, os.path.join(folder, name))
+        for name, file in self.hard.items():
+            os.link(os.path.join(folder, file), os.path.join(folder, name))
+
+    def fix(self, folder):
+        """Takes away who may write, and lets everybody read."""
+        os.chmod(folder, 0o755)
+        for name in self.fixed:
+            path = os.path.join(folder, name)
+            os.chmod(path, 0o555 if os.path.isdir(path) else 0o444)
 
     def lay_all(self, folder):
         """Writes what the case gives and wants, to be looked at and to be tried by hand."""
         os.makedirs(os.path.join(folder, "files"))
         self.lay(os.path.join(folder, "files"))
-        told = {"words": b"".join(word + b"\n" for word in self.words), "stdin": self.stdin, "stdout": self.stdout,
-                "status": b"%d\n" % self.status}
+        told = {"words": lines_of_words(self.words), "stdin": self.stdin, "stdout": self.stdout, "status": b"%d\n" % self.status}
+        for number, (words, stdin, _) in enumerate(self.earlier, 1):
+            told |= {f"words-earlier-{number}": lines_of_words(words or self.words), f"stdin-earlier-{number}": stdin}
         for name, content in told.items():
             with open(os.path.join(folder, name), "wb") as file:
                 file.write(content)
+
+
+def lines_of_words(words):
+    return b"".join(word + b"\n" for word in words)
 
 
 def word_of(head):
@@ -258,7 +306,15 @@ class Tables:
             word = word_of(head)
             rest = head[len(word):]
             if word == "words":
-                case.words = [unescaped(it) for it in WORD.findall(rest)]
+                case.words = words_of(rest)
+            elif word == "program":
+                case.program = program_of(rest)
+            elif word == "earlier":
+                case.earlier.append((words_of(rest) or None, *session_of(below)))
+            elif word in ("same", "none"):
+                getattr(case, word).append(unescaped(rest[1:]).decode())
+            elif word in ("store", "rows"):
+                self.stored(case, word, rest[1:], below)
             elif word == "session":
                 case.stdin, case.stdout = session_of(below)
             elif word == "outside":
@@ -278,6 +334,12 @@ class Tables:
             raise Bad("it says no words")
         return case
 
+    def stored(self, case, word, rest, below):
+        """What an SQLite file is made of, or the rows that it must have."""
+        name = word_of(rest)
+        held = case.stores if word == "store" else case.rows
+        held[name] = bytes_of(self.content(rest[len(name):], below, {}))
+
     def content(self, rest, below, known):
         """The entries of a part, each a list of lines."""
         found = re.fullmatch(r"(?:: (.*)| (of|from) (\S+)(?: with (.*))?)?", rest)
@@ -294,6 +356,18 @@ class Tables:
         else:
             raise Bad(f"there is no {name}")
         return changed(entries, ([] if change is None else [change]) + below)
+
+
+def words_of(text):
+    """The words of a command line."""
+    return [unescaped(it) for it in WORD.findall(text)]
+
+
+def program_of(rest):
+    """The program that a case names."""
+    if rest[1:] not in PROGRAMS:
+        raise Bad(f"there is no program{rest}")
+    return rest[1:]
 
 
 def session_of(rows):
@@ -353,17 +427,31 @@ class Fifo:
         self.giver.join()
 
 
+def content_of(path):
+    """The bytes of a file, or nothing if it isn't there."""
+    try:
+        with open(path, "rb") as file:
+            return file.read()
+    except FileNotFoundError:
+        return None
+
+
 class Run:
     """A run of a program on a case, in a folder."""
 
     def __init__(self, case, program, folder):
-        self.case, self.took = case, None
+        self.case, self.took, self.folder = case, None, folder
+        if (case.stores or case.rows) and not stores.is_there:
+            raise NotRun(stores.WANTING)
         case.lay(folder)
+        for words, stdin, stdout in case.earlier:
+            self.run_earlier(program + (words or case.words), stdin, stdout)
+        if case.fixed:
+            case.fix(folder)
+        self.before = {name: content_of(os.path.join(folder, name)) for name in case.same}
         stdin, stdout = self.stdin_end(), self.stdout_end()
         fifos = [Fifo(os.path.join(folder, name), piece) for name, piece in case.fifos.items()]
-        is_prepared = case.stdin_missing or case.stdout_missing or case.disk is not None
-        process = subprocess.Popen(program + case.words, cwd=folder, stdin=stdin, stdout=stdout, stderr=subprocess.PIPE,
-                                   preexec_fn=self.prepare if is_prepared else None)
+        process = self.begun(program + case.words, stdin, stdout)
         for end in (stdin, stdout):
             if end is not subprocess.PIPE:
                 end.close()
@@ -381,6 +469,41 @@ class Run:
             self.took.seek(0)
             self.out = self.took.read()
             self.took.close()
+        self.faults = list(self.left_wrong())
+
+    def run_earlier(self, words, stdin, stdout):
+        """A run before that of the case."""
+        done = subprocess.run(words, cwd=self.folder, input=stdin, capture_output=True, timeout=120)
+        if (done.returncode, done.stdout, done.stderr) != (0, stdout, b""):
+            raise Bad(f"an earlier run ended with status {done.returncode}, wrote {done.stdout[:300]!r}, wanted {stdout[:300]!r}; "
+                      f"standard error {done.stderr[:300]!r}")
+
+    def begun(self, words, stdin, stdout):
+        """The process of the program."""
+        case, user = self.case, {}
+        if case.fixed and os.geteuid() == 0:
+            user = {"user": OTHER_USER, "group": OTHER_USER, "extra_groups": []}
+        is_prepared = case.stdin_missing or case.stdout_missing or case.disk is not None
+        try:
+            return subprocess.Popen(words, cwd=self.folder, stdin=stdin, stdout=stdout, stderr=subprocess.PIPE,
+                                    preexec_fn=self.prepare if is_prepared else None, **user)
+        except PermissionError:
+            if not user:
+                raise
+            raise NotRun("the cases are run by root, who may write everywhere, and another user may not run the program")
+
+    def left_wrong(self):
+        """What is wrong with the files that are there at the end."""
+        for name, wanted in self.case.rows.items():
+            try:
+                got = stores.text(os.path.join(self.folder, name))
+            except stores.Unread as why:
+                got = str(why).encode()
+            if got != wanted:
+                yield f"{name} has {got[:300]!r}, wanted {wanted[:300]!r}"
+        yield from (f"{name} has changed" for name, was in self.before.items() if content_of(os.path.join(self.folder, name)) != was)
+        for name in self.case.none:
+            yield from (f"{it} is there" for it in stores.files(os.path.join(self.folder, name)))
 
     def prepare(self):
         """What is done in the program's process, before it begins."""
@@ -433,12 +556,13 @@ class Run:
 
     def is_as_wanted(self):
         has_no_output = self.case.stdout_missing or self.case.stdout_full or self.case.stdout_closed
-        return self.status == self.case.status and not self.err and (has_no_output or self.out == self.case.stdout)
+        is_told = has_no_output or self.out == self.case.stdout
+        return self.status == self.case.status and not self.err and is_told and not self.faults
 
     def told(self):
         wrote = (self.out or b"")[:300]
         return (f"{self.case.name}: status {self.status}, wanted {self.case.status}; wrote {wrote!r}, "
-                f"wanted {self.case.stdout[:300]!r}; standard error {self.err[:300]!r}")
+                f"wanted {self.case.stdout[:300]!r}; standard error {self.err[:300]!r}" + "".join(f"; {it}" for it in self.faults))
 
 
 def cases_of(pattern):
@@ -448,31 +572,58 @@ def cases_of(pattern):
     return [cases[name] for name in sorted(cases) if (fnmatch.fnmatch(name, pattern) if is_whole else pattern in name)]
 
 
+def programs_of(given):
+    """The command of each program by its name."""
+    words = {"nrm": given.program, "nrm_kept": given.kept}
+    return {name: [os.path.abspath(it) if os.path.exists(it) else it for it in some or [os.path.join(TOP, name)]]
+            for name, some in words.items()}
+
+
+def is_built(program):
+    """Builds a program if it isn't there."""
+    return subprocess.run(program, stdin=subprocess.DEVNULL, stdout=subprocess.DEVNULL).returncode != NOT_BUILT
+
+
+def outcome(case, program):
+    """Whether a case passed, and what is told of it; no truth value if it was not run."""
+    with tempfile.TemporaryDirectory() as folder:
+        try:
+            run = Run(case, program, folder)
+        except NotRun as why:
+            return None, str(why)
+        except Bad as why:
+            return False, f"{case.name}: {why}"
+    return run.is_as_wanted(), run.told()
+
+
 def main():
     parser = argparse.ArgumentParser(usage=__doc__)
     parser.add_argument("pattern", nargs="?", default="")
     parser.add_argument("--lay")
-    parser.add_argument("--program", nargs="+", default=[os.path.join(TOP, "nrm")])
+    parser.add_argument("--program", nargs="+")
+    parser.add_argument("--kept", nargs="+")
     given = parser.parse_args()
-    cases = cases_of(given.pattern)
+    cases, programs = cases_of(given.pattern), programs_of(given)
     if given.lay:
         for case in cases:
             case.lay_all(os.path.join(given.lay, case.name))
         return 0
-    program = [os.path.abspath(it) if os.path.exists(it) else it for it in given.program]
-    # builds it where it isn't
-    if subprocess.run(program, stdin=subprocess.DEVNULL, stdout=subprocess.DEVNULL).returncode == NOT_BUILT:
+    if not all(is_built(programs[name]) for name in sorted({case.program for case in cases})):
         print(f"0 passed, {len(cases)} failed")
         return NOT_BUILT
-    passed = 0
+    passed, left_out = 0, collections.Counter()
     for case in cases:
-        with tempfile.TemporaryDirectory() as folder:
-            run = Run(case, program, folder)
-        passed += run.is_as_wanted()
-        if not run.is_as_wanted():
-            print(run.told())
-    print(f"{passed} passed, {len(cases) - passed} failed")
-    return 0 if 0 < passed == len(cases) else 1
+        is_good, told = outcome(case, programs[case.program])
+        passed += is_good or 0
+        if is_good is None:
+            left_out[told] += 1
+        elif not is_good:
+            print(told)
+    for why, count in left_out.items():
+        print(f"{count} not run: {why}")
+    failed = len(cases) - passed - left_out.total()
+    print(f"{passed} passed, {failed} failed")
+    return 0 if passed + left_out.total() and not failed else 1
 
 
 if __name__ == "__main__":
