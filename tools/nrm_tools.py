@@ -262,6 +262,16 @@ class Network:
         yield from (["refund", it, self.refund[it]] for it in products if self.refund[it] != 100)
         yield from (["demand", it, history, *seats] for it in products for history, seats in sorted(self.demand[it].items()))
 
+    def rows_without(self, history):
+        """The rows of the network without a history; those behind it move up."""
+        for kind, *rest in self.rows():
+            if kind == "periods":
+                yield [kind, rest[0] - 1, *rest[1:]]
+            elif kind != "demand":
+                yield [kind, *rest]
+            elif rest[1] != history:
+                yield [kind, rest[0], rest[1] - (rest[1] > history), *rest[2:]]
+
     def seats_of(self, leg):
         """How many seats a leg has, in words, and how many are authorised if these aren't as many."""
         seats, authorised = self.seats[leg], self.authorised[leg]
