@@ -11,6 +11,7 @@ An analyst's own script may import it too, with the folder of this file on Pytho
 `tools/audit.py` does not: it is to share nothing with anything.
 """
 import argparse
+import functools
 import io
 import os
 import re
@@ -276,6 +277,12 @@ class Network:
         """How many seats a leg has, in words, and how many are authorised if these aren't as many."""
         seats, authorised = self.seats[leg], self.authorised[leg]
         return f"{seats} seats{'' if authorised == seats else f', {authorised} authorised'}"
+
+    @functools.cache
+    def mean_demand(self):
+        """The mean of the histories: of each product, the seats asked for in each period."""
+        none = [[0] * self.periods]
+        return {product: [sum(seats) / self.histories for seats in zip(*none, *rows.values())] for product, rows in self.demand.items()}
 
     def demand_in_all(self, product):
         """The seats that were asked for of a product, in all histories and periods together."""

@@ -15,8 +15,9 @@ body { font: 16px/1.5 system-ui, "Liberation Sans", Arial, sans-serif; color: #1
 h1 { font-size: 1.5rem; line-height: 1.25; } h2 { font-size: 1.2rem; margin-top: 2rem; }
 .wide { overflow-x: auto; margin: 1rem 0; }
 .wide:focus { outline: 2px solid #0072B2; }
-table { border-collapse: collapse; font-variant-numeric: tabular-nums; }
+table { border-collapse: collapse; min-width: min(100%, 30rem); font-variant-numeric: tabular-nums; }
 caption { text-align: left; font-weight: 600; padding-bottom: .4rem; }
+caption span { display: block; position: sticky; left: 0; max-width: min(100%, calc(100vw - 2.5rem)); }
 th, td { padding: .2rem .7rem; border-bottom: 1px solid #ccc; text-align: right; white-space: nowrap; }
 thead th { border-bottom: 2px solid #111; vertical-align: bottom; }
 th:first-child { text-align: left; }
@@ -52,7 +53,7 @@ class Page:
         rows = "\n".join(f'<tr><th scope="row">{html.escape(first)}</th>{"".join(f"<td>{html.escape(it)}</td>" for it in rest)}</tr>'
                          for first, *rest in table.cells())
         self.parts.append(f'<div class="wide" tabindex="0" role="region" aria-label="{html.escape(table.title)}"><table>\n'
-                          f"<caption>{html.escape(table.title)}</caption>\n<thead><tr>{heads}</tr></thead>\n<tbody>\n{rows}\n</tbody>\n"
+                          f"<caption><span>{html.escape(table.title)}</span></caption>\n<thead><tr>{heads}</tr></thead>\n<tbody>\n{rows}\n</tbody>\n"
                           "</table></div>")
 
     def picture(self, svg, title, description, is_large=False):
@@ -75,6 +76,13 @@ class Page:
         return (f'<!DOCTYPE html>\n<html lang="en">\n<head>\n<meta charset="utf-8">\n<meta name="viewport" content="width=device-width, '
                 f'initial-scale=1">\n<title>{title}</title>\n<style>{STYLE}</style>\n</head>\n<body>\n<main>\n<h1>{title}</h1>\n'
                 + "\n".join(self.parts) + "\n</main>\n</body>\n</html>\n")
+
+
+def write(path, text):
+    """Writes a file, and gives its path."""
+    with open(path, "w", encoding="utf-8") as file:
+        file.write(text)
+    return path
 
 
 if __name__ == "__main__":

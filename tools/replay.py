@@ -13,7 +13,7 @@ import random
 import tempfile
 
 from nrm_tools import MODES, Network, Stop, add_program, bytes_in, end, parser, program
-from seasons import Player, Settings, drawn_season
+from seasons import DrawnSeason, Player, Settings, seats_asked_for
 
 
 def main():
@@ -38,9 +38,21 @@ def main():
     print(row(line, "all", bounds, sums))
 
 
+def lines_of(network, history, draw):
+    """The stream of a history."""
+    seats = seats_asked_for(network, history)
+    for period in range(network.periods):
+        if period:
+            yield f"reoptimise {period + 1}"
+        requests = [f"book {product} 1" for product, by_period in seats.items() for _ in range(by_period[period])]
+        draw.shuffle(requests)
+        yield from requests
+    yield "hindsight"
+
+
 def replayed(player, history, seed):
     """The bound of a history, and the revenue of each mode."""
-    outcomes = player.outcomes(drawn_season(player.network, player.settings, random.Random(seed), history))
+    outcomes = player.outcomes(DrawnSeason(history, list(lines_of(player.network, history, random.Random(seed)))))
     bound = outcomes[MODES[0]].bound
     if bound is None:
         raise Stop(f"history {history} has no bound: its program is too large")

@@ -4,9 +4,13 @@ An analyst's own script may import it too, as `docs/analyst.md` shows. All numbe
 the seed, what the network file says of products and demand, and the number of the season: so a season is the same wherever and
 whenever it is drawn, and the same on two networks that differ in their legs' seats or thresholds alone.
 """
+import contextlib
+import functools
+import gc
 import hashlib
 import itertools
 import math
+import operator
 import os
 import random
 import re
@@ -54,15 +58,35 @@ class DrawnSeason:
 
     history        the one that is played, or None
     lines          of the stream, without line feeds: requests, `reoptimise` and at the end `hindsight`
-    requests       the product and the party of each line; None where it is no request
     cancellations  behind each line, the numbers of the lines whose bookings are cancelled there
-    shows          of each line, how many seats of the party are taken at departure
+    shows          of each line, how many seats of the party are taken at departure; None if departures aren't played
     """
     history: int | None
     lines: list
-    requests: list
     cancellations: dict = field(default_factory=dict)
     shows: list | None = None
+
+    @functools.cached_property
+    def requests(self):
+        """The product and the party that each line asks for that is a request, by its text."""
+        return {line: request_of(line) for line in set(self.lines) if line.startswith("book ")}
+
+    @functools.cached_property
+    def stream(self):
+        """The lines as the program takes them."""
+        return "\n".join([*self.lines, ""]).encode()
+
+    def tally(self, chosen=None):
+        """How often each request stands in the lines, or in those that a byte other than 0 chooses: a product, a party and a count."""
+        counts = Counter(self.lines if chosen is None else itertools.compress(self.lines, chosen))
+        return [(*self.requests[line], count) for line, count in counts.items() if line in self.requests]
+
+    def by_product(self, chosen=None):
+        """How many requests for each product stand in the lines, or in those that are chosen."""
+        requests = {}
+        for product, _, count in self.tally(chosen):
+            requests[product] = requests.get(product, 0) + count
+        return requests
 
 
 @dataclass
@@ -79,9 +103,9 @@ class Outcome:
     revenue: int
     withheld: int
     bound: Fraction | None
-    booked: Counter
-    shown: Counter | None
-    refused: Counter
+    booked: dict
+    shown: dict | None
+    refused: dict
 
     def denied(self, network):
         """The denied boardings: on each leg, seats taken beyond its physical seats."""
@@ -96,9 +120,9 @@ class Outcome:
 
 
 def identity(network):
-    """What of a network its seasons are drawn from, its periods, products, fares and demand, as one text."""
+    """A digest of what its seasons are drawn from: the periods, products, fares and demand of a network."""
     kept = (row for row in network.rows(legs=()) if row[0] != "refund")
-    return text_of(row[:3] if row[0] == "periods" else row for row in kept)
+    return hashlib.sha256(text_of(row[:3] if row[0] == "periods" else row for row in kept).encode()).hexdigest()
 
 
 def generator(seed, of_network, number):
@@ -131,50 +155,61 @@ def drawn_demand(network, demand, draw):
     if demand == "independent":
         none = [0] * network.periods
         return None, {product: rows.get(draw.randint(1, network.histories), none) for product, rows in network.demand.items()}
-    means = {product: [sum(seats) / network.histories for seats in zip(*rows.values())] for product, rows in network.demand.items()}
-    return None, {product: [poisson(mean, draw) for mean in by_period] for product, by_period in means.items()}
+    return None, {product: [poisson(mean, draw) for mean in by_period] for product, by_period in network.mean_demand().items()}
 
 
-def in_parties(product, seats, parties, draw):
-    """The requests for a product's seats in a period, each of a party; the last one is cut to the seats that are left."""
+def lines_for(product, seats, parties, draw):
+    """The requests for a product's seats in a period, as lines, each of a party; the last one is cut to the seats that are left."""
     sizes, weights = zip(*parties)
     if sizes == (1,):
-        return [(product, 1)] * seats
-    requests = []
+        return [f"book {product} 1"] * seats
+    lines = []
     while seats:
         [party] = draw.choices(sizes, weights)
-        requests.append((product, min(party, seats)))
-        seats -= requests[-1][1]
-    return requests
+        lines.append(f"book {product} {min(party, seats)}")
+        seats -= min(party, seats)
+    return lines
+
+
+def request_of(line):
+    """The product and the party that a line asks for."""
+    _, product, party = line.split(" ")
+    return product, int(party)
+
+
+def mixed(lines, draw):
+    """The lines in an order that is drawn, each as likely: by numbers drawn for them, in half the time of Python's `shuffle`."""
+    return [lines[at] for at in sorted(range(len(lines)), key=[draw.random() for _ in lines].__getitem__)]
 
 
 def ordered(network, seats, settings, draw):
-    """The lines of a stream and their requests: period after period, each in the order of the settings."""
-    lines, requests = [], []
+    """The lines of a stream, period after period, each in the order of the settings."""
+    lines = []
     for period in range(network.periods):
         if period:
             lines.append(f"reoptimise {period + 1}")
-            requests.append(None)
-        now = [it for product, by_period in seats.items() if by_period[period]
-               for it in in_parties(product, by_period[period], settings.parties, draw)]
-        draw.shuffle(now)
+        now = []
+        for product, by_period in seats.items():
+            if by_period[period]:
+                now += lines_for(product, by_period[period], settings.parties, draw)
+        now = mixed(now, draw)
         if settings.order == "low-first":
-            now.sort(key=lambda request: network.fare[request[0]])
-        lines += [f"book {product} {party}" for product, party in now]
-        requests += now
-    return [*lines, "hindsight"], [*requests, None]
+            now.sort(key=lambda line: network.fare[request_of(line)[0]])
+        lines += now
+    return [*lines, "hindsight"]
 
 
-def drawn_season(network, settings, draw, history=None):
-    """A season: one drawn as the settings say, or one with the requests of a history."""
-    history, seats = (history, seats_asked_for(network, history)) if history else drawn_demand(network, settings.demand, draw)
-    season = DrawnSeason(history, *ordered(network, seats, settings, draw))
+def drawn_season(network, settings, draw):
+    """A season that is drawn as the settings say."""
+    history, seats = drawn_demand(network, settings.demand, draw)
+    season = DrawnSeason(history, ordered(network, seats, settings, draw))
     if settings.cancel:
-        for at, request in enumerate(season.requests):
-            if request and draw.random() < settings.cancel:
+        for at, line in enumerate(season.lines):
+            if line in season.requests and draw.random() < settings.cancel:
                 season.cancellations.setdefault(draw.randint(at, len(season.lines) - 2), []).append(at)
     if settings.show is not None:
-        season.shows = [sum(draw.random() < settings.show for _ in range(request[1])) if request else 0 for request in season.requests]
+        parties = [season.requests.get(line, (None, 0))[1] for line in season.lines]
+        season.shows = [sum(draw.random() < settings.show for _ in range(party)) for party in parties]
     return season
 
 
@@ -198,15 +233,18 @@ class Clock:
         return time.perf_counter() - self.begun
 
 
-def replies_to_all(words, mode, path, lines, clock):
-    """The replies to lines that are known beforehand, through two files in memory."""
-    with os.fdopen(os.memfd_create("stream"), "r+b") as given, os.fdopen(os.memfd_create("replies"), "r+b") as told:
-        given.write("\n".join([*lines, ""]).encode())
-        given.seek(0)
+def replies_to_all(words, mode, path, stream, clock):
+    """The replies to a stream that is known beforehand, through two files in memory."""
+    given, told = os.memfd_create("stream"), os.memfd_create("replies")
+    try:
+        os.write(given, stream)
+        os.lseek(given, 0, os.SEEK_SET)
         with clock:
             status = subprocess.run([*words, "run", mode, path], stdin=given, stdout=told, close_fds=False).returncode
-        told.seek(0)
-        replies = told.read().split(b"\n")[:-1]
+        replies = os.pread(told, os.fstat(told).st_size, 0).split(b"\n")[:-1]
+    finally:
+        os.close(given)
+        os.close(told)
     if status:
         raise unanswered(mode, path, status, b"\n".join(replies[-1:]).decode("latin-1"))
     return replies
@@ -239,7 +277,9 @@ class Session:
 
 def replies_with_cancellations(words, mode, path, season, clock):
     """The replies to the lines of a season, with those to its cancellations taken out, and the lines whose bookings were cancelled."""
-    replies, cancelled, waiting, session = [], set(), [], Session(words, mode, path)
+    replies, cancelled, waiting = [], set(), []
+    with clock:
+        session = Session(words, mode, path)
 
     def ask():
         told = session.ask([line for _, line in waiting])
@@ -266,6 +306,8 @@ def replies_with_cancellations(words, mode, path, season, clock):
     return replies, cancelled
 
 
+SECOND_LETTER, OF_MEMORY = operator.itemgetter(1), ord("e")  # what tells the replies `ok`, `no` and `memory` from each other and the rest
+ARE_OK, ARE_NO = (bytes(code == ord(letter) for code in range(256)) for letter in "ko")
 BOUND = re.compile(rb"hindsight ([0-9]+/[1-9][0-9]*) revenue ([0-9]+) withheld ([0-9]+)")
 
 
@@ -274,30 +316,38 @@ def played(network, season, words, mode, path, clock):
     if season.cancellations:
         replies, cancelled = replies_with_cancellations(words, mode, path, season, clock)
     else:
-        replies, cancelled = replies_to_all(words, mode, path, season.lines, clock), set()
+        replies, cancelled = replies_to_all(words, mode, path, season.stream, clock), set()
     last = BOUND.fullmatch(replies[-1] if replies else b"")
     if not last and replies[-1:] != [b"overflow"]:
         raise Stop(f"`run {mode}` has no bound: {b''.join(replies[-1:]).decode('latin-1')}")
-    if len(replies) != len(season.lines) or b"memory" in replies:
+    try:
+        letters = bytearray(map(SECOND_LETTER, replies))
+    except IndexError:
+        letters = b""
+    if len(letters) != len(season.lines) or OF_MEMORY in letters:
         raise Stop(f"what `run {mode}` answers to {len(season.lines)} lines is no outcome: is memory short, or is that another program?")
-    stand = [at for at, reply in enumerate(replies) if reply.startswith(b"ok ") and at not in cancelled]
-    booked = Counter(map(season.requests.__getitem__, stand))
-    revenue = sum(network.fare[product] * party * count for (product, party), count in booked.items())
+    for at in cancelled:
+        letters[at] = 0
+    stand, refused = letters.translate(ARE_OK), letters.translate(ARE_NO)
+    booked = season.tally(stand)
+    revenue = sum(network.fare[product] * party * count for product, party, count in booked)
     if last and int(last[2]) != revenue:
         raise Stop(f"`run {mode}` has a revenue of {int(last[2])}, and its replies one of {revenue}: is that another program?")
-    refused = Counter(request[0] for request, reply in zip(season.requests, replies) if reply.startswith(b"no "))
     return Outcome(revenue, int(last[3]) if last else 0, Fraction(last[1].decode()) if last else None,
-                   by_leg(network, ((product, party * count) for (product, party), count in booked.items())),
-                   by_leg(network, ((season.requests[at][0], season.shows[at]) for at in stand)) if season.shows else None, refused)
+                   by_leg(network, ((product, party * count) for product, party, count in booked)),
+                   shown_of(network, season, stand) if season.shows else None, season.by_product(refused))
+
+
+def shown_of(network, season, stand):
+    """The seats that are taken at departure, by leg, of the bookings of chosen lines."""
+    lines = itertools.compress(zip(season.lines, season.shows), stand)
+    return by_leg(network, ((season.requests[line][0], seats) for line, seats in lines))
 
 
 def by_leg(network, seats_of_products):
     """Adds up seats of products by leg."""
-    by_product = Counter()
+    legs = dict.fromkeys(network.seats, 0)
     for product, seats in seats_of_products:
-        by_product[product] += seats
-    legs = Counter()
-    for product, seats in by_product.items():
         for leg in network.legs[product]:
             legs[leg] += seats
     return legs
@@ -341,15 +391,21 @@ def heads(network, settings):
 
 def rows_of_season(network, settings, number, season, outcomes):
     """The row of each mode, as a line of CSV."""
-    asked = Counter(request[0] for request in season.requests if request)
+    legs, products = list(network.seats), list(network.fare)
+    asked = season.by_product()
+    asked_for = numbers(asked, products)
     for mode, it in outcomes.items():
         boardings = [it.denied(network), it.empty(network)] if settings.show is not None else []
         cost = settings.denied_cost * boardings[0] if boardings else 0
-        yield ",".join(map(str, [
-            number, mode, season.history or "", asked.total(), "" if it.bound is None else f"{float(it.bound):.4f}",
-            it.revenue, it.withheld, *boardings, it.revenue + it.withheld - cost,
-            *(it.booked[leg] for leg in network.seats), *(it.shown[leg] for leg in (network.seats if boardings else ())),
-            *(asked[product] for product in network.fare), *(it.refused[product] for product in network.fare)])) + "\n"
+        bound = "" if it.bound is None else f"{float(it.bound):.4f}"
+        yield ",".join([str(number), mode, str(season.history or ""), str(sum(asked.values())), bound, str(it.revenue), str(it.withheld),
+                        *map(str, boardings), str(it.revenue + it.withheld - cost), *numbers(it.booked, legs),
+                        *(numbers(it.shown, legs) if boardings else ()), *asked_for, *numbers(it.refused, products)]) + "\n"
+
+
+def numbers(counts, names):
+    """The texts of the numbers of some names; one that isn't there has 0."""
+    return list(map(str, map(counts.get, names, itertools.repeat(0))))
 
 
 @dataclass
@@ -362,11 +418,23 @@ class Batch:
     why: str | None = None
 
 
+@contextlib.contextmanager
+def no_collector():
+    """Leaves out Python's search for garbage in cycles, of which none is made here: it takes some per cent of the time."""
+    was_on = gc.isenabled()
+    gc.disable()
+    try:
+        yield
+    finally:
+        if was_on:
+            gc.enable()
+
+
 def play_batch(source, settings, words, numbers):
     """Plays the seasons of some numbers on the network of a file's bytes. A Stop is given back as a text, since it may have far to go."""
     clock, rows = Clock(), []
     try:
-        with tempfile.TemporaryDirectory() as folder:
+        with tempfile.TemporaryDirectory() as folder, no_collector():
             player = Player(source, settings, words, folder)
             for number in numbers:
                 season = player.season(number)

@@ -43,7 +43,7 @@ from pathlib import Path
 
 import seasons
 from nrm_tools import BUILT, MODES, TOP, Network, Stop, add_program, bytes_in, end, make_folder, parser, program
-from page import Page
+from page import Page, write
 from results import Results, Study
 from seasons import DEMANDS, LARGEST_PARTY, ORDERS, Settings, play_batch
 from telling import DEBIANS_PYTHON, answered
@@ -340,13 +340,6 @@ def about(given, settings, results):
     if settings.leave_out:
         yield "Plans were made without the history that was played."
     yield f"Seasons whose revenue is above the bound: {sum(it.above_bound for it in results.values())}."
-
-
-def write(path, text):
-    """Writes a file, and gives its path."""
-    with open(path, "w", encoding="utf-8") as file:
-        file.write(text)
-    return path
 
 
 def page_of(sentences, tables, pictures):
