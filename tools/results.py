@@ -122,11 +122,11 @@ class Study:
 
     def tables(self):
         """All tables."""
+        if self.authorised():
+            yield from self.by_authorised_seats()
         yield self.earnings()
         if len(self.settings.modes) > 1:
             yield self.paired()
-        if self.authorised():
-            yield from self.by_authorised_seats()
         for name in self.networks:
             yield self.loads(name)
             yield self.refusals(name)

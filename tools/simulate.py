@@ -32,7 +32,9 @@ with more seasons. Without --out nothing is kept. With no --program it is the `n
 import contextlib
 import dataclasses
 import hashlib
+import importlib.util
 import json
+import logging
 import os
 import re
 import signal
@@ -127,18 +129,16 @@ def names_of(paths):
     return names
 
 
-def with_dask():
+def see_dask():
     """Sees that there is Dask, or goes on under Debian's Python if that one has it."""
-    try:
-        import distributed
-        return distributed
-    except ImportError:
-        if os.path.realpath(sys.executable) != os.path.realpath(DEBIANS_PYTHON):
-            if os.path.isdir(DEBIANS_DASK) and os.access(DEBIANS_PYTHON, os.X_OK):
-                os.execv(DEBIANS_PYTHON, [DEBIANS_PYTHON, *sys.argv])
-            raise Stop(f"{sys.executable}, the Python that was asked, has no Dask; Debian's package python3-distributed has it for "
-                       f"{DEBIANS_PYTHON}, under which this goes on once it is installed")
+    if importlib.util.find_spec("distributed"):
+        return
+    if os.path.realpath(sys.executable) == os.path.realpath(DEBIANS_PYTHON):
         raise Stop(f"{sys.executable} has no Dask; `apt-get install python3-distributed` installs it")
+    if os.path.isdir(DEBIANS_DASK) and os.access(DEBIANS_PYTHON, os.X_OK):
+        os.execv(DEBIANS_PYTHON, [DEBIANS_PYTHON, *sys.argv])
+    raise Stop(f"{sys.executable}, the Python that was asked, has no Dask; Debian's package python3-distributed has it for {DEBIANS_PYTHON}, "
+               "under which this goes on once it is installed")
 
 
 # The rows of a network on disk
@@ -256,7 +256,6 @@ class Progress:
 @contextlib.contextmanager
 def cluster(distributed, given):
     """A client of a scheduler with workers: of the one at an address, or of one on this machine that ends with it."""
-    import logging
     for name in ("distributed", "distributed.nanny", "distributed.worker", "distributed.scheduler", "distributed.core", "asyncio", "tornado"):
         logging.getLogger(name).setLevel(logging.CRITICAL)
     if given.cluster:
@@ -305,11 +304,10 @@ def played_all(distributed, client, studies, settings, words, progress):
     return times
 
 
-def simulated(distributed, given, settings, studies, words):
+def simulated(given, settings, studies, words):
     """Plays the seasons that aren't there yet, and tells on standard error what the time went to."""
+    import distributed  # here, since it takes a second
     done, wanted = sum(len(it.rows) for it in studies), given.seasons * len(studies)
-    if done == wanted:
-        return
     progress, begun = Progress(wanted, done), time.monotonic()
     try:
         with cluster(distributed, given) as client:
@@ -380,7 +378,8 @@ def runnable(words, path):
 
 def main():
     given = words_given()
-    distributed, settings = with_dask(), settings_of(given)
+    see_dask()
+    settings = settings_of(given)
     with tempfile.TemporaryDirectory() as spare:
         folder = given.out or spare
         make_folder(folder)
@@ -391,7 +390,8 @@ def main():
         check_same(folder, settings, studies)
         for it in studies:
             it.go_on()
-        simulated(distributed, given, settings, studies, words)
+        if any(len(it.rows) < given.seasons for it in studies):
+            simulated(given, settings, studies, words)
         told(given, settings, studies)
 
 
