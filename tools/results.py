@@ -196,18 +196,22 @@ class Study:
             return None
         return legs[0], dict(sorted((it.authorised[legs[0]], name) for name, it in self.networks.items()))
 
+    def less_than_most(self, mode, names):
+        """By the authorised seats, how much less is earned than with those that earn most, on the same requests; None with those."""
+        earned = {seats: self.results[name].earned[mode] for seats, name in names.items()}
+        best = max(earned, key=lambda seats: sum(earned[seats]))
+        return {seats: None if seats == best else Estimate.of([a - b for a, b in zip(earned[best], values)]) for seats, values in earned.items()}
+
     def by_authorised_seats(self):
         """What each mode earns by the authorised seats of the leg, and how far that is from the most, season by season."""
         leg, names = self.authorised()
         for mode in self.settings.modes:
-            earned = {seats: self.results[name].earned[mode] for seats, name in names.items()}
-            best = max(earned, key=lambda seats: sum(earned[seats]))
             rows = []
-            for seats, values in earned.items():
-                less = Estimate.of([a - b for a, b in zip(earned[best], values)])
-                shown = [f"{self.results[names[seats]].mean(mode, column):.2f}" for column in ("denied", "empty")] if self.departs else []
-                rows.append([str(seats), *shown, amount(sum(values) / len(values)), *([amount(less.mean + sign * less.half()) for sign in (0, -1, 1)]
-                                                                                      if seats != best else ["most", None, None])])
+            for seats, less in self.less_than_most(mode, names).items():
+                it = self.results[names[seats]]
+                shown = [f"{it.mean(mode, column):.2f}" for column in ("denied", "empty")] if self.departs else []
+                ends = [amount(less.mean + sign * less.half()) for sign in (0, -1, 1)] if less else ["most", None, None]
+                rows.append([str(seats), *shown, amount(it.mean(mode, "earned")), *ends])
             yield Table(f"Under {mode}, by the authorised seats of {leg}, in currency units a season",
                         ["authorised", *(["denied", "empty"] if self.departs else []), "earned", "less than the most by", "from, at 95 %", "to"], rows)
 
@@ -232,11 +236,13 @@ class Study:
                 yield f"differences-{mode}-{other}{number}", title, about, charts.histogram(values, "currency units", "seasons")
 
     def picture_of_authorised(self, leg, names):
-        courses = [(mode, [(seats, it.mean, it.half()) for seats, name in names.items() for it in [Estimate.of(self.results[name].earned[mode])]])
-                   for mode in self.settings.modes]
-        tops = "; ".join(f"under {mode} most at {max(course, key=lambda it: it[1])[0]}" for mode, course in courses)
-        return ("authorised", f"What is earned by the authorised seats of {leg}", f"The mean of a season with its 95 per cent interval: {tops}",
-                charts.courses(courses, f"authorised seats of {leg}", "currency units a season"))
+        """What each mode earns less than with the authorised seats that are its best."""
+        less = {mode: self.less_than_most(mode, names) for mode in self.settings.modes}
+        courses = [(mode, [(seats, -it.mean if it else 0, it.half() if it else 0) for seats, it in by_seats.items()]) for mode, by_seats in less.items()]
+        tops = "; ".join(f"under {mode} at {next(seats for seats, it in by_seats.items() if not it)}" for mode, by_seats in less.items())
+        return ("authorised", f"What is earned by the authorised seats of {leg}", "What a season brings beside the authorised seats that earn most in "
+                f"each mode, with its 95 per cent interval. Most is earned {tops}",
+                charts.courses(courses, f"authorised seats of {leg}", "beside the most, currency units"))
 
 
 if __name__ == "__main__":
