@@ -900,6 +900,9 @@ def season_tells_what_the_documents_show(tools):
     decimal = tools.told("season.py", *words[:4], "--decimal", *words[4:])
     want_in(decimal, "  end        1240  2110  2840  2920.00\n")
     want("/" in decimal.replace("pictures/", ""), False, "fractions in decimals")
+    page = (tools.folder / "pictures" / "season.html").read_text()
+    want_in(page, '<tr><th scope="row">end</th><td>1240</td><td>2110</td><td>2840</td><td>2920.00</td></tr>')
+    want((page.count("<svg "), page.count("<desc "), "<script" in page), (*[4 * ("pictures/seats.svg" in out)] * 2, False))
 
 
 OF_REFUNDS = ["book AB 4", "cancel 1", "book AC 1", "reoptimise 2", "book AC 1", "cancel 2", "book AB 2", "book CD 3", "cancel 9", "cancel 3"]
@@ -953,7 +956,7 @@ def replies_are_dealt_one_to_a_line(tools):
 @test
 def replay_tells_each_history(tools):
     out = tools.told("replay.py", EXAMPLES / "log" / "network.csv", "--program", *tools.program)
-    want(out.splitlines()[-1].split(), ["all", "7,760", "4,410", "57", "%", "5,600", "72", "%", "6,600", "85", "%"])
+    want(out.splitlines()[-1].split(), ["all", "7,760", "4,410", "57", "%", "5,490", "71", "%", "6,600", "85", "%"])
     one = tools.file("one.csv", "periods,1,1\nleg,A,1\nproduct,P,5,A\n")
     want_in(tools.stopped("replay.py", one, "--program", *tools.program), "two histories")
     rows = [row.fields for row in rows_of((EXAMPLES / "log" / "network.csv").read_bytes())]
@@ -1217,7 +1220,7 @@ def tools_name_the_file_that_cant_be_read(tools):
 
 @test
 def parts_of_tools_say_that_they_are_none(tools):
-    for path in (TOOLS / "nrm_tools.py", TOOLS / "pictures.py", TOOLS / "telling.py", TOP / "bench" / "networks.py"):
+    for path in (*(TOOLS / f"{it}.py" for it in ("nrm_tools", "pictures", "telling", "seasons", "results", "charts", "page")), TOP / "bench" / "networks.py"):
         for words in ([], ["--help"]):
             out, err, status = tools.ran(path, *words)
             want((out, err.startswith(f"{path.name}: no tool, but a part of "), status), ("", True, 1), err)

@@ -11,6 +11,7 @@ An analyst's own script may import it too, with the folder of this file on Pytho
 `tools/audit.py` does not: it is to share nothing with anything.
 """
 import argparse
+import functools
 import io
 import os
 import re
@@ -262,10 +263,26 @@ class Network:
         yield from (["refund", it, self.refund[it]] for it in products if self.refund[it] != 100)
         yield from (["demand", it, history, *seats] for it in products for history, seats in sorted(self.demand[it].items()))
 
+    def rows_without(self, history):
+        """The rows of the network without a history; those behind it move up."""
+        for kind, *rest in self.rows():
+            if kind == "periods":
+                yield [kind, rest[0] - 1, *rest[1:]]
+            elif kind != "demand":
+                yield [kind, *rest]
+            elif rest[1] != history:
+                yield [kind, rest[0], rest[1] - (rest[1] > history), *rest[2:]]
+
     def seats_of(self, leg):
         """How many seats a leg has, in words, and how many are authorised if these aren't as many."""
         seats, authorised = self.seats[leg], self.authorised[leg]
         return f"{seats} seats{'' if authorised == seats else f', {authorised} authorised'}"
+
+    @functools.cache
+    def mean_demand(self):
+        """The mean of the histories: of each product, the seats asked for in each period."""
+        none = [[0] * self.periods]
+        return {product: [sum(seats) / self.histories for seats in zip(*none, *rows.values())] for product, rows in self.demand.items()}
 
     def demand_in_all(self, product):
         """The seats that were asked for of a product, in all histories and periods together."""

@@ -1,5 +1,5 @@
 #!/usr/bin/env python3
-"""A season in the three modes: its numbers as tables, and four pictures of them.
+"""A season in the three modes: its numbers as tables, four pictures of them, and a page with both.
 
     tools/season.py NETWORK STREAM [--out FOLDER] [--leg LEG] [--decimal] [--program WORD...]
 
@@ -9,7 +9,8 @@ prices of each leg, at the opening, at each line `reoptimise` and at the end; th
 of how many requests each product was refused. The seats left are those of the authorised seats.
 
 The tables come on standard output; the pictures go to FOLDER, the current one where nothing is said, each as PNG and as SVG, and
-are the same each time. They need matplotlib (Debian's python3-matplotlib): without it there are the tables alone. LEG is the leg
+are the same each time. They need matplotlib (Debian's python3-matplotlib): without it there are the tables alone. Both are in
+season.html too, a page that stands alone in one file, without scripts. LEG is the leg
 whose seats are drawn, by default the one of which most seats were asked for. With --decimal the tables have decimals in the place
 of fractions, as a spreadsheet wants them. With no --program it is the `nrm` above this folder, or the one on the path.
 
@@ -19,11 +20,14 @@ what any other line is answered. Each line has one reply, and each reply one lin
 lines that begin with `product`, `leg` and a fraction, `nest` or `protect`, and that of a leg with lines that begin with `on`.
 So the replies are dealt out to the lines in order, and those to the lines put in are taken away.
 """
+import os
 import re
 from fractions import Fraction
+from pathlib import Path
 
-from nrm_tools import MODES, Network, Stop, add_program, bytes_in, end, parser, program, replies
-from telling import no_pictures, table
+from nrm_tools import MODES, Network, Stop, add_program, bytes_in, end, make_folder, parser, program, replies
+from page import Page, write
+from telling import Table, no_pictures
 
 
 class Stream:
@@ -135,27 +139,63 @@ def leg_most_asked_for(network, stream):
 
 
 def tables(network, stream, seasons, leg, decimal=False):
+    """The tables of a season."""
     names = [name for _, name in stream.points]
-    print("Each point of the season is behind a line of the stream:",
-          *[f"{name} {number}" for number, name in stream.points], sep="\n  ")
     rows = zip(names, *[[point.revenue for point in it.points] for it in seasons], [it.bound for it in seasons[0].points])
-    table("Revenue of the bookings that stand, and the bound of hindsight, in currency units", ["", *MODES, "bound"],
-          rows, decimal)
+    yield Table("Revenue of the bookings that stand, and the bound of hindsight, in currency units", ["", *MODES, "bound"],
+                list(rows), decimal)
     if min(network.refund.values()) < 100:
         rows = zip(names, *[[point.withheld for point in it.points] for it in seasons])
-        table("Withheld of the bookings that were cancelled, in currency units", ["", *MODES], rows, decimal)
+        yield Table("Withheld of the bookings that were cancelled, in currency units", ["", *MODES], list(rows), decimal)
     for it in seasons[1:]:
         rows = [[name, *[point.prices[name] for point in it.points]] for name in network.seats]
-        table(f"Bid prices under {it.mode}, in currency units", ["leg", *names], rows, decimal)
+        yield Table(f"Bid prices under {it.mode}, in currency units", ["leg", *names], rows, decimal)
     authorised = "" if network.authorised[leg] == network.seats[leg] else f", {network.seats_of(leg)},"
     for it in seasons:
         rows = [[name, point.sold[leg], network.authorised[leg] - point.sold[leg],
                  *(point.protections[leg] if it.mode == "davn" else [])] for name, point in zip(names, it.points)]
         levels = [f"for 1 to {b}" if b > 1 else "for 1" for b in range(1, len(rows[0]) - 2)]
-        table(f"Seats of {leg}{authorised} under {it.mode}: sold, left{', and protected for buckets' if levels else ''}",
-              ["", "sold", "left", *levels], rows, decimal)
+        yield Table(f"Seats of {leg}{authorised} under {it.mode}: sold, left{', and protected for buckets' if levels else ''}",
+                    ["", "sold", "left", *levels], rows, decimal)
     rows = [[name, asked, *[it.refused[name] for it in seasons]] for name, asked in seasons[0].asked.items() if asked]
-    table("Requests for each product, and how many of them were refused", ["product", "requests", *MODES], rows, decimal)
+    yield Table("Requests for each product, and how many of them were refused", ["product", "requests", *MODES], rows, decimal)
+
+
+def abouts(stream, seasons, leg):
+    """What each picture shows, in words, for those who can't see it."""
+    last = ", ".join(f"{it.mode} {it.points[-1].revenue:,}" for it in seasons if it.points[-1].revenue is not None)
+    refused = ", ".join(f"{it.mode} {sum(it.refused.values()):,}" for it in seasons)
+    return {"bid-prices": ("Bid prices", "The bid price of each leg over the season, under bid and under davn; the tables have each number."),
+            "seats": (f"The seats of {leg}", "In each mode the seats sold, those left, and those protected by bucket, behind each line. "
+                      f"Sold at the end: {', '.join(f'{it.mode} {it.course[-1]}' for it in seasons)}."),
+            "revenue": ("Revenue", f"The revenue of each mode beside the bound of hindsight. At the end: {last}."),
+            "refused": ("Refusals", f"Of each product the share of its requests that was refused. In all were refused: {refused}, "
+                        f"of {sum(seasons[0].asked.values()):,}.")}
+
+
+def page(told, stream, seasons, leg, pictures):
+    """The page of a season, with its tables, and its pictures if there are some."""
+    made = Page("A season in three modes")
+    made.heading("Tables")
+    made.text("Each point of the season is behind a line of the stream: " + ", ".join(f"{name} {number}" for number, name in stream.points) + ".")
+    for table in told:
+        made.table(table)
+    if pictures:
+        made.heading("Pictures")
+    for path in pictures:
+        with open(path, encoding="utf-8") as file:
+            made.picture(file.read(), *abouts(stream, seasons, leg)[Path(path).stem], is_large=True)
+    return made.html()
+
+
+def drawn(network, stream, seasons, leg, folder):
+    """Draws the pictures if there is matplotlib, and gives the paths of the files as they are written."""
+    try:
+        import pictures
+    except ImportError:
+        no_pictures()
+        return
+    yield from pictures.drawn(network, stream, seasons, leg, folder)
 
 
 def main():
@@ -174,15 +214,17 @@ def main():
         raise Stop(f"there is no leg {leg}")
     seasons = [Season(mode, network, stream, leg, replies(program(given.program), mode, given.network, stream.data()))
                for mode in MODES]
-    tables(network, stream, seasons, leg, given.decimal)
-    try:
-        import pictures
-    except ImportError:
-        no_pictures()
-        return
-    print()
-    for path in pictures.drawn(network, stream, seasons, leg, given.out):
-        print(path)
+    told = list(tables(network, stream, seasons, leg, given.decimal))
+    print("Each point of the season is behind a line of the stream:",
+          *[f"{name} {number}" for number, name in stream.points], sep="\n  ")
+    for table in told:
+        print("\n" + table.text(), end="")
+    paths = []
+    for path in drawn(network, stream, seasons, leg, given.out):
+        print(path if paths else f"\n{path}")
+        paths.append(path)
+    make_folder(given.out)
+    print(write(os.path.join(given.out, "season.html"), page(told, stream, seasons, leg, [it for it in paths if it.endswith(".svg")])))
 
 
 if __name__ == "__main__":

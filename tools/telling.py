@@ -1,7 +1,8 @@
-"""What tools tell, and from what: the lines that the program answers to words, tables of text, and why there are no pictures."""
+"""What tools tell, and from what: the lines that the program answers to words, tables, and why there are no pictures."""
 import os
 import subprocess
 import sys
+from dataclasses import dataclass
 from fractions import Fraction
 
 from nrm_tools import Stop, no_tool
@@ -31,13 +32,30 @@ def cell(value, decimal):
     return "" if value is None else str(value)
 
 
+@dataclass
+class Table:
+    """A table: its title, the heads of its columns, and rows of numbers, names or nothing. The first column names the rows."""
+    title: str
+    heads: list
+    rows: list
+    decimal: bool = False
+
+    def cells(self):
+        """The texts of the rows."""
+        return [[cell(it, self.decimal) for it in row] for row in self.rows]
+
+    def text(self):
+        """The table as lines of text, its columns to the right but for the first."""
+        rows = [self.heads, *self.cells()]
+        widths = [max(map(len, column)) for column in zip(*rows)]
+        lines = ("  ".join([f"  {row[0]:<{widths[0]}}", *[f"{it:>{width}}" for it, width in zip(row[1:], widths[1:])]]).rstrip()
+                 for row in rows)
+        return "\n".join([self.title, "", *lines, ""])
+
+
 def table(title, heads, rows, decimal=False):
-    """A table of text, its columns to the right but for the first."""
-    rows = [[cell(it, decimal) for it in row] for row in [heads, *rows]]
-    widths = [max(map(len, column)) for column in zip(*rows)]
-    print(f"\n{title}\n")
-    for row in rows:
-        print("  ".join([f"  {row[0]:<{widths[0]}}", *[f"{it:>{width}}" for it, width in zip(row[1:], widths[1:])]]).rstrip())
+    """Prints a table of text."""
+    print("\n" + Table(title, heads, list(rows), decimal).text(), end="")
 
 
 def no_pictures():

@@ -1,0 +1,399 @@
+#!/usr/bin/env python3
+"""Simulated seasons, by `tools/simulate.py` on this machine: what is drawn, what is added up, and that no worker matters.
+
+    tests/simulate.py [PATTERN] [--program WORD...]
+
+It needs Dask (Debian's python3-distributed), under the Python that runs it or under /usr/bin/python3; if neither has it, a line says
+that it was not run. The scheduler and the workers are on the loopback address. If Chromium is there, it opens the pages too.
+The tests are the functions below, of which PATTERN picks those with it in their name. With no --program it is the script `nrm` at the
+top of the repository. What fails is told; the last line is `N passed, M failed`.
+"""
+import argparse
+import contextlib
+import csv
+import html.parser
+import importlib.util
+import math
+import os
+import random
+import re
+import shutil
+import signal
+import subprocess
+import sys
+import tempfile
+import time
+from fractions import Fraction
+from pathlib import Path
+
+HERE = Path(__file__).resolve().parent
+TOP, TOOLS, EXAMPLES = HERE.parent, HERE.parent / "tools", HERE.parent / "examples"
+sys.dont_write_bytecode = True
+sys.path.insert(0, str(TOOLS))
+import reference
+import seasons
+from nrm_tools import MODES, Network, bytes_in
+from telling import DEBIANS_PYTHON
+
+SECONDS = 90
+LOG, HUB, SEASON = (str(EXAMPLES / it / "network.csv") for it in ("log", "hub", "season"))
+TESTS = []
+
+
+def test(function):
+    """Makes a function one of the tests."""
+    TESTS.append(function)
+    return function
+
+
+class Wrong(Exception):
+    """What should have come, and what came."""
+
+
+def want(found, wanted, what="it"):
+    if found != wanted:
+        raise Wrong(f"{what}: wanted {str(wanted)[:300]!r}, and not {str(found)[:300]!r}")
+
+
+def want_in(text, wanted):
+    if wanted not in text:
+        raise Wrong(f"wanted {wanted!r} in {text[-600:]!r}")
+
+
+class Place:
+    """A folder in which the tool is run with a program."""
+
+    def __init__(self, program, folder):
+        self.program, self.folder = program, Path(folder)
+
+    def begun(self, *words, program=None, **more):
+        """The process of a run, with its own group."""
+        words = [sys.executable, "-B", TOOLS / "simulate.py", *words, "--program", *(program or self.program)]
+        return subprocess.Popen(list(map(str, words)), cwd=self.folder, stdout=subprocess.PIPE, stderr=subprocess.PIPE, text=True,
+                                start_new_session=True, **more)
+
+    def ran(self, *words, **more):
+        """The output, standard error and status of a run."""
+        with self.begun(*words, **more) as process:
+            try:
+                return *process.communicate(timeout=SECONDS), process.returncode
+            except subprocess.TimeoutExpired:
+                os.killpg(process.pid, signal.SIGKILL)
+                raise Wrong("it doesn't end")
+
+    def told(self, *words, **more):
+        """The output of a run that ends with status 0."""
+        out, err, status = self.ran(*words, **more)
+        want(status, 0, err)
+        return out
+
+    def slow(self):
+        """Words that run the program after a while."""
+        path = self.folder / "slow"
+        path.write_text('sleep 0.02\nexec %s "$@"\n' % " ".join(f"'{it}'" for it in self.program))
+        return ["sh", str(path)]
+
+    def file(self, name, text):
+        (self.folder / name).write_text(text)
+        return str(self.folder / name)
+
+
+def by_one_process(place, network, settings, count):
+    """The file of rows that one process makes, without Dask."""
+    batch = seasons.play_batch(bytes_in(network), settings, place.program, range(count))
+    want(batch.why, None)
+    return ",".join(seasons.heads(Network.read(network), settings)) + "\n" + batch.rows
+
+
+def wait_for(condition, what):
+    """Waits for something, but not for long."""
+    until = time.monotonic() + SECONDS
+    while not condition():
+        if time.monotonic() > until:
+            raise Wrong(f"{what} doesn't come")
+        time.sleep(0.01)
+
+
+@contextlib.contextmanager
+def dask(folder, name, *words):
+    """A process of Dask, a scheduler or a worker, killed at the end."""
+    words = [sys.executable, "-m", f"distributed.cli.dask_{name}", "--scheduler-file", str(folder / "scheduler.json"), *words]
+    with open(folder / "dask.log", "ab") as log:
+        process = subprocess.Popen(words, stdout=log, stderr=log, cwd=folder)
+    try:
+        yield process
+    finally:
+        process.kill()
+        process.wait()
+
+
+@test
+def a_killed_worker_loses_nothing(place):
+    worker = ["--nthreads", "1", "--no-nanny", "--no-dashboard", "--host", "127.0.0.1", "--local-directory", str(place.folder)]
+    with contextlib.ExitStack() as stack:
+        stack.enter_context(dask(place.folder, "scheduler", "--host", "127.0.0.1", "--port", "0", "--no-dashboard"))
+        wait_for((place.folder / "scheduler.json").exists, "the scheduler")
+        first, second = (stack.enter_context(dask(place.folder, "worker", *worker)) for _ in range(2))
+        wait_for(lambda: (place.folder / "dask.log").read_text(errors="replace").count("Registered to") >= 2, "a worker")
+        address = re.search(r'"address": "([^"]*)"', (place.folder / "scheduler.json").read_text())[1]
+        run = place.begun(LOG, "--seasons", 120, "--out", "killed", "--cluster", address, program=place.slow())
+        part = place.folder / "killed" / "network-seasons.part"
+        wait_for(lambda: part.exists() and part.stat().st_size or run.poll() is not None, "a row")
+        want(part.exists() and part.read_text().count("\n") < 3 * 120, True, "in the middle")
+        first.kill()
+        out, err = run.communicate(timeout=SECONDS)
+        want((run.returncode, second.poll()), (0, None), err)
+    want((place.folder / "killed" / "network-seasons.csv").read_text(), by_one_process(place, LOG, seasons.Settings(), 120))
+    want(part.exists(), False)
+
+
+@test
+def sums_of_the_rows_are_the_summary(place):
+    words = ["--show", "0.9", "--denied-cost", "700", "--cancel", "0.1", "--parties", "1:80,2:15,4:5"]
+    out = place.told(SEASON, "--seasons", 12, "--workers", 2, "--out", "sums", *words)
+    with open(place.folder / "sums" / "network-seasons.csv", newline="") as file:
+        rows = list(csv.DictReader(file))
+    network = Network.read(SEASON)
+    by_mode = {mode: [it for it in rows if it["mode"] == mode] for mode in MODES}
+    for mode, own in by_mode.items():
+        want([int(it["season"]) for it in own], list(range(12)), mode)
+        means = [sum(int(it[name]) for it in own) / 12 for name in ("revenue", "withheld", "denied", "empty", "earned")]
+        error = spread([int(it["earned"]) for it in own])
+        share = sum(int(it["revenue"]) for it in own) / sum(float(it["bound"]) for it in own)
+        texts = [f"{means[0]:,.1f}", f"{means[1]:,.1f}", f"{means[2]:.2f}", f"{means[3]:.2f}", f"{means[4]:,.1f}", f"{error:,.1f}",
+                 f"{100 * share:.2f}", "%"]
+        want_in(" ".join(out.split()), " ".join([mode, *texts]))
+        for row in own:
+            loads = [(int(row[f"shown {leg}"]), seats) for leg, seats in network.seats.items()]
+            want(int(row["denied"]), sum(max(0, taken - seats) for taken, seats in loads))
+            want(int(row["empty"]), sum(max(0, seats - taken) for taken, seats in loads))
+            want(int(row["earned"]), int(row["revenue"]) + int(row["withheld"]) - 700 * int(row["denied"]))
+            want(all(int(row[f"shown {leg}"]) <= int(row[f"booked {leg}"]) <= network.authorised[leg] for leg in network.seats), True)
+    differences = [int(a["earned"]) - int(b["earned"]) for a, b in zip(by_mode["davn"], by_mode["bid"])]
+    mean, half = sum(differences) / 12, 1.96 * spread(differences)
+    want_in(" ".join(out.split()), f"davn less bid {mean:,.1f} {spread(differences):,.1f} {mean - half:,.1f} {mean + half:,.1f}")
+    asked, refused = (sum(int(it[f"{what} VIE-LHR-2Q"]) for it in by_mode["davn"]) for what in ("asked", "refused"))
+    want(re.search(r"VIE-LHR-2Q .*", out)[0].split()[-2], f"{100 * refused / asked:.1f}")
+
+
+def spread(values):
+    """The standard error of the mean."""
+    mean = sum(values) / len(values)
+    return math.sqrt(sum((it - mean) ** 2 for it in values) / (len(values) - 1) / len(values))
+
+
+@test
+def no_season_beats_the_bound(place):
+    for name in (LOG, HUB):
+        for demand in seasons.DEMANDS:
+            rows = csv.DictReader(by_one_process(place, name, seasons.Settings(seed=3, demand=demand, order="low-first"), 10).splitlines())
+            want([it["season"] for it in rows if not 0 <= int(it["revenue"]) <= float(it["bound"])], [], f"{name} {demand}")
+
+
+@test
+def drawn_means_are_those_of_the_histories(place):
+    for name in (LOG, SEASON):
+        network = Network.read(name)
+        for demand in seasons.DEMANDS:
+            settings, count = seasons.Settings(demand=demand, parties=((1, 80), (2, 15), (4, 5))), 400
+            drawn = [seats_drawn(network, seasons.drawn_season(network, settings, seasons.generator(1, "test", it))) for it in range(count)]
+            for product, by_period in network.mean_demand().items():
+                for period, mean in enumerate(by_period):
+                    values = [it.get((product, period), 0) for it in drawn]
+                    if abs(sum(values) / count - mean) > 4 * spread(values) + 1e-9:
+                        raise Wrong(f"{name} {demand} {product} {period + 1}: {sum(values) / count} for {mean}")
+
+
+def seats_drawn(network, season):
+    """The seats that a season asks for, by product and period."""
+    seats, period = {}, 0
+    for line in season.lines:
+        words = line.split()
+        if words[0] == "reoptimise":
+            want(int(words[1]), period + 2)
+            period += 1
+        elif words[0] == "book":
+            seats[words[1], period] = seats.get((words[1], period), 0) + int(words[2])
+    want((season.lines[-1], period), ("hindsight", network.periods - 1))
+    return seats
+
+
+@test
+def requests_come_in_the_order_that_is_asked_for(place):
+    network = Network.read(HUB)
+    fares = lambda order: [[network.fare[it.split()[1]] for it in part.splitlines() if it.startswith("book")] for part in re.split(
+        "reoptimise .", "\n".join(seasons.drawn_season(network, seasons.Settings(order=order), random.Random(5)).lines))]
+    want(fares("low-first"), [sorted(it) for it in fares("mixed")])
+    want(fares("mixed") != fares("low-first"), True)
+
+
+@test
+def cancellations_are_of_bookings_that_stand(place):
+    """By the program that was written apart, `tests/reference.py`, asked line by line."""
+    network, settings, cancelled = Network.read(LOG), seasons.Settings(cancel=0.4, parties=((1, 1), (3, 1))), 0
+    for number in range(6):
+        season = seasons.drawn_season(network, settings, random.Random(number))
+        for mode in MODES:
+            found = seasons.played(network, season, place.program, mode, LOG, seasons.Clock())
+            session, numbers = reference.Session(reference.network_of(bytes_in(LOG)), mode), {}
+            for at, line in enumerate(season.lines):
+                reply = session.reply(line.encode()).decode()
+                if reply.startswith("ok "):
+                    numbers[at] = int(reply.split()[1])
+                for booked_at in season.cancellations.get(at, ()):
+                    want(booked_at <= at, True, "a cancellation before its booking")
+                    if booked_at in numbers:
+                        cancelled += session.reply(f"cancel {numbers[booked_at]}".encode()).startswith(b"cancelled ")
+            last = session.reply(b"hindsight").decode().split()
+            want((found.bound, found.revenue, found.withheld), (Fraction(last[1]), int(last[3]), int(last[5])), f"season {number} {mode}")
+    want(cancelled > 10, True, f"{cancelled} cancellations")
+
+
+@test
+def ctrl_c_keeps_what_is_done(place):
+    """And the same line goes on from there, as one with more seasons does."""
+    run = place.begun(LOG, "--seasons", 400, "--workers", 2, "--out", "cut", program=place.slow(),
+                      preexec_fn=lambda: signal.signal(signal.SIGINT, signal.SIG_DFL))
+    part = place.folder / "cut" / "network-seasons.part"
+    wait_for(lambda: part.exists() and part.stat().st_size or run.poll() is not None, "a row")
+    asked_at = time.monotonic()
+    os.killpg(run.pid, signal.SIGINT)
+    out, err = run.communicate(timeout=SECONDS)
+    want((run.returncode, "Traceback" in err, time.monotonic() - asked_at < 10), (-signal.SIGINT, False, True), err)
+    want(0 < part.read_text().count("\n") < 3 * 400, True, "in the middle")
+    wait_for(lambda: not has_group(run.pid), "the end of its processes")
+    with open(part, "a") as file:
+        file.write("399,first,1")  # as a write that was cut
+    for count in (60, 80):
+        part_of = by_one_process(place, LOG, seasons.Settings(), count)
+        place.told(LOG, "--seasons", count, "--workers", 1, "--out", "cut")
+        want((place.folder / "cut" / "network-seasons.csv").read_text(), part_of, f"{count} seasons")
+    want_in(place.ran(LOG, "--seasons", 70, "--out", "cut")[1], "has more seasons than the 70 that are asked for")
+    want_in(place.ran(LOG, "--seasons", 90, "--out", "cut", "--seed", 2)[1], "another run, which differs in: seed")
+
+
+def has_group(group):
+    """Whether a process of a group is left."""
+    try:
+        os.killpg(group, 0)
+        return True
+    except ProcessLookupError:
+        return False
+
+
+@test
+def seats_and_thresholds_change_no_request(place):
+    """So that networks are compared on the same seasons; and of those that differ in authorised seats the best is told."""
+    text = Path(SEASON).read_text()
+    paths = [place.file(f"with-{it}.csv", re.sub("leg,VIE-LHR-2,48,50,.*", f"leg,VIE-LHR-2,48,{it}", text)) for it in (30, 52)]
+    out = place.told(*paths, "--seasons", 6, "--workers", 2, "--out", "two", "--show", "0.9", "--denied-cost", "500", "--modes", "first")
+    rows = [list(csv.DictReader((place.folder / "two" / f"with-{it}-seasons.csv").read_text().splitlines())) for it in (30, 52)]
+    for a, b in zip(*rows):
+        want([a[it] for it in a if it.startswith("asked ")], [b[it] for it in b if it.startswith("asked ")])
+    want_in(out, "Under first, by the authorised seats of VIE-LHR-2")
+    want(re.search(r"^  52 .* most$", out, re.M) is not None, True, out)
+
+
+@test
+def mistakes_are_told_in_a_line(place):
+    refused = place.file("refused.csv", "periods,1,1\nleg,a,1\n")
+    one = place.file("one.csv", "periods,1,1\nleg,A,1\nproduct,P,5,A\n")
+    for words, status, wanted in ((["none.csv"], 1, "none.csv: No such file"), ([refused], 1, "explain.py"), ([LOG, "--show", "0.9"], 2, "together"),
+                                  ([LOG, "--parties", "0:1"], 2, "--parties"), ([LOG, "--cancel", "2"], 2, "--cancel"),
+                                  ([LOG, "--leave-out", "--demand", "poisson"], 2, "--leave-out"), ([one, "--leave-out"], 1, "two"),
+                                  ([LOG, LOG], 1, "named twice"), ([LOG, "--out", one], 1, "is a file"),
+                                  ([LOG, "--cluster", "tcp://127.0.0.1:9"], 1, "no Dask scheduler at tcp://127.0.0.1:9")):
+        out, err, ended = place.ran(*words, "--seasons", 1)
+        want((ended, "Traceback" in err, out), (status, False, ""), err)
+        want_in(err, wanted)
+    other = place.ran(LOG, "--seasons", 1, "--workers", 1, program=["sh", place.file("other", 'test "$1" = print || echo ok 1')])
+    want((other[2], "Traceback" in other[1]), (1, False), other[1])
+    want_in(other[1], "simulate.py: `run first` has no bound: ok 1")
+
+
+@test
+def it_says_where_there_is_no_dask(place):
+    """As under a Python that sees no packages."""
+    words = [sys.executable, "-S", "-B", TOOLS / "simulate.py", LOG, "--seasons", "1"]
+    done = subprocess.run(words, cwd=place.folder, capture_output=True, text=True, timeout=SECONDS)
+    want((done.stdout, done.returncode, done.stderr.count("\n")), ("", 1, 1), done.stderr)
+    want_in(done.stderr, "has no Dask; ")
+    want_in(done.stderr, "python3-distributed")
+
+
+class Reader(html.parser.HTMLParser):
+    """What a page is made of."""
+
+    def __init__(self, text):
+        super().__init__()
+        self.tags, self.open = [], []
+        self.feed(text)
+
+    def handle_starttag(self, tag, attributes):
+        self.tags.append((tag, dict(attributes)))
+
+    def all(self, name):
+        return [attributes for tag, attributes in self.tags if tag == name]
+
+
+@test
+def pages_stand_alone(place):
+    place.told(LOG, "--seasons", 8, "--workers", 1, "--out", "page")
+    words = [sys.executable, "-B", TOOLS / "season.py", LOG, EXAMPLES / "log" / "commands.txt", "--out", "page", "--program", *place.program]
+    want(subprocess.run(list(map(str, words)), cwd=place.folder, capture_output=True, timeout=SECONDS).returncode, 0)
+    for name, pictures in (("simulate", 4), ("season", 4 if importlib.util.find_spec("matplotlib") else 0)):
+        path = place.folder / "page" / f"{name}.html"
+        text = path.read_text()
+        page = Reader(text)
+        want((page.all("html"), len(page.all("h1")), page.all("script"), len(page.all("svg"))), ([{"lang": "en"}], 1, [], pictures), name)
+        want(re.findall(r"""(?:src|href)=["'](?!#)[^"']*|@import|url\((?!#)""", text), [], name)
+        ids = [it["id"] for _, it in page.tags if "id" in it]
+        want(len(ids), len(set(ids)), f"{name}: names on the page")
+        want([it for it in page.all("svg") if it.get("role") != "img" or not set(it["aria-labelledby"].split()) <= set(ids)], [], name)
+        want({it.get("scope") for it in page.all("th")}, {"col", "row"}, name)
+        want(len(page.all("caption")), len(page.all("table")), name)
+        want_in(text, 'name="viewport"')
+        if chromium := shutil.which("chromium"):
+            opened(place, chromium, path)
+
+
+def opened(place, chromium, path):
+    """Opens a page in Chromium, wide and narrow, and sees that it draws something."""
+    for width in (1200, 390):
+        picture = place.folder / f"{path.stem}-{width}.png"
+        words = [chromium, "--headless", "--no-sandbox", "--disable-gpu", f"--user-data-dir={place.folder}/chromium", f"--window-size={width},900",
+                 f"--screenshot={picture}", path.as_uri()]
+        subprocess.run(words, capture_output=True, timeout=SECONDS)
+        want(picture.exists() and picture.stat().st_size > 5000, True, f"{path.name} at {width}")
+
+
+def main():
+    words = argparse.ArgumentParser(usage="tests/simulate.py [PATTERN] [--program WORD...]")
+    words.add_argument("pattern", nargs="?", default="")
+    words.add_argument("--program", nargs="+", default=[str(TOP / "crates" / "nrm" / "out" / "nrm")])
+    given = words.parse_args()
+    if importlib.util.find_spec("distributed") is None:
+        if os.path.isdir("/usr/lib/python3/dist-packages/distributed") and os.path.realpath(sys.executable) != os.path.realpath(DEBIANS_PYTHON):
+            os.execv(DEBIANS_PYTHON, [DEBIANS_PYTHON, *sys.argv])
+        print("not run: there is no Dask here; Debian's package is python3-distributed")
+        print("0 passed, 0 failed")
+        return 0
+    passed = failed = 0
+    for function in TESTS:
+        if given.pattern in function.__name__:
+            begun = time.monotonic()
+            with tempfile.TemporaryDirectory() as folder:
+                try:
+                    function(Place(given.program, folder))
+                    passed += 1
+                except Exception as fault:
+                    failed += 1
+                    print(f"{function.__name__}: {type(fault).__name__}: {fault}")
+            if os.environ.get("TIMES"):
+                print(f"{function.__name__} {time.monotonic() - begun:.1f} s")
+    print(f"{passed} passed, {failed} failed")
+    return 1 if failed else 0
+
+
+if __name__ == "__main__":
+    sys.exit(main())
