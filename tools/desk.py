@@ -246,7 +246,7 @@ class Desk:
 
     def _begin(self, connection, network, seconds):
         self.socket, self.seconds, self.left, self.is_late = connection, seconds, b"", False
-        self.network = network if isinstance(network, Network | None) else Network.read(network)
+        self.network = network
 
     def __enter__(self):
         return self
@@ -291,10 +291,13 @@ class Desk:
         return self.ask("hindsight", Hindsight, Overflow, Memory)
 
     def available(self, product):
-        """The largest party, at most 999, of which `book` would be sold now, and 0 if none would be. It is worked out from `plan` and
+        """The largest party, at most 999, of which a `book` would be sold now, and 0 if none would be; a KeyError for a product that
+        the network file hasn't. It is worked out from `plan` and
         `leg`, so that no booking is made and hindsight remembers nothing. Others who ask meanwhile can change it."""
         if not self.network:
             raise ValueError("the desk was given no network file, and the program doesn't tell the legs of a product")
+        if not isinstance(self.network, Network):
+            self.network = Network.read(self.network)
         legs, plan = self.network.legs[product], self.plan()
         if plan.mode == "bid" and self.network.fare[product] < sum(plan.prices[leg] for leg in legs):
             return 0

@@ -46,6 +46,7 @@ PIECE = 65_536
 AT_ONCE = select.PIPE_BUF  # a pipe takes so many bytes whole or not at all
 LONGEST = AT_ONCE - 1
 MOST_ASKED = 100  # the lines of one client that are taken and not answered
+SOON = 0.0002  # the seconds in which most replies are there: to wait for them so is faster than another round of the loop
 END_SECONDS = 10  # for a program that doesn't answer to end after its input
 JOURNAL_FAULT = 74
 KEEPS_BOOKINGS = "nrm_kept"
@@ -350,7 +351,7 @@ class Hub:
         self.pieces, self.is_full = collections.deque(), False  # what the pipe to the program hasn't taken
         self.askers, self.left = collections.deque(), b""  # who waits for how many replies, nobody for a mark's
         self.answered = journal.count if journal else 0
-        self.stops, self.fault, self.ended = False, None, self.loop.create_future()
+        self.stops, self.is_over, self.fault, self.ended = False, False, None, self.loop.create_future()
         os.set_blocking(controller.input, False)
         os.set_blocking(controller.output, False)
         self.loop.add_reader(controller.output, self.hear)
@@ -404,6 +405,8 @@ class Hub:
         self.pieces.extend(pieces_of(b"".join(given)))
         if not self.is_full:
             self.send()
+        if not self.is_over and select.select([self.controller.output], [], [], SOON)[0]:
+            self.hear()
 
     def expect_with_marks(self, client, lines):
         at = 0
@@ -442,6 +445,7 @@ class Hub:
             replies, self.left = whole_replies(self.left + piece)
             self.deal(replies)
         else:
+            self.is_over = True
             self.loop.remove_reader(self.controller.output)
             self.loop.run_in_executor(None, self.controller.status).add_done_callback(self.program_ended)
 
