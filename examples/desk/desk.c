@@ -4,6 +4,7 @@
 
    Behind each line it sends an empty one, whose reply is `bad`: what comes before that is the reply to the line. It ends with 0,
    or with 1 if the connection fails, or ends as a line `closed WHY` tells, which is written too. */
+#include <signal.h>
 #include <stdio.h>
 #include <string.h>
 #include <sys/socket.h>
@@ -17,6 +18,7 @@ int main(int count, char **words) {
     if (count != 2 || strlen(words[1]) >= sizeof place.sun_path)
         return fputs("usage: desk PATH < lines\n", stderr), 2;
     strcpy(place.sun_path, words[1]);
+    signal(SIGPIPE, SIG_IGN); /* what is still to be read tells why */
     if (connect(controller, (struct sockaddr *)&place, sizeof place) != 0)
         return perror(words[1]), 1;
     FILE *say = fdopen(controller, "w"), *hear = fdopen(dup(controller), "r");
