@@ -214,7 +214,7 @@ class Client(asyncio.BufferedProtocol):
         self.since = self.full_since = None
 
     def connection_made(self, transport):
-        self.transport, self.since = transport, self.hub.loop.time()
+        self.transport, self.since = transport, self.hub.now
         transport.set_write_buffer_limits(high=PIECE)
         self.hub.clients.add(self)
         if self.hub.stops:
@@ -234,7 +234,7 @@ class Client(asyncio.BufferedProtocol):
         if self.why:
             return
         if not self.left:
-            self.since = self.hub.loop.time()
+            self.since = self.hub.now
         self.left += bytes(self.hub.piece[:size])
         self.take()
 
@@ -247,19 +247,28 @@ class Client(asyncio.BufferedProtocol):
         """Has as many lines given to the program as may be asked at a time; after one that can take long no other before its reply."""
         room = 0 if self.is_working or self.full_since or not self.transport else MOST_ASKED - self.asked
         if room > 0 and (stop := self.left.rfind(b"\n") + 1):
-            if self.left.count(b"\n", 0, stop) > room:
+            if stop > room and self.left.count(b"\n", 0, stop) > room:
                 stop = sum(map(len, self.left.split(b"\n", room)[:room])) + room
             if found := LONG_WORK.search(self.left, 0, stop):
                 stop, self.is_working = found.end(), True
             if stop > self.hub.limits.longest:
                 stop = self.before_a_long_line(stop)
             if stop:
-                self.since = self.hub.loop.time()
+                self.since = self.hub.now
                 taken, self.left = self.left[:stop], self.left[stop:]
                 self.hub.take(self, taken, taken.count(b"\n"))
-        if len(self.left) > self.hub.limits.longest and not self.why and self.left.find(b"\n", 0, self.hub.limits.longest + 1) < 0:
+        if self.left or self.is_paused or self.why:
+            self.look_at_what_is_left()
+
+    def look_at_what_is_left(self):
+        """Sees that it begins with no line that is too long, and reads no more while a piece waits, so that memory is bounded."""
+        longest = self.hub.limits.longest
+        if len(self.left) > longest and self.left.find(b"\n", 0, longest + 1) < 0:
             self.leave("long")
-        self.pause_or_read_on()
+        is_to_pause = len(self.left) >= PIECE or self.why is not None
+        if self.transport and not self.has_ended and not self.transport.is_closing() and self.is_paused != is_to_pause:
+            self.is_paused = is_to_pause
+            (self.transport.pause_reading if is_to_pause else self.transport.resume_reading)()
 
     def before_a_long_line(self, stop):
         """At most so many bytes, up to a line that is longer than any may be."""
@@ -271,12 +280,6 @@ class Client(asyncio.BufferedProtocol):
                 return at
             at = next_at
         return stop
-
-    def pause_or_read_on(self):
-        """No more is read while a piece waits, so that no client takes more memory."""
-        if self.transport and not self.has_ended and self.is_paused != (len(self.left) >= PIECE or self.why is not None):
-            self.is_paused = not self.is_paused
-            (self.transport.pause_reading if self.is_paused else self.transport.resume_reading)()
 
     def answer(self, replies):
         """Sends it the replies to the next of its lines."""
@@ -304,7 +307,7 @@ class Client(asyncio.BufferedProtocol):
         """It is cut off, after the replies to the lines that were taken."""
         if not self.why:
             self.why, self.left = why, b""
-            self.pause_or_read_on()
+            self.look_at_what_is_left()
             self.go_on()
 
     def close(self, why):
@@ -313,7 +316,7 @@ class Client(asyncio.BufferedProtocol):
             if why:
                 self.transport.write(f"closed {why}\n".encode())
             self.transport.close()
-            self.since = self.hub.loop.time()
+            self.since = self.hub.now
 
     def cut_off(self):
         """It doesn't take its replies, so what is unsent is dropped."""
@@ -321,14 +324,15 @@ class Client(asyncio.BufferedProtocol):
         self.transport.abort()
 
     def pause_writing(self):
-        self.full_since = self.hub.loop.time()
+        self.full_since = self.hub.now
 
     def resume_writing(self):
         self.full_since = None
         self.go_on()
 
     def look(self, now):
-        """Cuts it off if it has been silent, in the middle of a line, or not taking its replies for too long."""
+        """Cuts it off if it has been silent, in the middle of a line, or not taking its replies for too long at a time. What it did
+        last is known to the second."""
         limits = self.hub.limits
         if now - (self.full_since or (self.since if self.transport.is_closing() else now)) > limits.slow:
             self.cut_off()
@@ -347,6 +351,7 @@ class Hub:
         self.loop = asyncio.get_running_loop()
         self.controller, self.journal, self.limits = controller, journal, limits
         self.clients, self.piece, self.unread = set(), memoryview(bytearray(PIECE)), 0
+        self.now = self.loop.time()  # to the second, as `look` has it
         self.waiting, self.is_due, self.is_writing = [], False, False
         self.pieces, self.is_full = collections.deque(), False  # what the pipe to the program hasn't taken
         self.askers, self.left = collections.deque(), b""  # who waits for how many replies, nobody for a mark's
@@ -394,15 +399,15 @@ class Hub:
         self.end_if_done()
 
     def pass_on(self, batch):
-        given = []
-        for client, lines, count in batch:
-            given.append(lines)
-            if TEXT_LINE.search(lines):
-                given[-1] = with_marks(lines)
+        """Gives the program lines, and notes who asked."""
+        data = b"".join([lines for _, lines, _ in batch])
+        if TEXT_LINE.search(data):
+            data = with_marks(data)
+            for client, lines, _ in batch:
                 self.expect_with_marks(client, lines)
-            else:
-                self.askers.append((client, count))
-        self.pieces.extend(pieces_of(b"".join(given)))
+        else:
+            self.askers.extend([(client, count) for client, _, count in batch])
+        self.pieces.extend(pieces_of(data))
         if not self.is_full:
             self.send()
         if not self.is_over and select.select([self.controller.output], [], [], SOON)[0]:
@@ -507,9 +512,9 @@ class Hub:
 
     def look(self):
         """Once a second: who is to be cut off?"""
-        now = self.loop.time()
+        self.now = self.loop.time()
         for client in list(self.clients):
-            client.look(now)
+            client.look(self.now - 1)
         if self.unread:
             log(f"{self.unread} clients cut off that didn't take their replies")
             self.unread = 0
