@@ -30,8 +30,8 @@ sys.path.insert(0, str(HERE.parent / "tools"))
 from nrm_tools import Stop, built, end, parser
 
 SECONDS = 60
-CROWDS = [(1, 1, 10_000), (10, 1, 30_000), (1000, 1, 40_000), (1, 100, 200_000)]  # the clients, lines ahead of replies, lines
-RATE, RATE_CLIENTS, RATE_LINES = 10_000, 100, 30_000
+CROWDS = [(1, 1, 5_000), (10, 1, 20_000), (1000, 1, 40_000), (1, 100, 100_000)]  # the clients, lines ahead of replies, lines
+RATE, RATE_CLIENTS, RATE_LINES = 10_000, 100, 20_000
 
 
 def lines_of(network, count):

@@ -681,6 +681,23 @@ def a_program_that_cannot_begin_is_told(folder, program):
 
 
 @test
+def a_mistake_is_told_in_a_line(folder, program):
+    run, place = ["--", *program, "run", "first", str(EXAMPLES / "hub" / "network.csv")], ["--socket", str(folder / "socket")]
+    for words, status, told in [
+            (["--help"], 0, ""), ([], 2, "usage: tools/desks.py"), (run, 2, "neither --socket nor --listen"), (place, 2, "usage: "),
+            ([*place, "--clients", "0", *run], 2, "--clients"), ([*place, "--longest", "4096", *run], 2, "--longest"),
+            ([*place, "--idle", "-1", *run], 2, "--idle"), ([*place, "--clients", "99999999", *run], 1, "ulimit"),
+            ([*place, "--journal", str(folder), *run], 1, f"desks.py: {folder}: "),
+            ([*place, "--journal", str(folder / "none" / "journal"), *run], 1, "No such file"),
+            (["--socket", str(folder / "none" / "socket"), *run], 1, "No such file"), (["--socket", "x" * 200, *run], 1, "too long"),
+            (["--listen", "nowhere", *run], 2, "HOST:PORT is wanted"), (["--listen", "127.0.0.1:99999", *run], 2, "HOST:PORT is wanted"),
+            (["--listen", "none.invalid:80", *run], 1, "--listen none.invalid:80: ")]:
+        done = subprocess.run([sys.executable, str(TOOLS / "desks.py"), *words], capture_output=True, text=True, timeout=SECONDS)
+        want((done.returncode, told in done.stderr, "Traceback" in done.stderr), (status, True, False), f"{words} {done.stderr}")
+    want(list(folder.iterdir()), [], "what is left")
+
+
+@test
 def a_socket_of_another_is_left_alone(folder, program):
     with hub_server(folder, program) as first:
         second_folder = folder / "second"

@@ -550,7 +550,7 @@ def unix_socket(path, mode):
 def tcp_socket(place, is_beyond_allowed):
     """A socket that listens at HOST:PORT, of the loopback range unless others are allowed in so many words."""
     host, _, port = place.rpartition(":")
-    if not (host and port.isdigit()):
+    if not (host and re.fullmatch(r"[0-9]{1,5}", port) and int(port) < 65_536):
         raise Stop(f"--listen {place}: HOST:PORT is wanted", 2)
     try:
         family, kind, protocol, _, address = socket.getaddrinfo(host.strip("[]"), int(port), type=socket.SOCK_STREAM)[0]
@@ -559,8 +559,8 @@ def tcp_socket(place, is_beyond_allowed):
         listener = socket.socket(family, kind, protocol)
         listener.setsockopt(socket.SOL_SOCKET, socket.SO_REUSEADDR, 1)
         listener.bind(address)
-    except (OSError, OverflowError) as fault:
-        raise Stop(f"--listen {place}: {getattr(fault, 'strerror', None) or fault}")
+    except OSError as fault:
+        raise Stop(f"--listen {place}: {fault.strerror or fault}")
     return listener
 
 
