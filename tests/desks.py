@@ -498,6 +498,20 @@ def who_goes_beyond_a_limit_is_told(folder, program):
 
 
 @test
+def who_asks_for_long_work_waits_alone(folder, program):
+    """Of lines that take long the program gets one of a client at a time, so that another's come between them."""
+    journal = folder / "journal"
+    with hub_server(folder, program, journal=journal, mode="bid") as server, server.connect() as busy, server.connect() as other:
+        busy.sendall(b"reoptimise 1\n" * 300)
+        answers(busy, b"", 1)
+        want(answers(other, b"book HJ-Q 1\n", 1), [b"ok 1\n"], "another's reply")
+        at = journal.read_bytes().split(b"\n").index(b"book HJ-Q 1")
+        if at > 60:
+            raise Wrong(f"the other's line after a few, and not after {at}")
+        server.end()
+
+
+@test
 def who_has_said_all_is_answered(folder, program):
     """The end of what a client says leaves its replies to come; half a line at the end is nothing."""
     stream, wanted = (EXAMPLES / "hub" / "commands.txt").read_bytes(), (EXAMPLES / "hub" / "replies.txt").read_bytes()
@@ -510,16 +524,20 @@ def who_has_said_all_is_answered(folder, program):
 
 @test
 def lines_that_are_taken_are_answered_at_the_end(folder, program):
-    with hub_server(folder, program, journal=folder / "journal") as server, server.connect() as connection:
-        connection.sendall(b"book HJ-Q 1\n" * 50)
-        want(answers(connection, b"", 1)[:1], [b"ok 1\n"], "the first")
+    """Also those that the pipe to the program hasn't taken, since it is slow: they have more bytes than it holds."""
+    journal, words = folder / "journal", stub(folder, "nrm", {}, pause=0.01)
+    with Server(folder, words, journal=journal) as server, server.connect() as connection:
+        connection.sendall((b"x" * 900 + b"\n") * 150)
+        deadline = time.monotonic() + SECONDS
+        while journal.read_bytes().count(b"\n") < 100 and time.monotonic() < deadline:
+            time.sleep(0.01)
         server.process.terminate()
-        told = all_from(connection)
+        told = all_from(connection).splitlines()
         server.end(sent=None)
-        count = (folder / "journal").read_bytes().count(b"\n")
-        want(told.splitlines()[-1], b"closed stopping", "the last line")
-        want(told.count(b"ok "), told.count(b"\n") - 1, "a reply of each kind")
-        want(count, 50, "the lines in the journal")
+        count = journal.read_bytes().count(b"\n")
+        want(100 <= count < 150, True, f"not all lines are taken: {count}")
+        want((told[-1], told[:-1]), (b"closed stopping", [b"unknown"] * count), "the replies")
+        want(len(got(folder)), count, "what the program got")
         with contextlib.suppress(OSError):
             server.connect()
             raise Wrong("nobody listens")
@@ -617,19 +635,21 @@ def a_torn_line_is_dropped(folder, program):
     want(journal.read_bytes(), b"book HJ-Q 1\nplan\nleg HAM-FRA\nbook HJ-Q 40\ncancel 2\n", "the journal")
 
 
-STUB = """import sys
+STUB = """import sys, time
 got = open({got!r}, "a")
 for line in sys.stdin:
+    if line.strip():
+        time.sleep({pause})
     got.write(line)
     got.flush()
     print({answers!r}.get(line.strip(), "bad" if not line.strip() else "unknown"), flush=True)
 """
 
 
-def stub(folder, name, answers):
-    """A program in place of the controller, which answers some lines so, and writes down what it gets."""
+def stub(folder, name, answers, pause=0):
+    """A program in place of the controller, which answers some lines so, after a pause in seconds, and writes down what it gets."""
     path = folder / name
-    path.write_text(f"#!{sys.executable}\n" + STUB.format(got=str(folder / "got"), answers=answers))
+    path.write_text(f"#!{sys.executable}\n" + STUB.format(got=str(folder / "got"), answers=answers, pause=pause))
     path.chmod(0o755)
     return [str(path)]
 
