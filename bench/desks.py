@@ -208,7 +208,8 @@ def main():
         folders = [stack.enter_context(tempfile.TemporaryDirectory(dir=it)) for it in (None, given.disk, given.memory)]
         path = os.path.join(folders[0], "network.csv")
         network.write(path)
-        tell(servers(built(given.program), path, *folders[1:]), list(lines_of(network, max(it for _, _, it in CROWDS))), folders, given.rounds)
+        lines = list(lines_of(network, max(count for _, _, count in CROWDS)))
+        tell(servers(built(given.program), path, *folders[1:]), lines, folders, given.rounds)
 
 
 if __name__ == "__main__":

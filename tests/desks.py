@@ -40,6 +40,7 @@ import desk as desks_in_python
 from desk import Desk, Sold
 from nrm_tools import MODES, Network, replies, whole_replies
 
+HUB = str(EXAMPLES / "hub" / "network.csv")
 NOT_BUILT = 70  # what the script `nrm` ends with where there is no program to run
 SECONDS = 30
 CLIENTS, WORKERS = 200, 4
@@ -447,7 +448,7 @@ def wait_until_gone(process):
 
 
 def hub_server(folder, program, *options, mode="first", **more):
-    return Server(folder, [*program, "run", mode, str(EXAMPLES / "hub" / "network.csv")], *options, **more)
+    return Server(folder, [*program, "run", mode, HUB], *options, **more)
 
 
 @test
@@ -599,18 +600,18 @@ def a_full_disk_under_the_journal_is_told(folder, program):
 
 @test
 def a_full_small_disk_is_told(folder, program):
-    disk, script = folder / "disk", 'mount -t tmpfs -o size=16k none "$1" && shift && "$@"; status=$?; cp "$DISK/journal" "$DISK.kept"; exit $status'
+    disk = folder / "disk"
     disk.mkdir()
+    script = 'disk=$1; shift; mount -t tmpfs -o size=16k none "$disk" && "$@"; status=$?; cp "$disk/journal" "$disk.kept"; exit $status'
     enter = ["unshare", "--mount", *([] if os.geteuid() == 0 else ["--map-root-user"]), "sh", "-c", script, "sh", str(disk)]
-    if not shutil.which("unshare") or subprocess.run([*enter, "touch", str(disk / "journal")], capture_output=True, env={**os.environ, "DISK": str(disk)}).returncode:
+    if not shutil.which("unshare") or subprocess.run([*enter, "touch", str(disk / "journal")], capture_output=True).returncode:
         print("a full small disk wasn't tried: it can't be mounted here")
         return
-    os.environ["DISK"] = str(disk)
     server = Server.__new__(Server)
     server.path, server.err = folder / "socket", folder / "told"
     with open(server.err, "w") as told:
         server.process = subprocess.Popen([*enter, sys.executable, str(TOOLS / "desks.py"), "--socket", str(server.path), "--journal",
-                                           str(disk / "journal"), "--", *program, "run", "first", str(EXAMPLES / "hub" / "network.csv")],
+                                           str(disk / "journal"), "--", *program, "run", "first", HUB],
                                           stderr=told)
     with server:
         server.wait_until_it_listens()
@@ -628,8 +629,8 @@ def a_torn_line_is_dropped(folder, program):
         want("4 lines given again, of 4" in server.told(), True, server.told())
         with server.connect() as connection:
             want(answers(connection, b"cancel 2\n", 1), [b"cancelled 2 10800\n"], "the session goes on")
-        second = subprocess.run([sys.executable, str(TOOLS / "desks.py"), "--socket", str(folder / "other"), "--journal", str(journal), "--",
-                                 *program, "run", "first", str(EXAMPLES / "hub" / "network.csv")], capture_output=True, timeout=SECONDS)
+        words = ["--socket", str(folder / "other"), "--journal", str(journal), "--", *program, "run", "first", HUB]
+        second = subprocess.run([sys.executable, str(TOOLS / "desks.py"), *words], capture_output=True, timeout=SECONDS)
         want((second.returncode, second.stderr), (1, f"desks.py: {journal} is the journal of another run\n".encode()), "a second run")
         server.end()
     want(journal.read_bytes(), b"book HJ-Q 1\nplan\nleg HAM-FRA\nbook HJ-Q 40\ncancel 2\n", "the journal")
@@ -662,7 +663,8 @@ def got(folder):
 
 @test
 def lines_that_changed_nothing_are_not_given_again(folder, program):
-    words = stub(folder, "nrm", {"reoptimise 1": "memory", "book A 2": "store", "book A 1": "ok 1", "hindsight": "hindsight 0/1 revenue 0 withheld 0"})
+    words = stub(folder, "nrm", {"reoptimise 1": "memory", "book A 2": "store", "book A 1": "ok 1",
+                                 "hindsight": "hindsight 0/1 revenue 0 withheld 0"})
     lines = b"book A 1\nreoptimise 1\nbook A 2\nbook A 3\nleg A\nbook A 2\n"
     with Server(folder, words, journal=folder / "journal") as server, server.connect() as connection:
         want(answers(connection, lines, 6), [b"ok 1\n", b"memory\n", b"store\n", b"unknown\n", b"unknown\n", b"store\n"], "the replies")
@@ -702,7 +704,7 @@ def a_program_that_cannot_begin_is_told(folder, program):
 
 @test
 def a_mistake_is_told_in_a_line(folder, program):
-    run, place = ["--", *program, "run", "first", str(EXAMPLES / "hub" / "network.csv")], ["--socket", str(folder / "socket")]
+    run, place = ["--", *program, "run", "first", HUB], ["--socket", str(folder / "socket")]
     for words, status, told in [
             (["--help"], 0, ""), ([], 2, "usage: tools/desks.py"), (run, 2, "neither --socket nor --listen"), (place, 2, "usage: "),
             ([*place, "--clients", "0", *run], 2, "--clients"), ([*place, "--longest", "4096", *run], 2, "--longest"),
@@ -720,10 +722,8 @@ def a_mistake_is_told_in_a_line(folder, program):
 @test
 def a_socket_of_another_is_left_alone(folder, program):
     with hub_server(folder, program) as first:
-        second_folder = folder / "second"
-        second_folder.mkdir()
-        second = subprocess.run([sys.executable, str(TOOLS / "desks.py"), "--socket", str(first.path), "--", *program, "run", "first",
-                                 str(EXAMPLES / "hub" / "network.csv")], capture_output=True, text=True, timeout=SECONDS)
+        words = ["--socket", str(first.path), "--", *program, "run", "first", HUB]
+        second = subprocess.run([sys.executable, str(TOOLS / "desks.py"), *words], capture_output=True, text=True, timeout=SECONDS)
         want((second.returncode, second.stderr), (1, f"desks.py: another process listens on {first.path}\n"), "a second run")
         with first.connect() as connection:
             want(answers(connection, b"book HJ-Q 1\n", 1), [b"ok 1\n"], "the first goes on")
@@ -798,10 +798,11 @@ def a_desk_in_python_gets_typed_answers(folder, program):
                 want((desk.leg("AB"), desk.leg("NONE")), (of.Leg("AB", 10, 10, 3, 7, {"ABL": 3}), of.Unknown()), "legs")
                 want((desk.plan().protections, desk.plan().nests["BC", "ACL"], desk.plan().prices["AB"]),
                      ({"AB": [7, 10], "BC": [4, 6]}, (79, 3), 150), "the plan")
-                want((desk.cancel(1), desk.reoptimise(1), desk.hindsight().revenue), (of.Cancelled(1, 450), of.Optimised(4130), 0), "the rest")
+                want((desk.cancel(1), desk.reoptimise(1)), (of.Cancelled(1, 450), of.Optimised(4130)), "a cancellation and a plan")
+                want((desk.hindsight().revenue, desk.hindsight().withheld), (0, 0), "hindsight")
                 want((desk.available("ABL"), desk.available("BCL"), desk.available("ABH")), (3, 4, 10), "what is available")
-                for wrong in [lambda: desk.book("ABL", 0), lambda: desk.book("a\nb", 1), lambda: desk.reply("a\nb"), lambda: desk.cancel(-1)]:
-                    expect(ValueError, wrong)
+                for call, words in [(desk.book, ("ABL", 0)), (desk.book, ("a\nb", 1)), (desk.reply, ("a\nb",)), (desk.cancel, (-1,))]:
+                    expect(ValueError, lambda: call(*words))
             os.kill(server.program(), signal.SIGKILL)
             want(expect(of.Ended, one.plan).status, 137, "the status")
         server.end(137, sent=None)
@@ -834,7 +835,7 @@ def a_desk_in_c_gets_all_replies(folder, program):
     stream = (EXAMPLES / "hub" / "commands.txt").read_bytes()
     with hub_server(folder, program, mode="davn") as server:
         done = subprocess.run([built, server.path], input=stream + b"nonsense\n", capture_output=True, timeout=SECONDS)
-        wanted = b"".join(replies(program, "davn", str(EXAMPLES / "hub" / "network.csv"), stream)) + b"bad\n"
+        wanted = b"".join(replies(program, "davn", HUB, stream)) + b"bad\n"
         want((done.returncode, done.stdout, done.stderr), (0, wanted, b""), "its replies")
         server.end()
     want(subprocess.run([built, server.path], input=stream, capture_output=True, timeout=SECONDS).returncode, 1, "nobody listens")

@@ -16,8 +16,8 @@ program keeps its bookings itself.
 
 A client that is cut off gets one line, `closed WHY`, after the replies to those of its lines that were taken: `closed clients` if there
 are as many as may be, `closed long` after a line that is too long, `closed half` if the end of a line doesn't come, `closed idle` if
-nothing does, `closed journal` if the journal can't be written, `closed stopping` when
-desks.py is told to end, and `closed program STATUS` when the program has ended. One that doesn't take its replies can't be told.
+nothing does, `closed journal` if the journal can't be written, `closed stopping` when desks.py is told to end, and `closed program
+STATUS` when the program has ended. One that doesn't take its replies can't be told.
 
 SIGTERM, SIGINT and SIGHUP end it: no more lines are taken, those that were taken are answered, and the program's input ends. The status
 is the program's own, above 128 if a signal ended it; or 74 if the journal couldn't be written, 1 if it couldn't begin, and 2 for words
