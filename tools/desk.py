@@ -39,11 +39,12 @@ MARK = b"bad\n"  # the reply to an empty line
 
 
 class DeskError(Exception):
-    """Why a desk has no answer. Only Late and Ended leave open whether the line was carried out."""
+    """Why a desk has no answer. Late and Ended leave open whether the line was carried out."""
 
 
 class Late(DeskError):
-    """The answer didn't come in time. The desk asks no more, since it would take a late answer for that to another line."""
+    """The answer didn't come in time. The desk asks no more, since it would take a late answer for that to another line: as after each
+    of these errors but a Strange answer, whoever goes on connects anew, and looks up what became of the line."""
 
 
 class Ended(DeskError):
@@ -245,7 +246,7 @@ class Desk:
         return desk
 
     def _begin(self, connection, network, seconds):
-        self.socket, self.seconds, self.left, self.is_late = connection, seconds, b"", False
+        self.socket, self.seconds, self.left, self.fault = connection, seconds, b"", None
         self.network = network
 
     def __enter__(self):
@@ -292,8 +293,8 @@ class Desk:
 
     def available(self, product):
         """The largest party, at most 999, of which a `book` would be sold now, and 0 if none would be; a KeyError for a product that
-        the network file hasn't. It is worked out from `plan` and
-        `leg`, so that no booking is made and hindsight remembers nothing. Others who ask meanwhile can change it."""
+        the network file hasn't. It is worked out from `plan` and `leg`, so that no booking is made and hindsight remembers nothing.
+        Others who ask meanwhile can change it."""
         if not self.network:
             raise ValueError("the desk was given no network file, and the program doesn't tell the legs of a product")
         if not isinstance(self.network, Network):
@@ -315,11 +316,20 @@ class Desk:
         """The reply to a line, as the program writes it. An empty line is sent behind it: its reply shows that the other is whole."""
         if "\n" in line:
             raise ValueError("a line feed in a line")
-        if self.is_late:
-            raise Late("an answer came too late, so that no other can be told apart: connect anew")
-        deadline = time.monotonic() + self.seconds
-        self.is_late = True  # until the reply is there
-        self._send(line.encode("latin-1") + b"\n\n", deadline)
+        if self.fault:
+            raise self.fault
+        self.fault = Late("an answer is still to come, and no other could be told from it: connect anew")
+        try:
+            reply = self._reply(line.encode("latin-1") + b"\n\n", time.monotonic() + self.seconds)
+        except DeskError as fault:
+            self.fault = fault
+            raise
+        self.fault = None
+        return reply
+
+    def _reply(self, lines, deadline):
+        """The reply to the first of two lines, of which the second is empty."""
+        self._send(lines, deadline)
         replies = []
         while len(replies) < 2:
             piece = self._heard(deadline)
@@ -329,7 +339,6 @@ class Desk:
                 self._has_ended(b"".join(replies) + self.left)
         if replies[1:] != [MARK]:
             raise Strange(repr(replies))
-        self.is_late = False
         return replies[0]
 
     def _send(self, data, deadline):
@@ -354,7 +363,10 @@ class Desk:
         """Raises why the connection has ended."""
         last = told.decode("latin-1").rstrip("\n").rpartition("\n")[2]
         if self.process:
-            status = self.process.wait(self.seconds)
+            try:
+                status = self.process.wait(self.seconds)
+            except subprocess.TimeoutExpired:
+                raise Ended("the program has closed its output, and not ended")
             raise Ended(last or "nothing was told", status if status >= 0 else 128 - status)
         if found := re.fullmatch(r"closed program (\d+)", last):
             raise Ended("closed", int(found[1]))
