@@ -1220,7 +1220,7 @@ def tools_name_the_file_that_cant_be_read(tools):
 
 @test
 def parts_of_tools_say_that_they_are_none(tools):
-    for path in (*(TOOLS / f"{it}.py" for it in ("nrm_tools", "pictures", "telling", "seasons", "results", "charts", "page")), TOP / "bench" / "networks.py"):
+    for path in (*(TOOLS / f"{it}.py" for it in ("desk", "nrm_tools", "pictures", "telling", "seasons", "results", "charts", "page")), TOP / "bench" / "networks.py"):
         for words in ([], ["--help"]):
             out, err, status = tools.ran(path, *words)
             want((out, err.startswith(f"{path.name}: no tool, but a part of "), status), ("", True, 1), err)
@@ -1240,7 +1240,7 @@ def season_says_which_python_has_no_matplotlib(tools):
 @test
 def scripts_of_bench_name_themselves_and_give_no_traceback(tools):
     """With what is no program, or is none that plans."""
-    for name in ("bookings.py", "plan.py", "read_network.py", "stream.py"):
+    for name in ("bookings.py", "desks.py", "plan.py", "read_network.py", "stream.py"):
         path = TOP / "bench" / name
         want_in(tools.told(path, "--help"), f"usage: bench/{name}")
         for words, status, wanted in (([tools.folder / "none"], 1, f"{name}: there is no program {tools.folder}/none\n"),
@@ -1346,7 +1346,7 @@ def release_has_what_an_operator_needs(tools):
     files = sorted(str(it.relative_to(made)) for it in made.rglob("*") if it.is_file())
     want([it for it in files if not it.startswith("licences/")],
          ["CHANGELOG.md", "LICENSE", "SHA256SUMS", "VERSION", "commands.md", "nrm", "nrm.1", "nrm_kept", "nrm_kept.1", "operating.md",
-          "stores.md", "tools/explain.py", "tools/nrm_tools.py", "tools/resume.py"])
+          "stores.md", "tools/desk.py", "tools/desks.py", "tools/explain.py", "tools/nrm_tools.py", "tools/resume.py"])
     want({it.partition("-")[0] for it in files if it.startswith("licences/")} >=
          {f"licences/{it}" for it in ("csv", "indexmap", "itoa", "memchr", "ryu", "serde", "sqlite", "thiserror")}, True, files)
     want(subprocess.run(["sha256sum", "--quiet", "-c", "SHA256SUMS"], cwd=made).returncode, 0, "sha256sum")

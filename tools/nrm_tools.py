@@ -320,6 +320,8 @@ def named(texts, known=()):
 # Replies and the lines that they answer
 
 FURTHER = re.compile(rb"(on|product|nest|protect) |leg [^ ]+ [0-9]+/")  # a line of the text of a leg or a plan, but its first
+FURTHER_IN = re.compile(rb"^(?:" + FURTHER.pattern + rb")", re.MULTILINE)
+TEXT = re.compile(rb"leg |value ")  # how the text of a leg and that of a plan begin
 
 
 def replies_of(lines):
@@ -332,6 +334,16 @@ def replies_of(lines):
         reply += line
     if reply:
         yield reply
+
+
+def whole_replies(output):
+    """The whole replies that a piece of output has, and what is left of it: half a line, or the text of a leg or a plan at its
+    end, which may go on. That text is whole once the reply to a next line stands behind it."""
+    end = output.rfind(b"\n") + 1
+    lines = [line + b"\n" for line in output[:end].split(b"\n")[:-1]]
+    made = list(replies_of(lines)) if FURTHER_IN.search(output) else lines
+    held = made.pop() if made and TEXT.match(made[-1]) else b""
+    return made, held + output[end:]
 
 
 def unanswered(mode, network, status, told):

@@ -4,8 +4,9 @@
 #     tools/release.sh FOLDER
 #
 # FOLDER/nrm-VERSION gets the two programs, which are built first if need be, their man pages, LICENSE, CHANGELOG.md, the pages for who
-# operates them, tools/resume.py, which goes on after a cut, tools/explain.py, which tells why a file is refused, VERSION, which says
-# the version and the commit, licences/ of the kit's crates that the program has code of, and SHA256SUMS of all of them:
+# operates them, tools/resume.py, which goes on after a cut, tools/explain.py, which tells why a file is refused, tools/desks.py for
+# many clients and tools/desk.py for a desk in Python, VERSION, which says the version and the commit, licences/ of the kit's crates
+# that the programs have code of, and SHA256SUMS of all of them:
 # `sha256sum -c SHA256SUMS` there sees that they are as they were made. It is made of what is committed, with the kit's `rt` on the
 # path: where something isn't, or the folder is there, nothing is made, and the status is 1; it is 2 where the words ask for nothing.
 set -euo pipefail
@@ -38,9 +39,10 @@ for licence in "${licences[@]}"; do
 done
 mkdir -p "$made/tools" "$made/licences" || stop "$made can't be made"
 install -m 755 "$top/crates/nrm/out/nrm" "$top/crates/nrm_kept/out/nrm_kept" "$made"
-install -m 644 "$top/docs/nrm.1" "$top/docs/nrm_kept.1" "$top/docs/stores.md" "$top/LICENSE" "$top/CHANGELOG.md" "$top/docs/operating.md" "$top/docs/commands.md" "$made"
-install -m 755 "$top/tools/resume.py" "$top/tools/explain.py" "$made/tools"
-install -m 644 "$top/tools/nrm_tools.py" "$made/tools"
+install -m 644 "$top/docs/nrm.1" "$top/docs/nrm_kept.1" "$top/docs/stores.md" "$top/docs/operating.md" "$top/docs/commands.md" "$made"
+install -m 644 "$top/LICENSE" "$top/CHANGELOG.md" "$made"
+install -m 755 "$top/tools/resume.py" "$top/tools/explain.py" "$top/tools/desks.py" "$made/tools"
+install -m 644 "$top/tools/nrm_tools.py" "$top/tools/desk.py" "$made/tools"
 for licence in "${licences[@]}"; do
   install -m 644 "$licence" "$made/licences/$(basename "$(dirname "$licence")")-$(basename "$licence")"
 done

@@ -1,0 +1,669 @@
+#!/usr/bin/env python3
+"""Many desks, one controller: gives the lines of many clients to one run of the program, and each reply to who asked.
+
+    tools/desks.py [--socket PATH] [--listen HOST:PORT] [--journal FILE] [OPTION...] -- PROGRAM WORD...
+
+PROGRAM WORD... is `nrm run MODE FILE`, or another program that answers the same lines. It is started, and once it answers, clients are
+taken on the Unix socket PATH, whose rights are 0600, or those of --mode, and on HOST:PORT, which must be of this machine's loopback
+range unless --beyond-this-machine is given: who can reach it can book. A client's lines are given to the program in the order in
+which they come, and each reply goes to who asked. The last part of a client's input without a line feed is never given.
+
+With --journal each line is on the disk before the program gets it. Started again on the same journal, desks.py first gives its lines
+again, discards the replies, and tells how many lines they were. A last line without its line feed was never given to the program, and
+is dropped. Lines that were answered `memory` or `store` changed nothing: their numbers stand in FILE.void, and they aren't given again.
+With --again reoptimise, which is assumed of a program named `nrm_kept`, only the lines `reoptimise` are given again, since the
+program keeps its bookings itself.
+
+A client that is cut off gets one line, `closed WHY`, after the replies to those of its lines that were taken: `closed clients` if there
+are as many as may be, `closed long` after a line that is too long, `closed half` if the end of a line doesn't come, `closed idle` if
+nothing does, `closed journal` if the journal can't be written, `closed stopping` when desks.py is told to end, and `closed program
+STATUS` when the program has ended. One that doesn't take its replies can't be told.
+
+SIGTERM, SIGINT and SIGHUP end it: no more lines are taken, those that were taken are answered, and the program's input ends. The status
+is the program's own, above 128 if a signal ended it; or 74 if the journal couldn't be written, 1 if it couldn't begin, and 2 for words
+that ask for nothing.
+"""
+import asyncio
+import collections
+import contextlib
+import fcntl
+import functools
+import ipaddress
+import os
+import re
+import resource
+import select
+import signal
+import socket
+import stat
+import subprocess
+import sys
+import threading
+
+from nrm_tools import Stop, end, parser, whole_replies
+
+PIECE = 65_536
+AT_ONCE = select.PIPE_BUF  # a pipe takes so many bytes whole or not at all
+LONGEST = AT_ONCE - 1
+MOST_ASKED = 100  # the lines of one client that are taken and not answered
+SOON = 0.0002  # the seconds in which most replies are there: to wait for them so is faster than another round of the loop
+END_SECONDS = 10  # for a program that doesn't answer to end after its input
+JOURNAL_FAULT = 74
+KEEPS_BOOKINGS = "nrm_kept"
+TEXT_LINE = re.compile(rb"^(?:plan|leg [A-Z0-9-]{1,12})\r?\n", re.MULTILINE)  # its reply may have several lines
+LONG_WORK = re.compile(rb"^(?:plan|hindsight|reoptimise [1-9][0-9]?)\r?\n", re.MULTILINE)
+CHANGED_NOTHING = (b"memory\n", b"store\n")
+
+
+def with_marks(data):
+    """Whole lines with an empty one behind each whose reply may have several lines: its reply `bad` shows that the other is whole."""
+    return TEXT_LINE.sub(rb"\g<0>\n", data)
+
+
+def pieces_of(data):
+    """Whole lines in pieces that a pipe takes whole or not at all, so that the program never gets half a line."""
+    at = 0
+    while at < len(data):
+        stop = len(data) if len(data) - at <= AT_ONCE else data.rindex(b"\n", at, at + AT_ONCE) + 1
+        yield data[at:stop]
+        at = stop
+
+
+def gathered(lines):
+    """Lines in pieces that a pipe takes whole, each as long as may be; a line that is longer is one by itself."""
+    piece = b""
+    for line in lines:
+        if len(piece) + len(line) > AT_ONCE and piece:
+            yield piece
+            piece = b""
+        piece += line
+    if piece:
+        yield piece
+
+
+def log(text):
+    print(f"{os.path.basename(sys.argv[0])}: {text}", file=sys.stderr, flush=True)
+
+
+# The journal
+
+
+class Journal:
+    """A file with the lines that were given to the program, in their order, and beside it the numbers of those that changed nothing.
+    Nobody else writes to it meanwhile."""
+
+    def __init__(self, path):
+        self.path, self.void_path = path, f"{path}.void"
+        try:
+            self.file = open(path, "a+b", buffering=0)
+            fcntl.flock(self.file, fcntl.LOCK_EX | fcntl.LOCK_NB)
+        except BlockingIOError:
+            raise Stop(f"{path} is the journal of another run")
+        self.keep_name()
+        self.size, self.count, self.torn = self.look()
+        os.ftruncate(self.file.fileno(), self.size)
+        self.void = set()
+        with contextlib.suppress(FileNotFoundError), open(self.void_path, "rb") as numbers:
+            self.void = {int(it) for it in numbers if it.endswith(b"\n") and it[:-1].isdigit()}
+
+    def keep_name(self):
+        """Waits until the names of the files are on the disk."""
+        folder = os.open(os.path.dirname(os.path.abspath(self.path)), os.O_RDONLY)
+        try:
+            os.fsync(folder)
+        finally:
+            os.close(folder)
+
+    def look(self):
+        """The bytes of its whole lines, how many they are, and how many bytes stand behind them."""
+        whole = count = size = 0
+        with open(self.path, "rb") as file:
+            while piece := file.read(16 * PIECE):
+                count += piece.count(b"\n")
+                whole = size + piece.rindex(b"\n") + 1 if b"\n" in piece else whole
+                size += len(piece)
+        return whole, count, size - whole
+
+    def again(self, wanted):
+        """The lines that are given again: those that may have changed something, all or those that begin with the words wanted."""
+        with open(self.path, "rb") as file:
+            yield from (line for number, line in enumerate(file, 1) if number not in self.void and line.startswith(wanted))
+
+    def write(self, data):
+        """Writes lines, and waits until they are on the disk. What can't be written whole is taken out again."""
+        try:
+            self.put(self.file, data)
+        except OSError:
+            with contextlib.suppress(OSError):
+                os.ftruncate(self.file.fileno(), self.size)
+                os.fsync(self.file)
+            raise
+        self.size += len(data)
+
+    def put(self, file, data):
+        left = memoryview(data)
+        while left:
+            left = left[file.write(left):]
+        os.fsync(file)
+
+    def leave_out(self, numbers):
+        """Remembers lines that changed nothing."""
+        with open(self.void_path, "ab", buffering=0) as file:
+            self.put(file, b"".join(b"%d\n" % it for it in numbers))
+        self.keep_name()
+
+
+# The program
+
+
+class Controller:
+    """The program, and the pipes to and from it."""
+
+    def __init__(self, words):
+        self.words, self.left = words, b""
+        try:  # in a session of its own, so that a Ctrl-C reaches it as the end of its input alone
+            self.process = subprocess.Popen(words, stdin=subprocess.PIPE, stdout=subprocess.PIPE, bufsize=0, start_new_session=True)
+        except OSError as fault:
+            raise Stop(f"{words[0]}: {fault.strerror}")
+        self.input, self.output = self.process.stdin.fileno(), self.process.stdout.fileno()
+
+    def ask_all(self, lines, count):
+        """Gives it so many lines before there are clients, and an empty one, and waits for all replies. Gives the last line's."""
+        threading.Thread(target=self.feed, args=(lines,), daemon=True).start()
+        answered, last = 0, [b"", b""]
+        while answered <= count and (piece := os.read(self.output, PIECE)):
+            replies, self.left = whole_replies(self.left + piece)
+            answered += len(replies)
+            last = (last + replies)[-2:]
+        if last[1] != b"bad\n":
+            raise self.ended(last[1] + self.left)
+        return last[0]
+
+    def feed(self, lines):
+        with contextlib.suppress(BrokenPipeError):
+            for piece in gathered(lines):
+                os.write(self.input, piece)
+            os.write(self.input, b"\n")
+
+    def ended(self, told):
+        """A Stop for a program that hasn't answered, and has ended by itself or must be ended."""
+        self.process.stdin.close()
+        try:
+            self.process.wait(END_SECONDS)
+        except subprocess.TimeoutExpired:
+            self.process.kill()
+        status, told = self.status(), told.decode("latin-1").strip()
+        return Stop(f"`{' '.join(self.words)}` ended with status {status}{f': {told}' if told else ''}", status or 1)
+
+    def status(self):
+        """Waits until it has ended, and gives its status as a shell tells it."""
+        status = self.process.wait()
+        return status if status >= 0 else 128 - status
+
+
+# The clients
+
+
+class Client(asyncio.BufferedProtocol):
+    """A connection: what has come and isn't taken yet, and how many of its lines are taken and not answered."""
+
+    def __init__(self, hub):
+        self.hub, self.transport, self.left, self.asked = hub, None, b"", 0
+        self.why = None  # it is cut off, once its lines are answered
+        self.has_ended = self.is_paused = self.is_working = False
+        self.since = self.full_since = None
+
+    def connection_made(self, transport):
+        self.transport, self.since = transport, self.hub.now
+        transport.set_write_buffer_limits(high=PIECE)
+        self.hub.clients.add(self)
+        if self.hub.stops:
+            self.leave("stopping")
+        elif len(self.hub.clients) > self.hub.limits.clients:
+            self.leave("clients")
+
+    def connection_lost(self, _):
+        self.transport, self.left = None, b""
+        self.hub.clients.discard(self)
+        self.hub.end_if_done()
+
+    def get_buffer(self, _):
+        return self.hub.piece
+
+    def buffer_updated(self, size):
+        if self.why:
+            return
+        if not self.left:
+            self.since = self.hub.now
+        self.left += bytes(self.hub.piece[:size])
+        self.take()
+
+    def eof_received(self):
+        self.has_ended = True
+        self.go_on()
+        return True  # the replies are still to be sent
+
+    def take(self):
+        """Has as many lines given to the program as may be asked at a time; after one that can take long no other before its reply."""
+        room = 0 if self.is_working or self.full_since or not self.transport else MOST_ASKED - self.asked
+        if room > 0 and (stop := self.left.rfind(b"\n") + 1):
+            if stop > room and self.left.count(b"\n", 0, stop) > room:
+                stop = sum(map(len, self.left.split(b"\n", room)[:room])) + room
+            if found := LONG_WORK.search(self.left, 0, stop):
+                stop, self.is_working = found.end(), True
+            if stop > self.hub.limits.longest:
+                stop = self.before_a_long_line(stop)
+            if stop:
+                self.since = self.hub.now
+                taken, self.left = self.left[:stop], self.left[stop:]
+                self.hub.take(self, taken, taken.count(b"\n"))
+        if self.left or self.is_paused or self.why:
+            self.look_at_what_is_left()
+
+    def look_at_what_is_left(self):
+        """Sees that it begins with no line that is too long, and reads no more while a piece waits, so that memory is bounded."""
+        longest = self.hub.limits.longest
+        if len(self.left) > longest and self.left.find(b"\n", 0, longest + 1) < 0:
+            self.leave("long")
+        is_to_pause = len(self.left) >= PIECE or self.why is not None
+        if self.transport and not self.has_ended and not self.transport.is_closing() and self.is_paused != is_to_pause:
+            self.is_paused = is_to_pause
+            (self.transport.pause_reading if is_to_pause else self.transport.resume_reading)()
+
+    def before_a_long_line(self, stop):
+        """At most so many bytes, up to a line that is longer than any may be."""
+        at = 0
+        while at < stop:
+            next_at = self.left.index(b"\n", at) + 1
+            if next_at - at - 1 > self.hub.limits.longest:
+                self.is_working = False
+                return at
+            at = next_at
+        return stop
+
+    def answer(self, replies):
+        """Sends it the replies to the next of its lines."""
+        self.asked -= len(replies)
+        if not self.asked:
+            self.is_working = False
+        if not self.transport:
+            return
+        self.transport.write(replies[0] if len(replies) == 1 else b"".join(replies))
+        if self.transport.get_write_buffer_size() > self.hub.limits.unsent:
+            self.cut_off()
+        elif self.left or self.why or self.has_ended:
+            self.go_on()
+
+    def go_on(self):
+        """Takes further lines, or ends the connection if it has none and all are answered."""
+        if not self.transport:
+            return
+        if not self.why:
+            self.take()
+        if not self.asked and (self.why or self.has_ended and b"\n" not in self.left):
+            self.close(self.why)
+
+    def leave(self, why):
+        """It is cut off, after the replies to the lines that were taken."""
+        if not self.why:
+            self.why, self.left = why, b""
+            self.look_at_what_is_left()
+            self.go_on()
+
+    def close(self, why):
+        """Says why, and ends the connection once all is sent."""
+        if self.transport and not self.transport.is_closing():
+            if why:
+                self.transport.write(f"closed {why}\n".encode())
+            self.transport.close()
+            self.since = self.hub.now
+
+    def cut_off(self):
+        """It doesn't take its replies, so what is unsent is dropped."""
+        self.hub.unread += 1
+        self.transport.abort()
+
+    def pause_writing(self):
+        self.full_since = self.hub.now
+
+    def resume_writing(self):
+        self.full_since = None
+        self.go_on()
+
+    def look(self, now):
+        """Cuts it off if it has been silent, in the middle of a line, or not taking its replies for too long at a time. What it did
+        last is known to the second."""
+        limits = self.hub.limits
+        if now - (self.full_since or (self.since if self.transport.is_closing() else now)) > limits.slow:
+            self.cut_off()
+        elif self.asked or self.why:
+            return
+        elif self.left and now - self.since > limits.slow:
+            self.leave("half")
+        elif not self.left and now - self.since > limits.idle:
+            self.leave("idle")
+
+
+class Hub:
+    """What stands between the clients and the program: lines that wait, lines that were given, and who waits for which reply."""
+
+    def __init__(self, controller, journal, limits):
+        self.loop = asyncio.get_running_loop()
+        self.controller, self.journal, self.limits = controller, journal, limits
+        self.clients, self.piece, self.unread = set(), memoryview(bytearray(PIECE)), 0
+        self.now = self.loop.time()  # to the second, as `look` has it
+        self.waiting, self.is_due, self.is_writing = [], False, False
+        self.pieces, self.is_full = collections.deque(), False  # what the pipe to the program hasn't taken
+        self.askers, self.left = collections.deque(), b""  # who waits for how many replies, nobody for a mark's
+        self.answered = journal.count if journal else 0
+        self.stops, self.is_over, self.fault, self.ended = False, False, None, self.loop.create_future()
+        os.set_blocking(controller.input, False)
+        os.set_blocking(controller.output, False)
+        self.loop.add_reader(controller.output, self.hear)
+
+    # Lines
+
+    def take(self, client, lines, count):
+        """Takes lines of a client: they are given to the program with all others that come in this round."""
+        client.asked += count
+        self.waiting.append((client, lines, count))
+        if not self.is_due:
+            self.is_due = True
+            self.loop.call_soon(self.give)
+
+    def give(self):
+        """Gives the program the lines that wait, once they are in the journal."""
+        self.is_due = False
+        if self.is_writing or not self.waiting:
+            return
+        batch, self.waiting = self.waiting, []
+        if not self.journal:
+            self.pass_on(batch)
+            return
+        self.is_writing = True
+        written = self.loop.run_in_executor(None, self.journal.write, b"".join([lines for _, lines, _ in batch]))
+        written.add_done_callback(functools.partial(self.written, batch))
+
+    def written(self, batch, done):
+        """The lines are in the journal, or it couldn't be written: then they and all others that wait aren't given."""
+        self.is_writing = False
+        if fault := done.exception():
+            self.fault = self.fault or f"{self.journal.path}: {getattr(fault, 'strerror', None) or fault}"
+            dropped, self.waiting = batch + self.waiting, []
+            for client, _, count in dropped:
+                client.asked -= count
+            self.stop("journal")
+        else:
+            self.pass_on(batch)
+            self.give()
+        self.end_if_done()
+
+    def pass_on(self, batch):
+        """Gives the program lines, and notes who asked."""
+        data = b"".join([lines for _, lines, _ in batch])
+        if TEXT_LINE.search(data):
+            data = with_marks(data)
+            for client, lines, _ in batch:
+                self.expect_with_marks(client, lines)
+        else:
+            self.askers.extend([(client, count) for client, _, count in batch])
+        self.pieces.extend(pieces_of(data))
+        if not self.is_full:
+            self.send()
+        if not self.is_over and select.select([self.controller.output], [], [], SOON)[0]:
+            self.hear()
+
+    def expect_with_marks(self, client, lines):
+        at = 0
+        for found in TEXT_LINE.finditer(lines):
+            self.askers += [(client, lines.count(b"\n", at, found.end())), (None, 1)]
+            at = found.end()
+        if at < len(lines):
+            self.askers.append((client, lines.count(b"\n", at)))
+
+    def send(self):
+        """Writes what the pipe to the program takes, and goes on when it takes more."""
+        try:
+            while self.pieces:
+                os.write(self.controller.input, self.pieces[0])
+                self.pieces.popleft()
+        except BlockingIOError:
+            if not self.is_full:
+                self.is_full = True
+                self.loop.add_writer(self.controller.input, self.send)
+            return
+        except BrokenPipeError:
+            self.pieces.clear()  # the program has ended, as the end of its output will show
+        if self.is_full:
+            self.is_full = False
+            self.loop.remove_writer(self.controller.input)
+        self.end_if_done()
+
+    # Replies
+
+    def hear(self):
+        try:
+            piece = os.read(self.controller.output, PIECE)
+        except BlockingIOError:
+            return
+        if piece:
+            replies, self.left = whole_replies(self.left + piece)
+            self.deal(replies)
+        else:
+            self.is_over = True
+            self.loop.remove_reader(self.controller.output)
+            self.loop.run_in_executor(None, self.controller.status).add_done_callback(self.program_ended)
+
+    def deal(self, replies):
+        """Gives each reply to who asked."""
+        at = 0
+        while at < len(replies) and self.askers:
+            client, count = self.askers.popleft()
+            part = replies[at:at + count]
+            at += len(part)
+            if len(part) < count:
+                self.askers.appendleft((client, count - len(part)))
+            if client:
+                if self.journal:
+                    self.remember(part)
+                client.answer(part)
+        if at < len(replies):
+            self.left = b"".join(replies[at:]) + self.left
+        self.end_if_done()
+
+    def remember(self, replies):
+        """Has the journal leave out the lines that changed nothing, before their replies are sent."""
+        first = self.answered + 1
+        self.answered += len(replies)
+        if not any(it in replies for it in CHANGED_NOTHING):
+            return
+        try:
+            self.journal.leave_out([first + at for at, it in enumerate(replies) if it in CHANGED_NOTHING])
+        except OSError as fault:
+            self.fault = self.fault or f"{self.journal.void_path}: {fault.strerror}"
+            self.stop("journal")
+
+    def program_ended(self, done):
+        """Tells each client, and ends."""
+        status = done.result()
+        if self.left and not self.askers:
+            log(f"the program wrote {self.left.decode('latin-1').rstrip()!r}, to which no line had asked")
+        if not self.stops:
+            log(f"the program ended with status {status}")
+        for client in list(self.clients):
+            client.close("stopping" if self.stops and status == 0 else f"program {status}")
+        self.ended.set_result(JOURNAL_FAULT if self.fault else status)
+
+    # The end
+
+    def stop(self, why="stopping"):
+        """Takes no more lines, and ends the program's input once it was given all that were taken."""
+        if not self.stops:
+            self.stops = True
+            for client in list(self.clients):
+                client.leave(why)
+            self.loop.call_later(self.limits.slow, self.controller.process.kill)
+        self.end_if_done()
+
+    def end_if_done(self):
+        is_done = self.stops and not (self.waiting or self.is_writing or self.pieces or self.askers)
+        if is_done and not self.controller.process.stdin.closed:
+            self.controller.process.stdin.close()
+
+    def look(self):
+        """Once a second: who is to be cut off?"""
+        self.now = self.loop.time()
+        for client in list(self.clients):
+            client.look(self.now - 1)
+        if self.unread:
+            log(f"{self.unread} clients cut off that didn't take their replies")
+            self.unread = 0
+        self.loop.call_later(1, self.look)
+
+
+# Where clients come
+
+
+def unix_socket(path, mode):
+    """A socket that listens on a path. One that nobody listens on is left from a run that was killed, and goes."""
+    listener = socket.socket(socket.AF_UNIX)
+    with contextlib.suppress(FileNotFoundError):
+        if not stat.S_ISSOCK(os.stat(path).st_mode):
+            raise Stop(f"{path} is there, and no socket")
+        try:
+            with socket.socket(socket.AF_UNIX) as other:
+                other.connect(path)
+            raise Stop(f"another process listens on {path}")
+        except ConnectionRefusedError:
+            os.unlink(path)
+    before = os.umask(0o177)
+    try:
+        listener.bind(path)
+    except OSError as fault:
+        raise Stop(f"{path}: {fault.strerror or fault}")
+    finally:
+        os.umask(before)
+    os.chmod(path, mode)
+    return listener
+
+
+def tcp_socket(place, is_beyond_allowed):
+    """A socket that listens at HOST:PORT, of the loopback range unless others are allowed in so many words."""
+    host, _, port = place.rpartition(":")
+    if not (host and re.fullmatch(r"[0-9]{1,5}", port) and int(port) < 65_536):
+        raise Stop(f"--listen {place}: HOST:PORT is wanted", 2)
+    try:
+        family, kind, protocol, _, address = socket.getaddrinfo(host.strip("[]"), int(port), type=socket.SOCK_STREAM)[0]
+        if not ipaddress.ip_address(address[0]).is_loopback and not is_beyond_allowed:
+            raise Stop(f"--listen {place} is beyond this machine's loopback range, and there is no --beyond-this-machine", 2)
+        listener = socket.socket(family, kind, protocol)
+        listener.setsockopt(socket.SOL_SOCKET, socket.SO_REUSEADDR, 1)
+        listener.bind(address)
+    except OSError as fault:
+        raise Stop(f"--listen {place}: {fault.strerror or fault}")
+    return listener
+
+
+async def serve(given, controller, journal, listeners):
+    """Takes clients until the program ends, and gives the status."""
+    hub = Hub(controller, journal, given)
+    for name in (signal.SIGTERM, signal.SIGINT, signal.SIGHUP):
+        hub.loop.add_signal_handler(name, hub.stop)
+    servers = [await hub.loop.create_server(lambda: Client(hub), sock=it, backlog=1024) if it.family != socket.AF_UNIX else
+               await hub.loop.create_unix_server(lambda: Client(hub), sock=it, backlog=1024) for it in listeners]
+    for listener in listeners:
+        name = listener.getsockname()
+        log(f"listening on {name if isinstance(name, str) else '{}:{}'.format(*name)}")
+    hub.look()
+    status = await hub.ended
+    for server in servers:
+        server.close()
+    stop_at = hub.loop.time() + given.slow
+    while hub.clients and hub.loop.time() < stop_at:
+        await asyncio.sleep(0.02)  # what was answered is still to be sent
+    if hub.fault:
+        log(hub.fault)
+    return status
+
+
+# Its beginning
+
+
+def give_again(controller, journal, again):
+    """Gives the program the lines of its journal again."""
+    if journal.torn:
+        log(f"a last line of {journal.torn} bytes without its line feed was dropped: the program never got it")
+    wanted = b"reoptimise " if again == "reoptimise" else b""
+    count = sum(1 for _ in journal.again(wanted))
+    if count and again == "all":
+        told = controller.ask_all([b"hindsight\n"], 1)
+        if told.startswith(b"hindsight ") and b" revenue 0 " not in told:
+            raise Stop("the program begins with bookings, and the journal's lines would make them twice: see --again")
+    controller.ask_all(journal.again(wanted), count)
+    if journal.count:
+        log(f"{count} lines given again, of {journal.count} in {journal.path}")
+
+
+def seconds(text):
+    value = float(text)
+    if not 0 < value < 1e9:
+        raise ValueError
+    return value
+
+
+def words_given():
+    words = parser(__doc__)
+    words.add_argument("--socket", metavar="PATH", help="the Unix socket")
+    words.add_argument("--mode", type=functools.partial(int, base=8), default=0o600, metavar="RIGHTS",
+                       help="the rights of the socket, in octal digits; 600 if it isn't given")
+    words.add_argument("--listen", metavar="HOST:PORT", help="a TCP port as well, or instead")
+    words.add_argument("--beyond-this-machine", action="store_true", help="lets --listen be beyond the loopback range")
+    words.add_argument("--journal", metavar="FILE", help="each line is on the disk there before it is given to the program")
+    words.add_argument("--again", choices=["all", "reoptimise"], help="which lines of the journal are given again")
+    words.add_argument("--clients", type=int, default=1000, metavar="N", help="the most clients at a time; %(default)s")
+    words.add_argument("--longest", type=int, default=1000, metavar="BYTES",
+                       help=f"of a line, at most {LONGEST}; %(default)s")
+    words.add_argument("--unsent", type=int, default=1_048_576, metavar="BYTES",
+                       help="of replies that a client hasn't taken; %(default)s")
+    words.add_argument("--slow", type=seconds, default=30, metavar="SECONDS",
+                       help="for the rest of a line, for taking replies, and for the end; %(default)s")
+    words.add_argument("--idle", type=seconds, default=3600, metavar="SECONDS", help="for a next line; %(default)s")
+    words.add_argument("words", nargs="+", metavar="WORD", help="the program and its words, behind `--`")
+    given = words.parse_args()
+    if not (given.socket or given.listen):
+        words.error("there is neither --socket nor --listen")
+    if not (0 < given.clients and 0 < given.longest <= LONGEST and PIECE <= given.unsent and 0 <= given.mode <= 0o777):
+        words.error(f"--clients is at least 1, --longest 1 to {LONGEST}, --unsent at least {PIECE}, --mode at most 777")
+    given.again = given.again or ("reoptimise" if os.path.basename(given.words[0]) == KEEPS_BOOKINGS else "all")
+    return given
+
+
+def allow_files(count):
+    """Lets this process have so many files open."""
+    soft, hard = resource.getrlimit(resource.RLIMIT_NOFILE)
+    if hard != resource.RLIM_INFINITY and hard < count:
+        raise Stop(f"for so many clients {count} files must be open, and {hard} may be: `ulimit -Hn` tells it")
+    if soft != resource.RLIM_INFINITY and soft < count:
+        resource.setrlimit(resource.RLIMIT_NOFILE, (count, hard))
+
+
+def main():
+    given = words_given()
+    allow_files(given.clients + 64)
+    journal = Journal(given.journal) if given.journal else None
+    listeners = [tcp_socket(given.listen, given.beyond_this_machine)] if given.listen else []
+    controller = Controller(given.words)
+    controller.ask_all([], 0)
+    if journal:
+        give_again(controller, journal, given.again)
+    listeners += [unix_socket(given.socket, given.mode)] if given.socket else []
+    try:
+        return asyncio.run(serve(given, controller, journal, listeners))
+    finally:
+        if given.socket:
+            with contextlib.suppress(FileNotFoundError):
+                os.unlink(given.socket)
+
+
+if __name__ == "__main__":
+    end(main)
