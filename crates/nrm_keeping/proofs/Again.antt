@@ -56,9 +56,9 @@ row-fits : (net : NetworkValue) (front rest : List Booking) (next : ℕ) (b : Bo
     → row_fits net (record { bookings = front; next = next }) (row_of net b) b.product ≡ true
 row-fits net front rest next b is are those within later =
     let seats : list_all (λ i. nat_le b.party (left_on (inventory_of net) front i)) (product_of net b.product).legs ≡ true =
-        list_all-from_AllPass (λ i. nat_le b.party (left_on (inventory_of net) front i)) (product_of net b.product).legs (λ k d short.
-        let uses = subst (λ (legs : List ℕ). All (λ i. uses_leg (inventory_of net) i b.product ≡ true) legs) (legs-are net b.product) (uses-each (inventory_of net) b.product) in
-        le-leb b.party _ (seats-left (inventory_of net) front rest b (get_or (product_of net b.product).legs k d) are those (uses k d short) (within k d short))) in
+    list_all-from_AllPass (λ i. nat_le b.party (left_on (inventory_of net) front i)) (product_of net b.product).legs (λ k d short.
+    let uses = subst (λ (legs : List ℕ). All (λ i. uses_leg (inventory_of net) i b.product ≡ true) legs) (legs-are net b.product) (uses-each (inventory_of net) b.product) in
+    le-leb b.party _ (seats-left (inventory_of net) front rest b (get_or (product_of net b.product).legs k d) are those (uses k d short) (within k d short))) in
     let one : nat_le next b.number ≡ true = le-leb next b.number later in
     let two : nat_le b.number 99999999999 ≡ true = le-leb b.number 99999999999 is.low in
     let three : nat_le 1 b.party ≡ true = le-leb 1 b.party is.party.0 in
@@ -85,13 +85,13 @@ module _ (net : NetworkValue) (is : IsNetwork net) (all : List Booking) (are : A
   behind front (b ∷ rest) next whole those ones later rise =
       let one = All-head (IsOne net) b rest ones in
       let fits = row-fits net front rest next b one (subst (AreProducts (inventory_of net)) whole are) those
-          (subst (λ (bookings : List Booking). All (λ i. sold_on (inventory_of net) bookings i ≤ authorised_of (inventory_of net) i) (product_of net b.product).legs) whole (on-legs b.product one.product))
-          (All-head (λ (b : Booking). next ≤ b.number) b rest later) in
+      (subst (λ (bookings : List Booking). All (λ i. sold_on (inventory_of net) bookings i ≤ authorised_of (inventory_of net) i) (product_of net b.product).legs) whole (on-legs b.product one.product))
+      (All-head (λ (b : Booking). next ≤ b.number) b rest later) in
       let first : booking_of net (record { bookings = front; next = next }) (row_of net b) ≡ Some b = gives net is (record { bookings = front; next = next }) b one.product fits in
       let grown : AreProducts (inventory_of net) (front ++ b ∷ []) =
-          All-push (λ (b : Booking). b.product < length (inventory_of net).legs) front b those (omega (arith, one.product, length-map net.products (λ (p : Product). p.legs))) in
+      All-push (λ (b : Booking). b.product < length (inventory_of net).legs) front b those (omega (arith, one.product, length-map net.products (λ (p : Product). p.legs))) in
       let more = behind (front ++ b ∷ []) rest (b.number + 1) (whole ∙ sym (append_assoc front (b ∷ []) rest)) grown (All-tail (IsOne net) b rest ones)
-          (λ k d at. omega (arith, rise 0 (suc k) d (omega arith) (omega (arith, at)))) (λ i j d before at. rise (suc i) (suc j) d (omega arith) (omega arith)) in
+      (λ k d at. omega (arith, rise 0 (suc k) d (omega arith) (omega (arith, at)))) (λ i j d before at. rise (suc i) (suc j) d (omega arith) (omega arith)) in
       rw first (more ∙ ap (λ (bookings : List Booking). Ok (record { bookings = bookings; next = next_behind (b.number + 1) rest })) (append_assoc front (b ∷ []) rest))
 
 pub load-again : RowsLoadAgain

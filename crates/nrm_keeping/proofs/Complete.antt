@@ -100,8 +100,7 @@ module _ (asked : Option KeptJob) (before after : KeptOutside) (job : KeptJob) (
   complete-told s text (file_fault other is rose) wrote = absurd (nothing.files rose)
   complete-told s text (overflow other given n number is opens large) wrote =
       let of_job = subst (λ (j : KeptJob). OpeningOverflows given j.mode n number) (same-job other is) large in
-      let own : OpeningOverflows net job.mode n number = subst (λ (n' : NetworkValue). OpeningOverflows n' job.mode n number) (same-net other given is opens) of_job in
-      (
+      let own : OpeningOverflows net job.mode n number = subst (λ (n' : NetworkValue). OpeningOverflows n' job.mode n number) (same-net other given is opens) of_job in (
         large-told n number own wrote,
         (λ plan rows refused-at planned told refuses. absurd ((one-plan net job.mode (inventory_of net).authorised 1).apart plan n number planned own)),
         (λ plan rows loaded stream planned told loads coming short. absurd ((one-plan net job.mode (inventory_of net).authorised 1).apart plan n number planned own)),
@@ -121,8 +120,7 @@ module _ (asked : Option KeptJob) (before after : KeptOutside) (job : KeptJob) (
   complete status.Done ran =
       let st = ran.starts in
       let (taken, output, did, ended, runs) = ran.serves in
-      let (last, leaves, writes) = runs in
-      (
+      let (last, leaves, writes) = runs in (
         planned-apart st.begins.plan (begun-plan st.begins) status.Done,
         rows-load st status.Done,
         (λ plan rows loaded stream planned is loads coming short.
@@ -132,11 +130,11 @@ module _ (asked : Option KeptJob) (before after : KeptOutside) (job : KeptJob) (
             let of_net = begun-net st.begins in
             let of_plan = opening-same plan st.begins.plan planned (begun-plan st.begins) in
             let first : KeptWrites net (loaded_state st.begins.plan st.loaded) (commands_of taken) output last before.store_faults after.store_faults =
-                subst (λ (n : NetworkValue). KeptWrites n (loaded_state st.begins.plan st.loaded) (commands_of taken) output last before.store_faults after.store_faults) of_net writes in
+            subst (λ (n : NetworkValue). KeptWrites n (loaded_state st.begins.plan st.loaded) (commands_of taken) output last before.store_faults after.store_faults) of_net writes in
             let second : KeptWrites net (loaded_state plan loaded) (commands_of taken) output last before.store_faults after.store_faults =
-                subst (λ (s : SeatState). KeptWrites net s (commands_of taken) output last before.store_faults after.store_faults) (λ i. loaded_state (of_plan i) (those i)) first in
+            subst (λ (s : SeatState). KeptWrites net s (commands_of taken) output last before.store_faults after.store_faults) (λ i. loaded_state (of_plan i) (those i)) first in
             let own : KeptWrites net (loaded_state plan loaded) (commands_of stream) output last before.store_faults after.store_faults =
-                subst (λ (bytes : List ℕ). KeptWrites net (loaded_state plan loaded) (commands_of bytes) output last before.store_faults after.store_faults) all second in
+            subst (λ (bytes : List ℕ). KeptWrites net (loaded_state plan loaded) (commands_of bytes) output last before.store_faults after.store_faults) all second in
             inl (refl, (output, last, own, did.written))),
       )
   complete status.Usage t = complete-told status.Usage t.text t.tells t.wrote
@@ -151,8 +149,7 @@ module _ (asked : Option KeptJob) (before after : KeptOutside) (job : KeptJob) (
   complete status.Overflow t = complete-told status.Overflow t.text t.tells t.wrote
   complete status.TooLong ran =
       let st = ran.starts in
-      let (taken, output, took, long, wrote, writes) = ran.serves in
-      (
+      let (taken, output, took, long, wrote, writes) = ran.serves in (
         planned-apart st.begins.plan (begun-plan st.begins) status.TooLong,
         rows-load st status.TooLong,
         (λ plan rows loaded stream planned is loads coming short.

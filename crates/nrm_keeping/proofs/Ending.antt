@@ -121,7 +121,7 @@ module _ {P : Type 0} (rows_of_keeper : P → Option (List KeptRow)) (faults : P
       let net : new.net ≡ starts.begins.net = same ∙ network in
       let own : IsNetwork starts.begins.net = subst IsNetwork net kept.network in
       let book : IsBook (record { inventory = inventory_of starts.begins.net; bookings = last.bookings; next = new.next }) =
-          subst IsBook (λ k. record { inventory = inventory_of (net k); bookings = sym stands'.bookings k; next = new.next }) kept.book in
+      subst IsBook (λ k. record { inventory = inventory_of (net k); bookings = sym stands'.bookings k; next = new.next }) kept.book in
       record {
         rows = λ rows told. rows_after ∙ stays (rows-began rows told) ∙ (λ k. Some (rows_of (net k) (sym stands'.bookings k)));
         again = load-again starts.begins.net last.bookings new.next own book;
@@ -131,14 +131,14 @@ module _ {P : Type 0} (rows_of_keeper : P → Option (List KeptRow)) (faults : P
   runs-on commands output refines =
       let (last, stands', writes) = refines.run (loaded_state starts.begins.plan starts.loaded) began in
       let on : KeptWrites starts.begins.net (loaded_state starts.begins.plan starts.loaded) commands output last (faults listed) (faults ended) =
-          subst (λ (net : NetworkValue). KeptWrites net (loaded_state starts.begins.plan starts.loaded) commands output last (faults listed) (faults ended)) network writes in
+      subst (λ (net : NetworkValue). KeptWrites net (loaded_state starts.begins.plan starts.loaded) commands output last (faults listed) (faults ended)) network writes in
       (last, leaves last stands' refines.network refines.stays, record { writes = on.writes; counted = faults_after ∙ on.counted ∙ ap (count_after on.writes.replies) count })
 
   runs-on_cut : (commands : List Command) (output : List ℕ) → KeptRefinesCut rows_of_keeper faults (start, listed) (new, ended) commands output → RunsOnCut (Some job) before after starts commands output
   runs-on_cut commands output refines =
       let (last, stands', writes) = refines.run (loaded_state starts.begins.plan starts.loaded) began in
       let on : KeptWritesCut starts.begins.net (loaded_state starts.begins.plan starts.loaded) commands output last (faults listed) (faults ended) =
-          subst (λ (net : NetworkValue). KeptWritesCut net (loaded_state starts.begins.plan starts.loaded) commands output last (faults listed) (faults ended)) network writes in
+      subst (λ (net : NetworkValue). KeptWritesCut net (loaded_state starts.begins.plan starts.loaded) commands output last (faults listed) (faults ended)) network writes in
       (last, leaves last stands' refines.network refines.stays, record { writes = on.writes; counted = faults_after ∙ on.counted ∙ ap (count_after (on.writes.replies ++ on.writes.reply ∷ [])) count })
 
   pub served-ends : (e : End) → ServesBy (KeptRefines rows_of_keeper faults (start, listed) (new, ended)) (KeptRefinesCut rows_of_keeper faults (start, listed) (new, ended)) (streams_at before.at) (streams_at after.at) stream_limit e

@@ -52,9 +52,12 @@ module _ {P : Type 0} (rows : P → Option (List KeptRow)) (faults : P → ℕ) 
       stays = λ are. rest.stays (first.stays are);
       run = λ s stands.
           let (m, stands_m, writes) = first.run s stands in
-          let (s', stands', others) = rest.run m stands_m in
-          (s', stands', kept-joined old.0.net s m s' commands more output text (faults old.1) (faults mid.1) (faults new.1) writes
-              (subst (λ (net : NetworkValue). KeptWrites net m more text s' (faults mid.1) (faults new.1)) first.network others));
+          let (s', stands', others) = rest.run m stands_m in (
+            s',
+            stands',
+            kept-joined old.0.net s m s' commands more output text (faults old.1) (faults mid.1) (faults new.1) writes
+                (subst (λ (net : NetworkValue). KeptWrites net m more text s' (faults mid.1) (faults new.1)) first.network others),
+          );
     }
 
     refines-then_cut : KeptRefinesCut rows faults mid new more text → KeptRefinesCut rows faults old new (commands ++ more) (output ++ text)
@@ -63,9 +66,12 @@ module _ {P : Type 0} (rows : P → Option (List KeptRow)) (faults : P → ℕ) 
       stays = λ are. rest.stays (first.stays are);
       run = λ s stands.
           let (m, stands_m, writes) = first.run s stands in
-          let (s', stands', others) = rest.run m stands_m in
-          (s', stands', kept-joined_cut old.0.net s m s' commands more output text (faults old.1) (faults mid.1) (faults new.1) writes
-              (subst (λ (net : NetworkValue). KeptWritesCut net m more text s' (faults mid.1) (faults new.1)) first.network others));
+          let (s', stands', others) = rest.run m stands_m in (
+            s',
+            stands',
+            kept-joined_cut old.0.net s m s' commands more output text (faults old.1) (faults mid.1) (faults new.1) writes
+                (subst (λ (net : NetworkValue). KeptWritesCut net m more text s' (faults mid.1) (faults new.1)) first.network others),
+          );
     }
 
   refines-behind : (old new : ControlValue × P) (commands more : List Command) (output : List ℕ) → KeptRefinesCut rows faults old new commands output → KeptRefinesCut rows faults old new (commands ++ more) output

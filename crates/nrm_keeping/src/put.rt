@@ -97,5 +97,9 @@ pub(crate) fn put_refused<K: Sink>(sink: &mut K, number: u64) -> KeptStatus
     ensures later { K.faults sink.old ≤ K.faults sink.new }
     ensures sent { SentOn result (K.unsent sink.old) (K.unsent sink.new) }
 {
-    put_line(sink, line_of_refused(number).bytes(), KeptStatus::StoreRefused)
+    put_line(
+        sink,
+        line_of_refused(number).bytes(),
+        KeptStatus::StoreRefused,
+    )
 }

@@ -262,11 +262,7 @@ fn keeps_book(alloc: Global, keeper: &mut MemKeeper, controller: &Controller) ->
 }
 
 // What is wanted of a session in which the line at a place was answered `store`: that of a session without the line.
-fn wanted(
-    alloc: Global,
-    mode: Mode,
-    place: Option<usize>,
-) -> Result<(Vec<u8>, Controller), Fail> {
+fn wanted(alloc: Global, mode: Mode, place: Option<usize>) -> Result<(Vec<u8>, Controller), Fail> {
     let (plain, controller) = session(alloc, mode, &stream_without(alloc, place)?)?;
     match place {
         Some(place) => Ok((with_store(alloc, &plain, place)?, controller)),
@@ -347,7 +343,10 @@ fn a_cut_run_is_gone_on_with(rt: HostRuntime) -> Result<(), Fail> {
     let all = lines_from(rt.alloc(), 0, 11)?;
     let (plain, controller) = session(rt.alloc(), Mode::FirstCome, &all)?;
     for cut in 0..11 {
-        assert!(rt; goes_on(rt.alloc(), cut, &plain, &controller)?, "cut before line {cut}");
+        assert!(rt;
+            goes_on(rt.alloc(), cut, &plain, &controller)?,
+            "cut before line {cut}"
+        );
     }
     Ok(())
 }

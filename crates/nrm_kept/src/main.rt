@@ -28,10 +28,24 @@ fn status_of(rt: &HostRuntime) -> io::Result<KeptStatus> {
     let mut output = StdSink::new(io::writer(rt));
     let mut keeper = FileKeeper::new(rt, store_in(&words));
     if !asks_for_a_session(&words) {
-        return Ok(run_kept(alloc, &words, &mut files, &mut source, &mut output, &mut keeper));
+        return Ok(run_kept(
+            alloc,
+            &words,
+            &mut files,
+            &mut source,
+            &mut output,
+            &mut keeper,
+        ));
     }
     let mut sink = GatheringSink::new(alloc, output, GATHERED)?;
-    Ok(run_kept(alloc, &words, &mut files, &mut source, &mut sink, &mut keeper))
+    Ok(run_kept(
+        alloc,
+        &words,
+        &mut files,
+        &mut source,
+        &mut sink,
+        &mut keeper,
+    ))
 }
 
 fn main(rt: HostRuntime) -> ExitCode {
