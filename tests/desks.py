@@ -423,7 +423,7 @@ def nothing_is_lost_by_kills(folder, program):
             if before:
                 count = before.count(b"\n")
                 want(f"{count} lines given again, of {count} in {journal}" in server.told(), True, server.told())
-            workers = begin_crowd(server, folder, round_, 300)
+            workers = begin_crowd(server, folder, round_, 200)
             deadline = time.monotonic() + SECONDS
             while journal.stat().st_size < len(before) + 1_000 and time.monotonic() < deadline:
                 time.sleep(0.02)
@@ -746,7 +746,7 @@ def as_many_are_available_as_are_sold(folder, program):
     """On random states in the three modes: a party of so many is sold, and of one more is not."""
     seen = Counter()
     for mode in MODES:
-        for seed in range(8):
+        for seed in range(5):
             draw, path = random.Random(seed), folder / "made.csv"
             path.write_text(made_network(draw))
             network, lines = Network.read(path), []
@@ -853,7 +853,6 @@ def main():
         return NOT_BUILT
     passed = failed = 0
     for it in [it for it in TESTS if given.pattern in it.__name__]:
-        begun = time.monotonic()
         try:
             with tempfile.TemporaryDirectory() as folder:
                 it(Path(folder), program)
@@ -861,8 +860,6 @@ def main():
         except (Wrong, OSError, subprocess.SubprocessError, desks_in_python.DeskError) as wrong:
             failed += 1
             print(f"{it.__name__}: {wrong if isinstance(wrong, Wrong) else repr(wrong)}")
-        if "--times" in os.environ.get("DESKS", ""):
-            print(f"{it.__name__} {time.monotonic() - begun:.1f}")
     print(f"{passed} passed, {failed} failed")
     return 0 if passed and not failed else 1
 
