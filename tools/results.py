@@ -155,10 +155,10 @@ class Study:
         for name, it in self.results.items():
             for mode, other in it.pairs():
                 differences = it.differences(mode, other)
-                difference = Estimate.of(differences)
+                difference, ahead, behind = Estimate.of(differences), sum(d > 0 for d in differences), sum(d < 0 for d in differences)
                 ends = [amount(difference.mean + sign * difference.half()) for sign in (-1, 1)]
                 rows.append([self.named(name, f"{mode} less {other}"), amount(difference.mean), amount(difference.error), *ends,
-                             per_cent(sum(d > 0 for d in differences), len(differences)), per_cent(sum(d < 0 for d in differences), len(differences))])
+                             per_cent(ahead, it.seasons), per_cent(behind, it.seasons)])
         return Table("What a mode earns more than another on the same requests, in currency units a season",
                      ["", "mean", "standard error", "from, at 95 %", "to", "ahead in", "behind in"], rows)
 
@@ -191,7 +191,7 @@ class Study:
         """The leg whose authorised seats alone differ between the networks, and the names of these by its seats; None otherwise."""
         networks = list(self.networks.values())
         alike = len({str([row[:3] + row[4:] if row[0] == "leg" else row for row in it.rows()]) for it in networks}) == 1
-        legs = [leg for leg in networks[0].seats if len({it.authorised[leg] for it in networks if leg in it.authorised}) > 1] if alike else []
+        legs = [leg for leg in networks[0].seats if len({it.authorised[leg] for it in networks}) > 1] if alike else []
         if len(legs) != 1 or any(it.version != 2 for it in networks):
             return None
         return legs[0], dict(sorted((it.authorised[legs[0]], name) for name, it in self.networks.items()))
@@ -200,7 +200,8 @@ class Study:
         """By the authorised seats, how much less is earned than with those that earn most, on the same requests; None with those."""
         earned = {seats: self.results[name].earned[mode] for seats, name in names.items()}
         best = max(earned, key=lambda seats: sum(earned[seats]))
-        return {seats: None if seats == best else Estimate.of([a - b for a, b in zip(earned[best], values)]) for seats, values in earned.items()}
+        return {seats: None if seats == best else Estimate.of([a - b for a, b in zip(earned[best], values)])
+                for seats, values in earned.items()}
 
     def by_authorised_seats(self):
         """What each mode earns by the authorised seats of the leg, and how far that is from the most, season by season."""
@@ -213,7 +214,8 @@ class Study:
                 ends = [amount(less.mean + sign * less.half()) for sign in (0, -1, 1)] if less else ["most", None, None]
                 rows.append([str(seats), *shown, amount(it.mean(mode, "earned")), *ends])
             yield Table(f"Under {mode}, by the authorised seats of {leg}, in currency units a season",
-                        ["authorised", *(["denied", "empty"] if self.departs else []), "earned", "less than the most by", "from, at 95 %", "to"], rows)
+                        ["authorised", *(["denied", "empty"] if self.departs else []), "earned", "less than the most by", "from, at 95 %",
+                         "to"], rows)
 
     # Pictures
 
@@ -238,10 +240,12 @@ class Study:
     def picture_of_authorised(self, leg, names):
         """What each mode earns less than with the authorised seats that are its best."""
         less = {mode: self.less_than_most(mode, names) for mode in self.settings.modes}
-        courses = [(mode, [(seats, -it.mean if it else 0, it.half() if it else 0) for seats, it in by_seats.items()]) for mode, by_seats in less.items()]
+        courses = [(mode, [(seats, -it.mean if it else 0, it.half() if it else 0) for seats, it in by_seats.items()])
+                   for mode, by_seats in less.items()]
         tops = "; ".join(f"under {mode} at {next(seats for seats, it in by_seats.items() if not it)}" for mode, by_seats in less.items())
-        return ("authorised", f"What is earned by the authorised seats of {leg}", "What a season brings beside the authorised seats that earn most in "
-                f"each mode, with its 95 per cent interval. Most is earned {tops}",
+        return ("authorised", f"What is earned by the authorised seats of {leg}",
+                "What a season brings beside the authorised seats that earn most in each mode, with its 95 per cent interval. "
+                f"Most is earned {tops}",
                 charts.courses(courses, f"authorised seats of {leg}", "beside the most, currency units"))
 
 

@@ -55,6 +55,7 @@ SECONDS_OF_A_TASK = 1.5
 FIRST_TASK, LARGEST_TASK = 5, 2000  # seasons
 TASKS_AHEAD = 3  # of each worker
 MOST_SEASONS = 10_000_000
+LOGGERS = ("distributed", *(f"distributed.{it}" for it in ("nanny", "worker", "scheduler", "core")), "asyncio", "tornado")
 PATIENCE = 10  # the seconds in which a scheduler must answer
 
 
@@ -137,8 +138,8 @@ def see_dask():
         raise Stop(f"{sys.executable} has no Dask; `apt-get install python3-distributed` installs it")
     if os.path.isdir(DEBIANS_DASK) and os.access(DEBIANS_PYTHON, os.X_OK):
         os.execv(DEBIANS_PYTHON, [DEBIANS_PYTHON, *sys.argv])
-    raise Stop(f"{sys.executable}, the Python that was asked, has no Dask; Debian's package python3-distributed has it for {DEBIANS_PYTHON}, "
-               "under which this goes on once it is installed")
+    raise Stop(f"{sys.executable}, the Python that was asked, has no Dask; Debian's package python3-distributed has it for "
+               f"{DEBIANS_PYTHON}, under which this goes on once it is installed")
 
 
 # The rows of a network on disk
@@ -218,7 +219,8 @@ def check_same(folder, settings, studies):
         try:
             before = json.loads(bytes_in(path))
             known = before["networks"]
-            differ = [it for it in now if now[it] != before["settings"][it]] + [it for it in digests if known.get(it, digests[it]) != digests[it]]
+            differ = [it for it in now if now[it] != before["settings"][it]]
+            differ += [it for it in digests if known.get(it, digests[it]) != digests[it]]
         except (ValueError, LookupError, TypeError):
             raise Stop(f"{path} isn't what simulate.py writes")
         if differ:
@@ -256,7 +258,7 @@ class Progress:
 @contextlib.contextmanager
 def cluster(distributed, given):
     """A client of a scheduler with workers: of the one at an address, or of one on this machine that ends with it."""
-    for name in ("distributed", "distributed.nanny", "distributed.worker", "distributed.scheduler", "distributed.core", "asyncio", "tornado"):
+    for name in LOGGERS:
         logging.getLogger(name).setLevel(logging.CRITICAL)
     if given.cluster:
         try:
@@ -322,19 +324,22 @@ def simulated(given, settings, studies, words):
 
 # What is told
 
+DEMAND_IN_WORDS = {"histories": "the requests of a history, each as likely",
+                   "independent": "for each product the requests of a history, drawn apart",
+                   "poisson": "numbers of Poisson about the mean of the histories, for each product and period apart"}
+
 
 def about(given, settings, results):
     """What was done, in sentences."""
-    demand = {"histories": "the requests of a history, each as likely", "independent": "for each product the requests of a history, drawn apart",
-              "poisson": "numbers of Poisson about the mean of the histories, for each product and period apart"}[settings.demand]
-    yield (f"{given.seasons:,} seasons, drawn by seed {settings.seed}. Demand: {demand}. Order in a period: {settings.order}. "
-           f"Parties: {', '.join(f'{size} with weight {weight}' for size, weight in settings.parties) if len(settings.parties) > 1 else settings.parties[0][0]}.")
+    parties = [f"{size} with weight {weight}" for size, weight in settings.parties] if len(settings.parties) > 1 else [str(settings.parties[0][0])]
+    yield (f"{given.seasons:,} seasons, drawn by seed {settings.seed}. Demand: {DEMAND_IN_WORDS[settings.demand]}. Order in a period: {settings.order}. "
+           f"Parties: {', '.join(parties)}.")
     if settings.cancel:
-        yield (f"Each booking was cancelled with probability {settings.cancel:g}. The bound counts all requests, cancelled ones too, and bounds "
-               "the revenue of the bookings that stand; what is withheld is beside it.")
+        yield (f"Each booking was cancelled with probability {settings.cancel:g}. The bound counts all requests, cancelled ones too, and "
+               "bounds the revenue of the bookings that stand; what is withheld is beside it.")
     if settings.show is not None:
-        yield (f"Each seat booked at the end was taken with probability {settings.show:g}. Denied are seats taken beyond the physical seats of "
-               f"their leg, at {settings.denied_cost:,} each; empty are physical seats that nobody took. The bound knows of neither.")
+        yield (f"Each seat booked at the end was taken with probability {settings.show:g}. Denied are seats taken beyond the physical seats "
+               f"of their leg, at {settings.denied_cost:,} each; empty are physical seats that nobody took. The bound knows of neither.")
     if settings.leave_out:
         yield "Plans were made without the history that was played."
     yield f"Seasons whose revenue is above the bound: {sum(it.above_bound for it in results.values())}."
