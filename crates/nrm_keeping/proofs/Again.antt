@@ -1,5 +1,5 @@
 -- The bookings of a book load again from their rows.
-use Rattle.std.proofs.Common.{ℕ, ◌≡◌, ◌∙◌, ◌+◌, ◌-◌, ◌<◌, ◌≤◌, ◌&&◌, nat_le, true, All, AllPairs, List, [], ◌∷◌, ◌++◌, length, get_or, sum_by, suc, Some, Ok, refl, sym, ap, subst, arith, append-nil, append_assoc}
+use Rattle.std.proofs.Common.{ℕ, ◌≡◌, ◌∙◌, ◌+◌, ◌-◌, ◌<◌, ◌≤◌, nat_le, true, All, AllPairs, List, [], ◌∷◌, ◌++◌, length, get_or, suc, Some, Ok, refl, sym, ap, subst, arith, append-nil, append_assoc}
 use Rattle.std.specs.Int.{IsInRange}
 use Rattle.std.specs.List.{list_all}
 use Rattle.std.proofs.lemmas.Bool.{le-leb}
@@ -9,18 +9,16 @@ use Rattle.std.proofs.lemmas.List.Sums.{list_all-from_AllPass, sum_by-append, su
 use Rattle.std.proofs.lemmas.Option.{unwrap_or-slice_get}
 use Rattle.nrm_model.specs.declared.leg.Leg.{Leg}
 use Rattle.nrm_model.specs.declared.product.Product.{Product}
-use Rattle.nrm_model.specs.Inventory.{Inventory, authorised_of, inventory_of, legs_of, uses_leg}
+use Rattle.nrm_model.specs.Inventory.{Inventory, authorised_of, inventory_of, uses_leg}
 use Rattle.nrm_model.specs.Limits.{IsNetwork}
 use Rattle.nrm_model.specs.Network.{NetworkValue, product_named, product_of}
 use Rattle.nrm_model.proofs.Inventories.{legs-are}
 use Rattle.nrm_book.specs.declared.booking.Booking.{Booking}
-use Rattle.nrm_book.specs.Book.{IsBook}
 use Rattle.nrm_book.specs.Bookings.{left_on, sold_on}
 use Rattle.nrm_book.proofs.Sold.{AreProducts, sold_on-by_booking, taken_on, uses-each}
 use Rattle.nrm_dual.proofs.WrittenLines.{found_by_name}
-use Rattle.nrm_keeper.specs.declared.row.KeptRow.{KeptRow}
 use Rattle.nrm_keeping.specs.Laws.{RowsLoadAgain}
-use Rattle.nrm_keeping.specs.Rows.{Loaded, booking_of, load_behind, loaded_more, next_behind, row_fits, row_of, rows_of}
+use Rattle.nrm_keeping.specs.Rows.{Loaded, booking_of, load_behind, next_behind, row_fits, row_of, rows_of}
 
 no_product : Product
 no_product = record { name = []; fare = 0; refund = 0; legs = [] }

@@ -1,18 +1,15 @@
 -- What is kept before a line is what the line makes of the book.
-use Rattle.std.proofs.Common.{ℕ, ◌≡◌, ◌≢◌, ◌∙◌, ◌+◌, ◌-◌, ◌^◌, ◌<◌, ◌≤◌, min, Bool, true, false, nat_lt, if◌then◌else◌, List, [], ◌∷◌, ◌++◌, length, take, find, All, Option, Some, None, Result, Ok, Err, refl, sym, ap, subst, arith, append-nil}
-use Rattle.std.specs.Prelude.{MatchOption, OnErr, OnOk}
-use Rattle.std.specs.Bool.{MatchBool}
-use Rattle.std.specs.Option.{option_map_or}
+use Rattle.std.proofs.Common.{ℕ, ◌≡◌, ◌≢◌, ◌∙◌, ◌+◌, ◌-◌, ◌<◌, Bool, true, false, List, [], ◌∷◌, ◌++◌, length, take, All, Option, Some, None, Result, Ok, Err, refl, sym, ap, subst, arith, append-nil}
+use Rattle.std.specs.Prelude.{OnErr, OnOk}
 use Rattle.std.specs.Io.KnownBytes.{Appends}
-use Rattle.nrm_edge.specs.Causes.{HasCause, Rose}
+use Rattle.nrm_edge.specs.Causes.{HasCause}
 use Rattle.nrm_edge.specs.Pieces.{AppendsFront}
 use Rattle.nrm_model.specs.Network.{NetworkValue, leg_named, product_named}
 use Rattle.nrm_book.specs.declared.booking.Booking.{Booking}
 use Rattle.nrm_book.specs.Bookings.{booking_numbered, without}
-use Rattle.nrm_plan.specs.Plans.{fare_refuses}
-use Rattle.nrm_control.specs.State.{SeatState, after_answer, after_cancellation, after_request, answer_in}
+use Rattle.nrm_control.specs.State.{SeatState, after_answer}
 use Rattle.nrm_control.specs.Standing.{ControlValue, IsControl, StandsFor}
-use Rattle.nrm_control.specs.Verdict.{leg_refuses, verdict_of}
+use Rattle.nrm_control.specs.Verdict.{verdict_of}
 use Rattle.nrm_control.specs.declared.answer.Answer.{Answer}
 use Rattle.nrm_control.specs.declared.answer.Answer.TheVariants as answer
 use Rattle.nrm_control.proofs.Inventories.{sold-next}
@@ -21,14 +18,14 @@ use Rattle.nrm_stream.specs.declared.command.Command.{Command}
 use Rattle.nrm_stream.specs.declared.command.Command.TheVariants as command
 use Rattle.nrm_session.specs.Answering.{AnswersLine, CutsLine, Steps}
 use Rattle.nrm_session.specs.Clerks.{Answers, AnswersCut, is_control}
-use Rattle.nrm_session.specs.Replies.{Reply, memory, text_of}
+use Rattle.nrm_session.specs.Replies.{Reply, text_of}
 use Rattle.nrm_session.specs.Step.{Reoptimises, Step, lacks_period, optimises, overflows, wants_memory}
 use Rattle.nrm_keeper.specs.declared.row.KeptRow.{KeptRow}
 use Rattle.nrm_keeper.specs.Rows.{Adds, Drops}
 use Rattle.nrm_keeping.specs.Inner.Keeping.{KeepsAhead, KeptRefines, KeptRefinesCut}
 use Rattle.nrm_keeping.specs.Rows.{AreRows, row_of, rows_of}
 use Rattle.nrm_keeping.specs.Run.{count_after}
-use Rattle.nrm_keeping.specs.Step.{ChangesBook, KeptReply, KeptStep, as_ever, kept_text, lacks_memory, not_stored, store, told}
+use Rattle.nrm_keeping.specs.Step.{ChangesBook, KeptReply, KeptStep, as_ever, kept_text, told}
 use Rattle.nrm_keeping.proofs.KeptRows.{live-row, product-name, rows-below, rows-more, rows-without}
 
 -- ---- lines that leave the book

@@ -1,9 +1,8 @@
 -- If the words are good, the files are told, the file is valid and nothing failed, the job is done.
-use Rattle.std.proofs.Common.{ℕ, ℤ, ◌≡◌, ◌∙◌, ◌≤◌, ◌++◌, List, length, Option, Some, None, Result, Ok, Err, refl, ap, sym, inl, inr, arith, append-nil, length-append, subst}
+use Rattle.std.proofs.Common.{ℕ, ℤ, ◌≡◌, ◌∙◌, ◌≤◌, ◌++◌, List, length, Option, Some, None, Ok, Err, refl, ap, sym, inl, inr, arith, append-nil, length-append, subst}
 use Rattle.std.specs.Io.KnownBytes.{Consumes, IsAtEnd}
 use Rattle.std.proofs.lemmas.Option.{none-some}
 use Rattle.nrm_edge.specs.Fetch.{Folder}
-use Rattle.nrm_model.specs.declared.mode.Mode.{Mode}
 use Rattle.nrm_model.specs.Inventory.{inventory_of}
 use Rattle.nrm_model.specs.Network.{NetworkValue}
 use Rattle.nrm_plan.specs.Plans.{IsOpeningPlan, OpeningOverflows, PlanValue}
@@ -16,9 +15,9 @@ use Rattle.nrm_stream.specs.Commands.{commands_of}
 use Rattle.nrm_session.specs.declared.serving.End.TheVariants as end
 use Rattle.nrm_keeper.specs.declared.row.KeptRow.{KeptRow}
 use Rattle.nrm_keeper.specs.Rows.{Lists}
-use Rattle.nrm_keeping.specs.Ends.{AnswersAll, Begins, Completes, Ends, KeptOutside, NothingHinders, Opens, OrRanOut, Ran, RefusesRows, Starts, Tells, TellsOverflow, file_fault, overflow, refused, store_fault, store_refused, usage}
+use Rattle.nrm_keeping.specs.Ends.{AnswersAll, Begins, Completes, Ends, KeptOutside, NothingHinders, Opens, RefusesRows, Starts, Tells, TellsOverflow, file_fault, overflow, refused, store_fault, store_refused, usage}
 use Rattle.nrm_keeping.specs.Jobs.{KeptJob, store_refused_line}
-use Rattle.nrm_keeping.specs.Rows.{Loaded, load, loaded_state}
+use Rattle.nrm_keeping.specs.Rows.{load, loaded_state}
 use Rattle.nrm_keeping.specs.Run.{KeptWrites}
 use Rattle.nrm_keeping.specs.declared.status.KeptStatus.{KeptStatus}
 use Rattle.nrm_keeping.specs.declared.status.KeptStatus.TheVariants as status

@@ -1,6 +1,6 @@
 -- How a call ends, out of how its parts went.
-use Rattle.std.proofs.Common.{ℕ, ◌≡◌, ◌⊎◌, ◌∙◌, ◌+◌, ◌≤◌, List, [], ◌∷◌, ◌++◌, All, take, Option, Some, None, Result, Ok, Err, refl, sym, ap, subst, arith, inl, inr}
-use Rattle.nrm_edge.specs.Causes.{Rose, counted}
+use Rattle.std.proofs.Common.{ℕ, ◌≡◌, ◌∙◌, ◌+◌, ◌≤◌, List, [], ◌∷◌, ◌++◌, take, Option, Some, None, Ok, Err, refl, sym, ap, subst, arith, inl, inr}
+use Rattle.nrm_edge.specs.Causes.{counted}
 use Rattle.nrm_model.specs.Inventory.{inventory_of}
 use Rattle.nrm_model.specs.Limits.{IsNetwork}
 use Rattle.nrm_model.specs.Network.{NetworkValue}
@@ -16,7 +16,7 @@ use Rattle.nrm_control.specs.Standing.{ControlValue, IsControl, IsStartFault, St
 use Rattle.nrm_stream.specs.Commands.{commands_of, whole_commands}
 use Rattle.nrm_stream.specs.declared.command.Command.{Command}
 use Rattle.nrm_outside.specs.NetworkFile.{CountsFetch, OpensFile, reason_line}
-use Rattle.nrm_outside.specs.Outside.{Goes, LeftStream, OnFile, Outside, WroteCut, Wrote}
+use Rattle.nrm_outside.specs.Outside.{LeftStream, OnFile, Wrote}
 use Rattle.nrm_outside.specs.Refusals.{at_row, file_fault_line, network_under, no_file, refusal_line}
 use Rattle.nrm_outside.specs.Words.{overflow_line, told_pivots}
 use Rattle.nrm_outside.specs.declared.network_file.NoNetwork.{NoNetwork}
@@ -28,7 +28,7 @@ use Rattle.nrm_keeper.specs.declared.row.KeptRow.{KeptRow}
 use Rattle.nrm_keeper.specs.declared.row.KeepFault.{KeepFault}
 use Rattle.nrm_keeper.specs.declared.row.KeepFault.TheVariants as keep
 use Rattle.nrm_keeper.specs.Rows.{Keeps, Lists, has_failed}
-use Rattle.nrm_keeping.specs.Ends.{Begins, Ends, Failures, KeptOutside, Leaves, NoSession, Ran, RanOut, RowsStay, RunsOn, RunsOnCut, Starts, StoreDidNotFail, StoreFailed, Tells, Told, file_fault, overflow, refused, store_fault, store_refused, stream_limit, streams_at, usage}
+use Rattle.nrm_keeping.specs.Ends.{Begins, Ends, KeptOutside, Leaves, NoSession, RowsStay, RunsOn, RunsOnCut, Starts, StoreDidNotFail, Tells, file_fault, overflow, refused, store_fault, store_refused, stream_limit, streams_at, usage}
 use Rattle.nrm_keeping.specs.Jobs.{KeptJob, store_fault_line, store_refused_line}
 use Rattle.nrm_keeping.specs.Inner.Parts.{PutsIfSome, PutsLine, loaded_in, status_at, status_for, unlisted_line, unplanned_line}
 use Rattle.nrm_keeping.specs.Inner.Keeping.{KeptRefines, KeptRefinesCut}

@@ -1,11 +1,10 @@
 -- Sessions that keep their bookings are sessions without the lines that weren't carried out.
-use Rattle.std.proofs.Common.{ℕ, ◌≡◌, ◌∙◌, ◌<◌, ◌≤◌, All, AllPairs, List, [], ◌∷◌, ◌++◌, length, Option, Some, None, Ok, Err, Bool, true, false, refl, sym, ap, subst, arith}
+use Rattle.std.proofs.Common.{ℕ, ◌≡◌, ◌<◌, ◌≤◌, All, List, [], ◌∷◌, ◌++◌, length, Option, Some, None, Ok, Err, Bool, true, false, refl, subst, arith}
 use Rattle.std.proofs.lemmas.List.{length-map}
 use Rattle.std.proofs.lemmas.List.Elements.{All-nil, All-push}
 use Rattle.nrm_model.specs.declared.product.Product.{Product}
 use Rattle.nrm_model.specs.Inventory.{authorised_of, inventory_of, legs_of}
-use Rattle.nrm_model.specs.Limits.{IsNetwork}
-use Rattle.nrm_model.specs.Network.{NetworkValue, product_named, product_of}
+use Rattle.nrm_model.specs.Network.{NetworkValue, product_named}
 use Rattle.nrm_model.proofs.Inventories.{legs-are}
 use Rattle.nrm_book.specs.declared.booking.Booking.{Booking}
 use Rattle.nrm_book.specs.Bookings.{left_on, sold_on}
@@ -14,7 +13,7 @@ use Rattle.nrm_book.proofs.Sold.{AreProducts}
 use Rattle.nrm_hindsight.specs.Requests.{requests_of}
 use Rattle.nrm_hindsight.proofs.Choices.{all-chosen}
 use Rattle.nrm_plan.specs.Plans.{PlanValue}
-use Rattle.nrm_control.specs.State.{SeatState, opening}
+use Rattle.nrm_control.specs.State.{SeatState}
 use Rattle.nrm_stream.specs.declared.command.Command.{Command}
 use Rattle.nrm_session.specs.Laws.{IsKept}
 use Rattle.nrm_session.specs.Replies.{Reply, bad, unknown, sold, no_leg, no_fare, cancelled, optimised, optimised_none, overflow, memory, hindsight_told, leg_told, plan_told}
@@ -26,8 +25,7 @@ use Rattle.nrm_session.proofs.Seats.{kept, product-below}
 use Rattle.nrm_keeper.specs.declared.row.KeptRow.{KeptRow}
 use Rattle.nrm_keeping.specs.Laws.{FaultsLeaveNothing, KeptHindsightBounds, KeptSeatsAreKept, carried_out, replies_to_those}
 use Rattle.nrm_keeping.specs.Rows.{Loaded, booking_of, load, load_behind, loaded_more, loaded_state, nothing_loaded, row_fits}
-use Rattle.nrm_keeping.specs.Run.{KeptRun}
-use Rattle.nrm_keeping.specs.Step.{KeptReply, KeptStep, as_ever, lacks_memory, not_stored, store, told}
+use Rattle.nrm_keeping.specs.Step.{KeptReply, KeptStep, as_ever, lacks_memory, not_stored, told}
 use Rattle.nrm_keeping.proofs.Loads.{fits-of}
 
 -- ---- lines that weren't carried out

@@ -1,5 +1,5 @@
 -- Rows that are loaded into a controller, one behind another.
-use Rattle.std.proofs.Common.{ℕ, ◌≡◌, ◌∙◌, ◌+◌, ◌<◌, ◌≤◌, ◌&&◌, nat_le, Bool, true, false, List, [], ◌∷◌, ◌++◌, length, All, Option, Some, None, Result, Ok, Err, refl, sym, ap, subst, arith, unwrap_or, option_map, slice_get}
+use Rattle.std.proofs.Common.{ℕ, ◌≡◌, ◌∙◌, ◌+◌, ◌<◌, ◌≤◌, ◌&&◌, nat_le, Bool, true, false, List, [], ◌∷◌, ◌++◌, length, All, Option, Some, None, Err, refl, sym, ap, subst, arith, unwrap_or, option_map, slice_get}
 use Rattle.std.specs.Int.{IsInRange}
 use Rattle.std.specs.List.{list_all}
 use Rattle.std.proofs.lemmas.Bool.{leb-true}
@@ -12,7 +12,7 @@ use Rattle.nrm_model.specs.declared.product.Product.{Product}
 use Rattle.nrm_book.specs.declared.booking.Booking.{Booking}
 use Rattle.nrm_book.specs.Book.{IsLoadable}
 use Rattle.nrm_book.specs.Bookings.{left_on}
-use Rattle.nrm_hindsight.specs.Requests.{Request, request_of, requests_of}
+use Rattle.nrm_hindsight.specs.Requests.{request_of, requests_of}
 use Rattle.nrm_control.specs.State.{SeatState, after_answer}
 use Rattle.nrm_control.specs.Standing.{ControlValue, IsControl, StandsFor, book_of, with_answer}
 use Rattle.nrm_control.specs.declared.answer.Answer.TheVariants as answer

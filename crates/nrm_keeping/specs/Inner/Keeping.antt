@@ -1,5 +1,5 @@
 -- What a session that keeps its bookings promises of each line: the replies, the book, and the rows beside it.
-use Rattle.std.specs.Prelude.{ℕ, ◌≡◌, ◌≤◌, List, Option}
+use Rattle.std.specs.Prelude.{ℕ, ◌≡◌, List, Option}
 use Rattle.nrm_control.specs.State.{SeatState}
 use Rattle.nrm_control.specs.Standing.{ControlValue, StandsFor}
 use Rattle.nrm_stream.specs.declared.command.Command.{Command}
