@@ -390,9 +390,10 @@ int ftruncate64(int fd, off64_t size) { return fails(CUTS, fd) ? -1 : REAL(ftrun
 
 WRITE, FLUSH, CUT = range(3)
 CALLS = ["write", "flush", "cut"]
-ERRORS = {"EIO": {"ERROR": str(errno.EIO)}, "ENOSPC": {"ERROR": str(errno.ENOSPC)}}
+ERRORS = {"EIO": {"ERROR": str(errno.EIO)}, "ENOSPC for all after": {"ERROR": str(errno.ENOSPC), "ALL_AFTER": "1"}}
 # What was written since the last flush may be there or lost once one has failed.
 FATES = {"what was written stays": {}, "what was written is lost": {"LOSES": "1"}}
+FATES |= {f"{fate}, for all after": variables | {"ALL_AFTER": "1"} for fate, variables in FATES.items()}
 DOZEN = [b"book HJ-Q 2", b"book HF-Y 1", b"cancel 1", b"leg HAM-FRA", b"book FN-Q 3", b"cancel 9", b"book HN-Y 1", b"cancel 2",
          b"book MF-Q 2", b"hindsight", b"book FJ-Q 4", b"cancel 3", b"book NJ-Y 1"]
 
@@ -438,11 +439,11 @@ class Faults:
             raise preload.Wrong(f"the log wasn't emptied in {len(self.lines)} lines")
         return range(max(1, place - NEAR), min(whole, place + NEAR) + 1)
 
-    def fault(self, number, is_all, variables):
+    def fault(self, number, variables):
         """One run with faults, and a later one. What came of it."""
-        more = variables | ({"ALL_AFTER": "1"} if is_all else {})
+        is_all = "ALL_AFTER" in variables
         with tempfile.TemporaryDirectory(dir=self.folder) as place:
-            status, output = self.run(place, self.lines, FAILING=str(number), **more)
+            status, output = self.run(place, self.lines, FAILING=str(number), **variables)
             session, refused, kind = self.judged(status, output, is_all)
             path = os.path.join(place, "STORE")
             rows = rows_of(session) if status == STORE_FAULT else stores.rows(path)
@@ -478,11 +479,11 @@ class Faults:
 
     def tried(self):
         found, ways = [], FATES if self.kind == FLUSH else ERRORS
-        for number, way, is_all in itertools.product(self.numbers(), ways, (False, True)):
+        for number, way in itertools.product(self.numbers(), ways):
             try:
-                found.append(self.fault(number, is_all, ways[way]))
+                found.append(self.fault(number, ways[way]))
             except (Wrong, stores.Unread) as wrong:
-                found.append(f"WRONG: {CALLS[self.kind]} {number}, {way}{', and all after' * is_all}: wanted {wrong}")
+                found.append(f"WRONG: {CALLS[self.kind]} {number}, {way}: wanted {wrong}")
         return found
 
 
@@ -549,7 +550,7 @@ def disk_that_is_full(program, folder):
         raise Wrong(f"`store` on a full disk and bookings after it, and not {counts}")
     must_be(stores.rows(path), rows_of(session), "after a disk was full")
     goes_on(program, "first", path, rows_of(session))
-    return [f"{count} {kind}" for kind, count in counts.items()]
+    return ["one with lines " + ", ".join(f"{kind} ({count})" for kind, count in counts.items())]
 
 
 FULL, FREE, LAST = 100, 400, 800  # the lines from which on the disk is full, and free again
