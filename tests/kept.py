@@ -30,7 +30,6 @@ import os
 import random
 import resource
 import shutil
-import signal
 import subprocess
 import sys
 import tempfile
@@ -158,7 +157,7 @@ def awaited(talk, stream, draw, pace):
     return count + 1, b"".join(stream.replies[:count])
 
 
-def in_pieces(talk, stream, draw, _pace):
+def in_pieces(talk, stream, draw, pace):
     """Sends pieces that end anywhere, waits for none of their replies, and kills after one of the replies has come."""
     text, at, heard = joined(stream.lines), 0, b""
     count = draw.randrange(LINES)
@@ -168,7 +167,7 @@ def in_pieces(talk, stream, draw, _pace):
         at += size
         if draw.random() < 0.5 and b"\n" in text[max(0, at - size):at]:
             heard += talk.heard()
-    time.sleep(draw.uniform(0, _pace.line * 4))
+    time.sleep(draw.uniform(0, 4 * pace.line))
     talk.process.kill()
     return text[:at].count(b"\n"), heard
 
@@ -495,8 +494,9 @@ def faults(given):
     given.library = preload.built(LIBRARY, given.folder)
     rows = [(3, "HF-Q", 2), (7, "NJ-Y", 1)]
     more = DOZEN + [b"cancel 7", b"book HF-Q 1"]
-    return [Faults(given, *it) for it in [("first", WRITE, DOZEN), ("bid", WRITE, more, rows), ("bid", FLUSH, DOZEN), ("davn", FLUSH, more, rows),
-                                          ("first", WRITE, MANY), ("first", FLUSH, MANY), ("first", CUT, MANY)]]
+    trials = [("first", WRITE, DOZEN), ("bid", WRITE, more, rows), ("bid", FLUSH, DOZEN), ("davn", FLUSH, more, rows),
+              ("first", WRITE, MANY), ("first", FLUSH, MANY), ("first", CUT, MANY)]
+    return [Faults(given, *trial) for trial in trials]
 
 
 # One by one
@@ -671,7 +671,8 @@ def main():
         return 0
     passed = failed = 0
     memory = {"dir": "/dev/shm"} if os.access("/dev/shm", os.W_OK) else {}
-    with given_folder as given.folder, tempfile.TemporaryDirectory(**memory) as given.quick, concurrent.futures.ThreadPoolExecutor(os.cpu_count()) as pool:
+    pool = concurrent.futures.ThreadPoolExecutor(os.cpu_count())
+    with given_folder as given.folder, tempfile.TemporaryDirectory(**memory) as given.quick, pool:
         given.not_run, given.pace = [], Pace(given.program, given.folder)
         for good, bad, told in pool.map(outcome, [trial for trial in all_trials(given) if given.pattern in trial.name]):
             passed, failed = passed + good, failed + bad
