@@ -30,7 +30,6 @@ import os
 import random
 import resource
 import shutil
-import signal
 import subprocess
 import sys
 import tempfile
@@ -158,7 +157,7 @@ def awaited(talk, stream, draw, pace):
     return count + 1, b"".join(stream.replies[:count])
 
 
-def in_pieces(talk, stream, draw, _pace):
+def in_pieces(talk, stream, draw, pace):
     """Sends pieces that end anywhere, waits for none of their replies, and kills after one of the replies has come."""
     text, at, heard = joined(stream.lines), 0, b""
     count = draw.randrange(LINES)
@@ -168,7 +167,7 @@ def in_pieces(talk, stream, draw, _pace):
         at += size
         if draw.random() < 0.5 and b"\n" in text[max(0, at - size):at]:
             heard += talk.heard()
-    time.sleep(draw.uniform(0, _pace.line * 4))
+    time.sleep(draw.uniform(0, 4 * pace.line))
     talk.process.kill()
     return text[:at].count(b"\n"), heard
 
@@ -390,9 +389,10 @@ int ftruncate64(int fd, off64_t size) { return fails(CUTS, fd) ? -1 : REAL(ftrun
 
 WRITE, FLUSH, CUT = range(3)
 CALLS = ["write", "flush", "cut"]
-ERRORS = {"EIO": {"ERROR": str(errno.EIO)}, "ENOSPC": {"ERROR": str(errno.ENOSPC)}}
+ERRORS = {"EIO": {"ERROR": str(errno.EIO)}, "ENOSPC for all after": {"ERROR": str(errno.ENOSPC), "ALL_AFTER": "1"}}
 # What was written since the last flush may be there or lost once one has failed.
 FATES = {"what was written stays": {}, "what was written is lost": {"LOSES": "1"}}
+FATES |= {f"{fate}, for all after": variables | {"ALL_AFTER": "1"} for fate, variables in FATES.items()}
 DOZEN = [b"book HJ-Q 2", b"book HF-Y 1", b"cancel 1", b"leg HAM-FRA", b"book FN-Q 3", b"cancel 9", b"book HN-Y 1", b"cancel 2",
          b"book MF-Q 2", b"hindsight", b"book FJ-Q 4", b"cancel 3", b"book NJ-Y 1"]
 
@@ -438,11 +438,11 @@ class Faults:
             raise preload.Wrong(f"the log wasn't emptied in {len(self.lines)} lines")
         return range(max(1, place - NEAR), min(whole, place + NEAR) + 1)
 
-    def fault(self, number, is_all, variables):
+    def fault(self, number, variables):
         """One run with faults, and a later one. What came of it."""
-        more = variables | ({"ALL_AFTER": "1"} if is_all else {})
+        is_all = "ALL_AFTER" in variables
         with tempfile.TemporaryDirectory(dir=self.folder) as place:
-            status, output = self.run(place, self.lines, FAILING=str(number), **more)
+            status, output = self.run(place, self.lines, FAILING=str(number), **variables)
             session, refused, kind = self.judged(status, output, is_all)
             path = os.path.join(place, "STORE")
             rows = rows_of(session) if status == STORE_FAULT else stores.rows(path)
@@ -478,11 +478,11 @@ class Faults:
 
     def tried(self):
         found, ways = [], FATES if self.kind == FLUSH else ERRORS
-        for number, way, is_all in itertools.product(self.numbers(), ways, (False, True)):
+        for number, way in itertools.product(self.numbers(), ways):
             try:
-                found.append(self.fault(number, is_all, ways[way]))
+                found.append(self.fault(number, ways[way]))
             except (Wrong, stores.Unread) as wrong:
-                found.append(f"WRONG: {CALLS[self.kind]} {number}, {way}{', and all after' * is_all}: wanted {wrong}")
+                found.append(f"WRONG: {CALLS[self.kind]} {number}, {way}: wanted {wrong}")
         return found
 
 
@@ -494,8 +494,9 @@ def faults(given):
     given.library = preload.built(LIBRARY, given.folder)
     rows = [(3, "HF-Q", 2), (7, "NJ-Y", 1)]
     more = DOZEN + [b"cancel 7", b"book HF-Q 1"]
-    return [Faults(given, *it) for it in [("first", WRITE, DOZEN), ("bid", WRITE, more, rows), ("bid", FLUSH, DOZEN), ("davn", FLUSH, more, rows),
-                                          ("first", WRITE, MANY), ("first", FLUSH, MANY), ("first", CUT, MANY)]]
+    trials = [("first", WRITE, DOZEN), ("bid", WRITE, more, rows), ("bid", FLUSH, DOZEN), ("davn", FLUSH, more, rows),
+              ("first", WRITE, MANY), ("first", FLUSH, MANY), ("first", CUT, MANY)]
+    return [Faults(given, *trial) for trial in trials]
 
 
 # One by one
@@ -549,7 +550,7 @@ def disk_that_is_full(program, folder):
         raise Wrong(f"`store` on a full disk and bookings after it, and not {counts}")
     must_be(stores.rows(path), rows_of(session), "after a disk was full")
     goes_on(program, "first", path, rows_of(session))
-    return [f"{count} {kind}" for kind, count in counts.items()]
+    return ["one with lines " + ", ".join(f"{kind} ({count})" for kind, count in counts.items())]
 
 
 FULL, FREE, LAST = 100, 400, 800  # the lines from which on the disk is full, and free again
@@ -670,7 +671,8 @@ def main():
         return 0
     passed = failed = 0
     memory = {"dir": "/dev/shm"} if os.access("/dev/shm", os.W_OK) else {}
-    with given_folder as given.folder, tempfile.TemporaryDirectory(**memory) as given.quick, concurrent.futures.ThreadPoolExecutor(os.cpu_count()) as pool:
+    pool = concurrent.futures.ThreadPoolExecutor(os.cpu_count())
+    with given_folder as given.folder, tempfile.TemporaryDirectory(**memory) as given.quick, pool:
         given.not_run, given.pace = [], Pace(given.program, given.folder)
         for good, bad, told in pool.map(outcome, [trial for trial in all_trials(given) if given.pattern in trial.name]):
             passed, failed = passed + good, failed + bad
