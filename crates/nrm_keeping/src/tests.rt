@@ -7,7 +7,7 @@ use crate::{KeptStatus, run_kept};
 use nrm_control::Controller;
 use nrm_edge::{MemFiles, MemSink, MemSource};
 use nrm_keeper::{KeepFault, Keeper, KeptRow, MemKeeper};
-use nrm_model::Mode;
+use nrm_model::{Mode, Network};
 use nrm_outside::open_network;
 use nrm_session::{End, serve};
 use nrm_text::name_of;
@@ -190,25 +190,47 @@ fn rows_that_do_not_load_are_refused(rt: HostRuntime) -> Result<(), Fail> {
     Ok(())
 }
 
-// What a session without a store writes on the network with demand, and the controller after it.
-fn session(alloc: Global, mode: Mode, stream: &[u8]) -> Result<(Vec<u8>, Controller), Fail> {
-    let Ok(net) = open_network(alloc, &mut files(alloc, DEMANDED)?, "F") else {
-        return Err(Fail::from("no network"));
-    };
-    let Ok(started) = Controller::start(alloc, net, mode) else {
-        return Err(Fail::from("no controller"));
-    };
-    let mut controller = started;
+fn demanded(alloc: Global) -> Result<Network, Fail> {
+    let mut files = files(alloc, DEMANDED)?;
+    match open_network(alloc, &mut files, "F") {
+        Ok(net) => Ok(net),
+        Err(_) => Err(Fail::from("no network")),
+    }
+}
+
+// A controller that begins on the network with demand.
+fn begun(alloc: Global, mode: Mode) -> Result<Controller, Fail> {
+    let net = demanded(alloc)?;
+    match Controller::start(alloc, net, mode) {
+        Ok(controller) => Ok(controller),
+        Err(_) => Err(Fail::from("no controller")),
+    }
+}
+
+// What a controller that begins writes without a store.
+fn served(
+    alloc: Global,
+    controller: &mut Controller,
+    source: &mut MemSource,
+    sink: &mut MemSink,
+) -> Result<(), Fail> {
     if controller.book().next() != 1 {
         return Err(Fail::from("a book that is not new"));
     }
+    match serve(alloc, controller, source, sink, 1_000_000) {
+        End::Done => Ok(()),
+        _ => Err(Fail::from("a session that was cut")),
+    }
+}
+
+// What a session without a store writes on the network with demand, and the controller after it.
+fn session(alloc: Global, mode: Mode, stream: &[u8]) -> Result<(Vec<u8>, Controller), Fail> {
+    let mut controller = begun(alloc, mode)?;
     let mut source = source(alloc, stream)?;
     let mut sink = sink(alloc)?;
-    let end = serve(alloc, &mut controller, &mut source, &mut sink, 1_000_000);
-    if end != End::Done {
-        return Err(Fail::from("a session that was cut"));
-    }
-    Ok((sink.held().to_vec(alloc)?, controller))
+    served(alloc, &mut controller, &mut source, &mut sink)?;
+    let written = sink.held().to_vec(alloc)?;
+    Ok((written, controller))
 }
 
 // The place of the line that was answered `store`.
