@@ -6,9 +6,10 @@ ghost use Rattle.std.specs.Prelude.{◌≡◌, ◌<◌, ◌^◌, None, OnOk, OnE
 
 use crate::causes::{fault_of, raised};
 use crate::reading::read_rows;
-use crate::statements::{create_table, select_row};
+use crate::statements::create_table;
 use crate::table::{drop_kept, keep, list};
 use crate::{KeepFault, Keeper, KeptRow};
+use sqlite::types::ValueRef;
 use sqlite::{Connection, File, FileStore};
 use std::alloc::Global;
 use std::marker::Model;
@@ -149,7 +150,10 @@ fn row_of(
     requires { number < 10 ^ 12 }
 {
     let found = match create_table(conn) {
-        Ok(_) => select_row(conn, number),
+        Ok(_) => conn.query_all(
+            "SELECT number, product, party FROM kept WHERE number = ?1",
+            &[ValueRef::Int(number as i64)],
+        ),
         Err(error) => Err(error),
     };
     match found {

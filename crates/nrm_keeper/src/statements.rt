@@ -1,5 +1,5 @@
-//! The five fixed texts, each in a function of its own. Over a store that is clean and open, and in no transaction, the
-//! first four say what they do to the rows that are told. A store that is clean and open afterwards was so before.
+//! The four fixed texts, each in a function of its own. Over a store that is clean and open, and in no transaction, each
+//! says what it does to the rows that are told. A store that is clean and open afterwards was so before.
 ghost use Rattle.std.specs.Prelude.{◌≡◌, pos, ◌<◌, ◌^◌, false, map, Some, IfOk, OnOk, OnErr};
 ghost use Rattle.sqlite.specs.Held.{state};
 ghost use Rattle.sqlite.specs.Value.{owned};
@@ -107,15 +107,5 @@ pub fn select_rows<S: Alter>(conn: &mut Connection<S>) -> Result<Vec<Row>, Error
     conn.query_all(
         "SELECT number, product, party FROM kept ORDER BY number",
         &[],
-    )
-}
-
-/// The row of a number, if there is one. No clause speaks of it: it is for a file alone, whose rows are not told.
-pub fn select_row<S: Alter>(conn: &mut Connection<S>, number: u64) -> Result<Vec<Row>, Error>
-    requires { number < 10 ^ 12 }
-{
-    conn.query_all(
-        "SELECT number, product, party FROM kept WHERE number = ?1",
-        &[number_value(number)],
     )
 }
