@@ -172,6 +172,8 @@ def tools_say_what_explains_a_file_that_is_refused(tools):
 def files_of(case):
     """The words of a case that name files."""
     words = [it.decode("utf-8", "surrogateescape") for it in case.words]
+    if case.program == "nrm_kept":
+        return words[1:2]
     places = {"print": slice(1, None), "check": slice(1, None), "run": slice(2, None), "plan": slice(2, None), "cuts": slice(1, 2),
               "dp": slice(1, 2)}
     return words[places[words[0]]] if words and words[0] in places else []

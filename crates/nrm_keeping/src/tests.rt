@@ -326,12 +326,12 @@ fn each_call_fails_in_turn(rt: HostRuntime) -> Result<(), Fail> {
         (Mode::Bid, "bid"),
         (Mode::Davn, "davn"),
     ] {
-        let mut failed = 0;
+        let mut failed = 0_u32;
         for call in 2..20 {
             let (place, is_so) = fails_in_turn(rt.alloc(), mode, call)?;
             assert!(rt; is_so, "call {call}");
             if place.is_some() {
-                failed += 1;
+                failed = failed.saturating_add(1);
             }
         }
         assert!(rt; 5 <= failed && failed < 12, "{failed} calls failed");
