@@ -27,7 +27,8 @@ struct Doubt {
 /// Rows in a table of a file, and a count of faults. A fault is a file that can't be opened, a statement that is refused
 /// for another cause than memory, a DELETE that removes no row, or a row of the table that is no kept row. After a call
 /// that answered an Err, whatever its cause, the next one opens the file again. What a change that failed may have left
-/// in the file is undone before anything else, at once if the file can be opened.
+/// in the file is undone before anything else, at once if the file can be opened. While each try to undo it fails, every
+/// call answers an Err; if the program ends then, that one change may stand in the file.
 #[derive(Drop)]
 pub struct FileKeeper<'a> {
     rt: &'a HostRuntime,

@@ -8,7 +8,8 @@ use crate::{KeepFault, KeptRow};
 use std::alloc::Global;
 
 /// A place that keeps rows, and counts the calls that failed: one for each call that answers `Failed`, up to the last
-/// value of `u64`.
+/// value of `u64`. What a call says of the rows holds of the rows that are told; a keeper that tells none says of itself how
+/// far it holds.
 pub trait Keeper {
     /// The rows that are kept, by rising number, if the keeper tells them.
     ghost rows: { Self → Option (List KeptRow) };
