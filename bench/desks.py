@@ -15,7 +15,6 @@ import contextlib
 import os
 import random
 import select
-import shutil
 import socket
 import subprocess
 import sys

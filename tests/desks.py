@@ -13,7 +13,6 @@ The other tests are the functions marked so. PATTERN picks those that have it in
 the top of the repository. What needs `cc` or rights to mount a small disk is told and left out where there is none. What fails is told;
 the last line is `N passed, M failed`.
 """
-import argparse
 import bisect
 import collections
 import contextlib
@@ -36,31 +35,18 @@ HERE = Path(__file__).resolve().parent
 TOP, TOOLS, EXAMPLES = HERE.parent, HERE.parent / "tools", HERE.parent / "examples"
 sys.dont_write_bytecode = True
 sys.path.insert(0, str(TOOLS))
+import checks
 import desk as desks_in_python
+import preload
+from checks import Wrong, want
 from desk import Desk, Sold
 from nrm_tools import MODES, Network, replies, whole_replies
 
 HUB = str(EXAMPLES / "hub" / "network.csv")
-NOT_BUILT = 70  # what the script `nrm` ends with where there is no program to run
 SECONDS = 30
 CLIENTS, WORKERS = 200, 4
 CRASH_SEED = 7
-TESTS = []
-
-
-class Wrong(Exception):
-    """What should have come, and what came."""
-
-
-def test(function):
-    """Makes a function one of the tests."""
-    TESTS.append(function)
-    return function
-
-
-def want(found, wanted, what="it"):
-    if found != wanted:
-        raise Wrong(f"{what}: wanted {str(wanted)[:500]}, and not {str(found)[:500]}")
+test = checks.Tests()
 
 
 # The network of the crowd: a product of its own for each client, on few seats
@@ -85,12 +71,12 @@ def crowd_file(folder):
 class Server:
     """A run of tools/desks.py on a journal, over a program."""
 
-    def __init__(self, folder, words, *options, journal=None, limit=None, status=None):
+    def __init__(self, folder, words, *options, journal=None, limit=None, status=None, more=None):
         self.path, self.err = folder / "socket", folder / "told"
         options = [*options, *(["--journal", str(journal)] if journal else [])]
         with open(self.err, "w") as told:
             self.process = subprocess.Popen([sys.executable, str(TOOLS / "desks.py"), "--socket", str(self.path), *options, "--", *words],
-                                            stderr=told, preexec_fn=limit)
+                                            stderr=told, preexec_fn=limit, env={**os.environ, **(more or {})})
         if status is None:
             self.wait_until_it_listens()
 
@@ -661,6 +647,57 @@ def got(folder):
     return [it for it in lines if it]
 
 
+FLUSHES = """
+#define _GNU_SOURCE
+#include <fcntl.h>
+#include <stdio.h>
+#include <stdlib.h>
+#include <sys/stat.h>
+#include <sys/syscall.h>
+#include <unistd.h>
+
+/* Writes down how many bytes of the journal are on the disk. */
+int fsync(int file) {
+    struct stat journal, it;
+    int is_journal = !stat(getenv("JOURNAL"), &journal) && !fstat(file, &it) && it.st_dev == journal.st_dev && it.st_ino == journal.st_ino;
+    int failed = syscall(SYS_fsync, file);
+    if (is_journal && !failed) {
+        int told = open(getenv("FLUSHED"), O_WRONLY);
+        dprintf(told, "%020ld", (long) it.st_size);
+        close(told);
+    }
+    return failed;
+}
+"""
+
+WATCHER = """import sys
+had = 0
+for line in sys.stdin:
+    had += len(line) if line.strip() else 0
+    with open({flushed!r}) as file:
+        print("bad" if not line.strip() else "unknown" if had <= int(file.read()) else "early", flush=True)
+"""
+
+
+@test
+def lines_are_on_the_disk_before_the_program_has_them(folder, program):
+    """A library counts the bytes of the journal at each fsync that succeeds; a program in place of the controller looks at each line."""
+    if not preload.is_there():
+        print(f"when lines are on the disk wasn't tried: {preload.WANTING}")
+        return
+    journal, flushed, watcher = folder / "journal", folder / "flushed", folder / "watcher"
+    flushed.write_text("0")
+    watcher.write_text(WATCHER.format(flushed=str(flushed)))
+    more = {"LD_PRELOAD": preload.built(FLUSHES, folder), "JOURNAL": str(journal), "FLUSHED": str(flushed)}
+    with Server(folder, [sys.executable, str(watcher)], journal=journal, more=more) as server, server.connect() as one, server.connect() as other:
+        for count in range(1, 40):
+            one.sendall(b"book A 1\n" * count)
+            want(answers(other, b"cancel 1\n" * count, count), [b"unknown\n"] * count, "another's replies")
+            want(answers(one, b"", count), [b"unknown\n"] * count, "the replies")
+        server.end()
+    want(int(flushed.read_text()), journal.stat().st_size, "the bytes on the disk")
+
+
 @test
 def lines_that_changed_nothing_are_not_given_again(folder, program):
     words = stub(folder, "nrm", {"reoptimise 1": "memory", "book A 2": "store", "book A 1": "ok 1",
@@ -843,25 +880,21 @@ def a_desk_in_c_gets_all_replies(folder, program):
 
 
 def main():
-    parser = argparse.ArgumentParser(usage="tests/desks.py [PATTERN] [--program WORD...]")
-    parser.add_argument("pattern", nargs="?", default="")
-    parser.add_argument("--program", nargs="+", default=[str(TOP / "nrm")])
-    given = parser.parse_args()
-    program = [os.path.abspath(it) if os.path.exists(it) else it for it in given.program]
-    if subprocess.run(program, stdin=subprocess.DEVNULL, stdout=subprocess.DEVNULL).returncode == NOT_BUILT:
-        print("0 passed, 1 failed")
-        return NOT_BUILT
+    given = checks.words_of(__doc__)
+    tests = test.picked(given.pattern)
+    if not checks.is_built(given.program):
+        checks.ended(0, len(tests))
+        return checks.NOT_BUILT
     passed = failed = 0
-    for it in [it for it in TESTS if given.pattern in it.__name__]:
+    for it in tests:
         try:
             with tempfile.TemporaryDirectory() as folder:
-                it(Path(folder), program)
+                it(Path(folder), given.program)
             passed += 1
         except (Wrong, OSError, subprocess.SubprocessError, desks_in_python.DeskError) as wrong:
             failed += 1
             print(f"{it.__name__}: {wrong if isinstance(wrong, Wrong) else repr(wrong)}")
-    print(f"{passed} passed, {failed} failed")
-    return 0 if passed and not failed else 1
+    return checks.ended(passed, failed)
 
 
 if __name__ == "__main__":

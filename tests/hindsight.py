@@ -12,7 +12,6 @@ that parts of seats allow. What cancellations gave back and what they didn't mus
 no --program it is the script `nrm` at the top of the repository. The last line tells how many lines were compared, and at how
 many of them a selection earns the whole value.
 """
-import argparse
 import itertools
 import os
 import random
@@ -22,13 +21,12 @@ import tempfile
 from fractions import Fraction
 from math import gcd
 
-TOP = os.path.dirname(os.path.dirname(os.path.realpath(__file__)))
+sys.dont_write_bytecode = True
+import checks
+from checks import Wrong
+
 STREAMS = 120
 MODES = ["first", "bid", "davn"]
-
-
-class Wrong(Exception):
-    """What a line should have told."""
 
 
 class Made:
@@ -148,10 +146,7 @@ def compared(made, replies):
 
 
 def main():
-    parser = argparse.ArgumentParser(usage="tests/hindsight.py [--program WORD...]")
-    parser.add_argument("--program", nargs="+", default=[os.path.join(TOP, "nrm")])
-    program = [os.path.abspath(it) if os.path.exists(it) else it for it in parser.parse_args().program]
-    lines, reached, failed = 0, 0, 0
+    program, lines, reached, failed = checks.program_of(__doc__), 0, 0, 0
     for seed in range(STREAMS):
         made = Made(seed)
         with tempfile.TemporaryDirectory() as folder:
@@ -168,7 +163,8 @@ def main():
             failed += 1
             print(f"stream {seed}, run {made.mode}: wanted {wrong}", *made.file().splitlines(), *made.lines, sep="\n    ")
     print(f"{lines} lines compared, {reached} values reached by a selection, {failed} of {STREAMS} streams failed")
-    sys.exit(1 if failed or not 0 < reached < lines else 0)
+    return 1 if failed or not 0 < reached < lines else 0
 
 
-main()
+if __name__ == "__main__":
+    sys.exit(main())

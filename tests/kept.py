@@ -39,12 +39,13 @@ HERE = os.path.dirname(os.path.realpath(__file__))
 TOP = os.path.dirname(HERE)
 sys.path.insert(0, HERE)
 sys.dont_write_bytecode = True
+import checks
 import preload
 import reference
 import stores
-from talk import HUB, MODES, SECONDS, Talk, Wrong, joined
+from checks import Wrong
+from talk import HUB, MODES, Talk, joined
 
-NOT_BUILT = 70  # what the script `nrm_kept` ends with where there is no program to run
 NO_MEMORY, STORE_FAULT = 6, 12
 KILLS, KILLS_OF_A_STORE, LINES = 42, 7, 40
 SLOW = 60  # the seconds that a run may take
@@ -663,8 +664,8 @@ def main():
         print(f"Stores weren't tried: {stores.WANTING}.")
         return 0
     script = os.path.join(TOP, "nrm_kept")  # builds the program where it isn't
-    if not given.program and subprocess.run([script], stdin=subprocess.DEVNULL, stdout=subprocess.DEVNULL).returncode == NOT_BUILT:
-        return NOT_BUILT
+    if not given.program and not checks.is_built([script]):
+        return checks.NOT_BUILT
     given.program = os.path.abspath(given.program or os.path.join(TOP, "crates", "nrm_kept", "out", "nrm_kept"))
     if given.disk:
         disk_alone(given.program)
@@ -679,8 +680,7 @@ def main():
             print(told, flush=True)
     for why in given.not_run:
         print(f"not run: {why}")
-    print(f"{passed} passed, {failed} failed")
-    return 0 if passed and not failed else 1
+    return checks.ended(passed, failed)
 
 
 if __name__ == "__main__":

@@ -10,7 +10,6 @@ the greatest number of seats of which the last is worth more to the classes abov
 the protections leave must earn the value, and one by EMSR-b's protections at most the value. With no --program it is the script
 `nrm` at the top of the repository. The last lines tell how often EMSR-b earns less, and how many legs passed.
 """
-import argparse
 import os
 import random
 import subprocess
@@ -18,12 +17,11 @@ import sys
 import tempfile
 from fractions import Fraction
 
-TOP = os.path.dirname(os.path.dirname(os.path.realpath(__file__)))
+sys.dont_write_bytecode = True
+import checks
+from checks import Wrong
+
 LEGS = 150
-
-
-class Wrong(Exception):
-    """What should have been told."""
 
 
 class Made:
@@ -131,10 +129,7 @@ ENDS = [(["IDLE"], 11, "classes 0\n"), (["NONE"], 11, "classes 0\n"), (["here"],
 
 
 def main():
-    parser = argparse.ArgumentParser(usage="tests/leg_program.py [--program WORD...]")
-    parser.add_argument("--program", nargs="+", default=[os.path.join(TOP, "nrm")])
-    program, passed, failed, less = parser.parse_args().program, 0, 0, 0
-    program = [os.path.abspath(it) if os.path.exists(it) else it for it in program]
+    program, passed, failed, less = checks.program_of(__doc__), 0, 0, 0
     for seed, words, status, line in [*[(seed, ["HERE"], None, None) for seed in range(LEGS)], *[(1, *end) for end in ENDS]]:
         made = Made(seed)
         with tempfile.TemporaryDirectory() as folder:
@@ -152,8 +147,9 @@ def main():
             print(f"leg {seed}, dp {' '.join(words)}: status {done.returncode}: {done.stdout}{done.stderr}", f"wanted {wrong}",
                   *made.file().splitlines(), sep="\n    ")
     print(f"{less} legs on which EMSR-b earns less than the value")
-    print(f"{passed} passed, {failed} failed")
-    sys.exit(1 if failed or not less else 0)
+    status = checks.ended(passed, failed)
+    return status if less else 1
 
 
-main()
+if __name__ == "__main__":
+    sys.exit(main())

@@ -37,6 +37,7 @@ HERE = os.path.dirname(os.path.realpath(__file__))
 TOP = os.path.dirname(HERE)
 sys.path.insert(0, HERE)
 sys.dont_write_bytecode = True
+import checks
 import preload
 import reference
 import run
@@ -47,7 +48,6 @@ MODES = ["first", "bid", "davn"]
 MANY, EACH_OF_THE_FIRST, STEPS = 3_000, 1_000, 1_000
 SECONDS = 60
 MOST_TOLD = 10  # failures of one run
-NOT_BUILT = 70  # what the script `nrm` ends with where there is no program to run
 NO_MEMORY = 6
 
 LIBRARY = r"""
@@ -294,8 +294,8 @@ def main():
         print(f"Want of memory wasn't tried: {preload.WANTING}.")
         return 0
     script = os.path.join(TOP, "nrm")  # builds the program where it isn't
-    if not given.program and subprocess.run([script], stdin=subprocess.DEVNULL, stdout=subprocess.DEVNULL).returncode == NOT_BUILT:
-        return NOT_BUILT
+    if not given.program and not checks.is_built([script]):
+        return checks.NOT_BUILT
     program = os.path.abspath(given.program or os.path.join(TOP, "crates", "nrm", "out", "nrm"))
     passed = failed = 0
     with tempfile.TemporaryDirectory() as folder:
@@ -308,8 +308,7 @@ def main():
         except (preload.Wrong, OSError) as wrong:
             print(wrong)
             return 1
-    print(f"{passed} passed, {failed} failed")
-    return 0 if passed and not failed else 1
+    return checks.ended(passed, failed)
 
 
 if __name__ == "__main__":

@@ -98,11 +98,11 @@ HERE = os.path.dirname(os.path.realpath(__file__))
 TOP = os.path.dirname(HERE)
 sys.path.insert(0, HERE)
 sys.dont_write_bytecode = True
+import checks
 import stores
 
 PROGRAMS = ["nrm", "nrm_kept"]
 OTHER_USER = 65534  # `nobody`
-NOT_BUILT = 70  # what the script `nrm` ends with where there is no program to run
 
 
 class Bad(Exception):
@@ -575,13 +575,7 @@ def cases_of(pattern):
 def programs_of(given):
     """The command of each program by its name."""
     words = {"nrm": given.program, "nrm_kept": given.kept}
-    return {name: [os.path.abspath(it) if os.path.exists(it) else it for it in some or [os.path.join(TOP, name)]]
-            for name, some in words.items()}
-
-
-def is_built(program):
-    """Builds a program if it isn't there."""
-    return subprocess.run(program, stdin=subprocess.DEVNULL, stdout=subprocess.DEVNULL).returncode != NOT_BUILT
+    return {name: checks.placed(some or [os.path.join(TOP, name)]) for name, some in words.items()}
 
 
 def outcome(case, program):
@@ -608,9 +602,9 @@ def main():
         for case in cases:
             case.lay_all(os.path.join(given.lay, case.name))
         return 0
-    if not all(is_built(programs[name]) for name in sorted({case.program for case in cases})):
-        print(f"0 passed, {len(cases)} failed")
-        return NOT_BUILT
+    if not all(checks.is_built(programs[name]) for name in sorted({case.program for case in cases})):
+        checks.ended(0, len(cases))
+        return checks.NOT_BUILT
     passed, left_out = 0, collections.Counter()
     for case in cases:
         is_good, told = outcome(case, programs[case.program])

@@ -8,7 +8,6 @@ that it was not run. The scheduler and the workers are on the loopback address. 
 The tests are the functions below, of which PATTERN picks those with it in their name. With no --program it is the script `nrm` at the
 top of the repository. What fails is told; the last line is `N passed, M failed`.
 """
-import argparse
 import contextlib
 import csv
 import html.parser
@@ -30,34 +29,16 @@ HERE = Path(__file__).resolve().parent
 TOP, TOOLS, EXAMPLES = HERE.parent, HERE.parent / "tools", HERE.parent / "examples"
 sys.dont_write_bytecode = True
 sys.path.insert(0, str(TOOLS))
+import checks
 import reference
 import seasons
+from checks import Wrong, want, want_in
 from nrm_tools import MODES, Network, bytes_in
 from telling import DEBIANS_PYTHON
 
 SECONDS = 90
 LOG, HUB, SEASON = (str(EXAMPLES / it / "network.csv") for it in ("log", "hub", "season"))
-TESTS = []
-
-
-def test(function):
-    """Makes a function one of the tests."""
-    TESTS.append(function)
-    return function
-
-
-class Wrong(Exception):
-    """What should have come, and what came."""
-
-
-def want(found, wanted, what="it"):
-    if found != wanted:
-        raise Wrong(f"{what}: wanted {str(wanted)[:300]!r}, and not {str(found)[:300]!r}")
-
-
-def want_in(text, wanted):
-    if wanted not in text:
-        raise Wrong(f"wanted {wanted!r} in {text[-600:]!r}")
+test = checks.Tests()
 
 
 class Place:
@@ -368,31 +349,25 @@ def opened(place, chromium, path):
 
 
 def main():
-    words = argparse.ArgumentParser(usage="tests/simulate.py [PATTERN] [--program WORD...]")
-    words.add_argument("pattern", nargs="?", default="")
-    words.add_argument("--program", nargs="+", default=[str(TOP / "crates" / "nrm" / "out" / "nrm")])
-    given = words.parse_args()
+    given = checks.words_of(__doc__)
     if importlib.util.find_spec("distributed") is None:
         if os.path.isdir("/usr/lib/python3/dist-packages/distributed") and os.path.realpath(sys.executable) != os.path.realpath(DEBIANS_PYTHON):
             os.execv(DEBIANS_PYTHON, [DEBIANS_PYTHON, *sys.argv])
-        print("not run: there is no Dask here; Debian's package is python3-distributed")
-        print("0 passed, 0 failed")
+        print("Seasons weren't simulated: that needs Dask, Debian's python3-distributed, and there is none here.")
         return 0
+    if not checks.is_built(given.program):
+        checks.ended(0, 1)
+        return checks.NOT_BUILT
     passed = failed = 0
-    for function in TESTS:
-        if given.pattern in function.__name__:
-            begun = time.monotonic()
-            with tempfile.TemporaryDirectory() as folder:
-                try:
-                    function(Place(given.program, folder))
-                    passed += 1
-                except Exception as fault:
-                    failed += 1
-                    print(f"{function.__name__}: {type(fault).__name__}: {fault}")
-            if os.environ.get("TIMES"):
-                print(f"{function.__name__} {time.monotonic() - begun:.1f} s")
-    print(f"{passed} passed, {failed} failed")
-    return 1 if failed else 0
+    for function in test.picked(given.pattern):
+        with tempfile.TemporaryDirectory() as folder:
+            try:
+                function(Place(given.program, folder))
+                passed += 1
+            except (Wrong, OSError, LookupError, ValueError, subprocess.SubprocessError) as fault:
+                failed += 1
+                print(f"{function.__name__}: {fault if isinstance(fault, Wrong) else repr(fault)}")
+    return checks.ended(passed, failed)
 
 
 if __name__ == "__main__":

@@ -13,7 +13,6 @@ The last talks cut a session in each way that it can be cut, go on with tools/re
 PATTERN picks the talks that have it in their name. With no --program it is the script `nrm` at the top of the repository. Each talk
 that fails is told; the last line is `N passed, M failed`.
 """
-import argparse
 import functools
 import os
 import pty
@@ -30,18 +29,15 @@ HERE = os.path.dirname(os.path.realpath(__file__))
 TOP = os.path.dirname(HERE)
 sys.path.insert(0, HERE)
 sys.dont_write_bytecode = True
+import checks
 import reference
+from checks import Wrong
 
 HUB = os.path.join(TOP, "examples", "hub", "network.csv")
 RESUME = [sys.executable, os.path.join(TOP, "tools", "resume.py")]
 MODES = ["first", "bid", "davn"]
 SECONDS = 10
-NOT_BUILT = 70  # what the script `nrm` ends with where there is no program to run
 END_KEY = b"\x04"
-
-
-class Wrong(Exception):
-    """What a talk wanted."""
 
 
 def hub_session(mode):
@@ -538,26 +534,20 @@ def all_talks():
 
 
 def main():
-    parser = argparse.ArgumentParser(usage=__doc__)
-    parser.add_argument("pattern", nargs="?", default="")
-    parser.add_argument("--program", nargs="+", default=[os.path.join(TOP, "nrm")])
-    given = parser.parse_args()
-    program = [os.path.abspath(it) if os.path.exists(it) else it for it in given.program]
+    given = checks.words_of(__doc__)
     talks = [(name, held) for name, held in all_talks() if given.pattern in name]
-    # builds it where it isn't
-    if subprocess.run(program, stdin=subprocess.DEVNULL, stdout=subprocess.DEVNULL).returncode == NOT_BUILT:
-        print(f"0 passed, {len(talks)} failed")
-        return NOT_BUILT
+    if not checks.is_built(given.program):
+        checks.ended(0, len(talks))
+        return checks.NOT_BUILT
     passed = failed = 0
     for name, held in talks:
         try:
-            held(program)
+            held(given.program)
             passed += 1
         except (Wrong, OSError, subprocess.TimeoutExpired) as wrong:
             failed += 1
             print(f"{name}: {'wanted ' if isinstance(wrong, Wrong) else ''}{wrong}")
-    print(f"{passed} passed, {failed} failed")
-    return 0 if passed and not failed else 1
+    return checks.ended(passed, failed)
 
 
 if __name__ == "__main__":

@@ -10,7 +10,6 @@ than the cost that is told. And of all divisions of the falling list into neighb
 least, of those have the fewest pieces, and of those the first list of lengths. With no --program it is the script `nrm` at the
 top of the repository. The last lines tell how often a rule had to choose, and how many lists passed.
 """
-import argparse
 import itertools
 import os
 import random
@@ -18,13 +17,12 @@ import subprocess
 import sys
 import tempfile
 
-TOP = os.path.dirname(os.path.dirname(os.path.realpath(__file__)))
+sys.dont_write_bytecode = True
+import checks
+from checks import Wrong
+
 LISTS = 130
 CLOSE = 12  # between the greatest and the least fare, so that every whole number is tried as a centre
-
-
-class Wrong(Exception):
-    """What should have been told."""
 
 
 class Made:
@@ -138,10 +136,7 @@ ENDS = [  # words behind the file, and how they end
 
 
 def main():
-    parser = argparse.ArgumentParser(usage="tests/thresholds.py [--program WORD...]")
-    parser.add_argument("--program", nargs="+", default=[os.path.join(TOP, "nrm")])
-    program, passed, failed, fewer, first = parser.parse_args().program, 0, 0, 0, 0
-    program = [os.path.abspath(it) if os.path.exists(it) else it for it in program]
+    program, passed, failed, fewer, first = checks.program_of(__doc__), 0, 0, 0, 0
     runs = [(seed, ["HERE", str(Made(seed).groups)], None, None) for seed in range(LISTS)]
     runs += [(1, *end) for end in ENDS]
     for seed, words, status, line in runs:
@@ -162,8 +157,9 @@ def main():
             print(f"list {seed}, cuts {' '.join(words)}: status {done.returncode}: {done.stdout}{done.stderr}", f"wanted {wrong}",
                   *made.file().splitlines(), sep="\n    ")
     print(f"{fewer} lists with as good a division into more pieces, {first} with as good a one of other lengths")
-    print(f"{passed} passed, {failed} failed")
-    sys.exit(1 if failed or not (fewer and first) else 0)
+    status = checks.ended(passed, failed)
+    return status if fewer and first else 1
 
 
-main()
+if __name__ == "__main__":
+    sys.exit(main())

@@ -9,7 +9,6 @@ it, of which PATTERN picks those with it in their name. With no --program it is 
 What needs a program that isn't installed, `glpsol`, `esolver` or `rt`, is told and left out. What fails is told; the last line is
 `N passed, M failed`.
 """
-import argparse
 import concurrent.futures
 import contextlib
 import csv
@@ -33,38 +32,18 @@ TOP, TOOLS, EXAMPLES = HERE.parent, HERE.parent / "tools", HERE.parent / "exampl
 sys.dont_write_bytecode = True
 sys.path.insert(0, str(TOOLS))
 import audit
+import checks
 import explain
 import lp
 import reference
 import run
+from checks import Wrong, want, want_in
 from nrm_tools import MODES, NAME, Network, Stop, fitting, named, replies_of, rows_of, text_of
 
-NOT_BUILT = 70  # what the script `nrm` ends with where there is no program to run
 SECONDS = 60
 LOG_COLUMNS = ["--departs", "Departure", "--booked", "Booked on", "--product", "Fare product", "--seats", "Seats"]
 
-
-TESTS = []
-
-
-def test(function):
-    """Makes a function one of the tests."""
-    TESTS.append(function)
-    return function
-
-
-class Wrong(Exception):
-    """What should have come, and what came."""
-
-
-def want(found, wanted, what="it"):
-    if found != wanted:
-        raise Wrong(f"{what}: wanted {wanted!r}, and not {found!r}")
-
-
-def want_in(text, wanted):
-    if wanted not in text:
-        raise Wrong(f"wanted {wanted!r} in {text!r}")
+test = checks.Tests()
 
 
 class Tools:
@@ -1385,22 +1364,15 @@ def told(end):
 
 
 def main():
-    parser = argparse.ArgumentParser(usage=__doc__)
-    parser.add_argument("pattern", nargs="?", default="")
-    parser.add_argument("--program", nargs="+", default=[str(TOP / "nrm")])
-    given = parser.parse_args()
-    program = [os.path.abspath(it) if os.path.exists(it) else it for it in given.program]
-    tests = [it for it in TESTS if given.pattern in it.__name__]
-    # builds it where it isn't
-    if subprocess.run(program, stdin=subprocess.DEVNULL, stdout=subprocess.DEVNULL).returncode == NOT_BUILT:
-        print(f"0 passed, {len(tests)} failed")
-        return NOT_BUILT
+    given = checks.words_of(__doc__)
+    tests = test.picked(given.pattern)
+    if not checks.is_built(given.program):
+        checks.ended(0, len(tests))
+        return checks.NOT_BUILT
     with concurrent.futures.ProcessPoolExecutor(4) as pool:
-        ends = [pool.submit(tried, it.__name__, program) for it in tests]
+        ends = [pool.submit(tried, it.__name__, given.program) for it in tests]
         failed = sum(told(end.result()) for end in ends)
-    passed = len(tests) - failed
-    print(f"{passed} passed, {failed} failed")
-    return 0 if 0 < passed == len(tests) else 1
+    return checks.ended(len(tests) - failed, failed)
 
 
 if __name__ == "__main__":

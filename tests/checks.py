@@ -1,0 +1,80 @@
+"""What the tests have in common: what one wants, the tests of a file, and the programs that they run."""
+import argparse
+import os
+import subprocess
+
+TOP = os.path.dirname(os.path.dirname(os.path.realpath(__file__)))
+NOT_BUILT = 70  # what the scripts `nrm` and `nrm_kept` end with if there is no program to run
+MOST_SHOWN = 600
+
+
+class Wrong(Exception):
+    """What should have come, and what came."""
+
+
+def shown(value):
+    """A value as it is told, and of a long one the beginning."""
+    text = repr(value)
+    return text if len(text) <= MOST_SHOWN else f"{text[:MOST_SHOWN]}.."
+
+
+def want(found, wanted, what="it"):
+    if found != wanted:
+        raise Wrong(f"{what}: wanted {shown(wanted)}, and not {shown(found)}")
+
+
+def want_in(text, wanted):
+    if wanted not in text:
+        raise Wrong(f"wanted {wanted!r} in {text[-MOST_SHOWN:]!r}")
+
+
+class Tests:
+    """The tests of a file: the functions that it marks."""
+
+    def __init__(self):
+        self.all = []
+
+    def __call__(self, function):
+        self.all.append(function)
+        return function
+
+    def picked(self, pattern):
+        """The tests with a pattern in their names."""
+        return [it for it in self.all if pattern in it.__name__]
+
+
+def words_of(manual):
+    """The words of the command line: which tests, and the program, which is the script `nrm` at the top if none is named."""
+    words = argparse.ArgumentParser(usage=manual)
+    words.add_argument("pattern", nargs="?", default="")
+    add_program(words)
+    given = words.parse_args()
+    given.program = placed(given.program)
+    return given
+
+
+def program_of(manual):
+    """The program of a command line that names nothing else."""
+    words = argparse.ArgumentParser(usage=manual)
+    add_program(words)
+    return placed(words.parse_args().program)
+
+
+def add_program(words):
+    words.add_argument("--program", nargs="+", default=[os.path.join(TOP, "nrm")])
+
+
+def placed(words):
+    """The words of a program, which may run in another folder."""
+    return [os.path.abspath(it) if os.path.exists(it) else it for it in words]
+
+
+def is_built(program):
+    """Whether there is a program; its script builds it if need be."""
+    return subprocess.run(program, stdin=subprocess.DEVNULL, stdout=subprocess.DEVNULL).returncode != NOT_BUILT
+
+
+def ended(passed, failed):
+    """Prints the last line of a file of tests, and gives its status."""
+    print(f"{passed} passed, {failed} failed")
+    return 0 if passed and not failed else 1
