@@ -1,5 +1,6 @@
 //! The words of the command line, and those for modes.
-ghost use Rattle.std.specs.Prelude.{◌≡◌, string_bytes};
+ghost use Rattle.std.specs.Prelude.{◌≡◌, string_bytes, IfErr};
+ghost use Rattle.std.specs.IoError.{error_kind};
 ghost use Rattle.nrm_outside.specs.Words.{mode_of};
 
 use nrm_model::Mode;
@@ -13,7 +14,9 @@ use std::rt::HostRuntime;
 ///
 /// # Errors
 /// Memory runs out.
-pub fn words_given(rt: &HostRuntime) -> io::Result<Vec<String>> {
+pub fn words_given(rt: &HostRuntime) -> io::Result<Vec<String>>
+    ensures memory { IfErr result (λ error. error_kind error ≡ ErrorKind.OutOfMemory) }
+{
     match env::args(rt) {
         Ok(words) => Ok(words.skip(1).collect(rt.alloc())?),
         Err(error) if error.kind() == ErrorKind::OutOfMemory => Err(error),
