@@ -1344,10 +1344,10 @@ def release_has_what_an_operator_needs(tools):
 
 def tried(name, program):
     """What a test prints, and what is wrong if anything; in a process of its own, beside the others."""
-    test = next(it for it in TESTS if it.__name__ == name)
+    function = next(it for it in test.all if it.__name__ == name)
     with tempfile.TemporaryDirectory() as folder, contextlib.redirect_stdout(io.StringIO()) as out:
         try:
-            test(Tools(program, folder))
+            function(Tools(program, folder))
             wrong = None
         except (Wrong, Stop, OSError, subprocess.TimeoutExpired) as why:
             wrong = f"{name}: {why}"
