@@ -27,6 +27,7 @@ DEMANDS, ORDERS = ("histories", "independent", "poisson"), ("mixed", "low-first"
 LARGEST_PARTY = 999
 LARGEST_STEP = 16  # of a mean whose exponential is taken at once
 LINES_AT_ONCE = 1000  # that are sent before their replies are read: they and their replies fit into a pipe
+LINES_REMEMBERED, NETWORKS_REMEMBERED = 65_536, 8  # by a process
 
 
 @dataclass(frozen=True)
@@ -67,11 +68,6 @@ class DrawnSeason:
     shows: list | None = None
 
     @functools.cached_property
-    def requests(self):
-        """The product and the party that each line asks for that is a request, by its text."""
-        return {line: request_of(line) for line in set(self.lines) if line.startswith("book ")}
-
-    @functools.cached_property
     def stream(self):
         """The lines as the program takes them."""
         return "\n".join([*self.lines, ""]).encode()
@@ -79,14 +75,12 @@ class DrawnSeason:
     def tally(self, chosen=None):
         """How often each request stands in the lines, or in those that a byte other than 0 chooses: a product, a party and a count."""
         counts = Counter(self.lines if chosen is None else itertools.compress(self.lines, chosen))
-        return [(*self.requests[line], count) for line, count in counts.items() if line in self.requests]
+        return [(*request, count) for line, count in counts.items() if (request := request_of(line))]
 
-    def by_product(self, chosen=None):
-        """How many requests for each product stand in the lines, or in those that are chosen."""
-        requests = {}
-        for product, _, count in self.tally(chosen):
-            requests[product] = requests.get(product, 0) + count
-        return requests
+    @functools.cached_property
+    def asked(self):
+        """How many requests for each product stand in the lines."""
+        return by_product(self.tally())
 
 
 @dataclass
@@ -125,6 +119,13 @@ def identity(network):
     return hashlib.sha256(text_of(row[:3] if row[0] == "periods" else row for row in kept).encode()).hexdigest()
 
 
+@functools.lru_cache(NETWORKS_REMEMBERED)
+def network_in(source):
+    """The network of a file's bytes, and its identity; nobody may change it, since a process plays many batches of its seasons."""
+    network = Network.of(list(rows_of(source)))
+    return network, identity(network)
+
+
 def generator(seed, of_network, number):
     """The generator of a season's random numbers: of a seed, the identity of a network, and the season's number."""
     return random.Random(int.from_bytes(hashlib.sha256(f"{seed} {number} {of_network}".encode()).digest(), "big"))
@@ -158,9 +159,8 @@ def drawn_demand(network, demand, draw):
     return None, {product: [poisson(mean, draw) for mean in by_period] for product, by_period in network.mean_demand().items()}
 
 
-def lines_for(product, seats, parties, draw):
+def lines_for(product, seats, sizes, weights, draw):
     """The requests for a product's seats in a period, as lines, each of a party; the last one is cut to the seats that are left."""
-    sizes, weights = zip(*parties)
     if sizes == (1,):
         return [f"book {product} 1"] * seats
     lines = []
@@ -171,8 +171,11 @@ def lines_for(product, seats, parties, draw):
     return lines
 
 
+@functools.lru_cache(LINES_REMEMBERED)
 def request_of(line):
-    """The product and the party that a line asks for."""
+    """The product and the party that a line asks for; None if it is no request."""
+    if not line.startswith("book "):
+        return None
     _, product, party = line.split(" ")
     return product, int(party)
 
@@ -184,14 +187,14 @@ def mixed(lines, draw):
 
 def ordered(network, seats, settings, draw):
     """The lines of a stream, period after period, each in the order of the settings."""
-    lines = []
+    lines, (sizes, weights) = [], zip(*settings.parties)
     for period in range(network.periods):
         if period:
             lines.append(f"reoptimise {period + 1}")
         now = []
         for product, by_period in seats.items():
             if by_period[period]:
-                now += lines_for(product, by_period[period], settings.parties, draw)
+                now += lines_for(product, by_period[period], sizes, weights, draw)
         now = mixed(now, draw)
         if settings.order == "low-first":
             now.sort(key=lambda line: network.fare[request_of(line)[0]])
@@ -205,10 +208,10 @@ def drawn_season(network, settings, draw):
     season = DrawnSeason(history, ordered(network, seats, settings, draw))
     if settings.cancel:
         for at, line in enumerate(season.lines):
-            if line in season.requests and draw.random() < settings.cancel:
+            if request_of(line) and draw.random() < settings.cancel:
                 season.cancellations.setdefault(draw.randint(at, len(season.lines) - 2), []).append(at)
     if settings.show is not None:
-        parties = [season.requests.get(line, (None, 0))[1] for line in season.lines]
+        parties = [(request_of(line) or (None, 0))[1] for line in season.lines]
         season.shows = [sum(draw.random() < settings.show for _ in range(party)) for party in parties]
     return season
 
@@ -306,9 +309,10 @@ def replies_with_cancellations(words, mode, path, season, clock):
     return replies, cancelled
 
 
-SECOND_LETTER, OF_MEMORY = operator.itemgetter(1), ord("e")  # what tells the replies `ok`, `no` and `memory` from each other and the rest
-ARE_OK, ARE_NO = (bytes(code == ord(letter) for code in range(256)) for letter in "ko")
-BOUND = re.compile(rb"hindsight ([0-9]+/[1-9][0-9]*) revenue ([0-9]+) withheld ([0-9]+)")
+SECOND_LETTER = operator.itemgetter(1)  # it tells the replies `ok`, `no` and `memory` from each other and the rest
+OF_OK, OF_NO, OF_MEMORY = b"koe"
+ARE_OK = bytes(code == OF_OK for code in range(256))
+BOUND = re.compile(rb"hindsight ([0-9]+)/([1-9][0-9]*) revenue ([0-9]+) withheld ([0-9]+)")
 
 
 def played(network, season, words, mode, path, clock):
@@ -326,22 +330,39 @@ def played(network, season, words, mode, path, clock):
         letters = b""
     if len(letters) != len(season.lines) or OF_MEMORY in letters:
         raise Stop(f"what `run {mode}` answers to {len(season.lines)} lines is no outcome: is memory short, or is that another program?")
+    sold = letters.translate(ARE_OK)
+    if sum(season.asked.values()) != sum(sold) + letters.count(OF_NO):
+        raise Stop(f"`run {mode}` answers requests otherwise than by `ok` and `no`: is that another program?")
+    sales, stand = season.tally(sold), bytearray(sold)
     for at in cancelled:
-        letters[at] = 0
-    stand, refused = letters.translate(ARE_OK), letters.translate(ARE_NO)
-    booked = season.tally(stand)
-    revenue = sum(network.fare[product] * party * count for product, party, count in booked)
-    if last and int(last[2]) != revenue:
-        raise Stop(f"`run {mode}` has a revenue of {int(last[2])}, and its replies one of {revenue}: is that another program?")
-    return Outcome(revenue, int(last[3]) if last else 0, Fraction(last[1].decode()) if last else None,
-                   by_leg(network, ((product, party * count) for product, party, count in booked)),
-                   shown_of(network, season, stand) if season.shows else None, season.by_product(refused))
+        stand[at] = 0
+    booked = season.tally(stand) if cancelled else sales
+    revenue = sum([network.fare[product] * party * count for product, party, count in booked])
+    if last and int(last[3]) != revenue:
+        raise Stop(f"`run {mode}` has a revenue of {int(last[3])}, and its replies one of {revenue}: is that another program?")
+    return Outcome(revenue, int(last[4]) if last else 0, Fraction(int(last[1]), int(last[2])) if last else None,
+                   by_leg(network, [(product, party * count) for product, party, count in booked]),
+                   shown_of(network, season, stand) if season.shows else None, refused_of(season, sales))
+
+
+def by_product(tally):
+    """How many requests for each product are in a tally."""
+    requests = {}
+    for product, _, count in tally:
+        requests[product] = requests.get(product, 0) + count
+    return requests
+
+
+def refused_of(season, sales):
+    """How many requests for each product weren't sold."""
+    sold = by_product(sales)
+    return {product: count - sold.get(product, 0) for product, count in season.asked.items()}
 
 
 def shown_of(network, season, stand):
     """The seats that are taken at departure, by leg, of the bookings of chosen lines."""
     lines = itertools.compress(zip(season.lines, season.shows), stand)
-    return by_leg(network, ((season.requests[line][0], seats) for line, seats in lines))
+    return by_leg(network, ((request_of(line)[0], seats) for line, seats in lines))
 
 
 def by_leg(network, seats_of_products):
@@ -357,8 +378,8 @@ class Player:
     """Plays seasons of a network: keeps its file, and those without one history, in a folder."""
 
     def __init__(self, source, settings, words, folder):
-        self.network, self.settings, self.words, self.folder = Network.of(list(rows_of(source))), settings, words, folder
-        self.identity, self.source = identity(self.network), source
+        self.source, self.settings, self.words, self.folder = source, settings, words, folder
+        self.network, self.identity = network_in(source)
 
     def path_without(self, history):
         """The path of the network's file, or of that without a history."""
@@ -392,13 +413,12 @@ def heads(network, settings):
 def rows_of_season(network, settings, number, season, outcomes):
     """The row of each mode, as a line of CSV."""
     legs, products = list(network.seats), list(network.fare)
-    asked = season.by_product()
-    asked_for = numbers(asked, products)
+    asked_for = numbers(season.asked, products)
     for mode, it in outcomes.items():
         boardings = [it.denied(network), it.empty(network)] if settings.show is not None else []
         cost = settings.denied_cost * boardings[0] if boardings else 0
         bound = "" if it.bound is None else f"{float(it.bound):.4f}"
-        yield ",".join([str(number), mode, str(season.history or ""), str(sum(asked.values())), bound, str(it.revenue), str(it.withheld),
+        yield ",".join([str(number), mode, str(season.history or ""), str(sum(season.asked.values())), bound, str(it.revenue), str(it.withheld),
                         *map(str, boardings), str(it.revenue + it.withheld - cost), *numbers(it.booked, legs),
                         *(numbers(it.shown, legs) if boardings else ()), *asked_for, *numbers(it.refused, products)]) + "\n"
 
