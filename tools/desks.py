@@ -352,7 +352,7 @@ class Hub:
         self.controller, self.journal, self.limits = controller, journal, limits
         self.clients, self.piece, self.unread = set(), memoryview(bytearray(PIECE)), 0
         self.now = self.loop.time()  # to the second, as `look` has it
-        self.waiting, self.is_due, self.is_writing = [], False, False
+        self.waiting, self.is_due, self.is_giving, self.is_writing = [], False, False, False
         self.pieces, self.is_full = collections.deque(), False  # what the pipe to the program hasn't taken
         self.askers, self.left = collections.deque(), b""  # who waits for how many replies, nobody for a mark's
         self.answered = journal.count if journal else 0
@@ -364,12 +364,17 @@ class Hub:
     # Lines
 
     def take(self, client, lines, count):
-        """Takes lines of a client: they are given to the program with all others that come in this round."""
+        """Takes lines of a client: they are given to the program with all others that come in this round, and at once if there is no other
+        client and no reply is being dealt, which would have this call itself again and again."""
         client.asked += count
         self.waiting.append((client, lines, count))
-        if not self.is_due:
-            self.is_due = True
+        if self.is_due:
+            return
+        self.is_due = True
+        if len(self.clients) > 1 or self.is_giving:
             self.loop.call_soon(self.give)
+        else:
+            self.give()
 
     def give(self):
         """Gives the program the lines that wait, once they are in the journal."""
@@ -378,7 +383,9 @@ class Hub:
             return
         batch, self.waiting = self.waiting, []
         if not self.journal:
+            self.is_giving = True
             self.pass_on(batch)
+            self.is_giving = False
             return
         self.is_writing = True
         written = self.loop.run_in_executor(None, self.journal.write, b"".join([lines for _, lines, _ in batch]))
