@@ -287,9 +287,11 @@ def mistakes_are_told_in_a_line(place):
         out, err, ended = place.ran(*words, "--seasons", 1)
         want((ended, "Traceback" in err, out), (status, False, ""), err)
         want_in(err, wanted)
-    other = place.ran(LOG, "--seasons", 1, "--workers", 1, program=["sh", place.file("other", 'test "$1" = print || echo ok 1')])
-    want((other[2], "Traceback" in other[1]), (1, False), other[1])
-    want_in(other[1], "simulate.py: `run first` has no bound: ok 1")
+    unlike = '%s "$@" | sed "s/^no .*/unknown/"' % " ".join(f"'{it}'" for it in place.program)
+    for text, wanted in (('test "$1" = print || echo ok 1', "`run first` has no bound: ok 1"), (unlike, "`run first` answers requests otherwise than by")):
+        other = place.ran(SEASON, "--seasons", 1, "--workers", 1, program=["sh", place.file("other", text)])
+        want((other[2], "Traceback" in other[1]), (1, False), other[1])
+        want_in(other[1], f"simulate.py: {wanted}")
 
 
 @test
