@@ -878,12 +878,13 @@ def season_tells_what_the_documents_show(tools):
     out = tools.told("season.py", *words, env=os.environ)  # with pictures, where there is matplotlib
     want_in(out, "  period 2   1080   630   300   1080\n  period 3   1240  1270   620   1530\n  end        1240  2110  2840   2920\n")
     want_in(out, "  ZRH-VIE      110       320       320  320\n")
+    path = tools.folder / "pictures" / "season.html"
+    page = path.read_text()
+    want((page.count("<svg "), page.count("<desc "), "<script" in page), (*[4 * ("pictures/seats.svg" in out)] * 2, False))
     decimal = tools.told("season.py", *words[:4], "--decimal", *words[4:])
     want_in(decimal, "  end        1240  2110  2840  2920.00\n")
     want("/" in decimal.replace("pictures/", ""), False, "fractions in decimals")
-    page = (tools.folder / "pictures" / "season.html").read_text()
-    want_in(page, '<tr><th scope="row">end</th><td>1240</td><td>2110</td><td>2840</td><td>2920.00</td></tr>')
-    want((page.count("<svg "), page.count("<desc "), "<script" in page), (*[4 * ("pictures/seats.svg" in out)] * 2, False))
+    want_in(path.read_text(), '<tr><th scope="row">end</th><td>1240</td><td>2110</td><td>2840</td><td>2920.00</td></tr>')
 
 
 OF_REFUNDS = ["book AB 4", "cancel 1", "book AC 1", "reoptimise 2", "book AC 1", "cancel 2", "book AB 2", "book CD 3", "cancel 9", "cancel 3"]
