@@ -71,12 +71,12 @@ def crowd_file(folder):
 class Server:
     """A run of tools/desks.py on a journal, over a program."""
 
-    def __init__(self, folder, words, *options, journal=None, limit=None, status=None, more=None):
+    def __init__(self, folder, words, *options, journal=None, limit=None, status=None, variables=None):
         self.path, self.err = folder / "socket", folder / "told"
         options = [*options, *(["--journal", str(journal)] if journal else [])]
         with open(self.err, "w") as told:
             self.process = subprocess.Popen([sys.executable, str(TOOLS / "desks.py"), "--socket", str(self.path), *options, "--", *words],
-                                            stderr=told, preexec_fn=limit, env={**os.environ, **(more or {})})
+                                            stderr=told, preexec_fn=limit, env={**os.environ, **(variables or {})})
         if status is None:
             self.wait_until_it_listens()
 
@@ -688,8 +688,9 @@ def lines_are_on_the_disk_before_the_program_has_them(folder, program):
     journal, flushed, watcher = folder / "journal", folder / "flushed", folder / "watcher"
     flushed.write_text("0")
     watcher.write_text(WATCHER.format(flushed=str(flushed)))
-    more = {"LD_PRELOAD": preload.built(FLUSHES, folder), "JOURNAL": str(journal), "FLUSHED": str(flushed)}
-    with Server(folder, [sys.executable, str(watcher)], journal=journal, more=more) as server, server.connect() as one, server.connect() as other:
+    variables = {"LD_PRELOAD": preload.built(FLUSHES, folder), "JOURNAL": str(journal), "FLUSHED": str(flushed)}
+    with Server(folder, [sys.executable, str(watcher)], journal=journal, variables=variables) as server, server.connect() as one, \
+            server.connect() as other:
         for count in range(1, 40):
             one.sendall(b"book A 1\n" * count)
             want(answers(other, b"cancel 1\n" * count, count), [b"unknown\n"] * count, "another's replies")
