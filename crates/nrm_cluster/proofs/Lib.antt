@@ -6,5 +6,6 @@ pub mod Medians  -- the centre of a piece is a best one
 pub mod Nearest  -- no grouping costs less than some division
 pub mod Sums  -- sums over places, and the first number that passes
 pub mod Tables  -- the best of the table is the chosen division, and there is only one
+pub mod Thresholds  -- the thresholds of a division group the values as it does
 pub mod Values  -- a fare more among falling values
 pub mod Walks  -- the loops over a piece, and over the pieces of a division
