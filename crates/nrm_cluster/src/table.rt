@@ -1,10 +1,10 @@
 //! The table of best divisions: a column for each number of values that are left, with a cell for each number of pieces. A
-//! column is made of those before it, by each first piece that there may be.
+//! column is made of those before it, by each first piece that there may be, the shortest first.
 ghost use Rattle.std.specs.Prelude.{◌≡◌, ◌==◌, ◌+◌, ◌<◌, ◌≤◌, ◌^◌, All, IfOk, ℕ, false, get_or, length};
 ghost use Rattle.nrm_cluster.specs.Points.{ArePoints, points};
 ghost use Rattle.nrm_cluster.specs.Inner.Cells.{AreColumns, IsColumn, IsSmall, cheaper_of, columns_in, led_of};
 
-use crate::pieces::cost;
+use crate::pieces::Piece;
 use std::alloc::{AllocError, Global};
 
 /// The best division of what is left: whether there is one, its cost and its first length.
@@ -92,10 +92,16 @@ fn next_column(
 {
     let left = columns.len();
     let mut column = blank(alloc, groups, left)?;
+    let mut piece = Piece::at(values.len() - left);
     for before in 0..left {
         let first = before + 1;
-        let cost = cost(values, weights, values.len() - left, first);
-        add_first(&mut column, cost, first as u16, &columns[left - first]);
+        piece = piece.longer(values, weights);
+        add_first(
+            &mut column,
+            piece.cost,
+            first as u16,
+            &columns[left - first],
+        );
     }
     Ok(column)
 }
