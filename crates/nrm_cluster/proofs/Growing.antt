@@ -134,7 +134,7 @@ last-is-middle p a n place above come last =
     search-ends p a (n + 1) place above come (omega (arith, ap (weight_from p a) all))
 
 -- ---- the cost
--- no value is below the centre, or none above it: what they cost is what they are worth beyond it, or less
+-- values no lower than a centre cost what they are worth beyond it, and values no higher what they are worth less
 dearer-one : (w v c : ℕ) → c ≤ v → w * distance v c + c * w ≡ w * v
 dearer-one w v c h =
     let whole : distance v c + c ≡ v = omega arith in
@@ -238,10 +238,6 @@ grown p a n sum whole middle ok more is weight worth mid = record {
 
     paid : cost_from p (slice_index p.values middle.place) a (n + 1) ≡ piece_cost p a (n + 1)
     paid = ap (λ k. cost_from p (slice_index p.values k) a (n + 1)) place
-
--- what a piece is tells its place and its count
-pub piece-is : (p : PointsValue) (a n : ℕ) (piece : Piece) → piece ≡ piece_of p a n → piece ≡ piece_of p piece.start piece.count
-piece-is p a n piece e = e ∙ ap₂ (piece_of p) (sym (ap (λ (q : Piece). q.start) e)) (sym (ap (λ (q : Piece). q.count) e))
 
 pub piece-grows : (p : PointsValue) (a n : ℕ) (piece next : Piece) → piece ≡ piece_of p a n → next ≡ piece_of p piece.start (piece.count + 1) → next ≡ piece_of p a (n + 1)
 piece-grows p a n piece next e grown = grown ∙ ap₂ (λ b m. piece_of p b (m + 1)) (ap (λ (q : Piece). q.start) e) (ap (λ (q : Piece). q.count) e)
