@@ -1,9 +1,10 @@
 -- Four fares of a leg, in two groups, in ten and in one; and what is asked for on a leg.
-use Rattle.std.specs.Prelude.{◌≡◌, List, [], ◌∷◌, map, codes, refl, Some}
+use Rattle.std.proofs.Common.{arith, lit<, zero, suc}
+use Rattle.std.specs.Prelude.{◌≡◌, ◌-◌, ◌*◌, ◌/◌, List, [], ◌∷◌, map, codes, nat_lt, refl, Some, if◌then◌else◌}
 use Rattle.nrm_model.specs.Network.{NetworkValue}
 use Rattle.nrm_cluster.specs.Points.{PointsValue, asked_on, fares_of, seats_at}
 use Rattle.nrm_cluster.specs.declared.points.Asked.{Asked}
-use Rattle.nrm_cluster.specs.Divisions.{cuts_of, distance, centre_of}
+use Rattle.nrm_cluster.specs.Divisions.{cuts_of, distance, centre_of, Grouping, IsGrouping, by_thresholds, grouping_cost, piece_number}
 use Rattle.nrm_cluster.specs.Inner.Table.{best_division}
 
 abbrev pub four_fares : PointsValue
@@ -27,6 +28,34 @@ in_one = refl
 
 one_centre : cuts_of four_fares (4 ∷ []) ≡ record { cost = 8600; cuts = []; centres = 400 ∷ [] }
 one_centre = refl
+
+-- a grouping by hand, of fares that are no neighbours: 500 and 229 about 480, 400 and 150 about 160. It is one into two groups, and none
+-- into one; it costs 16 x 20 + 12 x 240 + 28 x 10
+abbrev crossed : Grouping
+crossed = record { group = λ k. if nat_lt 0 (k - 2 * (k / 2)) then 1 else 0; centre = λ g. if nat_lt 0 g then 160 else 480 }
+
+crossed_cost : grouping_cost four_fares crossed ≡ 3480
+crossed_cost = refl
+
+crossed_in_two : IsGrouping four_fares 2 crossed
+crossed_in_two zero below = omega arith
+crossed_in_two (suc zero) below = omega arith
+crossed_in_two (suc (suc zero)) below = omega arith
+crossed_in_two (suc (suc (suc zero))) below = omega arith
+crossed_in_two (suc (suc (suc (suc k)))) below = absurd (omega (arith, below))
+
+crossed_in_one : IsGrouping four_fares 1 crossed → ⊥
+crossed_in_one is = let second = is 1 (lit< tt) in omega (arith, second)
+
+-- by its cuts in ten the 500 stands alone, and so does the 400; the groups are the pieces
+by_cuts : map (by_thresholds four_fares (cuts_of four_fares (1 ∷ 1 ∷ 2 ∷ []))).group (0 ∷ 1 ∷ 2 ∷ 3 ∷ []) ≡ 0 ∷ 1 ∷ 2 ∷ 2 ∷ []
+by_cuts = refl
+
+numbers : map (piece_number (1 ∷ 1 ∷ 2 ∷ [])) (0 ∷ 1 ∷ 2 ∷ 3 ∷ []) ≡ 0 ∷ 1 ∷ 2 ∷ 2 ∷ []
+numbers = refl
+
+by_one_cut : grouping_cost four_fares (by_thresholds four_fares (cuts_of four_fares (2 ∷ 2 ∷ []))) ≡ 1200
+by_one_cut = refl
 
 -- a distance has no sign, and a centre is the first value that half of the weight is up to: of two of one weight the higher
 either_way : (distance 150 229 ≡ 79) × (distance 229 150 ≡ 79)

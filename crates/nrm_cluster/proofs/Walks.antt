@@ -1,52 +1,11 @@
--- Steps of the loops over a piece.
-use Rattle.std.proofs.Common.{◌≡◌, ℕ, zero, suc, ◌+◌, ◌*◌, ◌-◌, ◌<◌, ◌≤◌, Bool, true, false, arith, refl, sym, ap, ap₂, ◌∙◌, slice_index, List, [], ◌∷◌, ◌++◌, get_or, drop, sum, length}
+-- The walk over the pieces of a division.
+use Rattle.std.proofs.Common.{◌≡◌, ℕ, ◌+◌, ◌-◌, ◌<◌, ◌≤◌, arith, sym, ap, ◌∙◌, slice_index, List, [], ◌∷◌, ◌++◌, get_or, drop, sum, length}
 use Rattle.std.proofs.lemmas.List.{append-nil, append_assoc, drop_more, drop_all}
 use Rattle.std.proofs.lemmas.List.Sums.{sum_by-cons}
-use Rattle.std.proofs.lemmas.Bool.{le-leb, lt-leb}
 use Rattle.nrm_cluster.specs.Points.{PointsValue}
-use Rattle.nrm_cluster.specs.Divisions.{weight_from, first_within, centre_of, IsDivision, centres_from, cuts_from}
-use Rattle.nrm_cluster.proofs.Medians.{heavy, middle-is}
+use Rattle.nrm_cluster.specs.Divisions.{centre_of, IsDivision, centres_from, cuts_from}
 
-first-here-in : (test : ℕ → Bool) (m k : ℕ) → test k ≡ true → first_within test (suc m) k ≡ k
-first-here-in test m k e = rw (e, first_within) refl
-
-first-next-in : (test : ℕ → Bool) (m k : ℕ) → test k ≡ false → first_within test (suc m) k ≡ first_within test m (k + 1)
-first-next-in test m k e = rw (e, first_within) refl
-
-first-here : (test : ℕ → Bool) (n k : ℕ) → k < n → test k ≡ true → first_within test (n - k) k ≡ first_within test n 0 → k ≡ first_within test n 0
-first-here test n k few e h = sym (ap (λ m. first_within test m k) left ∙ first-here-in test (n - (k + 1)) k e) ∙ h
-  where
-    left : n - k ≡ suc (n - (k + 1))
-    left = omega arith
-
-first-next : (test : ℕ → Bool) (n k : ℕ) → k < n → test k ≡ false → first_within test (n - k) k ≡ first_within test n 0 → first_within test (n - (k + 1)) (k + 1) ≡ first_within test n 0
-first-next test n k few e h = sym (ap (λ m. first_within test m k) left ∙ first-next-in test (n - (k + 1)) k e) ∙ h
-  where
-    left : n - k ≡ suc (n - (k + 1))
-    left = omega arith
-
--- the weight of one value more
-pub weight-next : (p : PointsValue) (a k s w : ℕ) → s ≡ weight_from p a k → w ≡ slice_index p.weights (a + k) → s + w ≡ weight_from p a (k + 1)
-weight-next p a k s w e g = ap₂ (λ x y. x + y) e g ∙ ap (weight_from p a) one
-  where
-    one : suc k ≡ k + 1
-    one = omega arith
-
-pub centre-found : (p : PointsValue) (a n k whole upto : ℕ) → k < n → whole ≡ weight_from p a n → upto ≡ weight_from p a (k + 1) → whole ≤ 2 * upto → first_within (heavy p a n) (n - k) k ≡ first_within (heavy p a n) n 0 → slice_index p.values (a + k) ≡ centre_of p a n
-centre-found p a n k whole upto few e g h so-far =
-    ap (λ i. slice_index p.values (a + i)) (first-here (heavy p a n) n k few (le-leb (weight_from p a n) (2 * weight_from p a (k + 1)) (omega arith)) so-far)
-
-pub centre-later : (p : PointsValue) (a n k whole upto : ℕ) → k < n → whole ≡ weight_from p a n → upto ≡ weight_from p a (k + 1) → 2 * upto < whole → first_within (heavy p a n) (n - k) k ≡ first_within (heavy p a n) n 0 → first_within (heavy p a n) (n - (k + 1)) (k + 1) ≡ first_within (heavy p a n) n 0
-centre-later p a n k whole upto few e g h so-far = first-next (heavy p a n) n k few (lt-leb (weight_from p a n) (2 * weight_from p a (k + 1)) (omega arith)) so-far
-
-pub centre-somewhere : (p : PointsValue) (a n k : ℕ) → 0 < n → n ≤ k → k ≤ n → first_within (heavy p a n) (n - k) k ≡ first_within (heavy p a n) n 0 → ⊥
-centre-somewhere p a zero k some h g so-far = omega arith
-centre-somewhere p a (suc n) k some h g so-far =
-    let none : suc n - k ≡ 0 = omega arith in
-    let there = (middle-is p a n).within in
-    omega (arith, ap (λ m. first_within (heavy p a (suc n)) m k) none)
-
--- ---- a list that is made piece by piece
+-- a list that is made piece by piece
 pub record IsListing (made : ℕ → List ℕ → List ℕ) (p : PointsValue) (lengths : List ℕ) (k a : ℕ) (items : List ℕ) : Type 0 where
   pub whole : a + sum (drop k lengths) ≡ length p.values
   pub joined : items ++ made a (drop k lengths) ≡ made 0 lengths

@@ -1,6 +1,6 @@
 -- Groupings of values, divisions of a falling list of values into pieces, and the division that is chosen.
 use Rattle.std.specs.Prelude.{ℕ, zero, suc, ◌+◌, ◌-◌, ◌*◌, ◌<◌, ◌≤◌, ◌≡◌, ◌⊎◌, Bool}
-use Rattle.std.specs.Prelude.{true, false, List, [], ◌∷◌, length, sum, All, slice_index, nat_le}
+use Rattle.std.specs.Prelude.{true, false, List, [], ◌∷◌, length, sum, All, slice_index, nat_le, nat_lt, count_by, if◌then◌else◌}
 use Rattle.nrm_cluster.specs.Points.{PointsValue}
 
 abbrev pub distance : ℕ → ℕ → ℕ
@@ -100,3 +100,16 @@ cuts_of p lengths = record { cost = division_cost p 0 lengths; cuts = cuts_from 
 -- those of the chosen division
 abbrev pub AreCuts : PointsValue → ℕ → CutsValue → Type 0
 AreCuts p groups cuts = (lengths : List ℕ) × IsChosen p groups lengths × (cuts ≡ cuts_of p lengths)
+
+-- ---- the cuts as thresholds
+-- the number of the piece in which a place stands, from 0
+abbrev pub piece_number : List ℕ → ℕ → ℕ
+piece_number [] k = 0
+piece_number (l ∷ ls) k = if nat_lt k l then 0 else suc (piece_number ls (k - l))
+
+-- the grouping by thresholds: the group of a value is how many cuts are above it, so that a value that equals a cut stays above it
+abbrev pub by_thresholds : PointsValue → CutsValue → Grouping
+by_thresholds p c = record {
+  group = λ k. count_by (λ cut. nat_lt (slice_index p.values k) cut) c.cuts;
+  centre = slice_index c.centres;
+}

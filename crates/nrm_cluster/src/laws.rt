@@ -1,5 +1,5 @@
 //! Laws of groupings and divisions. Each is the contract of a function that does nothing.
-ghost use Rattle.nrm_cluster.specs.Laws.{CentresAreBest, NoGroupingCostsLess, OneDivisionIsChosen};
+ghost use Rattle.nrm_cluster.specs.Laws.{CentresAreBest, NoGroupingCostsLess, OneDivisionIsChosen, ThresholdsGroup};
 
 /// The centre of a piece is a best one: at no other whole number does the piece cost less.
 pub fn centres_are_best()
@@ -14,4 +14,9 @@ pub fn no_grouping_costs_less()
 /// There is at most one chosen division.
 pub fn one_division_is_chosen()
     ensures { OneDivisionIsChosen }
+{}
+
+/// The cuts of the chosen division, used as thresholds, group the values just as it does, and at its centres cost what it does.
+pub fn thresholds_group()
+    ensures { ThresholdsGroup }
 {}

@@ -14,6 +14,8 @@ mod table;
 mod tests;
 
 pub use cuts::{Cuts, best_cuts};
-pub use laws::{centres_are_best, no_grouping_costs_less, one_division_is_chosen};
+pub use laws::{
+    centres_are_best, no_grouping_costs_less, one_division_is_chosen, thresholds_group,
+};
 pub use limits::{MOST_GROUPS, MOST_WEIGHT};
 pub use points::{Asked, Points, leg_points};

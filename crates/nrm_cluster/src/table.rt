@@ -1,10 +1,10 @@
 //! The table of best divisions: a column for each number of values that are left, with a cell for each number of pieces. A
-//! column is made of those before it, by each first piece that there may be.
+//! column is made of those before it, by each first piece that there may be, the shortest first.
 ghost use Rattle.std.specs.Prelude.{◌≡◌, ◌==◌, ◌+◌, ◌<◌, ◌≤◌, ◌^◌, All, IfOk, ℕ, false, get_or, length};
 ghost use Rattle.nrm_cluster.specs.Points.{ArePoints, points};
 ghost use Rattle.nrm_cluster.specs.Inner.Cells.{AreColumns, IsColumn, IsSmall, cheaper_of, columns_in, led_of};
 
-use crate::pieces::cost;
+use crate::pieces::Piece;
 use std::alloc::{AllocError, Global};
 
 /// The best division of what is left: whether there is one, its cost and its first length.
@@ -22,31 +22,19 @@ pub(crate) const NONE: Cell = Cell {
     first: 0,
 };
 
-/// The cheaper of two cells, the first one if they cost the same.
-pub(crate) fn cheaper(one: Cell, other: Cell) -> Cell
-    ensures { result ≡ cheaper_of one other }
-{
-    if other.there && (!one.there || other.cost < one.cost) {
-        other
-    } else {
-        one
-    }
-}
-
-// A piece of this cost and length in front of what a cell tells.
-fn led(cost: u64, first: u16, rest: Cell) -> Cell
+// A piece of this cost and length in front of what one cell tells, if that is cheaper than what another tells.
+fn improve(cell: &mut Cell, cost: u64, first: u16, rest: &Cell)
     requires cost { cost < 2 ^ 58 }
-    requires small { IsSmall rest }
-    ensures { result ≡ led_of cost first rest }
+    requires small { IsSmall rest.now }
+    ensures { cell.new ≡ cheaper_of cell.old (led_of cost first rest.now) }
 {
     if rest.there {
-        Cell {
-            there: true,
-            cost: cost + rest.cost,
-            first,
+        let whole = cost + rest.cost;
+        if !cell.there || whole < cell.cost {
+            cell.there = true;
+            cell.cost = whole;
+            cell.first = first;
         }
-    } else {
-        rest
     }
 }
 
@@ -62,7 +50,7 @@ fn add_first(column: &mut [Cell], cost: u64, first: u16, rest: &[Cell])
         → get_or column.new (k + 1) d ≡ cheaper_of (get_or column.old (k + 1) d) (led_of cost first (get_or rest.now k d)) }
 {
     for k in 1..column.len() {
-        column[k] = cheaper(column[k], led(cost, first, rest[k - 1]));
+        improve(&mut column[k], cost, first, &rest[k - 1]);
     }
 }
 
@@ -92,10 +80,16 @@ fn next_column(
 {
     let left = columns.len();
     let mut column = blank(alloc, groups, left)?;
+    let mut piece = Piece::at(values.len() - left);
     for before in 0..left {
         let first = before + 1;
-        let cost = cost(values, weights, values.len() - left, first);
-        add_first(&mut column, cost, first as u16, &columns[left - first]);
+        piece = piece.longer(values, weights);
+        add_first(
+            &mut column,
+            piece.cost,
+            first as u16,
+            &columns[left - first],
+        );
     }
     Ok(column)
 }

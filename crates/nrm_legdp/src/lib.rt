@@ -11,6 +11,9 @@ mod table;
 mod tests;
 
 pub use classes::{ClassFault, Classes, leg_classes};
-pub use laws::{a_further_seat_adds_no_more, no_policy_earns_more, protections_earn_all};
+pub use laws::{
+    a_further_seat_adds_no_more, earned_over_seasons, no_policy_earns_more, protections_earn_all,
+    remembering_earns_no_more,
+};
 pub use limits::MOST_CLASSES;
 pub use table::{LegTable, leg_values};

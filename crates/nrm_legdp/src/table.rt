@@ -91,8 +91,9 @@ impl Model for LegTable {
     ghost view = { λ t. record { rows = map (λ (row : Vec ℕ Global). row.items) t.rows.items; protections = t.protections.items } };
 }
 
-/// The table of these classes, up to so many authorised seats. `fares` are those of the classes, the highest first; `demands` has for
-/// each class the seats that were asked for in each of `n` histories. (Chapter 2 of the book, the static model of a single leg.)
+/// The table of these classes, up to so many authorised seats, by the static model of a single leg (chapter 2 of Talluri and van
+/// Ryzin). `fares` are those of the classes, the highest first; `demands` has for each class the seats that were asked for in each of
+/// `n` histories.
 ///
 /// # Errors
 /// Want of memory.

@@ -1,25 +1,19 @@
-use Rattle.std.proofs.Common.{◌+◌, arith}
+use Rattle.std.proofs.Common.{◌<◌, arith, length}
 use Rattle.nrm_cluster.specs.Points.{PointsValue}
-use Rattle.nrm_cluster.proofs.Walks.{centre-found, centre-later, centre-somewhere, weight-next}
-use Rattle.nrm_cluster.proofs.Bounds.{weight-below}
+use Rattle.nrm_cluster.proofs.Growing.{centre-within-all}
 use Rattle.nrm_cluster.proofs.pieces.centre.Goals as goal
 
-pub returns-then-whole-upto-clause-whole : goal.returns-then-whole-upto-clause-whole
-returns-then-whole-upto-clause-whole c =
-    let p : PointsValue = record { values = c.args.values.now; weights = c.args.weights.now } in
-    centre-found p c.args.a c.args.n c.loop-k.k _ _ c.loop-k-test.true c.weight-whole.ensures.whole (weight-next p c.args.a c.loop-k.k _ _ c.loop-k.invariant.upto c.from-upto.ensures) c.if-whole-upto.true c.loop-k.invariant.first
+pub loop-init : goal.loop-init
+loop-init c = c.at-piece.ensures (record { values = c.args.values.now; weights = c.args.weights.now })
 
-pub loop-k-preserved : goal.loop-k-preserved
-loop-k-preserved c =
+pub bounds-values-piece : goal.bounds-values-piece
+bounds-values-piece c =
     let p : PointsValue = record { values = c.args.values.now; weights = c.args.weights.now } in
-    let upto = weight-next p c.args.a c.loop-k.k _ _ c.loop-k.invariant.upto c.from-upto.ensures in
-    record {
-      upto = upto;
-      small = omega (arith, weight-below p (c.args.a + c.loop-k.k) c.requires.points);
-      first = centre-later p c.args.a c.args.n c.loop-k.k _ _ c.loop-k-test.true c.weight-whole.ensures.whole upto c.if-whole-upto.false c.loop-k.invariant.first;
-    }
+    centre-within-all p c.args.a c.loop.counter c.loop.piece (omega (arith, c.requires.some, c.loop-test.false)) (omega (arith, c.requires.within, c.loop.auto.counter-end)) c.loop.invariant
 
-pub returns-clause-whole : goal.returns-clause-whole
-returns-clause-whole c =
+pub offset_bounds-values-piece : goal.offset_bounds-values-piece
+offset_bounds-values-piece c =
     let p : PointsValue = record { values = c.args.values.now; weights = c.args.weights.now } in
-    absurd (centre-somewhere p c.args.a c.args.n c.loop-k.k c.requires.some c.loop-k-test.false (omega arith) c.loop-k.invariant.first)
+    let within : c.loop.piece.middle.place < length c.args.values.now =
+    centre-within-all p c.args.a c.loop.counter c.loop.piece (omega (arith, c.requires.some, c.loop-test.false)) (omega (arith, c.requires.within, c.loop.auto.counter-end)) c.loop.invariant in
+    omega (arith, within, c.requires.points.count)

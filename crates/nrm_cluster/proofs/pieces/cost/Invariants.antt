@@ -1,8 +1,0 @@
-use Rattle.std.proofs.Common.{◌≡◌, ◌*◌, ◌≤◌}
-use Rattle.nrm_model.specs.declared.limits.TheConstants.{MOST_FARE}
-use Rattle.nrm_cluster.specs.declared.limits.TheConstants.{MOST_WEIGHT}
-use Rattle.nrm_cluster.specs.Divisions.{cost_from}
-use Rattle.nrm_cluster.proofs.pieces.cost.Given as goal
-
-abbrev pub invariant-loop-k : goal.invariant-loop-k
-invariant-loop-k l = record { whole : l.sum ≡ cost_from (record { values = l.values; weights = l.weights }) l.middle l.a l.k; small : l.sum ≤ l.k * (MOST_WEIGHT * MOST_FARE) }
