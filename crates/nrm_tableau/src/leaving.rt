@@ -41,10 +41,9 @@ pub(crate) fn leaving_row(
     ensures { result ≡ option_map (λ found. found.0) (leaving_from (key_columns program.now) col 0 rows.now) }
 {
     let mut best = None;
-    let mut end = row_count(program);
-    while let Some(row) = touched.last_before(end) {
+    let mut walk = touched.downwards(row_count(program));
+    while let Some(row) = walk.next() {
         best = better_row(program, rows, row, best, col);
-        end = row;
     }
     best
 }

@@ -87,11 +87,10 @@ fn combine_each(
 {
     none_is_large(rows);
     let end = first + rows.len() as u16;
-    let mut from = first;
-    while let Some(number) = touched.first_within(from, end) {
+    let mut walk = touched.upwards(first);
+    while let Some(number) = walk.next_before(end) {
         let place = usize::from(number - first);
         combine_row(alloc, &mut rows[place], number, unit, col, changed)?;
-        from = number + 1;
     }
     Ok(())
 }

@@ -1,13 +1,11 @@
-//! Sets of constraint rows: a bit for each row, 64 in a word. They are walked by words, upwards or downwards, so that a walk
-//! takes a step for each row that is there and one for each word.
+//! Sets of constraint rows: a bit for each row, 64 in a word.
 #![tactic(auto)]
 
-ghost use Rattle.std.specs.Prelude.{◌≡◌, ◌<◌, ◌≤◌, ◌+◌, ◌*◌, ℕ, slice_index, MatchOption};
-ghost use Rattle.std.specs.Int.{bit_at};
+ghost use Rattle.std.specs.Prelude.{◌≡◌, ◌<◌, ◌≤◌, ℕ, length};
 ghost use Rattle.nrm_tableau.specs.RowSets.{row_bit};
-ghost use Rattle.nrm_tableau.specs.Inner.Walks.{HasNone, IsFirst, IsLast};
 ghost use Rattle.nrm_tableau.specs.declared.row_set.TheConstants.{MOST_ROWS};
 
+use crate::walk::{Downwards, Upwards};
 use nrm_lp::{MOST_BOUNDS, MOST_CAPS};
 use std::marker::Model;
 
@@ -52,28 +50,22 @@ impl RowSet {
         self.words[usize::from(row / 64)] |= 1 << (row % 64);
     }
 
-    /// The first row of the set from `from` on, among those before `end`.
-    pub(crate) fn first_within(&self, from: u16, end: u16) -> Option<u16>
-        requires { end ≤ MOST_ROWS }
-        ensures { MatchOption result (HasNone self.now from end) (IsFirst self.now from end) }
+    /// A walk upwards over the rows of the set, from a row on.
+    pub(crate) fn upwards(&self, from: u16) -> Upwards<'_>
+        ensures words { result.words.now ≡ self.now }
+        ensures count { length result.words.now ≡ 5 }
+        ensures from { result.from ≡ from }
     {
-        match self.first_from(from) {
-            Some(row) if row < end => Some(row),
-            _ => None,
-        }
+        Upwards::new(&self.words, from)
     }
 
-    /// The last row of the set before `end`.
-    pub(crate) fn last_before(&self, end: u16) -> Option<u16>
+    /// A walk downwards over the rows of the set before an end.
+    pub(crate) fn downwards(&self, end: u16) -> Downwards<'_>
         requires { end ≤ MOST_ROWS }
-        ensures { MatchOption result (HasNone self.now 0 end) (IsLast self.now end) }
+        ensures words { result.words.now ≡ self.now }
+        ensures end { result.end ≡ end }
     {
-        let place = usize::from(end / 64);
-        let below = self.word(place) & ((1 << (end % 64)) - 1);
-        if below != 0 {
-            return Some(end / 64 * 64 + highest(below));
-        }
-        self.last_in(place)
+        Downwards::new(&self.words, end)
     }
 
     /// Puts all rows of another set in.
@@ -84,69 +76,4 @@ impl RowSet {
             self.words[i] |= other.words[i];
         }
     }
-
-    // The word at a place, and 0 past the last.
-    fn word(&self, place: usize) -> u64
-        ensures word { result ≡ slice_index self.now place }
-        ensures past { 5 ≤ place → result ≡ 0 }
-    {
-        if place < 5 { self.words[place] } else { 0 }
-    }
-
-    // The first row of the set from a row on.
-    fn first_from(&self, from: u16) -> Option<u16>
-        ensures { MatchOption result (HasNone self.now from MOST_ROWS) (IsFirst self.now from MOST_ROWS) }
-    {
-        let place = usize::from(from / 64);
-        let rest = self.word(place) >> (from % 64);
-        if rest != 0 {
-            return Some(from + lowest(rest));
-        }
-        self.first_in(place + 1)
-    }
-
-    // The first row in the words from a place on.
-    fn first_in(&self, place: usize) -> Option<u16>
-        ensures { MatchOption result (HasNone self.now (64 * place) MOST_ROWS) (IsFirst self.now (64 * place) MOST_ROWS) }
-    {
-        for i in place..5 {
-            if self.words[i] != 0 {
-                return Some(i as u16 * 64 + lowest(self.words[i]));
-            }
-        }
-        None
-    }
-
-    // The last row in the words before a place.
-    fn last_in(&self, place: usize) -> Option<u16>
-        requires { place ≤ 5 }
-        ensures { MatchOption result (HasNone self.now 0 (64 * place)) (IsLast self.now (64 * place)) }
-    {
-        for i in (0..place).rev() {
-            if self.words[i] != 0 {
-                return Some(i as u16 * 64 + highest(self.words[i]));
-            }
-        }
-        None
-    }
-}
-
-// The place of the lowest bit of a word that isn't 0.
-fn lowest(word: u64) -> u16
-    requires { 0 < word }
-    ensures within { result < 64 }
-    ensures there { bit_at word result ≡ 1 }
-    ensures none_below { (k : ℕ) → k < result → bit_at word k ≡ 0 }
-{
-    word.trailing_zeros() as u16
-}
-
-// The place of the highest bit of a word that isn't 0.
-fn highest(word: u64) -> u16
-    requires { 0 < word }
-    ensures within { result < 64 }
-    ensures there { bit_at word result ≡ 1 }
-    ensures none_above { (k : ℕ) → result < k → bit_at word k ≡ 0 }
-{
-    63 - word.leading_zeros() as u16
 }

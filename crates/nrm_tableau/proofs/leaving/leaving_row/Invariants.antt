@@ -6,10 +6,11 @@ use Rattle.nrm_tableau.proofs.leaving.leaving_row.Given as goal
 
 abbrev pub invariant-loop-row : goal.invariant-loop-row
 invariant-loop-row l = record {
-  within : l.end ≤ length l.rows;
+  same : l.walk.words.now ≡ l.touched;
+  within : l.walk.end ≤ length l.rows;
   candidate : IsCandidate l.rows l.col l.best;
-  found : listed l.program l.rows l.col l.best ≡ leaving_from (key_columns l.program) l.col l.end (drop l.end l.rows);
+  found : listed l.program l.rows l.col l.best ≡ leaving_from (key_columns l.program) l.col l.walk.end (drop l.walk.end l.rows);
 }
 
 abbrev pub decreases-loop-row : goal.decreases-loop-row
-decreases-loop-row l = l.end
+decreases-loop-row l = l.walk.end

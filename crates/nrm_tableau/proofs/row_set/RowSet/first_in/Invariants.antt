@@ -1,7 +1,0 @@
--- None of the words so far has a row.
-use Rattle.std.proofs.Common.{◌*◌}
-use Rattle.nrm_tableau.specs.Inner.Walks.{HasNone}
-use Rattle.nrm_tableau.proofs.row_set.RowSet.first_in.Given as goal
-
-abbrev pub invariant-loop-i : goal.invariant-loop-i
-invariant-loop-i l = HasNone l.self-inside.words (64 * l.fn.place) (64 * l.i)
