@@ -1,20 +1,10 @@
--- Sets of rows by their bits: a row put in, two sets joined, and the test of a row.
-use Rattle.std.proofs.Common.{◌≡◌, ℕ, ◌+◌, ◌*◌, ◌/◌, ◌%◌, ◌^◌, ◌<◌, ◌≤◌, ◌⊎◌, ◌↔◌, inl, inr, arith, tests, refl, sym, ap, ◌∙◌, subst, List, length, get_or, set, max, Bool, false, not, IsTrue, nat_eq, bit_and, bit_or, w64, get_or-set_same, get_or-set_other}
+-- Sets of rows by their bits: a row put in, and two sets joined.
+use Rattle.std.proofs.Common.{◌≡◌, ℕ, ◌+◌, ◌*◌, ◌/◌, ◌%◌, ◌^◌, ◌<◌, ◌≤◌, ◌⊎◌, inl, inr, arith, refl, sym, ap, ◌∙◌, subst, List, length, get_or, set, max, bit_or, w64, get_or-set_same, get_or-set_other}
 use Rattle.std.specs.Int.{bit_at}
 use Rattle.std.proofs.lemmas.List.{get_or_past, length-set}
 use Rattle.std.proofs.lemmas.Bool.{cases_lt}
-use Rattle.std.proofs.lemmas.Nat.{one_shl, pow_pos}
-use Rattle.std.proofs.lemmas.Nat.Bits.{and_pow, bit_at_or, bit_at_set_same, bit_at_set_other, bit_at-zero, bit_at-lt}
+use Rattle.std.proofs.lemmas.Nat.Bits.{bit_at_or, bit_at_set_same, bit_at_set_other, bit_at-zero, bit_at-lt}
 use Rattle.nrm_tableau.specs.RowSets.{row_bit}
-
--- the test of a bit
-has_bit : (n k : ℕ) → k < 64 → IsTrue (not (nat_eq (bit_and n (1 * 2 ^ k % 18446744073709551616)) 0)) ↔ (bit_at n k ≡ 1)
-has_bit n k h = grind (arith, tests, one_shl k 64 h, and_pow n k, pow_pos k)
-
-pub has_row : (ws set : List ℕ) (row place : ℕ) → place ≡ row / 64 → ws ≡ set → IsTrue (not (nat_eq (bit_and (get_or ws place 0) (1 * 2 ^ (row % 64) % 18446744073709551616)) 0)) ↔ (row_bit set row ≡ 1)
-has_row ws set row place e f =
-    subst (λ xs. IsTrue (not (nat_eq (bit_and (get_or ws place 0) (1 * 2 ^ (row % 64) % 18446744073709551616)) 0)) ↔ (row_bit xs row ≡ 1)) f
-    (subst (λ k. IsTrue (not (nat_eq (bit_and (get_or ws place 0) (1 * 2 ^ (row % 64) % 18446744073709551616)) 0)) ↔ (bit_at (get_or ws k 0) (row % 64) ≡ 1)) e (has_bit (get_or ws place 0) (row % 64) (omega arith)))
 
 pub same_or_not : (i k : ℕ) → (i ≡ k) ⊎ ¬ (i ≡ k)
 same_or_not i k = grind arith
@@ -81,17 +71,6 @@ joined_bits old other now lo lt p r e = by_place (cases_lt (r / 64) 5)
       ap (λ x. bit_at x (r % 64)) (get_or_past old (r / 64) 0 (omega (arith, lo))) ∙ bit_at-zero (r % 64),
       ap (λ x. bit_at x (r % 64)) (get_or_past other (r / 64) 0 (omega (arith, lt))) ∙ bit_at-zero (r % 64),
     )
-
--- a row that isn't found isn't there
-false_is : IsTrue false → ⊥
-false_is e = cc
-
-pub not_there : (ws : List ℕ) (r : ℕ) (b : Bool) → IsTrue b ↔ (row_bit ws r ≡ 1) → b ≡ false → row_bit ws r ≡ 0
-not_there ws r b d e = by_bit (same_or_not (row_bit ws r) 1)
-  where
-    by_bit : (row_bit ws r ≡ 1) ⊎ ¬ (row_bit ws r ≡ 1) → row_bit ws r ≡ 0
-    by_bit (inl s) = absurd (false_is (subst IsTrue e (d.1 s)))
-    by_bit (inr n) = omega (arith, bit_at-lt (get_or ws (r / 64) 0) (r % 64))
 
 -- a set that keeps all rows of another has no fewer
 pub without : (old new : List ℕ) (r : ℕ) → ((k : ℕ) → row_bit old k ≡ 1 → row_bit new k ≡ 1) → row_bit new r ≡ 0 → row_bit old r ≡ 0

@@ -1,5 +1,5 @@
 -- The steps of the walks that find the entering column and the leaving row.
-use Rattle.std.proofs.Common.{◌≡◌, ℕ, suc, ◌+◌, ◌-◌, ◌<◌, ◌≤◌, pos, arith, sym, ap, ◌∙◌, subst, List, [], ◌∷◌, drop, length, get_or, Bool, true, false, cond, Option, Some, None, inl, inr}
+use Rattle.std.proofs.Common.{◌≡◌, ℕ, zero, suc, ◌+◌, ◌-◌, ◌<◌, ◌≤◌, pos, arith, sym, ap, ◌∙◌, subst, List, [], ◌∷◌, drop, length, get_or, Bool, true, false, cond, Option, Some, None, inl, inr}
 use Rattle.std.specs.List.{range_with_len}
 use Rattle.std.specs.Option.{option_map}
 use Rattle.std.proofs.lemmas.Bool.{cases_lt}
@@ -83,11 +83,13 @@ module _ (a : ProgramValue) (rows : List (List Fraction)) (s : ℕ) where
   walked None h = ap (option_map (λ (found : ℕ × List Fraction). found.0)) h
   walked (Some k) h = ap (option_map (λ (found : ℕ × List Fraction). found.0)) h
 
-  pub walk_back : (k : ℕ) (best new : Option ℕ) → 0 < k → k ≤ length rows → listed a rows s new ≡ step (k - 1) (listed a rows s best) → listed a rows s best ≡ leaving_from (key_columns a) s k (drop k rows) → listed a rows s new ≡ leaving_from (key_columns a) s (k - 1) (drop (k - 1) rows)
-  walk_back k best new p l e h = walk_more (k - 1) best new (omega arith) e (subst (λ n. listed a rows s best ≡ leaving_from (key_columns a) s n (drop n rows)) back h)
+  -- and so are several
+  pub walk_down : (low high : ℕ) (best : Option ℕ) → low ≤ high → high ≤ length rows → ((k : ℕ) → low ≤ k → k < high → at (get_or rows k []) s ≡ whole (pos 0)) → listed a rows s best ≡ leaving_from (key_columns a) s high (drop high rows) → listed a rows s best ≡ leaving_from (key_columns a) s low (drop low rows)
+  walk_down low high best l m noughts h = go (high - low) low (omega arith) noughts
     where
-      back : k ≡ k - 1 + 1
-      back = omega arith
+      go : (d k : ℕ) → k + d ≡ high → ((j : ℕ) → k ≤ j → j < high → at (get_or rows j []) s ≡ whole (pos 0)) → listed a rows s best ≡ leaving_from (key_columns a) s k (drop k rows)
+      go zero k e z = let same : high ≡ k = omega (arith, e) in subst (λ n. listed a rows s best ≡ leaving_from (key_columns a) s n (drop n rows)) same h
+      go (suc d) k e z = walk_more k best best (omega (arith, e, m)) (walk_past k (listed a rows s best) (z k (omega arith) (omega (arith, e)))) (go d (k + 1) (omega (arith, e)) (λ j n b. z j (omega arith) b))
 
   -- what `less_ratio` answers of two rows, told by their numbers
   pub less_told : (k other : ℕ) (own its : List Fraction) (from : ℕ) (b : Bool) → own ≡ get_or rows k [] → its ≡ get_or rows other [] → length own ≡ suc (right_side a) → from ≡ product_count a → b ≡ lex_below (ratios (ratio_columns from (length own)) s own) (ratios (ratio_columns from (length own)) s its) → b ≡ wins_over a rows s k (Some other)

@@ -41,10 +41,9 @@ pub(crate) fn leaving_row(
     ensures { result ≡ option_map (λ found. found.0) (leaving_from (key_columns program.now) col 0 rows.now) }
 {
     let mut best = None;
-    for row in (0..row_count(program)).rev() {
-        if touched.contains(row) {
-            best = better_row(program, rows, row, best, col);
-        }
+    let mut walk = touched.downwards(row_count(program));
+    while let Some(row) = walk.next() {
+        best = better_row(program, rows, row, best, col);
     }
     best
 }

@@ -15,6 +15,7 @@ mod row_set;
 mod tableau;
 #[cfg(test)]
 mod tests;
+mod walk;
 
 pub use laws::on_path_has_facts;
 pub use tableau::Tableau;

@@ -2,7 +2,6 @@
 #![tactic(auto)]
 
 ghost use Rattle.std.specs.Prelude.{◌≡◌, ◌<◌, ◌≤◌, ◌+◌, ◌⊎◌, ◌≢◌, ℕ, pos, [], get_or, length, map, set, All, MatchResult, OnOk, None};
-ghost use Rattle.std.specs.Bool.{OnFalse};
 ghost use Rattle.nrm_fraction.specs.Fraction.{◌<ᶠ◌, whole};
 ghost use Rattle.nrm_fraction.specs.Large.{first_large, large_number, size_limit};
 ghost use Rattle.nrm_fraction.specs.Rows.{at, combine as combined, number_at, unit_row};
@@ -86,26 +85,50 @@ fn combine_each(
         → row_bit changed.new (first + k) ≡ 0 → at (get_or rows.old k []) col ≡ whole (pos 0)) }
     ensures kept { (r : ℕ) → row_bit changed.old r ≡ 1 → row_bit changed.new r ≡ 1 }
 {
-    for place in 0..rows.len() {
-        let number = first + place as u16;
-        if !has_entry(&rows[place], col, number, touched) {
-            rows[place].never_large();
-            continue;
-        }
-        changed.insert(number);
-        rows[place].combine(alloc, unit, col)?;
+    none_is_large(rows);
+    let end = first + rows.len() as u16;
+    let mut walk = touched.upwards(first);
+    while let Some(number) = walk.next_before(end) {
+        let place = usize::from(number - first);
+        combine_row(alloc, &mut rows[place], number, unit, col, changed)?;
     }
     Ok(())
 }
 
-// Whether the row of this number has an entry other than 0 in the column.
-fn has_entry(row: &Row, col: u16, number: u16, touched: &RowSet) -> bool
-    requires within { col < length row.now }
+// Takes the unit row away from a row, and puts its number into `changed` if it has an entry other than 0 in the column.
+fn combine_row(
+    alloc: Global,
+    row: &mut Row,
+    number: u16,
+    unit: &Unit,
+    col: u16,
+    changed: &mut RowSet,
+) -> Result<(), RowFault>
     requires number { number < MOST_ROWS }
-    requires nought { row_bit touched.now number ≡ 0 → at row.now col ≡ whole (pos 0) }
-    ensures { OnFalse result (at row.now col ≡ whole (pos 0)) }
+    requires before { col < length row.old }
+    requires width { length unit.now ≡ length row.old }
+    ensures made { let made = combined col unit.now row.old in
+        MatchResult result
+        (λ _. (row.new ≡ made) × (large_number size_limit made ≡ None))
+        (λ f. IsFault f (large_number size_limit made)) }
+    ensures changed { row_bit changed.new number ≡ 0 → at row.old col ≡ whole (pos 0) }
+    ensures kept { (r : ℕ) → row_bit changed.old r ≡ 1 → row_bit changed.new r ≡ 1 }
 {
-    touched.contains(number) && !row.is_nought(col)
+    if row.is_nought(col) {
+        row.never_large();
+        return Ok(());
+    }
+    changed.insert(number);
+    row.combine(alloc, unit, col)
+}
+
+// No row is Large. It does nothing.
+fn none_is_large(rows: &[Row])
+    ensures { All (λ row. large_number size_limit row ≡ None) rows.now }
+{
+    for row in rows {
+        row.never_large();
+    }
 }
 
 /// Puts the rows that changed into the set of each column of the unit row.

@@ -1,10 +1,11 @@
 //! Sets of constraint rows: a bit for each row, 64 in a word.
 #![tactic(auto)]
 
-ghost use Rattle.std.specs.Prelude.{◌≡◌, ◌<◌, ◌↔◌, ℕ, IsTrue};
+ghost use Rattle.std.specs.Prelude.{◌≡◌, ◌<◌, ◌≤◌, ℕ, length};
 ghost use Rattle.nrm_tableau.specs.RowSets.{row_bit};
 ghost use Rattle.nrm_tableau.specs.declared.row_set.TheConstants.{MOST_ROWS};
 
+use crate::walk::{Downwards, Upwards};
 use nrm_lp::{MOST_BOUNDS, MOST_CAPS};
 use std::marker::Model;
 
@@ -49,12 +50,22 @@ impl RowSet {
         self.words[usize::from(row / 64)] |= 1 << (row % 64);
     }
 
-    /// Whether a row is in the set.
-    pub(crate) fn contains(&self, row: u16) -> bool
-        requires { row < MOST_ROWS }
-        ensures { IsTrue result ↔ (row_bit self.now row ≡ 1) }
+    /// A walk upwards over the rows of the set, from a row on.
+    pub(crate) fn upwards(&self, from: u16) -> Upwards<'_>
+        ensures words { result.words.now ≡ self.now }
+        ensures count { length result.words.now ≡ 5 }
+        ensures from { result.from ≡ from }
     {
-        self.words[usize::from(row / 64)] & (1 << (row % 64)) != 0
+        Upwards::new(&self.words, from)
+    }
+
+    /// A walk downwards over the rows of the set before an end.
+    pub(crate) fn downwards(&self, end: u16) -> Downwards<'_>
+        requires { end ≤ MOST_ROWS }
+        ensures words { result.words.now ≡ self.now }
+        ensures end { result.end ≡ end }
+    {
+        Downwards::new(&self.words, end)
     }
 
     /// Puts all rows of another set in.
