@@ -8,6 +8,7 @@ mod keeper;
 mod mem_keeper;
 mod reading;
 mod row;
+mod shut;
 mod sql_keeper;
 mod statements;
 mod table;
