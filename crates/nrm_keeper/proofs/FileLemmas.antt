@@ -11,7 +11,7 @@ use Rattle.nrm_keeper.specs.declared.row.KeepFault.{KeepFault}
 use Rattle.nrm_keeper.specs.Rows.{Lists}
 use Rattle.nrm_keeper.specs.Stored.{told}
 use Rattle.nrm_keeper.specs.File.{Seen, FileRows, seen, file_view, Across, Same, Done, Failed, ListsIn}
-use Rattle.nrm_keeper.specs.Inner.Statements.{IsSteady}
+use Rattle.nrm_keeper.specs.Steady.{IsSteady}
 use Rattle.nrm_keeper.specs.Inner.Passes.{Passes}
 
 both : (a b : Bool) → IsTrue (a && b) → IsTrue a × IsTrue b

@@ -2,11 +2,12 @@
 //! not open. A change that failed may be in the file all the same, as when what was written could not be flushed: then the
 //! connection is let go, and the change is undone as soon as the file can be opened again. What the file tells is said as long
 //! as it is the one that was first opened, and is clean.
-ghost use Rattle.std.specs.Prelude.{◌≡◌, ◌<◌, ◌^◌, None, OnOk, OnErr, IfSome, IsSome};
+ghost use Rattle.std.specs.Prelude.{◌≡◌, ◌<◌, ◌^◌, None, Some, IfOk, OnOk, OnErr, IfSome, IsSome};
 ghost use Rattle.sqlite.specs.Files.{over_files};
-ghost use Rattle.nrm_keeper.specs.Inner.Passes.{IsSettled};
+ghost use Rattle.nrm_keeper.specs.Steady.{IsSettled};
 
 use crate::causes::{fault_of, raised};
+use crate::owner::StoreOwner;
 use crate::shut::{drop_in, find_in, keep_in, list_in};
 use crate::{KeepFault, Keeper, KeptRow};
 use sqlite::{Connection, File, FileStore};
@@ -15,6 +16,10 @@ use std::marker::Model;
 use std::rt::HostRuntime;
 
 type FileConnection = Connection<FileStore<File>>;
+
+// The rows that a statement may visit: many times those that can stand (64 legs of 999 seats), so that only what has no end, as
+// a view may have none, is refused for it.
+const MOST_STEPS: u64 = 4_000_000;
 
 // A change that failed, and may be in the file all the same: the row, and whether it was kept before.
 #[derive(Clone, Copy)]
@@ -31,6 +36,7 @@ struct Doubt {
 pub struct FileKeeper<'a> {
     rt: &'a HostRuntime,
     path: &'a str,
+    owner: StoreOwner,
     connection: Option<FileConnection>,
     lost: bool,
     doubt: Option<Doubt>,
@@ -40,8 +46,8 @@ pub struct FileKeeper<'a> {
 impl<'a> Model for FileKeeper<'a> {
     ghost use Rattle.std.specs.Prelude.{◌<◌, ◌^◌, IfSome, IsTrue};
     ghost use Rattle.sqlite.specs.Files.{over_files};
+    ghost use Rattle.nrm_keeper.specs.Steady.{IsSettled};
     ghost use Rattle.nrm_keeper.specs.File.{FileRows, file_view};
-    ghost use Rattle.nrm_keeper.specs.Inner.Passes.{IsSettled};
 
     ghost Value = { FileRows };
 
@@ -64,10 +70,38 @@ impl<'a> FileKeeper<'a> {
         FileKeeper {
             rt,
             path,
+            owner: StoreOwner::of_none(),
             connection: None,
             lost: false,
             doubt: None,
             faults: 0,
+        }
+    }
+
+    /// Ends the run's use of the store. A change that is still in doubt is undone if that can be done now; if the file is open
+    /// the log is copied into it and emptied; and then another run may have the store. It gives nothing back that a clause
+    /// could name.
+    ///
+    /// # Errors
+    /// `Failed` if the log could not be copied in: the rows then stand in both files, as they did.
+    pub fn close(mut self) -> Result<(), KeepFault> {
+        if self.doubt.is_some() {
+            let alloc = self.rt.alloc();
+            let _undone = self.settle(alloc);
+        }
+        let FileKeeper {
+            owner,
+            connection,
+            ..
+        } = self;
+        let closed = match connection {
+            Some(connection) => connection.close(),
+            None => Ok(()),
+        };
+        drop(owner);
+        match closed {
+            Ok(()) => Ok(()),
+            Err(error) => Err(fault_of(error)),
         }
     }
 
@@ -77,7 +111,7 @@ impl<'a> FileKeeper<'a> {
         ensures lost { self.new.is_lost ≡ self.old.is_lost }
         ensures done { OnOk result (Done Same self.old self.new) }
     {
-        open_if_shut(self.rt, self.path, &mut self.connection)?;
+        open_if_shut(self.rt, self.path, &mut self.owner, &mut self.connection)?;
         let undone = undo(alloc, &mut self.connection, &self.doubt);
         if undone.is_ok() {
             self.doubt = None;
@@ -146,10 +180,28 @@ impl<'a> FileKeeper<'a> {
     }
 }
 
+// A new connection to the file, which belongs to this run from the first one on.
+fn opened(rt: &HostRuntime, path: &str, owner: &mut StoreOwner) -> Result<FileConnection, KeepFault>
+    ensures { IfOk result (λ connection. IsSettled over_files (Some connection)) }
+{
+    if !owner.may_open(rt, path) {
+        return Err(KeepFault::Failed);
+    }
+    match Connection::open(rt, path) {
+        Ok(mut connection) => {
+            owner.take(rt, path)?;
+            connection.set_step_limit(Some(MOST_STEPS));
+            Ok(connection)
+        }
+        Err(error) => Err(fault_of(error)),
+    }
+}
+
 // Opens the connection, if it is shut.
 fn open_if_shut(
     rt: &HostRuntime,
     path: &str,
+    owner: &mut StoreOwner,
     connection: &mut Option<FileConnection>,
 ) -> Result<(), KeepFault>
     requires settled { IsSettled over_files connection.old }
@@ -161,16 +213,17 @@ fn open_if_shut(
     if connection.is_some() {
         return Ok(());
     }
-    match Connection::open(rt, path) {
+    match opened(rt, path, owner) {
         Ok(conn) => {
             *connection = Some(conn);
             Ok(())
         }
-        Err(error) => Err(fault_of(error)),
+        Err(fault) => Err(fault),
     }
 }
 
-// Undoes a change that is in doubt: a row that was kept is put back if it is gone, and one that was not is taken out.
+// Undoes a change that is in doubt: a row that was kept is put back if no row has its number, and one that was not is taken
+// out if it is there just as it was to be kept.
 fn undo(
     alloc: Global,
     connection: &mut Option<FileConnection>,
@@ -187,7 +240,10 @@ fn undo(
     };
     match find_in(alloc, connection, doubt.row.number) {
         Ok(None) if doubt.was_kept => keep_in(connection, &doubt.row),
-        Ok(Some(_)) if !doubt.was_kept => drop_in(connection, doubt.row.number),
+        Ok(Some(found)) if !doubt.was_kept && found == doubt.row => drop_in(
+            connection,
+            doubt.row.number,
+        ),
         Ok(_) => Ok(()),
         Err(fault) => Err(fault),
     }

@@ -6,6 +6,7 @@ mod causes;
 mod file_keeper;
 mod keeper;
 mod mem_keeper;
+mod owner;
 mod reading;
 mod row;
 mod shut;

@@ -6,7 +6,8 @@ ghost use Rattle.sqlite.specs.Value.{owned};
 ghost use Rattle.nrm_keeper.specs.Rows.{Adds, Drops};
 ghost use Rattle.nrm_keeper.specs.Stored.{told};
 ghost use Rattle.nrm_keeper.specs.Inner.Table.{shown, HoldsSome};
-ghost use Rattle.nrm_keeper.specs.Inner.Statements.{IsSteady, Speaks};
+ghost use Rattle.nrm_keeper.specs.Steady.{IsSteady};
+ghost use Rattle.nrm_keeper.specs.Inner.Statements.{Speaks};
 
 use crate::KeptRow;
 use nrm_text::Name;

@@ -4,7 +4,8 @@ ghost use Rattle.std.specs.Prelude.{◌≡◌, ◌<◌, ◌^◌, false, IfOk, On
 ghost use Rattle.sqlite.specs.Held.{state};
 ghost use Rattle.nrm_keeper.specs.Rows.{Adds, Drops, Lists};
 ghost use Rattle.nrm_keeper.specs.Stored.{told};
-ghost use Rattle.nrm_keeper.specs.Inner.Statements.{IsSteady, Speaks};
+ghost use Rattle.nrm_keeper.specs.Steady.{IsSteady};
+ghost use Rattle.nrm_keeper.specs.Inner.Statements.{Speaks};
 
 use crate::causes::{added_by, dropped_by, fault_of};
 use crate::reading::read_rows;
