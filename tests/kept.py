@@ -1,16 +1,27 @@
 #!/usr/bin/env python3
 """Is what `nrm_kept` acknowledged in its store, whatever becomes of the process, its files and its disk?
 
-    tests/kept.py [PATTERN] [--kills N] [--seed N] [--program FILE]
+    tests/kept.py [PATTERN] [--kills N] [--images N] [--tries N] [--seed N] [--program FILE]
 
     killed   runs of random bookings and cancellations are killed (SIGKILL) at random moments, in the three modes, with each reply
              awaited and with lines that are sent in pieces. Then the rows must be those after some line, not before the last one
              whose reply was read and not behind the last one that was sent: with each reply awaited, at most one line ahead.
-             Another run goes on with a copy of the store, and so does the next run that is killed. There are N of them.
+             Another run goes on with a copy of the store, and so does the next run that is killed. There are N of them (--kills).
+    power    the calls of a run are recorded by `strace`, and the power goes at any of them: what was not forced to the disk is
+             there, or isn't, or in part. A run on that has the rows of the last reply that was given, or is one line ahead. There
+             are N such images of a disk (--images) of each of two runs.
+    damage   bytes of a store and its log are changed: a run ends by itself with status 0, 6, 12 or 13, and what is whole to
+             `sqlite3` is taken as `sqlite3` reads it. There are N such stores (--images) of each of three kinds.
     faults   a small library in C makes the Nth call of one kind on the store's files fail, alone or with all that come after: a
              write, one that forces a file to the disk, or one that cuts a file. If forcing fails, what was written since it last
              succeeded stays in the file, or is lost, as on a disk. For each N the replies must be those of a session that left
              out the lines answered `store`, and the rows its bookings; or it is `store fault` with status 12. A later run goes on.
+    owners   a run meets a fault of its disk, and another one is started on its store while the fault lasts and after it: the
+             other always says `store fault`, no line that was acknowledged is lost, and the next run goes on. The calls that fail
+             are those that force a file to the disk, writes, and these together with each opening; or the disk is full, for which
+             a disk in memory must be mounted. There are N tries of each kind (--tries).
+    closed   after a run that ended, the log may be taken away: the file alone has all bookings.
+    listing  a view without end is refused in seconds and bounded memory, and tables and views of all rows that can stand are read.
     disk     the store is on a small disk in memory that is full for a while. That needs the right to mount one.
     two      two programs have one store: the second says `store fault`, and the first goes on.
     memory   there is not enough memory for the program to begin: status 6.
@@ -40,14 +51,17 @@ TOP = os.path.dirname(HERE)
 sys.path.insert(0, HERE)
 sys.dont_write_bytecode = True
 import checks
+import power
 import preload
 import reference
 import stores
 from checks import Wrong
 from talk import HUB, MODES, Talk, joined
 
-NO_MEMORY, STORE_FAULT = 6, 12
+NO_MEMORY, STORE_FAULT, REFUSED = 6, 12, 13
 KILLS, KILLS_OF_A_STORE, LINES = 42, 7, 40
+TRIES, IMAGES = 4, 60
+POWERED = 620  # lines of a run that is recorded: its log is emptied within them, and at its end
 SLOW = 60  # the seconds that a run may take
 MOST_TOLD = 10  # failures of one trial
 
@@ -271,6 +285,159 @@ def killed(given):
     return [Killed(given.program, mode, way, number, given) for number, (mode, way) in enumerate(shares)]
 
 
+# Without power
+
+
+class Power:
+    """A run is recorded, and the power goes at any of its calls: a later run has the rows of the replies, or is one line ahead."""
+
+    def __init__(self, given, mode):
+        self.program, self.images, self.mode, self.folder = given.program, given.images, mode, given.quick
+        self.name = f"power {mode}"
+        self.draw = random.Random(f"{given.seed} {self.name}")
+
+    def tried(self):
+        with tempfile.TemporaryDirectory(dir=self.folder) as place:
+            calls, states = self.recorded(place)
+            found = []
+            for number in range(self.images):
+                files, done = power.image(calls, ["STORE", "STORE-wal"], self.draw)
+                try:
+                    found.append(self.goes_on(os.path.join(place, str(number)), files, states[done:done + 2]))
+                except Wrong as wrong:
+                    found.append(f"WRONG: after {done} replies: wanted {wrong}")
+        return found
+
+    def recorded(self, place):
+        """The calls of a run to its end, and the rows before its first reply and after each."""
+        session, trace = session_from(self.mode), os.path.join(place, "TRACE")
+        states = [rows_of(session)]
+        words = [*power.recording(trace), self.program, self.mode, HUB, os.path.join(place, "STORE")]
+        with Talk(words, pipes()) as talk:
+            for at in range(POWERED):
+                line = Owners.change(session, at)
+                wanted = session.reply(line)
+                talk.say(line + b"\n")
+                talk.hear(wanted)
+                states.append(rows_of(session))
+            talk.end_input()
+        return power.calls(trace), states
+
+    def goes_on(self, place, files, wanted):
+        """A run on what the disk holds, whose rows are one of those that are wanted."""
+        path = os.path.join(place, "STORE")
+        os.mkdir(place)
+        for name, data in files.items():
+            with open(os.path.join(place, name), "wb") as file:
+                file.write(data)
+        status, output = answered(self.program, self.mode, path, [b"cancel 0"])
+        rows = stores.rows(path) if status == 0 else None
+        shutil.rmtree(place)
+        if rows not in wanted:
+            raise Wrong(f"the rows {' or '.join(map(str, wanted))}, and not {rows}, with status {status} and {output!r}")
+        return "with the store at the replies" if rows == wanted[0] else "with the store ahead of the replies"
+
+
+def without_power(given):
+    if power.is_there():
+        return [Power(given, mode) for mode in ("first", "bid")]
+    given.not_run.append(f"power: {power.WANTING}")
+    return []
+
+
+# Damage
+
+
+def killed_store(program, path):
+    """A store with all its bookings in its log."""
+    with Talk([program, "first", HUB, path], pipes()) as talk:
+        for number in range(1, 31):
+            talk.say(b"book HF-Q 1\n")
+            talk.hear(b"ok %d\n" % number)
+        talk.process.kill()
+        talk.process.wait()
+
+
+def closed_store(program, path):
+    answered(program, "first", path, [b"book HF-Q 1", b"book NJ-Y 2", b"cancel 1"] * 10)
+
+
+def store_of_sqlite(_program, path):
+    rows = ", ".join(f"({3 * at + 1}, 'HF-Q', 1)" for at in range(40))
+    stores.make(path, f"PRAGMA page_size = 512; {stores.TABLE} CREATE INDEX by_product ON kept (product);"
+                f"INSERT INTO kept VALUES {rows}; DELETE FROM kept WHERE number % 7 = 0;".encode())
+
+
+class Damage:
+    """Bytes of a store or of its log are changed, and a run is given it."""
+
+    def __init__(self, given, made):
+        self.program, self.count, self.made, self.folder = given.program, given.images, made, given.quick
+        self.name = f"damage {made.__name__.replace('_', ' ')}"
+        self.draw = random.Random(f"{given.seed} {self.name}")
+
+    def tried(self):
+        found = []
+        with tempfile.TemporaryDirectory(dir=self.folder) as place:
+            self.made(self.program, os.path.join(place, "STORE"))
+            for number in range(self.count):
+                try:
+                    found.append(self.one(place, os.path.join(place, f"DAMAGED-{number}")))
+                except Wrong as wrong:
+                    found.append(f"WRONG: store {number}: wanted {wrong}")
+        return found
+
+    def one(self, place, path):
+        names = [it for it in stores.files(os.path.join(place, "STORE")) if os.path.getsize(it)]
+        bent = self.draw.choice(names)
+        for it in names:
+            with open(it, "rb") as file:
+                data = bytearray(file.read())
+            with open(path + os.path.basename(it)[len("STORE"):], "wb") as file:
+                file.write(self.bent(data) if it == bent else data)
+        whole = self.by_sqlite(path)
+        status, output = answered(self.program, "first", path, [b"cancel 0"])
+        if (status, output) not in [(0, b"unknown\n"), (NO_MEMORY, b""), (STORE_FAULT, b"store fault\n")] and status != REFUSED:
+            raise Wrong(f"an end with status 0, 6, 12 or 13, and not {status} and {output!r}")
+        if status == 0 and whole is not None:
+            must_be(stores.rows(path), whole, "that sqlite3 read before")
+        return f"status {status}" + " as sqlite3" * (status == 0 and whole is not None)
+
+    def bent(self, data):
+        """Some bytes are others, zeros, gone, or in another place."""
+        for _ in range(self.draw.choice([1, 1, 2, 5])):
+            at, size = self.draw.randrange(len(data)), self.draw.choice([1, 1, 4, 16, 512])
+            way = self.draw.randrange(5)
+            if way == 0:
+                data[at] ^= 1 << self.draw.randrange(8)
+            elif way == 1:
+                data[at:at + size] = bytes(len(data[at:at + size]))
+            elif way == 2 and at:
+                del data[at:]
+            elif way == 3:
+                data[min(at, 100)] = self.draw.choice([0, 1, 2, 255])
+            else:
+                other = self.draw.randrange(len(data))
+                data[at:at + size], data[other:other + size] = data[other:other + size], data[at:at + size]
+        return data
+
+    @staticmethod
+    def by_sqlite(path):
+        """The rows of a copy in which `sqlite3` finds no damage."""
+        with tempfile.TemporaryDirectory() as folder:
+            for it in stores.files(path):
+                shutil.copy(it, folder)
+            copy = os.path.join(folder, os.path.basename(path))
+            try:
+                return stores.rows(copy) if stores.faults(copy) == ["ok"] else None
+            except stores.Unread:
+                return None
+
+
+def damaged(given):
+    return [Damage(given, made) for made in (killed_store, closed_store, store_of_sqlite)]
+
+
 # Faults of the files
 
 LIBRARY = r"""
@@ -287,7 +454,7 @@ LIBRARY = r"""
 enum { WRITES, FLUSHES, CUTS, KINDS };
 
 static unsigned long calls[KINDS], at_cut[KINDS], failing;
-static int kind, error, all_after, loses;
+static int kind, error, all_after, window, loses;
 static const char *store;
 
 /* What was written and not yet forced to the disk: the bytes before it, and how long the file was. */
@@ -300,6 +467,7 @@ __attribute__((constructor)) static void begin(void) {
   kind = which ? atoi(which) : 0;
   error = code ? atoi(code) : EIO;
   all_after = getenv("ALL_AFTER") != 0;
+  window = getenv("WINDOW") ? atoi(getenv("WINDOW")) : 0;
   loses = getenv("LOSES") != 0;
   store = getenv("STORE_FOLDER");
 }
@@ -326,7 +494,8 @@ static int fails(int of, int fd) {
   if (size < 0 || !store || strncmp(name, store, strlen(store))) return 0;
   calls[of]++;
   if (of == CUTS && calls[CUTS] == 1) memcpy(at_cut, calls, sizeof calls);
-  int it = failing && of == kind && (calls[of] == failing || (all_after && calls[of] > failing));
+  int is_after = all_after && calls[of] > failing && (!window || calls[of] < failing + window);
+  int it = failing && of == kind && (calls[of] == failing || is_after);
   if (it) errno = error;
   return it;
 }
@@ -394,6 +563,7 @@ ERRORS = {"EIO": {"ERROR": str(errno.EIO)}, "ENOSPC for all after": {"ERROR": st
 # What was written since the last flush may be there or lost once one has failed.
 FATES = {"what was written stays": {}, "what was written is lost": {"LOSES": "1"}}
 FATES |= {f"{fate}, for all after": variables | {"ALL_AFTER": "1"} for fate, variables in FATES.items()}
+FATES |= {f"{n} flushes fail": {"ALL_AFTER": "1", "WINDOW": str(n)} for n in (2, 4)}
 DOZEN = [b"book HJ-Q 2", b"book HF-Y 1", b"cancel 1", b"leg HAM-FRA", b"book FN-Q 3", b"cancel 9", b"book HN-Y 1", b"cancel 2",
          b"book MF-Q 2", b"hindsight", b"book FJ-Q 4", b"cancel 3", b"book NJ-Y 1"]
 
@@ -449,6 +619,9 @@ class Faults:
             rows = rows_of(session) if status == STORE_FAULT else stores.rows(path)
             # if nothing can be forced to the disk any more, whether the first line that was answered `store` is there can't be known
             may_be = is_all and self.kind == FLUSH and refused is not None and rows == rows_of(refused)
+            later = output.rpartition(b"store\n")[2].splitlines()
+            if may_be and any(line.startswith((b"ok ", b"cancelled ")) for line in later):
+                raise Wrong(f"the line undone before a later one is done, and not {output[-300:]!r} and {rows}")
             if not may_be:
                 must_be(rows, rows_of(session), f"after the replies {output[-300:]!r}")
             goes_on(self.program, self.mode, path, rows)
@@ -500,6 +673,323 @@ def faults(given):
     return [Faults(given, *trial) for trial in trials]
 
 
+# Two runs on one store
+
+SWITCHED = r"""
+#define _GNU_SOURCE
+#include <dlfcn.h>
+#include <errno.h>
+#include <fcntl.h>
+#include <stdarg.h>
+#include <stdio.h>
+#include <stdlib.h>
+#include <string.h>
+#include <sys/types.h>
+#include <unistd.h>
+
+#define REAL(name) ((typeof(&name))dlsym(RTLD_NEXT, #name))
+
+/* Whether calls of a kind fail now: the file SWITCH is there and has its letter. */
+static int is_on(char kind) {
+  char said[64] = "";
+  int then = errno, file = REAL(open)(getenv("SWITCH"), O_RDONLY);
+  if (file >= 0) {
+    if (read(file, said, sizeof said - 1) < 0) said[0] = 0;
+    close(file);
+  }
+  int it = strchr(said, kind) != 0;
+  errno = it ? EIO : then;
+  return it;
+}
+
+static int is_below(const char *path) {
+  const char *folder = getenv("STORE_FOLDER");
+  return folder && !strncmp(path, folder, strlen(folder));
+}
+
+static int fails(char kind, int fd) {
+  char link[64], name[4096] = "";
+  snprintf(link, sizeof link, "/proc/self/fd/%d", fd);
+  return readlink(link, name, sizeof name - 1) > 0 && is_below(name) && is_on(kind);
+}
+
+int fsync(int fd) { return fails('f', fd) ? -1 : REAL(fsync)(fd); }
+int fdatasync(int fd) { return fails('f', fd) ? -1 : REAL(fdatasync)(fd); }
+ssize_t pwrite64(int fd, const void *bytes, size_t size, off64_t at) {
+  return fails('w', fd) ? -1 : REAL(pwrite64)(fd, bytes, size, at);
+}
+ssize_t pwrite(int fd, const void *bytes, size_t size, off_t at) { return pwrite64(fd, bytes, size, at); }
+
+static int opened(const char *path, int flags, int mode, typeof(&open) real) {
+  if ((flags & O_ACCMODE) == O_RDWR && is_below(path) && is_on('o')) return -1;
+  return real(path, flags, mode);
+}
+
+static int mode_in(int flags, va_list more) { return flags & O_CREAT ? va_arg(more, int) : 0; }
+
+int open(const char *path, int flags, ...) {
+  va_list more;
+  va_start(more, flags);
+  int mode = mode_in(flags, more);
+  va_end(more);
+  return opened(path, flags, mode, REAL(open));
+}
+
+int open64(const char *path, int flags, ...) {
+  va_list more;
+  va_start(more, flags);
+  int mode = mode_in(flags, more);
+  va_end(more);
+  return opened(path, flags, mode, REAL(open64));
+}
+"""
+
+
+class Switch:
+    """Calls on the files of a store that fail while a file is there: `f` those that force a file to the disk, `w` writes, `o` an
+    opening for reading and writing."""
+
+    def __init__(self, letters, library):
+        self.letters, self.library, self.until_it_shows = letters, library, 3
+
+    def words(self, place):
+        self.file = os.path.join(place, "SWITCH")
+        return ["env", f"LD_PRELOAD={self.library}", f"SWITCH={self.file}", f"STORE_FOLDER={os.path.join(place, 'store')}"]
+
+    def begin(self):
+        with open(self.file + "-new", "w", encoding="ascii") as file:
+            file.write(self.letters)
+        os.rename(self.file + "-new", self.file)
+
+    def shows(self):
+        """Another thing that befalls the store once a line was answered `store`."""
+
+    def end(self):
+        os.remove(self.file)
+
+
+class LosingSwitch(Switch):
+    """The same, and what was written and could not be forced to the disk is lost."""
+
+    def begin(self):
+        self.log = os.path.join(os.path.dirname(self.file), "store", "STORE-wal")
+        with open(self.log, "rb") as file:
+            self.before = file.read()
+        super().begin()
+
+    def shows(self):
+        with open(self.log, "wb") as file:
+            file.write(self.before)
+
+
+class FullDisk:
+    """A disk that another file fills; there is no more than one such trial below a mount."""
+
+    def __init__(self):
+        self.until_it_shows = 400
+
+    def words(self, place):
+        self.place, self.other = place, os.path.join(place, "OTHER")
+        return []
+
+    def begin(self):
+        fill(self.other)
+
+    def shows(self):
+        """Nothing more."""
+
+    def end(self):
+        os.remove(self.other)
+
+
+class FullDiskThatIsAway(FullDisk):
+    """The same, and the folder is away for a moment, as a volume may be."""
+
+    def shows(self):
+        os.rename(os.path.join(self.place, "store"), os.path.join(self.place, "away"))
+
+    def end(self):
+        os.rename(os.path.join(self.place, "away"), os.path.join(self.place, "store"))
+        super().end()
+
+
+def heard_of(talk, session, line, may_fail):
+    """Says a line, and hears its reply, which is that of the session, or `store` if the store may fail. Whether it was `store`."""
+    other = copied(session)
+    wanted = other.reply(line)
+    talk.say(line + b"\n")
+    got = talk.heard()
+    while wanted.startswith(got) and len(got) < len(wanted) and (piece := talk.heard()):
+        got += piece
+    if got == b"store\n" and may_fail and wanted.startswith((b"ok ", b"cancelled ")):
+        return True
+    if got != wanted:
+        raise Wrong(f"{wanted!r} to {line!r}, and not {got!r}")
+    session.__dict__.update(other.__dict__)
+    return False
+
+
+class Owners:
+    """Tries of two runs on one store, of which the first meets a fault. The second never has the store."""
+
+    def __init__(self, given, kind, fault, folder):
+        self.program, self.tries, self.seed, self.fault, self.folder = given.program, given.tries, given.seed, fault, folder
+        self.name = f"owners {kind}"
+
+    def tried(self):
+        found = []
+        for number in range(self.tries):
+            try:
+                found.append(self.one(random.Random(f"{self.seed} {self.name} {number}")))
+            except (Wrong, stores.Unread) as wrong:
+                found.append(f"WRONG: try {number}: wanted {wrong}")
+        return found
+
+    def one(self, draw):
+        mode = draw.choice(MODES)
+        with tempfile.TemporaryDirectory(dir=self.folder) as place:
+            words, session = self.fault.words(place), session_from(mode)
+            os.mkdir(os.path.join(place, "store"))
+            path = os.path.join(place, "store", "STORE")
+            with Talk([*words, self.program, mode, HUB, path], pipes()) as talk:
+                heard_of(talk, session, b"book HF-Q 1", False)
+                for _ in range(draw.randrange(12)):
+                    heard_of(talk, session, Stream.line(session, draw), False)
+                kind = self.failing(talk, session, draw, path)
+                for _ in range(draw.randrange(6)):  # where none comes the end of the run settles what is in doubt
+                    heard_of(talk, session, Stream.line(session, draw), False)
+                    self.is_refused(path)
+                talk.end_input()
+            must_be(stores.rows(path), rows_of(session), "of the first run")
+            goes_on(self.program, mode, path, rows_of(session))
+        return kind
+
+    def failing(self, talk, session, draw, path):
+        """The fault begins, lines come until one is answered `store` and some more, and it ends. What came."""
+        self.fault.begin()
+        at = 0
+        while not heard_of(talk, session, self.change(session, at), True):
+            at += 1
+            if at > self.fault.until_it_shows:
+                raise Wrong(f"`store` within {at} lines")
+        self.fault.shows()
+        if draw.random() < 0.3:
+            self.polled(talk, session, draw, path)
+        for _ in range(draw.randrange(4)):
+            self.is_refused(path)
+            heard_of(talk, session, Stream.line(session, draw), True)
+        self.is_refused(path)
+        self.fault.end()
+        self.is_refused(path)
+        return "refused"
+
+    @staticmethod
+    def change(session, at):
+        """A line that changes a booking."""
+        return b"book HF-Q 1" if at % 2 == 0 or not session.book else b"cancel %d" % session.book[0][0]
+
+    def is_refused(self, path):
+        """Another run on the store, which must not have it."""
+        if (got := answered(self.program, "first", path, [b"book HF-Q 50", b"cancel 1"])) != (STORE_FAULT, b"store fault\n"):
+            raise Wrong(f"`store fault` of a second run, and not {got}")
+
+    def polled(self, talk, session, draw, path):
+        """The second run is started again and again while lines of the first come."""
+        with concurrent.futures.ThreadPoolExecutor(1) as other:
+            polling = other.submit(lambda: [self.is_refused(path) for _ in range(5)])
+            while not polling.done():
+                heard_of(talk, session, Stream.line(session, draw), True)
+            polling.result()
+
+
+class Windows(Owners):
+    """The same with flushes of which some in a row fail, so that the first run goes on by itself."""
+
+    def __init__(self, given, library):
+        super().__init__(given, "some flushes in a row", None, given.quick)
+        self.library = library
+
+    def one(self, draw):
+        number, count, mode = draw.randrange(3, 40), draw.randrange(1, 6), draw.choice(MODES)
+        with tempfile.TemporaryDirectory(dir=self.folder) as place:
+            path, session = os.path.join(place, "STORE"), session_from(mode)
+            words = ["env", f"LD_PRELOAD={self.library}", f"STORE_FOLDER={place}", f"KIND={FLUSH}", f"FAILING={number}",
+                     "ALL_AFTER=1", f"WINDOW={count}"]
+            with Talk([*words, self.program, mode, HUB, path], pipes()) as talk:
+                if (kind := self.lines(talk, session, draw, path)) == "store fault at the start":
+                    return kind
+                talk.end_input()
+            must_be(stores.rows(path), rows_of(session), f"of the first run, whose flush {number} and {count - 1} more failed")
+            goes_on(self.program, mode, path, rows_of(session))
+        return kind
+
+    def lines(self, talk, session, draw, path):
+        """Lines until some came after the first that was answered `store`, the last of which changes a booking."""
+        try:
+            talk.say(b"book HF-Q 1\n")
+        except BrokenPipeError:
+            pass  # it has ended, and says why
+        if (got := talk.heard()) == b"store fault\n":
+            return "store fault at the start"
+        refused = got == b"store\n"
+        if not refused and got != session.reply(b"book HF-Q 1"):
+            raise Wrong(f"`ok 1`, and not {got!r}")
+        for at in range(50):
+            refused |= heard_of(talk, session, self.change(session, at), True)
+            if refused:
+                self.is_refused(path)
+        return "refused" if refused else "no fault that shows"
+
+
+class WrittenOver:
+    """A row that `sqlite3` wrote where a change is in doubt stays: it isn't that of the change."""
+
+    def __init__(self, given, library):
+        self.name, self.program = "owners a row in doubt that was written over", given.program
+        self.folder, self.library = given.quick, library
+
+    def tried(self):
+        trials = [(b"book HF-Q 2", "UPDATE kept SET party = 3 WHERE number = 2", [(1, "HF-Q", 1), (2, "HF-Q", 3)]),
+                  (b"cancel 1", "INSERT INTO kept VALUES (1, 'HF-Q', 3)", [(1, "HF-Q", 3), (2, "HF-Y", 1)])]
+        return [self.one(*trial) for trial in trials]
+
+    def one(self, line, statement, wanted):
+        """The line fails and is in the store all the same; the statement writes over it, and another line settles the doubt."""
+        fault, session = Switch("fo", self.library), session_from("first")
+        with tempfile.TemporaryDirectory(dir=self.folder) as place:
+            words, path = fault.words(place), os.path.join(place, "store", "STORE")
+            os.mkdir(os.path.dirname(path))
+            with Talk([*words, self.program, "first", HUB, path], pipes()) as talk:
+                heard_of(talk, session, b"book HF-Q 1", False)
+                fault.begin()
+                if not heard_of(talk, session, line, True):
+                    raise Wrong(f"`store` to {line!r}")
+                stores.make(path, statement.encode())
+                fault.end()
+                if line == b"cancel 1":
+                    heard_of(talk, session, b"book HF-Y 1", False)
+                else:
+                    talk.say(b"book HF-Y 1\n")  # its number is taken by now
+                    talk.hear(b"store\n")
+                talk.end_input()
+            must_be(stores.rows(path), wanted, "that somebody else wrote, and those of the run")
+        return "done"
+
+
+def owners(given):
+    """In memory if there is such a disk, but for those that need a small disk of their own."""
+    if preload.is_there():
+        switched = preload.built(SWITCHED, given.folder, "switched")
+        kinds = {"failing flushes": Switch("f", switched), "failing flushes and openings": Switch("fo", switched),
+                 "lost flushes": LosingSwitch("fo", switched), "failing writes": Switch("w", switched),
+                 "failing writes and openings": Switch("wo", switched), "failing writes and flushes": Switch("wfo", switched)}
+        yield from (Owners(given, kind, fault, given.quick) for kind, fault in kinds.items())
+        yield WrittenOver(given, switched)
+        yield Windows(given, preload.built(LIBRARY, given.folder, "windows"))
+    else:
+        given.not_run.append(f"owners: {preload.WANTING}")
+
+
 # One by one
 
 
@@ -522,6 +1012,83 @@ def two_programs_on_one_store(program, folder):
     must_be(stores.rows(path), rows_of(first), "of the first program")
     goes_on(program, "bid", path, rows_of(first))
     return ["done"]
+
+
+def log_is_in_the_file_when_it_is_closed(program, folder):
+    """The log may be taken away after a run that ended, in each mode and with each status."""
+    found = []
+    for mode in MODES:
+        path, session = os.path.join(folder, f"CLOSED-{mode}"), session_from(mode)
+        for lines in DOZEN, [b"book HF-Q 1"], []:
+            wanted = b"".join(map(session.reply, lines))
+            if (got := answered(program, mode, path, lines)) != (0, wanted):
+                raise Wrong(f"{wanted!r}, and not {got}")
+            found.append(closed_with(path, rows_of(session)))
+    stores.make(path, b"UPDATE kept SET product = 'NONE' WHERE number = (SELECT max(number) FROM kept);")
+    status, output = answered(program, mode, path, [b"book HF-Q 1"])
+    if status != REFUSED or not output.startswith(b"refused store number"):
+        raise Wrong(f"status {REFUSED} where a row doesn't load, and not {status} with {output!r}")
+    return [*found, closed_with(path, stores.rows(path))]
+
+
+def closed_with(path, rows):
+    """Sees that the log is not needed, and takes it away."""
+    size = os.path.getsize(path + "-wal")
+    os.remove(path + "-wal")
+    must_be(stores.rows(path), rows, "of the file alone")
+    if (got := stores.faults(path)) != ["ok"]:
+        raise Wrong(f"a file in which PRAGMA integrity_check finds nothing, and not {got}")
+    return f"log of {size} bytes, which was not needed"
+
+
+ENDLESS = b"""CREATE VIEW kept AS WITH RECURSIVE c(n) AS (SELECT 1 UNION ALL SELECT n + 1 FROM c)
+    SELECT n AS number, 'HF-Q' AS product, 1 AS party FROM c;"""
+
+
+def listing_without_end(program, folder):
+    """Memory for 1 GiB and 30 seconds of a processor are enough to say that the store failed."""
+    path = os.path.join(folder, "ENDLESS")
+    stores.make(path, ENDLESS)
+
+    def narrow():
+        resource.setrlimit(resource.RLIMIT_AS, (2**30, 2**30))
+        resource.setrlimit(resource.RLIMIT_CPU, (30, 30))
+
+    if (got := answered(program, "first", path, [b"book HF-Q 1"], preexec_fn=narrow)) != (STORE_FAULT, b"store fault\n"):
+        raise Wrong(f"`store fault` of a listing without end, and not {got}")
+    return ["done"]
+
+
+MOST_LEGS, MOST_SEATS = 64, 999
+VIEW = "CREATE VIEW kept AS SELECT number, product, party FROM other"
+LISTINGS = {
+    "a table": ("kept", ""),
+    "a view": ("other", f"{VIEW};"),
+    "a view in another order": ("other", f"{VIEW} ORDER BY product, number DESC;"),
+    "a view of two parts": ("other", f"{VIEW} WHERE number % 2 UNION ALL SELECT * FROM other WHERE NOT number % 2;"),
+    "a view of a join": ("other", """CREATE TABLE names (name TEXT PRIMARY KEY) STRICT;
+        INSERT INTO names SELECT DISTINCT product FROM other;
+        CREATE VIEW kept AS SELECT number, name AS product, party FROM other JOIN names ON name = product;"""),
+}
+
+
+def listings_of_all_rows_that_can_stand(program, folder):
+    """All seats of as many legs as there may be are sold one by one; each store tells them all."""
+    network, count = os.path.join(folder, "LARGEST"), MOST_LEGS * MOST_SEATS
+    with open(network, "w", encoding="ascii") as file:
+        file.write("periods,1,1\n" + "".join(f"leg,L{at},{MOST_SEATS}\n" for at in range(MOST_LEGS)))
+        file.write("".join(f"product,P{at},100,L{at}\n" for at in range(MOST_LEGS)))
+    for name, (table, more) in LISTINGS.items():
+        path = os.path.join(folder, f"LISTED {name}")
+        fills = f"""WITH RECURSIVE c(n) AS (SELECT 1 UNION ALL SELECT n + 1 FROM c WHERE n < {count})
+            INSERT INTO {table} SELECT n, 'P' || (n % {MOST_LEGS}), 1 FROM c;"""
+        stores.make(path, f"{stores.TABLE.replace(' kept ', f' {table} ')} {fills} {more}".encode())
+        words = [program, "first", network, path]
+        done = subprocess.run(words, input=b"book P0 1\nhindsight\n", capture_output=True, timeout=SLOW)
+        wanted = b"no L0\nhindsight %d/1 revenue %d withheld 0\n" % (count * 100, count * 100)
+        if (done.returncode, done.stdout) != (0, wanted):
+            raise Wrong(f"{wanted!r} of {name} with {count} rows, and not {done.returncode} and {done.stdout[-300:]!r}")
+    return list(LISTINGS)
 
 
 def memory_for_no_program(program, folder):
@@ -587,21 +1154,43 @@ def fill(path):
             raise
 
 
-def on_a_small_disk(program, _folder):
-    """Runs this script, for that trial alone, below a mount that no other process sees and that ends with it."""
-    words = [sys.executable, os.path.abspath(__file__), "--program", program, "--disk"]
-    done = subprocess.run(["unshare", "--map-root-user", "--mount", *words], capture_output=True, timeout=2 * SLOW)
-    if done.returncode:
-        raise Wrong((done.stdout + done.stderr).decode())
-    return done.stdout.decode().splitlines()
+class OnADisk:
+    """A trial on a small disk of its own, by this script, below a mount that no other process sees and that ends with it."""
+
+    def __init__(self, given, name):
+        self.given, self.name = given, name
+
+    def tried(self):
+        given = ["--program", self.given.program, "--tries", str(self.given.tries), "--seed", str(self.given.seed)]
+        words = [sys.executable, os.path.abspath(__file__), *given, "--disk", self.name]
+        seconds = SLOW * (1 + self.given.tries)
+        done = subprocess.run(["unshare", "--map-root-user", "--mount", *words], capture_output=True, timeout=seconds)
+        if done.returncode:
+            raise Wrong((done.stdout + done.stderr).decode())
+        return done.stdout.decode().splitlines()
 
 
-def disk_alone(program):
-    """The trial of a full disk, on one that is mounted for it."""
+def full_for_one_run(given, folder):
+    return disk_that_is_full(given.program, folder)
+
+
+def full_for_the_first(fault, given, folder):
+    return Owners(given, "", fault(), folder).tried()
+
+
+# Each with how large its disk is.
+DISKS = {"disk that is full": ("8m", full_for_one_run),
+         "owners a full disk": ("1m", functools.partial(full_for_the_first, FullDisk)),
+         "owners a full disk that is away": ("1m", functools.partial(full_for_the_first, FullDiskThatIsAway))}
+
+
+def disk_alone(given):
+    """A trial on a disk that is mounted for it."""
+    size, made = DISKS[given.disk]
     with tempfile.TemporaryDirectory() as folder:
-        subprocess.run(["mount", "-t", "tmpfs", "-o", "size=8m", "none", folder], check=True)
+        subprocess.run(["mount", "-t", "tmpfs", "-o", f"size={size}", "none", folder], check=True)
         try:
-            print("\n".join(disk_that_is_full(program, folder)))
+            print("\n".join(made(given, folder)))
         finally:
             subprocess.run(["umount", folder], check=True)
 
@@ -617,8 +1206,8 @@ def can_mount():
 
 def small_disks(given):
     if can_mount():
-        return [Once(on_a_small_disk, given.program, given.folder)]
-    given.not_run.append("disk: that needs the right to mount a disk in memory, and there is none here")
+        return [OnADisk(given, name) for name in DISKS]
+    given.not_run.append("disk, and owners with a full one: that needs the right to mount a disk in memory, and there is none here")
     return []
 
 
@@ -643,18 +1232,24 @@ def outcome(trial):
 def all_trials(given):
     yield from faults(given)
     yield from killed(given)
+    yield from without_power(given)
+    yield from damaged(given)
+    yield from owners(given)
     yield from small_disks(given)
-    yield Once(two_programs_on_one_store, given.program, given.folder)
-    yield Once(memory_for_no_program, given.program, given.folder)
+    for made in (two_programs_on_one_store, log_is_in_the_file_when_it_is_closed, listing_without_end,
+                 listings_of_all_rows_that_can_stand, memory_for_no_program):
+        yield Once(made, given.program, given.folder)
 
 
 def words_given():
     parser = argparse.ArgumentParser(usage=__doc__)
     parser.add_argument("pattern", nargs="?", default="")
     parser.add_argument("--kills", type=int, default=KILLS)
+    parser.add_argument("--images", type=int, default=IMAGES)
+    parser.add_argument("--tries", type=int, default=TRIES)
     parser.add_argument("--seed", type=int, default=1)
     parser.add_argument("--program")
-    parser.add_argument("--disk", action="store_true", help=argparse.SUPPRESS)
+    parser.add_argument("--disk", choices=DISKS, help=argparse.SUPPRESS)
     return parser.parse_args()
 
 
@@ -668,7 +1263,7 @@ def main():
         return checks.NOT_BUILT
     given.program = os.path.abspath(given.program or os.path.join(TOP, "crates", "nrm_kept", "out", "nrm_kept"))
     if given.disk:
-        disk_alone(given.program)
+        disk_alone(given)
         return 0
     passed = failed = 0
     memory = {"dir": "/dev/shm"} if os.access("/dev/shm", os.W_OK) else {}

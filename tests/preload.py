@@ -15,9 +15,9 @@ def is_there():
     return shutil.which("cc") is not None
 
 
-def built(source, folder):
+def built(source, folder, name="library"):
     """The path of the library that is built of a text in C."""
-    text, library = os.path.join(folder, "library.c"), os.path.join(folder, "library.so")
+    text, library = os.path.join(folder, name + ".c"), os.path.join(folder, name + ".so")
     with open(text, "w", encoding="ascii") as file:
         file.write(source)
     done = subprocess.run(["cc", "-shared", "-fPIC", "-fno-builtin", "-o", library, text], capture_output=True)

@@ -52,6 +52,17 @@ def rows(path):
             connection.close()
 
 
+def faults(path):
+    """What `PRAGMA integrity_check` says of the file, which is `ok` alone if it finds nothing."""
+    connection = sqlite3.connect(path)
+    try:
+        return [row[0] for row in connection.execute("PRAGMA integrity_check")]
+    except sqlite3.Error as error:
+        raise Unread(str(error)) from error
+    finally:
+        connection.close()
+
+
 def text(path):
     """The rows in lines, a blank between two columns."""
     return "".join(" ".join(map(str, row)) + "\n" for row in rows(path)).encode()

@@ -21,9 +21,9 @@ use Rattle.sqlite.specs.Does.{Tally, Does, AtPlace, lacks_sequence, sequence_tex
 use Rattle.sqlite.specs.Listing.{understood}
 use Rattle.sqlite.specs.Clock.{timed}
 use Rattle.sqlite.specs.State.{State, IsUnchanged, IsRolledBack, Runs, RunsCommand, text_of, shows_rows, ExecutesIn, Executes, IsNotRun, Shown, ShowsRows, FailsToShow, FailsToQuery, mode_of}
-use Rattle.nrm_keeper.specs.Inner.Table.{create_text, insert_text, delete_text, select_text}
+use Rattle.nrm_keeper.specs.Inner.Table.{create_text, insert_text, delete_text, select_text, find_text}
 use Rattle.nrm_keeper.proofs.Creates.{went, same_value}
-use Rattle.nrm_keeper.proofs.AnySchema.{is_delete, is_insert, is_create, delete_is_plain, insert_is_plain, create_is_plain, select_is_plain}
+use Rattle.nrm_keeper.proofs.AnySchema.{is_delete, is_insert, is_create, delete_is_plain, insert_is_plain, create_is_plain, select_is_plain, find_is_plain}
 
 -- ---- refusals and failures
 
@@ -139,10 +139,11 @@ two_more a b c p q =
 pub record Created (old new : State) : Type 0 where
   pub made : (new.now ≡ old.now) ⊎ Grown old.now.schema new.now.schema
   pub mode : new.in_transaction ≡ old.in_transaction
+  pub was_open : IsTrue old.is_open
 
 create_grows : (old new : State) (returning : Option Returning) (command : Command) (text : List ℕ) (params : Row) (count : ℕ) → is_create command ≡ true → returning ≡ None
     → Runs old new returning command text params count → Created old new
-create_grows old new returning Nothing text params count plain none h = record { made = inl h.0.0.now_is; mode = h.0.0.mode }
+create_grows old new returning Nothing text params count plain none h = record { made = inl h.0.0.now_is; mode = h.0.0.mode; was_open = h.0.0.was_open }
 create_grows old new returning CreateTable text params count plain none w =
     let changed = subst (λ r. Does old.step_limit (mode_of old) params old.now text r CreateTable (Ok (w.tally, new.now))) none w.changed in
     let all = went changed in
@@ -153,7 +154,7 @@ create_grows old new returning CreateTable text params count plain none w =
       | inl lacks ↦ two_more old.now.schema made.0.schema all.0.schema first (one_more made.0.schema all.0.schema sequence_text made.0.trees all.0.trees (rw lacks at made.2))
       | inr has ↦ subst (λ (d : Database). Grown old.now.schema d.schema) (sym (same_value (rw has at made.2))) first
     ] in
-    record { made = inr (subst (λ (d : Database). Grown old.now.schema d.schema) (sym now) grown); mode = w.shown.mode }
+    record { made = inr (subst (λ (d : Database). Grown old.now.schema d.schema) (sym now) grown); mode = w.shown.mode; was_open = w.shown.was_open }
 create_grows old new returning _ text params count plain none w = absurd (let e : false ≡ true = plain in cc)
 
 pub creates_any : (old new : State) (count : ℕ) → Executes create_text [] old new (Ok count) → Created old new
@@ -187,3 +188,23 @@ pub select_was_open : (old new : State) (r : Result (Vec Row Global) Error) → 
     → IfErr r (FailsToQuery select_text [] old new) → IsTrue new.is_open → IsTrue old.is_open
 select_was_open old new (Ok found) h e live = stays_open old new (shown_stays old new found.items h) live
 select_was_open old new (Err error) h e live = stays_open old new (query_stays old new error e) live
+
+pub create_was_open : (old new : State) (r : Result ℕ Error) → Executes create_text [] old new r → IsTrue new.is_open → IsTrue old.is_open
+create_was_open old new (Ok count) h live = (creates_any old new count h).was_open
+create_was_open old new (Err e) h live = stays_open old new (refused_stays create_text [] old new e h) live
+
+-- ---- the fifth text
+
+pub found_stays : (params : Row) (old new : State) (rows : List Row) → Shown find_text params old new rows → Stays old new
+unfolding Shown
+found_stays params old new rows h = inl (subst (λ r. ShowsRows old new find_text h.0 (timed params h.0.formats h.1.now) rows r) (find_is_plain old.now.schema h.0 h.1.is) h.2).3
+
+pub find_stays : (params : Row) (old new : State) (e : Error) → FailsToQuery find_text params old new e → Stays old new
+unfolding FailsToQuery
+find_stays params old new e (inl h) = not_run_stays old new find_text params e h
+find_stays params old new e (inr h) = inl (subst (λ r. FailsToShow old new find_text h.0 (timed params h.0.formats h.1.now) e r) (find_is_plain old.now.schema h.0 h.1.is) h.2).3
+
+pub find_was_open : (params : Row) (old new : State) (r : Result (Vec Row Global) Error) → IfOk r (λ found. Shown find_text params old new found.items)
+    → IfErr r (FailsToQuery find_text params old new) → IsTrue new.is_open → IsTrue old.is_open
+find_was_open params old new (Ok found) h e live = stays_open old new (found_stays params old new found.items h) live
+find_was_open params old new (Err error) h e live = stays_open old new (find_stays params old new error e) live

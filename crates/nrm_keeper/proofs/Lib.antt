@@ -13,3 +13,4 @@ pub mod Effects
 pub mod OverMemory
 pub mod ShownLemmas
 mod Examples
+pub mod FileLemmas

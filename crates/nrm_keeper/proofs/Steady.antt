@@ -2,7 +2,8 @@
 use Rattle.std.proofs.Common.{◌≡◌, ℕ, ◌≤◌, false, Option, Some, Ok, Err, Result, OnOk, OnErr, IfOk, arith, subst, ◌∙◌}
 use Rattle.sqlite_trees.specs.View.{doubt}
 use Rattle.sqlite.specs.State.{State, HasCleanDisk}
-use Rattle.nrm_keeper.specs.Inner.Statements.{IsSteady, Speaks}
+use Rattle.nrm_keeper.specs.Steady.{IsSteady}
+use Rattle.nrm_keeper.specs.Inner.Statements.{Speaks}
 
 pub was_clean : (old new : State) → doubt old.is_clean ≤ doubt new.is_clean → HasCleanDisk new → HasCleanDisk old
 was_clean old new grows clean = omega (arith, grows, clean)

@@ -1,4 +1,5 @@
 -- What private functions serve.
 pub mod Faults
+pub mod Passes
 pub mod Statements
 pub mod Table

@@ -1,5 +1,7 @@
+pub mod File
 pub mod Inner
 pub mod Memory
 pub mod Rows
+pub mod Steady
 pub mod Stored
 pub mod Told

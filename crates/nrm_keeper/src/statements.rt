@@ -6,7 +6,8 @@ ghost use Rattle.sqlite.specs.Value.{owned};
 ghost use Rattle.nrm_keeper.specs.Rows.{Adds, Drops};
 ghost use Rattle.nrm_keeper.specs.Stored.{told};
 ghost use Rattle.nrm_keeper.specs.Inner.Table.{shown, HoldsSome};
-ghost use Rattle.nrm_keeper.specs.Inner.Statements.{IsSteady, Speaks};
+ghost use Rattle.nrm_keeper.specs.Steady.{IsSteady};
+ghost use Rattle.nrm_keeper.specs.Inner.Statements.{Speaks};
 
 use crate::KeptRow;
 use nrm_text::Name;
@@ -40,6 +41,7 @@ pub fn create_table<S: Alter>(conn: &mut Connection<S>) -> Result<usize, Error>
     ensures holds { Speaks (state S.Store conn.old) (state S.Store conn.new) →
         OnOk result (HoldsSome (state S.Store conn.new).now) }
     ensures ends { Speaks (state S.Store conn.old) (state S.Store conn.new) → conn.new.in_transaction ≡ false }
+    ensures was { IsSteady (state S.Store conn.new) → IsSteady (state S.Store conn.old) }
 {
     let _settled = conn.is_autocommit();
     conn.execute(
@@ -107,5 +109,20 @@ pub fn select_rows<S: Alter>(conn: &mut Connection<S>) -> Result<Vec<Row>, Error
     conn.query_all(
         "SELECT number, product, party FROM kept ORDER BY number",
         &[],
+    )
+}
+
+/// The rows of a number.
+pub fn find_row<S: Alter>(conn: &mut Connection<S>, number: u64) -> Result<Vec<Row>, Error>
+    requires { number < 10 ^ 12 }
+    ensures tells { Speaks (state S.Store conn.old) (state S.Store conn.new) →
+        told (state S.Store conn.new).now ≡ told (state S.Store conn.old).now }
+    ensures ends { Speaks (state S.Store conn.old) (state S.Store conn.new) → conn.new.in_transaction ≡ false }
+    ensures was { IsSteady (state S.Store conn.new) → IsSteady (state S.Store conn.old) }
+{
+    let _settled = conn.is_autocommit();
+    conn.query_all(
+        "SELECT number, product, party FROM kept WHERE number = ?1",
+        &[number_value(number)],
     )
 }

@@ -4,11 +4,12 @@ ghost use Rattle.std.specs.Prelude.{◌≡◌, ◌<◌, ◌^◌, false, IfOk, On
 ghost use Rattle.sqlite.specs.Held.{state};
 ghost use Rattle.nrm_keeper.specs.Rows.{Adds, Drops, Lists};
 ghost use Rattle.nrm_keeper.specs.Stored.{told};
+ghost use Rattle.nrm_keeper.specs.Steady.{IsSteady};
 ghost use Rattle.nrm_keeper.specs.Inner.Statements.{Speaks};
 
 use crate::causes::{added_by, dropped_by, fault_of};
 use crate::reading::read_rows;
-use crate::statements::{create_table, delete_row, insert_row, select_rows};
+use crate::statements::{create_table, delete_row, find_row, insert_row, select_rows};
 use crate::{KeepFault, KeptRow};
 use sqlite::{Alter, Connection};
 use std::alloc::Global;
@@ -21,6 +22,7 @@ pub fn keep<S: Alter>(conn: &mut Connection<S>, row: &KeptRow) -> Result<(), Kee
     ensures unchanged { Speaks (state S.Store conn.old) (state S.Store conn.new) →
         OnErr result (told (state S.Store conn.new).now ≡ told (state S.Store conn.old).now) }
     ensures ends { Speaks (state S.Store conn.old) (state S.Store conn.new) → conn.new.in_transaction ≡ false }
+    ensures was { IsSteady (state S.Store conn.new) → IsSteady (state S.Store conn.old) }
 {
     match create_table(conn) {
         Ok(_) => added_by(insert_row(conn, row)),
@@ -36,6 +38,7 @@ pub fn drop_kept<S: Alter>(conn: &mut Connection<S>, number: u64) -> Result<(), 
     ensures unchanged { Speaks (state S.Store conn.old) (state S.Store conn.new) →
         OnErr result (told (state S.Store conn.new).now ≡ told (state S.Store conn.old).now) }
     ensures ends { Speaks (state S.Store conn.old) (state S.Store conn.new) → conn.new.in_transaction ≡ false }
+    ensures was { IsSteady (state S.Store conn.new) → IsSteady (state S.Store conn.old) }
 {
     match create_table(conn) {
         Ok(_) => dropped_by(delete_row(conn, number)),
@@ -50,6 +53,7 @@ pub fn list<S: Alter>(alloc: Global, conn: &mut Connection<S>) -> Result<Vec<Kep
     ensures tells { Speaks (state S.Store conn.old) (state S.Store conn.new) →
         told (state S.Store conn.new).now ≡ told (state S.Store conn.old).now }
     ensures ends { Speaks (state S.Store conn.old) (state S.Store conn.new) → conn.new.in_transaction ≡ false }
+    ensures was { IsSteady (state S.Store conn.new) → IsSteady (state S.Store conn.old) }
 {
     let found = match create_table(conn) {
         Ok(_) => select_rows(conn),
@@ -57,6 +61,31 @@ pub fn list<S: Alter>(alloc: Global, conn: &mut Connection<S>) -> Result<Vec<Kep
     };
     match found {
         Ok(found) => read_rows(alloc, &found),
+        Err(error) => Err(fault_of(error)),
+    }
+}
+
+/// The kept row of a number, if there is one. It is a fault if what is found is no kept row.
+pub fn row_of<S: Alter>(
+    alloc: Global,
+    conn: &mut Connection<S>,
+    number: u64,
+) -> Result<Option<KeptRow>, KeepFault>
+    requires { number < 10 ^ 12 }
+    ensures tells { Speaks (state S.Store conn.old) (state S.Store conn.new) →
+        told (state S.Store conn.new).now ≡ told (state S.Store conn.old).now }
+    ensures ends { Speaks (state S.Store conn.old) (state S.Store conn.new) → conn.new.in_transaction ≡ false }
+    ensures was { IsSteady (state S.Store conn.new) → IsSteady (state S.Store conn.old) }
+{
+    let found = match create_table(conn) {
+        Ok(_) => find_row(conn, number),
+        Err(error) => Err(error),
+    };
+    match found {
+        Ok(found) => match read_rows(alloc, &found) {
+            Ok(rows) => Ok(rows.first().copied()),
+            Err(fault) => Err(fault),
+        },
         Err(error) => Err(fault_of(error)),
     }
 }

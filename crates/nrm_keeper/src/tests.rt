@@ -206,42 +206,125 @@ fn a_row_that_is_no_kept_row_is_a_fault(rt: HostRuntime) -> Result<(), Fail> {
     Ok(())
 }
 
-// Removes the two files of a store, as far as they are there.
-fn remove_store(rt: &HostRuntime, store: &str, log: &str) {
-    let _ = fs::remove_file(rt, store);
-    let _ = fs::remove_file(rt, log);
+// A new folder, and the names of a store in it and of its log.
+#[derive(Drop)]
+struct Place {
+    folder: String,
+    store: String,
+    log: String,
+}
+
+fn new_place(rt: &HostRuntime, name: &str) -> Result<Place, Fail> {
+    let temp = env::temp_dir(rt)?;
+    let temp = temp.as_path().to_str().ok_or("a folder that is text")?;
+    let folder = format!(in rt.alloc(); "{temp}/{name}")?;
+    let store = format!(in rt.alloc(); "{folder}/store")?;
+    let log = format!(in rt.alloc(); "{store}-wal")?;
+    let _ = fs::remove_dir_all(rt, &folder);
+    fs::create_dir(rt, &folder)?;
+    Ok(Place { folder, store, log })
+}
+
+// A call that fails, and after which a keeper lets its connection go: no row has the number.
+fn lets_go(keeper: &mut FileKeeper<'_>, alloc: Global) -> bool {
+    matches!(keeper.drop_row(alloc, 9), Err(KeepFault::Failed))
 }
 
 #[test]
 fn rows_are_kept_in_a_file(rt: HostRuntime) -> Result<(), Fail> {
-    let temp = env::temp_dir(&rt)?;
-    let temp = temp.as_path().to_str().ok_or("a folder that is text")?;
-    let folder = format!(in rt.alloc(); "{temp}/nrm_keeper_rows")?;
-    let store = format!(in rt.alloc(); "{folder}/store")?;
-    let log = format!(in rt.alloc(); "{store}-wal")?;
-    remove_store(&rt, &store, &log);
-    let _ = fs::remove_dir(&rt, &folder);
-    let mut keeper = FileKeeper::new(&rt, &store);
-    assert!(rt;
-        matches!(keeper.all(rt.alloc()), Err(KeepFault::Failed)),
-        "no folder is there"
-    );
-    fs::create_dir(&rt, &folder)?;
+    let place = new_place(&rt, "nrm_keeper_rows")?;
+    let mut keeper = FileKeeper::new(&rt, &place.store);
     assert!(rt; first_run(&mut keeper, rt.alloc())?);
     drop(keeper);
-    let mut keeper = FileKeeper::new(&rt, &store);
+    let mut keeper = FileKeeper::new(&rt, &place.store);
     assert!(rt; second_run(&mut keeper, rt.alloc())?);
+    assert!(rt; lets_go(&mut keeper, rt.alloc()));
     assert!(rt;
-        matches!(keeper.drop_row(rt.alloc(), 9), Err(KeepFault::Failed)),
-        "no row has the number"
-    );
-    remove_store(&rt, &store, &log);
-    assert!(rt;
-        keeps(&mut keeper, rt.alloc(), &[]),
+        keeper.all(rt.alloc()).is_ok(),
         "after a failed call the file is opened again"
     );
-    drop(keeper);
-    remove_store(&rt, &store, &log);
-    fs::remove_dir(&rt, &folder)?;
+    fs::remove_dir_all(&rt, &place.folder)?;
+    Ok(())
+}
+
+#[test]
+fn a_file_that_cannot_be_opened_is_a_fault(rt: HostRuntime) -> Result<(), Fail> {
+    let place = new_place(&rt, "nrm_keeper_folder")?;
+    let beyond = format!(in rt.alloc(); "{}/store", place.store)?;
+    let mut keeper = FileKeeper::new(&rt, &beyond);
+    assert!(rt; matches!(keeper.all(rt.alloc()), Err(KeepFault::Failed)));
+    fs::create_dir(&rt, &place.store)?;
+    assert!(rt; keeps(&mut keeper, rt.alloc(), &[]));
+    fs::remove_dir_all(&rt, &place.folder)?;
+    Ok(())
+}
+
+#[test]
+fn a_store_belongs_to_one_keeper_until_it_is_closed(rt: HostRuntime) -> Result<(), Fail> {
+    let place = new_place(&rt, "nrm_keeper_owner")?;
+    let one = (1, b"THRU".as_slice(), 2);
+    let mut first = FileKeeper::new(&rt, &place.store);
+    assert!(rt; first.add(rt.alloc(), row(one)?).is_ok());
+    assert!(rt; lets_go(&mut first, rt.alloc()));
+    let mut second = FileKeeper::new(&rt, &place.store);
+    assert!(rt;
+        matches!(second.all(rt.alloc()), Err(KeepFault::Failed)),
+        "the first has the store, though it has let its connection go"
+    );
+    assert!(rt; keeps(&mut first, rt.alloc(), &[one]));
+    assert!(rt; first.close().is_ok());
+    assert!(rt; keeps(&mut second, rt.alloc(), &[one]));
+    fs::remove_dir_all(&rt, &place.folder)?;
+    Ok(())
+}
+
+#[test]
+fn a_store_that_is_gone_is_not_made_again(rt: HostRuntime) -> Result<(), Fail> {
+    let place = new_place(&rt, "nrm_keeper_gone")?;
+    let away = format!(in rt.alloc(); "{}-away", place.store)?;
+    let one = (1, b"THRU".as_slice(), 2);
+    let mut keeper = FileKeeper::new(&rt, &place.store);
+    assert!(rt; keeper.add(rt.alloc(), row(one)?).is_ok());
+    assert!(rt; lets_go(&mut keeper, rt.alloc()));
+    fs::rename(&rt, &place.store, &away)?;
+    assert!(rt; keeper.all(rt.alloc()).is_err());
+    assert!(rt; fs::metadata(&rt, &place.store).is_err(), "nothing is made");
+    fs::write(&rt, &place.store, b"".as_slice())?;
+    assert!(rt; keeper.all(rt.alloc()).is_err(), "another file");
+    assert_eq!(rt; fs::metadata(&rt, &place.store)?.len(), 0);
+    fs::rename(&rt, &away, &place.store)?;
+    assert!(rt; keeps(&mut keeper, rt.alloc(), &[one]));
+    fs::remove_dir_all(&rt, &place.folder)?;
+    Ok(())
+}
+
+#[test]
+fn a_closed_store_needs_no_log(rt: HostRuntime) -> Result<(), Fail> {
+    let place = new_place(&rt, "nrm_keeper_closed")?;
+    let one = (1, b"THRU".as_slice(), 2);
+    let mut keeper = FileKeeper::new(&rt, &place.store);
+    assert!(rt; keeper.add(rt.alloc(), row(one)?).is_ok());
+    assert!(rt; keeper.close().is_ok());
+    fs::remove_file(&rt, &place.log)?;
+    let mut keeper = FileKeeper::new(&rt, &place.store);
+    assert!(rt; keeps(&mut keeper, rt.alloc(), &[one]));
+    fs::remove_dir_all(&rt, &place.folder)?;
+    Ok(())
+}
+
+// A view `kept` that has no end.
+const ENDLESS: &str =
+    "CREATE VIEW kept AS WITH RECURSIVE c(n) AS (SELECT 1 UNION ALL SELECT n + 1 FROM c)
+    SELECT n AS number, 'LOC' AS product, 1 AS party FROM c";
+
+#[test]
+fn a_listing_without_end_is_a_fault(rt: HostRuntime) -> Result<(), Fail> {
+    let place = new_place(&rt, "nrm_keeper_endless")?;
+    let mut connection = Connection::open(&rt, &place.store)?;
+    assert!(rt; connection.execute(ENDLESS, &[]).is_ok());
+    drop(connection);
+    let mut keeper = FileKeeper::new(&rt, &place.store);
+    assert!(rt; matches!(keeper.all(rt.alloc()), Err(KeepFault::Failed)));
+    fs::remove_dir_all(&rt, &place.folder)?;
     Ok(())
 }

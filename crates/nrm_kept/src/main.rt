@@ -19,33 +19,46 @@ fn store_in(words: &[String]) -> &str {
     }
 }
 
-// The program, around its words. Memory to gather the output is taken only for words that ask for a session.
-fn status_of(rt: &HostRuntime) -> io::Result<KeptStatus> {
+// The program, around its words and the keeper of its store. Memory to gather the output is taken only for words that ask for a
+// session.
+fn answered(
+    rt: &HostRuntime,
+    words: &[String],
+    keeper: &mut FileKeeper<'_>,
+) -> io::Result<KeptStatus> {
     let alloc = rt.alloc();
-    let words = words_given(rt)?;
     let mut files = DirFiles::new(rt);
     let mut source = StdSource::new(rt.stdin());
     let mut output = StdSink::new(io::writer(rt));
-    let mut keeper = FileKeeper::new(rt, store_in(&words));
-    if !asks_for_a_session(&words) {
+    if !asks_for_a_session(words) {
         return Ok(run_kept(
             alloc,
-            &words,
+            words,
             &mut files,
             &mut source,
             &mut output,
-            &mut keeper,
+            keeper,
         ));
     }
     let mut sink = GatheringSink::new(alloc, output, GATHERED)?;
     Ok(run_kept(
         alloc,
-        &words,
+        words,
         &mut files,
         &mut source,
         &mut sink,
-        &mut keeper,
+        keeper,
     ))
+}
+
+// The status of a run. The store is closed behind it, all replies being sent; if that fails the rows stand as they did, and so does
+// the status.
+fn status_of(rt: &HostRuntime) -> io::Result<KeptStatus> {
+    let words = words_given(rt)?;
+    let mut keeper = FileKeeper::new(rt, store_in(&words));
+    let status = answered(rt, &words, &mut keeper);
+    let _closed = keeper.close();
+    status
 }
 
 fn main(rt: HostRuntime) -> ExitCode {

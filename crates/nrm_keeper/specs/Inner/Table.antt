@@ -26,6 +26,10 @@ delete_text = codes "DELETE FROM kept WHERE number = ?1"
 abbrev pub select_text : List ℕ
 select_text = codes "SELECT number, product, party FROM kept ORDER BY number"
 
+-- the text that a keeper of a file asks for one row with
+abbrev pub find_text : List ℕ
+find_text = codes "SELECT number, product, party FROM kept WHERE number = ?1"
+
 -- a column of a strict table, with no default
 abbrev pub column_of : List ℕ → Kind → Bool → Column
 column_of name of not_null =

@@ -1,0 +1,117 @@
+-- What a call on a connection to a file says of the keeper's view.
+use Rattle.std.proofs.Common.{◌≡◌, ◌&&◌, ℕ, List, Bool, true, false, Option, Some, None, Ok, Err, Result, OnOk, OnErr, IfOk, IsTrue, option_map, refl, sym, ap, subst, ◌∙◌}
+use Rattle.std.specs.Prelude.{Vec, IsSome}
+use Rattle.std.specs.declared.alloc.Global.{Global}
+use Rattle.sqlite_trees.specs.declared.store.Store.{Ghosts}
+use Rattle.sqlite_trees.specs.View.{doubt}
+use Rattle.sqlite_trees.proofs.Doubt.{clean_of, no_doubt}
+use Rattle.sqlite.specs.Held.{Held, state}
+use Rattle.nrm_keeper.specs.declared.row.KeptRow.{KeptRow}
+use Rattle.nrm_keeper.specs.declared.row.KeepFault.{KeepFault}
+use Rattle.nrm_keeper.specs.Rows.{Lists}
+use Rattle.nrm_keeper.specs.Stored.{told}
+use Rattle.nrm_keeper.specs.File.{Seen, FileRows, seen, file_view, Across, Same, Done, Failed, ListsIn}
+use Rattle.nrm_keeper.specs.Steady.{IsSteady}
+use Rattle.nrm_keeper.specs.Inner.Passes.{Passes}
+
+both : (a b : Bool) → IsTrue (a && b) → IsTrue a × IsTrue b
+both true true h = (refl, refl)
+both true false h = absurd (cc)
+both false b h = absurd (cc)
+
+and_back : (a b : Bool) → IsTrue a → IsTrue b → IsTrue (a && b)
+and_back true true h k = refl
+and_back true false h k = absurd (cc)
+and_back false b h k = absurd (cc)
+
+-- of three views, the rows of the first two being the same
+pub compose : (P : Option (List KeptRow) → Option (List KeptRow) → Type 0) (a b c : Option Seen) → Across Same a b → Across P b c → Across P a c
+compose P None b c h k = tt
+compose P (Some a) None c h k = absurd h
+compose P (Some a) (Some b) None h k = k
+compose P (Some a) (Some b) (Some c) h k = λ steady. let s = k steady in let t = h s.0 in (t.0, subst (λ (r : Option (List KeptRow)). P r c.rows) t.1 s.1)
+
+module _ {S : Type 0} (g : Ghosts S) where
+  steadied : (h : Held S) → IsTrue (seen g h).is_steady → IsSteady (state g h)
+  unfolding seen
+  steadied h is = let b = both (state g h).is_clean (state g h).is_open is in record { clean = no_doubt (state g h).is_clean b.0; live = b.1 }
+
+  unsteadied : (h : Held S) → IsSteady (state g h) → IsTrue (seen g h).is_steady
+  unfolding seen
+  unsteadied h is = and_back (state g h).is_clean (state g h).is_open (clean_of (state g h).is_clean is.clean) is.live
+
+  -- two connections, the rows of the first two being the same
+  pub passes_on : (P : Option (List KeptRow) → Option (List KeptRow) → Type 0) (a b c : Option (Held S)) → Passes g Same a b → Passes g P b c → Passes g P a c
+  passes_on P None None c h k = k
+  passes_on P None (Some b) c h k = absurd (cc)
+  passes_on P (Some a) None c h k = absurd h
+  passes_on P (Some a) (Some b) None h k = k
+  passes_on P (Some a) (Some b) (Some c) h k = λ steady. let s = k steady in let t = h s.0 in (t.0, subst (λ (r : Option (List KeptRow)). P r (told (state g c).now)) t.1 s.1)
+
+  seen_passes : (P : Option (List KeptRow) → Option (List KeptRow) → Type 0) (o n : Held S) → Passes g P (Some o) (Some n) → Across P (Some (seen g o)) (Some (seen g n))
+  unfolding seen
+  seen_passes P o n h = λ steady. let s = h (steadied n steady) in (unsteadied o s.0, s.1)
+
+  across : (P : Option (List KeptRow) → Option (List KeptRow) → Type 0) (lost : Bool) (old new : Option (Held S)) (f f' : ℕ) → Passes g P old new
+      → Across P (file_view g old lost f).file (file_view g new lost f').file
+  across P true old new f f' h = tt
+  across P false None new f f' h = tt
+  across P false (Some o) None f f' h = h
+  across P false (Some o) (Some n) f f' h = seen_passes P o n h
+
+  pub across_from : (P : Option (List KeptRow) → Option (List KeptRow) → Type 0) (lost : Bool) (old new : Option (Held S)) (f f' : ℕ) (before : FileRows)
+      → file_view g old lost f ≡ before → Passes g P old new → Across P before.file (file_view g new lost f').file
+  across_from P lost old new f f' before is h = subst (λ (v : FileRows). Across P v.file (file_view g new lost f').file) is (across P lost old new f f' h)
+
+  there_in : (lost : Bool) (new : Option (Held S)) (f : ℕ) → lost ≡ false → IsSome new → IsSome (file_view g new lost f).file
+  there_in true new f was some = absurd (cc)
+  there_in false None f was some = absurd (cc)
+  there_in false (Some n) f was some = refl
+
+  pub done_by : (P : Option (List KeptRow) → Option (List KeptRow) → Type 0) (first mid last : FileRows) (lost : Bool) (f f' : ℕ) (old new : Option (Held S)) → Done Same first mid
+      → file_view g old lost f ≡ mid → IsSome new → Passes g P old new → last.file ≡ (file_view g new lost f').file → last.is_lost ≡ lost → Done P first last
+  done_by P first mid last lost f f' old new d is some h file lose = record {
+    lost = lose ∙ ap (λ (v : FileRows). v.is_lost) is ∙ d.lost;
+    there = λ was. subst (λ (o : Option Seen). IsSome o) (sym file) (there_in lost new f' (sym lose ∙ was) some);
+    rows = subst (λ (o : Option Seen). Across P first.file o) (sym file) (compose P first.file mid.file (file_view g new lost f').file d.rows (across_from P lost old new f f' mid is h));
+  }
+
+  -- a change that was done
+  pub done_after : (P : Option (List KeptRow) → Option (List KeptRow) → Type 0) (first mid last : FileRows) (lost : Bool) (f f' : ℕ) (old new : Option (Held S)) (r answer : Result (Unit {0}) KeepFault)
+      → Done Same first mid → file_view g old lost f ≡ mid → OnOk r (IsSome new) → OnOk r (Passes g P old new)
+      → answer ≡ r → OnOk answer (last.file ≡ (file_view g new lost f').file) → OnOk answer (last.is_lost ≡ lost) → OnOk answer (Done P first last)
+  done_after P first mid last lost f f' old new r (Err e) d is some h same file lose = tt
+  done_after P first mid last lost f f' old new r (Ok x) d is some h same file lose =
+      done_by P first mid last lost f f' old new d is (rw (sym same) at some) (rw (sym same) at h) file lose
+
+  -- and one that failed
+  pub failed_after : (first mid last : FileRows) (lost : Bool) (f f' : ℕ) (old new : Option (Held S)) (r answer : Result (Unit {0}) KeepFault)
+      → Done Same first mid → file_view g old lost f ≡ mid → OnErr r (Passes g Same old new)
+      → answer ≡ r → OnErr answer (Failed (file_view g new lost f') last) → OnErr answer (Failed first last)
+  failed_after first mid last lost f f' old new r (Ok x) d is h same failed = tt
+  failed_after first mid last lost f f' old new r (Err e) d is h same failed = λ was.
+      compose Same first.file (file_view g new lost f').file last.file
+      (compose Same first.file mid.file (file_view g new lost f').file d.rows (across_from Same lost old new f f' mid is (rw (sym same) at h))) (failed was)
+
+  -- a list
+  pub listed_after : (first mid last : FileRows) (lost : Bool) (f f' : ℕ) (old new : Option (Held S)) (r answer : Result (Vec KeptRow Global) KeepFault)
+      → Done Same first mid → file_view g old lost f ≡ mid → OnOk r (IsSome new) → IfOk r (λ rows. Passes g (λ before after. Same before after × Lists rows.items before) old new)
+      → answer ≡ r → OnOk answer (last.file ≡ (file_view g new lost f').file) → OnOk answer (last.is_lost ≡ lost)
+      → IfOk answer (λ list. Done (λ before after. Same before after × Lists list.items before) first last)
+  listed_after first mid last lost f f' old new r (Err e) d is some h same file lose = tt
+  listed_after first mid last lost f f' old new r (Ok list) d is some h same file lose =
+      done_by (λ before after. Same before after × Lists list.items before) first mid last lost f f' old new d is (rw (sym same) at some) (rw (sym same) at h) file lose
+
+  tells_in : (list : List KeptRow) (lost : Bool) (old new : Option (Held S)) (f : ℕ) → Passes g (λ before after. Same before after × Lists list before) old new
+      → ListsIn list (file_view g new lost f).file
+  unfolding seen
+  tells_in list true old new f h = tt
+  tells_in list false old None f h = tt
+  tells_in list false None (Some n) f h = absurd (cc)
+  tells_in list false (Some o) (Some n) f h = λ steady. let s = h (steadied n steady) in subst (λ (r : Option (List KeptRow)). Lists list r) (sym s.1.0) s.1.1
+
+  pub told_after : (last : FileRows) (lost : Bool) (f : ℕ) (old new : Option (Held S)) (r answer : Result (Vec KeptRow Global) KeepFault)
+      → IfOk r (λ rows. Passes g (λ before after. Same before after × Lists rows.items before) old new)
+      → answer ≡ r → OnOk answer (last.file ≡ (file_view g new lost f).file) → IfOk answer (λ list. ListsIn list.items last.file)
+  told_after last lost f old new r (Err e) h same file = tt
+  told_after last lost f old new r (Ok list) h same file = subst (λ (o : Option Seen). ListsIn list.items o) (sym file) (tells_in list.items lost old new f (rw (sym same) at h))

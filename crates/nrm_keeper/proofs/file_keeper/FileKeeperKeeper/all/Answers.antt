@@ -1,0 +1,10 @@
+use Rattle.nrm_keeper.proofs.FileLemmas.{listed_after, told_after}
+use Rattle.nrm_keeper.proofs.file_keeper.FileKeeperKeeper.all.Goals as goal
+
+pub returns-clause-rows : goal.returns-clause-rows
+returns-clause-rows c = listed_after _ c.args.self.now c.settle.new.self c.answered-2.new.self c.self.inside.lost _ c.self.inside.faults c.self.inside.connection c.list_in-listed.new.connection c.list_in-listed.result c.answered-2.result
+    c.in_default.ensures.done c.self.view_is c.list_in-listed.ensures.there c.list_in-listed.ensures.lists c.answered-2.ensures.answer c.answered-2.ensures.file c.answered-2.ensures.stays
+
+pub returns-clause-told : goal.returns-clause-told
+returns-clause-told c = told_after _ c.answered-2.new.self c.self.inside.lost c.self.inside.faults c.self.inside.connection c.list_in-listed.new.connection c.list_in-listed.result c.answered-2.result
+    c.list_in-listed.ensures.lists c.answered-2.ensures.answer c.answered-2.ensures.file

@@ -1,0 +1,26 @@
+use Rattle.std.proofs.Common.{Ok, Err, Result, OnOk, OnErr}
+use Rattle.sqlite.specs.Files.{over_files}
+use Rattle.nrm_keeper.specs.File.{Same}
+use Rattle.nrm_keeper.specs.Rows.{Drops}
+use Rattle.nrm_keeper.proofs.FileLemmas.{done_after, failed_after, passes_on}
+use Rattle.nrm_keeper.proofs.file_keeper.FileKeeperKeeper.drop_row.Goals as goal
+
+ok_by : {T E P Q : Type 0} (r : Result T E) → (P → Q) → OnOk r P → OnOk r Q
+ok_by (Ok x) f h = f h
+ok_by (Err e) f h = tt
+
+err_by : {T E P Q : Type 0} (r : Result T E) → (P → Q) → OnErr r P → OnErr r Q
+err_by (Ok x) f h = tt
+err_by (Err e) f h = f h
+
+pub returns-clause-gone : goal.returns-clause-gone
+returns-clause-gone c = done_after _ (Drops c.args.number) c.args.self.now c.settle.new.self c.changed.new.self c.self.inside.lost _ c.self.inside.faults c.self.inside.connection c.drop_in-dropped.new.connection c.drop_in-dropped.result c.changed.result
+    c.in_default.ensures.done c.self.view_is c.drop_in-dropped.ensures.there
+    (ok_by c.drop_in-dropped.result (passes_on over_files (Drops c.args.number) c.self.inside.connection c.find_in.new.connection c.drop_in-dropped.new.connection c.find_in.ensures.same) c.drop_in-dropped.ensures.drops)
+    c.changed.ensures.answer c.changed.ensures.file c.changed.ensures.stays
+
+pub returns-clause-same : goal.returns-clause-same
+returns-clause-same c = failed_after _ c.args.self.now c.settle.new.self c.changed.new.self c.self.inside.lost _ c.self.inside.faults c.self.inside.connection c.drop_in-dropped.new.connection c.drop_in-dropped.result c.changed.result
+    c.in_default.ensures.done c.self.view_is
+    (err_by c.drop_in-dropped.result (passes_on over_files Same c.self.inside.connection c.find_in.new.connection c.drop_in-dropped.new.connection c.find_in.ensures.same) c.drop_in-dropped.ensures.same)
+    c.changed.ensures.answer c.changed.ensures.same

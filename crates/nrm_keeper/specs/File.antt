@@ -1,0 +1,52 @@
+-- What callers see of a keeper over a file of `sqlite`.
+use Rattle.std.specs.Prelude.{ℕ, ◌≡◌, ◌&&◌, Bool, false, List, Option, Some, None, IsSome, IsTrue, option_map, if◌then◌else◌, ⊤}
+use Rattle.sqlite_trees.specs.declared.store.Store.{Ghosts}
+use Rattle.sqlite.specs.Held.{Held, state}
+use Rattle.nrm_keeper.specs.Rows.{Lists}
+use Rattle.nrm_keeper.specs.Stored.{told}
+use Rattle.nrm_keeper.specs.declared.row.KeptRow.{KeptRow}
+
+-- a keeper of a file tells the trait no rows: it can't promise to tell them still after a call
+abbrev pub untold : Option (List KeptRow)
+untold = None
+
+-- what an open file shows: whether it is clean (nobody else wrote it, and it returned what was written) and open, and the rows that it then tells
+pub record Seen : Type 0 where
+  pub is_steady : Bool
+  pub rows : Option (List KeptRow)
+
+-- the file as it was first opened, if it is open; whether it was lost since; and how often a call has failed
+pub record FileRows : Type 0 where
+  pub file : Option Seen
+  pub is_lost : Bool
+  pub faults : ℕ
+
+unfoldable pub seen : {S : Type 0} → Ghosts S → Held S → Seen
+seen g h = record { is_steady = (state g h).is_clean && (state g h).is_open; rows = told (state g h).now }
+
+abbrev pub file_view : {S : Type 0} → Ghosts S → Option (Held S) → Bool → ℕ → FileRows
+file_view g connection lost faults = record { file = if lost then None else option_map (seen g) connection; is_lost = lost; faults = faults }
+
+-- If the file was open it is. If it is clean and open now it was so before, and P is true of the rows that were told and are.
+abbrev pub Across : (Option (List KeptRow) → Option (List KeptRow) → Type 0) → Option Seen → Option Seen → Type 0
+Across P None after = ⊤
+Across P (Some before) None = ⊥
+Across P (Some before) (Some after) = IsTrue after.is_steady → IsTrue before.is_steady × P before.rows after.rows
+
+abbrev pub Same : Option (List KeptRow) → Option (List KeptRow) → Type 0
+Same before after = after ≡ before
+
+-- a call that was done: the file is open, and was lost only if it was before; P is true of the rows
+pub record Done (P : Option (List KeptRow) → Option (List KeptRow) → Type 0) (old new : FileRows) : Type 0 where
+  pub lost : new.is_lost ≡ old.is_lost
+  pub there : new.is_lost ≡ false → IsSome new.file
+  pub rows : Across P old.file new.file
+
+-- a call that failed: unless the file is lost, the rows are the same
+abbrev pub Failed : FileRows → FileRows → Type 0
+Failed old new = new.is_lost ≡ false → Across Same old.file new.file
+
+-- the list is that of the rows, if the file is open and clean and tells them
+abbrev pub ListsIn : List KeptRow → Option Seen → Type 0
+ListsIn list None = ⊤
+ListsIn list (Some seen) = IsTrue seen.is_steady → Lists list seen.rows
