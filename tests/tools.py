@@ -36,6 +36,7 @@ import checks
 import explain
 import lp
 import reference
+import results
 import run
 from checks import Wrong, want, want_in
 from nrm_tools import MODES, NAME, Network, Stop, fitting, named, replies_of, rows_of, text_of
@@ -1267,6 +1268,157 @@ def tools_find_the_program_on_the_path(tools):
             (tools.folder / "elsewhere" / "nrm").symlink_to(tools.folder / "bin" / "nrm")
         done = subprocess.run(words, cwd=tools.folder, env={**os.environ, "PATH": path}, capture_output=True, text=True, timeout=SECONDS)
         want((done.returncode, wanted in done.stdout + done.stderr), (status, True), done.stdout + done.stderr)
+
+
+LONG_NUMBERS = ["9" * 4300, "9" * 4301, "1" + "0" * 20_000]  # Python makes no number of more than 4,300 digits
+FEW = "periods,1,1,2\nleg,A,1,1,7\nproduct,P,5,A\nrefund,P,50\ndemand,P,1,1\n"
+
+
+@test
+def long_numbers_in_a_network_are_refused(tools):
+    """In each place of a file that has a number, by each tool, and with no traceback."""
+    network = lambda old, new: tools.file("long.csv", FEW.replace(old, new))
+    certificate = tools.file("certificate", "value 5/1\nproduct P 1/1\nleg A 5/1\n")
+    for it in LONG_NUMBERS:
+        for old, new in (("periods,1", f"periods,{it}"), ("1,2\n", f"{it},2\n"), ("A,1,", f"A,{it},"), ("1,7", f"{it},7"), (",7", f",{it}"),
+                         ("P,5", f"P,{it}"), ("P,50", f"P,{it}"), ("P,1,1", f"P,{it},1"), ("P,1,1", f"P,1,{it}")):
+            path = network(old, new)
+            out, err, status = tools.ran("explain.py", path)
+            want((status, err, len(out) < 1000), (3, "", True), out[:200])
+            want_in(out, ": 9999" if it[0] == "9" else ": 1000")
+            out, err, status = tools.ran("audit.py", path, certificate)
+            want((status, err, out), (3, "", "refused: `nrm print` says why\n"))
+            want_in(tools.stopped("lp.py", path), "is refused: `tools/explain.py")
+        for old, new in (("P,5", f"P,0{it}"), ("P,1,1", f"P,1,0{it}")):
+            path = network(old, new)
+            want_in(tools.ran("explain.py", path)[0], "without blanks and without a 0 in front")
+        want_in(tools.ran("explain.py", network("P,5", f"P,{it} EUR"))[0], "write digits alone: ")
+    for name, words in words_of_tools(tools).items():
+        if name not in ("explain.py", "audit.py", "log.py"):
+            want_in(tools.stopped(name, network("P,5", f"P,{LONG_NUMBERS[0]}"), *words[1:]), "refused")
+
+
+@test
+def long_numbers_in_other_files_and_words_are_refused(tools):
+    network = tools.file("few.csv", FEW)
+    heads = "Booked on,Departure,Fare product,Seats\n"
+    rows = tools.file("rows.csv", ",".join(["season", "mode", "bound", "revenue", "earned"]) + "\n0,first,1,1,{}\n")
+    for it in LONG_NUMBERS:
+        for line in (f"value {it}/1", f"value 1/{it}"):
+            path = tools.file("certificate", line + "\nproduct P 1/1\nleg A 5/1\n")
+            for name in ("audit.py", "explain.py"):
+                out, err, status = tools.ran(name, network, path)
+                want((status, err, out.partition("\n")[0]), (3, "", "refused certificate line 1 large"))
+        log = tools.file("log.csv", f"{heads}2025-03-01,2025-03-07,P,1\n2025-03-01,2025-03-07,P,{it}\n")
+        want_in(tools.stopped("log.py", log, *LOG_COLUMNS, "--cuts", "7"), "' is no number of seats\n")
+        good = tools.file("log.csv", f"{heads}2025-03-01,2025-03-07,P,1\n")
+        want_in(tools.stopped("log.py", good, *LOG_COLUMNS, "--cuts", f"{it},7"), "days before departure are wanted")
+        for number in (it, f"1e{it}", f"1e-{it}", f"0.{it}"):
+            text = WRITTEN_BY_GLPSOL.replace("0.666666666666667", number)
+            want_in(tools.stopped("lp.py", tools.file("thirds.csv", WITH_THIRDS), "--solution", tools.file("solution", text)), "has a line that")
+        text = WRITTEN_BY_ESOLVER.replace("2/3", f"2/{it}")
+        want_in(tools.stopped("lp.py", "thirds.csv", "--solution", tools.file("solution", text)), "has a line that")
+        try:
+            raise Wrong(f"rows were read: {results.Results.read(tools.file('rows.csv', Path(rows).read_text().replace('{}', it)))}")
+        except Stop as stop:
+            want_in(str(stop), "is no file of rows that simulate.py wrote")
+        tools.file("rows.csv", "season,mode,bound,revenue,earned\n0,first,1,1,{}\n")
+        for name, words in (("log.py", [good, *LOG_COLUMNS, "--cuts", "7", "--last", it]), ("replay.py", [network, "--seed", it]),
+                            ("thresholds.py", [network, it])):
+            tools.stopped(name, *words, status=2)
+
+
+@test
+def long_numbers_in_replies_are_refused(tools):
+    network = tools.file("few.csv", "periods,2,1\nleg,A,1\nproduct,P,5,A\ndemand,P,1,1\ndemand,P,2,1\n")
+    stream = tools.file("stream", "book P 1\n")
+    for it in LONG_NUMBERS:
+        for line in (f"hindsight {it}/1 revenue 0 withheld 0", f"hindsight 1/1 revenue {it} withheld 0"):
+            program = ["--program", "sh", tools.file("script", f"sed 's|^hindsight$|{line}|; s/^book.*/ok 1/'")]
+            want_in(tools.stopped("replay.py", network, *program), "has no bound")
+            answers = f"s/^plan/value none/; s/^leg A/leg A seats 1 authorised 1 sold 0 left 1/; s|^hindsight$|{line}|; s/^book.*/ok 1/"
+            want_in(tools.stopped("season.py", network, stream, "--program", "sh", tools.file("script", f"sed '{answers}'")), "replies don't fit")
+        for line in (f"value A {it}/1", f"protect A {it}", f"value A 1/{it}"):
+            program = ["--program", "sh", tools.file("script", f"echo class P 5; echo '{line}'")]
+            want_in(tools.stopped("optimum.py", network, "A", *program), "is no answer to it")
+        for line in (f"cuts A {it}", f"centres A {it}", f"cost A {it}"):
+            lines = [line if it.startswith(line.split()[0]) else it for it in ("cuts A", "centres A 5", "cost A 0")]
+            program = ["--program", "sh", tools.file("script", "".join(f"echo '{it}'\n" for it in lines))]
+            want_in(tools.stopped("thresholds.py", network, 2, *program), "is no answer to it")
+    zero = "s/^plan/leg A 1\\/0/; s/^leg A/leg A seats 1 authorised 1 sold 0 left 1/; s|^hindsight$|hindsight 1/0 revenue 0 withheld 0|"
+    want_in(tools.stopped("season.py", network, stream, "--program", "sh", tools.file("script", f"sed '{zero}'")), "replies don't fit")
+
+
+class Checkout:
+    """A checkout in a folder, with the tools, the scripts that build, a source and no program; and a kit that notes that it was asked."""
+
+    def __init__(self, tools):
+        self.tools, self.top, self.bin, self.kit = tools, tools.folder / "checkout", tools.folder / "bin", tools.folder / "kit"
+        shutil.copytree(TOOLS, self.top / "tools")
+        for it in ("nrm", "nrm_kept", "crates.txt"):
+            shutil.copy2(TOP / it, self.top)
+        self.source = self.top / "crates" / "nrm" / "src" / "main.rt"
+        for it in (self.source.parent, self.top / "crates" / "nrm" / "must-fail", self.bin, self.kit, tools.folder / "empty"):
+            it.mkdir(parents=True)
+        self.source.write_text("")
+        self.asked = tools.folder / "asked"
+        self.script(self.kit / "rt", f"touch '{self.asked}'; exit 1")
+        self.built = self.top / "crates" / "nrm" / "out" / "nrm"
+
+    def script(self, path, text):
+        path.parent.mkdir(parents=True, exist_ok=True)
+        path.write_text(f"#!/bin/sh\n{text}\n")
+        path.chmod(0o755)
+
+    def program(self, path, name):
+        """A program at a path that notes its name, and answers as the one of the tests."""
+        words = " ".join(f"'{it}'" for it in self.tools.program)
+        self.script(path, f"echo {name} >> '{self.tools.folder}/ran'; exec {words} \"$@\"")
+
+    def ran(self, name, words, *folders):
+        """How a tool ends, which programs it ran, what it told, and whether anything was to be built."""
+        (self.tools.folder / "ran").write_text("")
+        path = os.pathsep.join(map(str, [*folders, self.kit, "/usr/bin", "/bin"]))
+        done = subprocess.run([sys.executable, "-B", self.top / "tools" / name, *words], cwd=self.tools.folder, capture_output=True, text=True,
+                              env={**self.tools.blind(), "PATH": path}, timeout=SECONDS)
+        want(("Traceback" in done.stderr, self.asked.exists()), (False, False), f"{name} {done.stderr}")
+        return done.returncode, set((self.tools.folder / "ran").read_text().split()), done.stderr
+
+
+@test
+def tools_build_nothing(tools):
+    """In a checkout without a program they take the one on the path, be that of another checkout, or say how to get one."""
+    checkout = Checkout(tools)
+    words_of = {name: words[:words.index("--program")] for name, words in words_of_tools(tools).items() if "--program" in words}
+    want(sorted(words_of), ["optimum.py", "replay.py", "resume.py", "season.py", "thresholds.py"])
+    for name, words in words_of.items():
+        checkout.program(checkout.bin / "nrm", "path")
+        want(checkout.ran(name, words, checkout.bin)[:2], (0, {"path"}), name)
+        want(checkout.ran(name, words, tools.folder / "empty", checkout.top, checkout.bin)[:2], (0, {"path"}), name)
+        for more in ([], ["--program", str(checkout.top / "nrm")], ["--program", "nrm"]):
+            status, ran, err = checkout.ran(name, [*words, *more], checkout.top)
+            want((status, ran), (1, set()), err)
+            want_in(err, f"{name}: there is no program that fits the sources of {checkout.top}, ")
+            want_in(err, f"/nrm once, which proves and builds it, or say by --program which to run\n")
+        checkout.program(checkout.built, "built")
+        want(checkout.ran(name, words, checkout.bin)[:2], (0, {"built"}), name)
+        want(checkout.ran(name, [*words, "--program", "nrm"], checkout.top)[:2], (0, {"built"}), name)
+        checkout.built.unlink()
+
+
+@test
+def tools_take_no_program_that_is_older_than_its_sources(tools):
+    checkout, words = Checkout(tools), [EXAMPLES / "log" / "network.csv"]
+    checkout.program(checkout.bin / "nrm", "path")
+    checkout.program(checkout.built, "built")
+    edit, other = checkout.top / "crates" / "nrm" / "must-fail" / "edit", checkout.built.parent / "other"
+    for newer, is_taken in ((checkout.source, False), (checkout.top / "crates.txt", False), (edit, True), (other, True),
+                            (checkout.top / "tools" / "page.py", True)):
+        newer.touch()
+        os.utime(newer, ns=(2**62, 2**62))
+        want(checkout.ran("replay.py", words, checkout.bin)[:2], (0, {"built" if is_taken else "path"}), newer)
+        want(checkout.ran("replay.py", words)[0], 0 if is_taken else 1, newer)
+        newer.unlink() if newer in (edit, other) else os.utime(newer, ns=(0, 0))
 
 
 def headings_of(path):
