@@ -652,6 +652,64 @@ def log_refuses_with_a_sentence(tools):
         want_in(tools.stopped("log.py", log, *LOG_COLUMNS, "--cuts", "7", "--names", tools.file("names.csv", names)), sentence)
 
 
+def log_with_remarks(count, remarks):
+    """A log whose last column isn't asked for; of some rows, by their line, it has a remark as it stands."""
+    days = [datetime.date(2025, 3, 3) + datetime.timedelta(it % 9) for it in range(count)]
+    rows = [f'2025-02-01;{day};"ZV_Q";{1 + at % 3};{remarks.get(at + 2, "")}\n' for at, day in enumerate(days)]
+    return "Booked on;Departure;Fare product;Seats;Remark\n" + "".join(rows)
+
+
+OPEN_QUOTES = [  # remarks by their lines, more words, and a part of the sentence
+    ({31: '"see mail'}, [], "line 31 can't be read: a quote is opened in it and isn't closed in it, which would take the lines below"),
+    ({31: '"see mail', 550: 'said "yes"'}, [], "line 31 can't be read: a quote is opened in it and isn't closed in it"),
+    ({31: '"see mail', 550: '"yes"'}, [], "line 31 can't be read: a quote is opened in it and isn't closed in it"),
+    ({31: '"two\nlines"'}, [], "line 31 can't be read: a quote is opened in it and isn't closed in it"),
+    ({31: '"two\rlines"'}, [], "--multiline takes fields with line feeds"),
+    ({601: '"see mail'}, [], "line 601 can't be read: a quote is opened in it and isn't closed in it"),
+    ({31: '"see" mail'}, [], "line 31 can't be read: a quote is opened and closed in it and more text stands behind it"),
+    ({31: '"see mail'}, ["--multiline"], "line 31 can't be read: a quote is opened and closed in it, in line 32, and more text stands"),
+    ({601: '"see mail'}, ["--multiline"], "line 601 can't be read: a quote is opened in it that is closed nowhere")]
+
+
+@test
+def log_loses_no_row_by_a_quote(tools):
+    """One that isn't closed, in a column that nobody asked for, would take the rows below it into its field."""
+    for remarks, words, sentence in OPEN_QUOTES:
+        path = tools.file("log.csv", log_with_remarks(600, remarks))
+        err = tools.stopped("log.py", path, *LOG_COLUMNS, "--cuts", "7", *words)
+        want_in(err, sentence)
+        want_in(err, "\n    2025-02-01;2025-03-0")
+    plain = tools.told("log.py", tools.file("log.csv", log_with_remarks(600, {})), *LOG_COLUMNS, "--cuts", "7")
+    lines = tools.file("log.csv", log_with_remarks(600, {31: '"two\r\nlines\n"', 90: '"a ""quote"""', 99: "in\" a field"}))
+    out, err, status = tools.ran("log.py", lines, *LOG_COLUMNS, "--cuts", "7", "--multiline")
+    want((out, status), (plain, 0), err)
+    want_in(err, "log.py: rows read 600 of 603 lines; down to the headings 1, empty 0, lines within fields 2\n")
+    names = tools.file("names.csv", 'name,stands for\nA,"open\nB,other\n')
+    want_in(tools.stopped("log.py", "log.csv", *LOG_COLUMNS, "--cuts", "7", "--multiline", "--names", names), "has a quote that isn't closed")
+
+
+@test
+def log_tells_what_it_has_read(tools):
+    """How many rows of how many lines, which departures, and on which days between them there is none."""
+    heads = "Export\n\nBooked on,Departure,Fare product,Seats\n"
+    for days, wanted in (
+            ([1, 2, 3], "3 days, from 2025-03-01 to 2025-03-03; days between without one: none"),
+            ([9], "1 days, from 2025-03-09 to 2025-03-09; days between without one: none"),
+            ([1, 2, 3, 4, 5, 6, 7, 8, 12, 13, 15], "11 days, from 2025-03-01 to 2025-03-15; days between without one: 2025-03-09 to "
+             "2025-03-11, 2025-03-14"),
+            ([7, 14, 28], "3 days, from 2025-03-07 to 2025-03-28; days between without one: 2025-03-21; each mon, tue, wed, thu, sat, sun"),
+            ([7, 10], "2 days, from 2025-03-07 to 2025-03-10; days between without one: each sat, sun")):
+        rows = [f"2025-02-01,2025-03-{day:02},P,1\n" for day in reversed(days)] + [",,,\n"]
+        err = tools.ran("log.py", tools.file("log.csv", heads + "".join(rows)), *LOG_COLUMNS, "--cuts", "7")[1]
+        want_in(err, f"log.py: rows read {len(days)} of {len(days) + 4} lines; down to the headings 3, empty 1\n")
+        want_in(err, f"log.py: departures on {wanted}\n")
+    text = heads + "".join(f"2025-02-01,{datetime.date(2025, 3, 1) + datetime.timedelta(2 * it)},P,1\n" for it in range(30))
+    err = tools.ran("log.py", tools.file("log.csv", text), *LOG_COLUMNS, "--cuts", "7")[1]
+    want_in(err, "2025-03-02, 2025-03-04, ")
+    want_in(err, ", 2025-04-09, and 9 more times\n")
+    want_in(tools.stopped("log.py", tools.file("log.csv", heads + "x,2025-03-01,P,1\n"), *LOG_COLUMNS, "--cuts", "7"), "rows read 1 of 4 lines")
+
+
 @test
 def names_fit_and_are_names_of_their_own(tools):
     draw = random.Random(1)
