@@ -237,7 +237,8 @@ def another_account_of_the_machine_is_refused(place):
                               group=65534, extra_groups=[], capture_output=True, text=True, timeout=SECONDS)
         want((done.stdout.splitlines(), run.poll()), (["refused"] * 2 * len(ports), None), done.stderr)
     finally:
-        os.killpg(run.pid, signal.SIGKILL)
+        with contextlib.suppress(ProcessLookupError):
+            os.killpg(run.pid, signal.SIGKILL)
         run.communicate()
 
 
