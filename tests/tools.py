@@ -679,6 +679,9 @@ def log_loses_no_row_by_a_quote(tools):
         err = tools.stopped("log.py", path, *LOG_COLUMNS, "--cuts", "7", *words)
         want_in(err, sentence)
         want_in(err, "\n    2025-02-01;2025-03-0")
+    for words in ([], ["--multiline"]):
+        path = tools.file("log.csv", log_with_remarks(600, {}).replace(";Remark", ';"Remark', 1))
+        want_in(tools.stopped("log.py", path, *LOG_COLUMNS, "--cuts", "7", *words), "line 1 can't be read: a quote is opened")
     plain = tools.told("log.py", tools.file("log.csv", log_with_remarks(600, {})), *LOG_COLUMNS, "--cuts", "7")
     lines = tools.file("log.csv", log_with_remarks(600, {31: '"two\r\nlines\n"', 90: '"a ""quote"""', 99: "in\" a field"}))
     out, err, status = tools.ran("log.py", lines, *LOG_COLUMNS, "--cuts", "7", "--multiline")

@@ -96,13 +96,15 @@ class Log:
     def __init__(self, path, columns, is_multiline=False):
         text = text_in(path)
         self.path, self.is_multiline, self.lines = path, is_multiline, list(io.StringIO(text, newline=""))
-        for separator in SEPARATORS:
-            if places := self.headings(separator, columns):
-                break
-        else:
+        try:
+            separator, places = next(filter(all, ((it, self.headings(it, columns)) for it in SEPARATORS)), (None, None))
+        except csv.Error as fault:
+            raise Stop(f"{path} can't be read as fields with separators between them: {fault}")
+        if not places:
             raise Stop(f"{path} {what_is_there(text, columns)}")
         self.rows, self.empty, self.within = [], 0, 0
-        for line, fields in self.records(separator):
+        for line, ends, fields in self.records(separator):
+            self.within += ends - line
             if any(map(str.strip, fields)):
                 self.rows.append((line, [fields[at].strip() if at < len(fields) else "" for at in places]))
             else:
@@ -110,15 +112,17 @@ class Log:
 
     def headings(self, separator, columns):
         """Where the columns stand, by the first row that has all of them as headings, or None where there is none."""
-        reader = csv.reader(self.lines, delimiter=separator)
+        reader, before = csv.reader(self.lines, delimiter=separator), 0
         for fields in itertools.islice(reader, MOST_ABOVE):
             if places := places_of(columns, fields):
-                self.above = reader.line_num
+                self.above = before
+                self.above = next(self.records(separator))[1]
                 return places
+            before = reader.line_num
         return None
 
     def records(self, separator):
-        """The records below the headings, each with the line in which it begins; a Stop where one doesn't end as it should."""
+        """The records below some lines, each with the lines in which it begins and ends; a Stop where one doesn't end as it should."""
         reader, begins = csv.reader(self.lines[self.above:], delimiter=separator, strict=True), self.above + 1
         while True:
             try:
@@ -130,8 +134,7 @@ class Log:
                 return
             if ends > begins and not self.is_multiline:
                 raise self.no_record(begins, ends)
-            yield begins, fields
-            self.within += ends - begins
+            yield begins, ends, fields
             begins = ends + 1
 
     def no_record(self, begins, ends, is_open=False):
