@@ -177,33 +177,39 @@ def a_killed_scheduler_is_told(place):
 @test
 def a_stopped_worker_is_told_and_not_waited_for_without_end(place):
     """One that this run has started, one of a cluster, and one that was stopped before the run."""
-    run = place.begun(LOG, "--seasons", 400, "--workers", 1, "--out", "own", "--patience", 4, program=place.slow())
+    run = place.begun(LOG, "--seasons", 400, "--workers", 1, "--out", "own", "--patience", 12, program=place.slow())
     wait_for_rows(place, "own", run)
-    [worker] = [it for it in processes_of(run.pid) if "spawn_main" in Path(f"/proc/{it}/cmdline").read_text()]
+    [worker] = [it for it, words in processes_of(run.pid).items() if "spawn_main" in words]
     os.kill(worker, signal.SIGSTOP)
-    err = told_by_a_line(run, "no seasons have come back for 4 s: is a worker stopped")
-    want_in(err, "simulate.py: no seasons have come back for 2 s; they are waited for up to 4 s\n")
+    err = told_by_a_line(run, "no seasons have come back for 12 s: is a worker stopped")
+    want_in(err, "simulate.py: no seasons have come back for 6 s; they are waited for up to 12 s\n")
     wait_for(lambda: not has_group(run.pid), "the end of its processes")
     with cluster(place, [None]) as made:
-        words = ["--seasons", 400, "--cluster", made.address, "--patience", 3]
+        words = ["--seasons", 400, "--cluster", made.address, "--patience", 12]
         run = place.begun(LOG, *words, "--out", "other", program=place.slow())
         wait_for_rows(place, "other", run)
         made.workers[0].send_signal(signal.SIGSTOP)
-        told_by_a_line(run, "no seasons have come back for 3 s")
-        told_by_a_line(place.begun(LOG, *words), "the workers don't take the scripts within 3 s")
+        told_by_a_line(run, "no seasons have come back for 12 s")
+        told_by_a_line(place.begun(LOG, *words), "the workers don't take the scripts within 12 s")
 
 
 def processes_of(group):
-    """The processes of a group."""
-    fields = {it.name: it.joinpath("stat").read_text().rpartition(")")[2].split() for it in Path("/proc").iterdir() if it.name.isdigit()}
-    return [int(it) for it, (_, _, of, *_) in fields.items() if int(of) == group]
+    """The processes of a group, each with the words of its command line; one may end meanwhile."""
+    found = {}
+    for it in Path("/proc").iterdir():
+        with contextlib.suppress(FileNotFoundError, ProcessLookupError):
+            if it.name.isdigit() and int(it.joinpath("stat").read_text().rpartition(")")[2].split()[2]) == group:
+                found[int(it.name)] = it.joinpath("cmdline").read_text()
+    return found
 
 
 def listening_ports(group):
     """The ports on which the processes of a group listen."""
     sockets = set()
     for process in processes_of(group):
-        sockets |= {os.readlink(it) for it in Path(f"/proc/{process}/fd").iterdir()}
+        with contextlib.suppress(FileNotFoundError, ProcessLookupError):
+            for it in Path(f"/proc/{process}/fd").iterdir():
+                sockets.add(os.readlink(it))
     rows = [line.split() for name in ("tcp", "tcp6") for line in Path(f"/proc/net/{name}").read_text().splitlines()[1:]]
     return sorted({int(row[1].rpartition(":")[2], 16) for row in rows if row[3] == "0A" and f"socket:[{row[9]}]" in sockets})
 
