@@ -10,6 +10,7 @@ top of the repository. What fails is told; the last line is `N passed, M failed`
 """
 import contextlib
 import csv
+import hashlib
 import html.parser
 import importlib.util
 import math
@@ -96,11 +97,11 @@ def wait_for(condition, what):
 
 
 @contextlib.contextmanager
-def dask(folder, name, *words):
+def dask(folder, name, *words, **more):
     """A process of Dask, a scheduler or a worker, killed at the end."""
     words = [sys.executable, "-m", f"distributed.cli.dask_{name}", "--scheduler-file", str(folder / "scheduler.json"), *words]
     with open(folder / "dask.log", "ab") as log:
-        process = subprocess.Popen(words, stdout=log, stderr=log, cwd=folder)
+        process = subprocess.Popen(words, stdout=log, stderr=log, cwd=folder, **more)
     try:
         yield process
     finally:
@@ -108,24 +109,205 @@ def dask(folder, name, *words):
         process.wait()
 
 
+class Cluster:
+    """The address of a scheduler on the loopback address, its process, and those of its workers."""
+
+    def __init__(self, address, scheduler, workers):
+        self.address, self.scheduler, self.workers = address, scheduler, workers
+
+
+@contextlib.contextmanager
+def cluster(place, paths=(None, None), keys=()):
+    """A scheduler with a worker for each of some paths on which it finds programs, or for each None."""
+    words = ["--nthreads", "1", "--no-nanny", "--no-dashboard", "--host", "127.0.0.1", "--local-directory", str(place.folder), *keys]
+    with contextlib.ExitStack() as stack:
+        scheduler = stack.enter_context(dask(place.folder, "scheduler", "--host", "127.0.0.1", "--port", "0", "--no-dashboard", *keys))
+        wait_for((place.folder / "scheduler.json").exists, "the scheduler")
+        workers = [stack.enter_context(dask(place.folder, "worker", *words, env={**os.environ, "PATH": path or os.environ["PATH"]}))
+                   for path in paths]
+        log = place.folder / "dask.log"
+        wait_for(lambda: log.read_text(errors="replace").count("Registered to") >= len(workers), "a worker")
+        yield Cluster(re.search(r'"address": "([^"]*)"', (place.folder / "scheduler.json").read_text())[1], scheduler, workers)
+
+
+def rows_there(place, name):
+    """The rows that a run has kept so far."""
+    part = place.folder / name / "network-seasons.part"
+    return part.read_text().splitlines(keepends=True) if part.exists() else []
+
+
+def wait_for_rows(place, name, run):
+    """Waits until a run has kept some rows, and sees that it isn't at its end."""
+    wait_for(lambda: rows_there(place, name) or run.poll() is not None, "a row")
+    want(run.poll(), None, "in the middle")
+
+
+def told_by_a_line(run, wanted):
+    """What a run tells that must end with status 1, soon and without a traceback, with a sentence that has a part wanted."""
+    err = run.communicate(timeout=SECONDS)[1]
+    want((run.returncode, "Traceback" in err), (1, False), err)
+    want_in(err.splitlines()[-1], "simulate.py: ")
+    want_in(err, wanted)
+    return err
+
+
 @test
 def a_killed_worker_loses_nothing(place):
-    worker = ["--nthreads", "1", "--no-nanny", "--no-dashboard", "--host", "127.0.0.1", "--local-directory", str(place.folder)]
-    with contextlib.ExitStack() as stack:
-        stack.enter_context(dask(place.folder, "scheduler", "--host", "127.0.0.1", "--port", "0", "--no-dashboard"))
-        wait_for((place.folder / "scheduler.json").exists, "the scheduler")
-        first, second = (stack.enter_context(dask(place.folder, "worker", *worker)) for _ in range(2))
-        wait_for(lambda: (place.folder / "dask.log").read_text(errors="replace").count("Registered to") >= 2, "a worker")
-        address = re.search(r'"address": "([^"]*)"', (place.folder / "scheduler.json").read_text())[1]
-        run = place.begun(LOG, "--seasons", 120, "--out", "killed", "--cluster", address, program=place.slow())
-        part = place.folder / "killed" / "network-seasons.part"
-        wait_for(lambda: part.exists() and part.stat().st_size or run.poll() is not None, "a row")
-        want(part.exists() and part.read_text().count("\n") < 3 * 120, True, "in the middle")
-        first.kill()
+    with cluster(place) as made:
+        run = place.begun(LOG, "--seasons", 120, "--out", "killed", "--cluster", made.address, program=place.slow())
+        wait_for_rows(place, "killed", run)
+        made.workers[0].kill()
         out, err = run.communicate(timeout=SECONDS)
-        want((run.returncode, second.poll()), (0, None), err)
+        want((run.returncode, made.workers[1].poll()), (0, None), err)
+        want_in(err, f"simulate.py: {made.address} has no TLS: whoever reaches it can run anything")
     want((place.folder / "killed" / "network-seasons.csv").read_text(), by_one_process(place, LOG, seasons.Settings(), 120))
-    want(part.exists(), False)
+    want(rows_there(place, "killed"), [])
+
+
+@test
+def a_killed_scheduler_is_told(place):
+    with cluster(place) as made:
+        run = place.begun(LOG, "--seasons", 400, "--out", "killed", "--cluster", made.address, program=place.slow())
+        wait_for_rows(place, "killed", run)
+        made.scheduler.kill()
+        told_by_a_line(run, "simulate.py: the scheduler has ended, or the connection to it")
+    want(set(rows_there(place, "killed")) <= set(by_one_process(place, LOG, seasons.Settings(), 60).splitlines(keepends=True)), True)
+
+
+@test
+def a_stopped_worker_is_told_and_not_waited_for_without_end(place):
+    """One that this run has started, one of a cluster, and one that was stopped before the run."""
+    run = place.begun(LOG, "--seasons", 400, "--workers", 1, "--out", "own", "--patience", 12, program=place.slow())
+    wait_for_rows(place, "own", run)
+    [worker] = [it for it, words in processes_of(run.pid).items() if "spawn_main" in words]
+    os.kill(worker, signal.SIGSTOP)
+    err = told_by_a_line(run, "no seasons have come back for 12 s: is a worker stopped")
+    want_in(err, "simulate.py: no seasons have come back for 6 s; they are waited for up to 12 s\n")
+    wait_for(lambda: not has_group(run.pid), "the end of its processes")
+    with cluster(place, [None]) as made:
+        words = ["--seasons", 400, "--cluster", made.address, "--patience", 12]
+        run = place.begun(LOG, *words, "--out", "other", program=place.slow())
+        wait_for_rows(place, "other", run)
+        made.workers[0].send_signal(signal.SIGSTOP)
+        told_by_a_line(run, "no seasons have come back for 12 s")
+        told_by_a_line(place.begun(LOG, *words), "the workers don't take the scripts within 12 s")
+
+
+def processes_of(group):
+    """The processes of a group, each with the words of its command line; one may end meanwhile."""
+    found = {}
+    for it in Path("/proc").iterdir():
+        with contextlib.suppress(FileNotFoundError, ProcessLookupError):
+            if it.name.isdigit() and int(it.joinpath("stat").read_text().rpartition(")")[2].split()[2]) == group:
+                found[int(it.name)] = it.joinpath("cmdline").read_text()
+    return found
+
+
+def listening_ports(group):
+    """The ports on which the processes of a group listen."""
+    sockets = set()
+    for process in processes_of(group):
+        with contextlib.suppress(FileNotFoundError, ProcessLookupError):
+            for it in Path(f"/proc/{process}/fd").iterdir():
+                sockets.add(os.readlink(it))
+    rows = [line.split() for name in ("tcp", "tcp6") for line in Path(f"/proc/net/{name}").read_text().splitlines()[1:]]
+    return sorted({int(row[1].rpartition(":")[2], 16) for row in rows if row[3] == "0A" and f"socket:[{row[9]}]" in sockets})
+
+
+STRANGER = """
+import logging, os, sys
+import distributed
+logging.disable(logging.CRITICAL)
+for port in sys.argv[1:]:
+    for kind, keys in (("tcp", None), ("tls", distributed.Security.temporary())):
+        try:
+            with distributed.Client(f"{kind}://127.0.0.1:{port}", timeout=3, **({"security": keys} if keys else {})) as client:
+                print("ran as", client.run_on_scheduler(os.getuid), flush=True)
+        except (OSError, ValueError):
+            print("refused", flush=True)
+"""
+
+
+@test
+def another_account_of_the_machine_is_refused(place):
+    """By each port that a run opens, without keys and with keys of its own."""
+    if os.getuid():
+        print("no other account was tried: that takes the rights of root")
+        return
+    run = place.begun(LOG, "--seasons", 4000, "--workers", 1, "--out", "own", program=place.slow())
+    try:
+        wait_for_rows(place, "own", run)
+        ports = listening_ports(run.pid)
+        want(len(ports) >= 2, True, f"the ports of a scheduler and a worker: {ports}")
+        done = subprocess.run([sys.executable, "-B", "-c", STRANGER, *map(str, ports)], cwd="/", env={"HOME": "/nonexistent"}, user=65534,
+                              group=65534, extra_groups=[], capture_output=True, text=True, timeout=SECONDS)
+        want((done.stdout.splitlines(), run.poll()), (["refused"] * 2 * len(ports), None), done.stderr)
+    finally:
+        with contextlib.suppress(ProcessLookupError):
+            os.killpg(run.pid, signal.SIGKILL)
+        run.communicate()
+
+
+@test
+def a_cluster_is_asked_by_keys_of_files(place):
+    import distributed
+    keys = distributed.Security.temporary()
+    files = [place.file(f"{name}.pem", text) for name, text in (("ca", keys.tls_ca_file), ("mine", keys.tls_client_cert),
+                                                                 ("key", keys.tls_client_key))]
+    other = place.file("other.pem", distributed.Security.temporary().tls_client_key)
+    options = ("--tls-ca-file", "--tls-cert", "--tls-key")
+    with cluster(place, [None], [it for pair in zip(options, files) for it in pair]) as made:
+        want_in(made.address, "tls://")
+        words = [LOG, "--seasons", 6, "--cluster", made.address]
+        out, err, status = place.ran(*words, "--tls", *files, "--out", "keys")
+        want((status, "no TLS" in err), (0, False), err)
+        want((place.folder / "keys" / "network-seasons.csv").read_text(), by_one_process(place, LOG, seasons.Settings(), 6))
+        for more, wanted in (([], "--tls names the keys"), (["--tls", *files[:2], other], f"that takes {files[0]}"),
+                             (["--tls", *files[:2], "none.pem"], "none.pem: No such file")):
+            told_by_a_line(place.begun(*words, *more), wanted)
+    want_in(place.ran(LOG, "--seasons", 1, "--tls", *files)[1], "--tls goes with --cluster tls://ADDRESS")
+    want_in(place.ran(LOG, "--seasons", 1, "--cluster", "tcp://127.0.0.1:9", "--tls", *files)[1], "--tls goes with --cluster tls://")
+
+
+FEWER_SEATS = r"""#!/bin/sh
+[ "$1" = run ] && sed -E 's/^(leg,[^,]*),[0-9]+/\1,2/' "$3" > "$3.fewer" && set -- run "$2" "$3.fewer"
+exec {program} "$@"
+"""
+
+
+def checksum(path):
+    return hashlib.sha256(Path(path).read_bytes()).hexdigest()
+
+
+@test
+def a_worker_with_another_program_is_refused(place):
+    """With both checksums, and nothing of what it played is kept."""
+    words, paths = " ".join(f"'{it}'" for it in place.program), []
+    for name, text in (("good", '#!/bin/sh\nexec {program} "$@"\n'), ("bad", FEWER_SEATS)):
+        (place.folder / name).mkdir()
+        Path(place.file(f"{name}/nrm", text.format(program=words))).chmod(0o755)
+        paths.append(f"{place.folder / name}:{os.environ['PATH']}")
+    with cluster(place, paths) as made:
+        run = place.begun(LOG, "--seasons", 60, "--out", "mixed", "--cluster", made.address, program=["nrm"],
+                          env={**os.environ, "PATH": paths[0]})
+        err = told_by_a_line(run, "has another program: its checksum there is " + checksum(place.folder / "bad" / "nrm"))
+        want_in(err, "and here " + checksum(place.folder / "good" / "nrm"))
+    want(set(rows_there(place, "mixed")) <= set(by_one_process(place, LOG, seasons.Settings(), 60).splitlines(keepends=True)), True)
+
+
+@test
+def a_worker_with_other_scripts_is_refused(place):
+    """As where another run gives a cluster its own: of another version, and of one that tells no checksum."""
+    upload = "import distributed, sys; distributed.Client(sys.argv[1]).upload_file(sys.argv[2])"
+    text = (TOOLS / "seasons.py").read_text()
+    older = text.replace(", maker=by)", ")")
+    want(older != text, True)
+    with cluster(place, [None]) as made:
+        for name, other in (("newer", text + "# another version\n"), ("older", older)):
+            run = place.begun(LOG, "--seasons", 400, "--out", name, "--cluster", made.address, program=place.slow())
+            wait_for_rows(place, name, run)
+            subprocess.run([sys.executable, "-c", upload, made.address, place.file("seasons.py", other)], capture_output=True, timeout=SECONDS)
+            told_by_a_line(run, "has other scripts: their checksum there is ")
 
 
 @test
@@ -292,6 +474,24 @@ def mistakes_are_told_in_a_line(place):
         other = place.ran(SEASON, "--seasons", 1, "--workers", 1, program=["sh", place.file("other", text)])
         want((other[2], "Traceback" in other[1]), (1, False), other[1])
         want_in(other[1], f"simulate.py: {wanted}")
+
+
+@test
+def long_numbers_are_refused(place):
+    """In options, in the rows that are there, and in replies; Python makes no number of more than 4,300 digits."""
+    for it in ("9" * 4300, "9" * 4301):
+        for words in (["--seasons", it], ["--parties", f"{it}:1"], ["--parties", f"1:{it}"], ["--seed", it], ["--patience", it],
+                      ["--show", "1", "--denied-cost", it]):
+            out, err, status = place.ran(LOG, "--seasons", 1, *words)
+            want((status, "Traceback" in err, out), (2, False, ""), err)
+        folder = place.folder / str(len(it))
+        place.told(LOG, "--seasons", 4, "--workers", 1, "--out", folder)
+        (folder / "network-seasons.part").write_text(f"{it},first,1\n{it},bid,1\n{it},davn,1\n")
+        place.told(LOG, "--seasons", 5, "--workers", 1, "--out", folder)
+        want((folder / "network-seasons.csv").read_text(), by_one_process(place, LOG, seasons.Settings(), 5))
+        words = ["sh", place.file("long", f"sed -u 's/^book.*/ok {it}/; s/^cancel.*/unknown/'")]
+        batch = seasons.play_batch(bytes_in(LOG), seasons.Settings(cancel=0.5), words, [1])
+        want_in(str(batch.why), "answers to a request is no number of a booking")
 
 
 @test

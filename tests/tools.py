@@ -36,6 +36,7 @@ import checks
 import explain
 import lp
 import reference
+import results
 import run
 from checks import Wrong, want, want_in
 from nrm_tools import MODES, NAME, Network, Stop, fitting, named, replies_of, rows_of, text_of
@@ -649,6 +650,67 @@ def log_refuses_with_a_sentence(tools):
                             ("name,stands for\nA,a\nB,a\n", "line 3 is to have"), ("name,stands for\nb,a\n", "line 2 is to have"),
                             ("name,stands for\nB\n", "line 2 is to have")):
         want_in(tools.stopped("log.py", log, *LOG_COLUMNS, "--cuts", "7", "--names", tools.file("names.csv", names)), sentence)
+
+
+def log_with_remarks(count, remarks):
+    """A log whose last column isn't asked for; of some rows, by their line, it has a remark as it stands."""
+    days = [datetime.date(2025, 3, 3) + datetime.timedelta(it % 9) for it in range(count)]
+    rows = [f'2025-02-01;{day};"ZV_Q";{1 + at % 3};{remarks.get(at + 2, "")}\n' for at, day in enumerate(days)]
+    return "Booked on;Departure;Fare product;Seats;Remark\n" + "".join(rows)
+
+
+OPEN_QUOTES = [  # remarks by their lines, more words, and a part of the sentence
+    ({31: '"see mail'}, [], "line 31 can't be read: a quote is opened in it and isn't closed in it, which would take the lines below"),
+    ({31: '"see mail', 550: 'said "yes"'}, [], "line 31 can't be read: a quote is opened in it and isn't closed in it"),
+    ({31: '"see mail', 550: '"yes"'}, [], "line 31 can't be read: a quote is opened in it and isn't closed in it"),
+    ({31: '"two\nlines"'}, [], "line 31 can't be read: a quote is opened in it and isn't closed in it"),
+    ({31: '"two\rlines"'}, [], "--multiline takes fields with line feeds"),
+    ({601: '"see mail'}, [], "line 601 can't be read: a quote is opened in it and isn't closed in it"),
+    ({31: '"see" mail'}, [], "line 31 can't be read: a quote is opened and closed in it and more text stands behind it"),
+    ({31: '"see mail'}, ["--multiline"], "line 31 can't be read: a quote is opened and closed in it, in line 32, and more text stands"),
+    ({601: '"see mail'}, ["--multiline"], "line 601 can't be read: a quote is opened in it that is closed nowhere")]
+
+
+@test
+def log_loses_no_row_by_a_quote(tools):
+    """One that isn't closed, in a column that nobody asked for, would take the rows below it into its field."""
+    for remarks, words, sentence in OPEN_QUOTES:
+        path = tools.file("log.csv", log_with_remarks(600, remarks))
+        err = tools.stopped("log.py", path, *LOG_COLUMNS, "--cuts", "7", *words)
+        want_in(err, sentence)
+        want_in(err, "\n    2025-02-01;2025-03-0")
+    for words in ([], ["--multiline"]):
+        path = tools.file("log.csv", log_with_remarks(600, {}).replace(";Remark", ';"Remark', 1))
+        want_in(tools.stopped("log.py", path, *LOG_COLUMNS, "--cuts", "7", *words), "line 1 can't be read: a quote is opened")
+    plain = tools.told("log.py", tools.file("log.csv", log_with_remarks(600, {})), *LOG_COLUMNS, "--cuts", "7")
+    lines = tools.file("log.csv", log_with_remarks(600, {31: '"two\r\nlines\n"', 90: '"a ""quote"""', 99: "in\" a field"}))
+    out, err, status = tools.ran("log.py", lines, *LOG_COLUMNS, "--cuts", "7", "--multiline")
+    want((out, status), (plain, 0), err)
+    want_in(err, "log.py: rows read 600 of 603 lines; down to the headings 1, empty 0, lines within fields 2\n")
+    names = tools.file("names.csv", 'name,stands for\nA,"open\nB,other\n')
+    want_in(tools.stopped("log.py", "log.csv", *LOG_COLUMNS, "--cuts", "7", "--multiline", "--names", names), "has a quote that isn't closed")
+
+
+@test
+def log_tells_what_it_has_read(tools):
+    """How many rows of how many lines, which departures, and on which days between them there is none."""
+    heads = "Export\n\nBooked on,Departure,Fare product,Seats\n"
+    for days, wanted in (
+            ([1, 2, 3], "3 days, from 2025-03-01 to 2025-03-03; days between without one: none"),
+            ([9], "1 days, from 2025-03-09 to 2025-03-09; days between without one: none"),
+            ([1, 2, 3, 4, 5, 6, 7, 8, 12, 13, 15], "11 days, from 2025-03-01 to 2025-03-15; days between without one: 2025-03-09 to "
+             "2025-03-11, 2025-03-14"),
+            ([7, 14, 28], "3 days, from 2025-03-07 to 2025-03-28; days between without one: 2025-03-21; each mon, tue, wed, thu, sat, sun"),
+            ([7, 10], "2 days, from 2025-03-07 to 2025-03-10; days between without one: each sat, sun")):
+        rows = [f"2025-02-01,2025-03-{day:02},P,1\n" for day in reversed(days)] + [",,,\n"]
+        err = tools.ran("log.py", tools.file("log.csv", heads + "".join(rows)), *LOG_COLUMNS, "--cuts", "7")[1]
+        want_in(err, f"log.py: rows read {len(days)} of {len(days) + 4} lines; down to the headings 3, empty 1\n")
+        want_in(err, f"log.py: departures on {wanted}\n")
+    text = heads + "".join(f"2025-02-01,{datetime.date(2025, 3, 1) + datetime.timedelta(2 * it)},P,1\n" for it in range(30))
+    err = tools.ran("log.py", tools.file("log.csv", text), *LOG_COLUMNS, "--cuts", "7")[1]
+    want_in(err, "2025-03-02, 2025-03-04, ")
+    want_in(err, ", 2025-04-09, and 9 more times\n")
+    want_in(tools.stopped("log.py", tools.file("log.csv", heads + "x,2025-03-01,P,1\n"), *LOG_COLUMNS, "--cuts", "7"), "rows read 1 of 4 lines")
 
 
 @test
@@ -1267,6 +1329,157 @@ def tools_find_the_program_on_the_path(tools):
             (tools.folder / "elsewhere" / "nrm").symlink_to(tools.folder / "bin" / "nrm")
         done = subprocess.run(words, cwd=tools.folder, env={**os.environ, "PATH": path}, capture_output=True, text=True, timeout=SECONDS)
         want((done.returncode, wanted in done.stdout + done.stderr), (status, True), done.stdout + done.stderr)
+
+
+LONG_NUMBERS = ["9" * 4300, "9" * 4301, "1" + "0" * 20_000]  # Python makes no number of more than 4,300 digits
+FEW = "periods,1,1,2\nleg,A,1,1,7\nproduct,P,5,A\nrefund,P,50\ndemand,P,1,1\n"
+
+
+@test
+def long_numbers_in_a_network_are_refused(tools):
+    """In each place of a file that has a number, by each tool, and with no traceback."""
+    network = lambda old, new: tools.file("long.csv", FEW.replace(old, new))
+    certificate = tools.file("certificate", "value 5/1\nproduct P 1/1\nleg A 5/1\n")
+    for it in LONG_NUMBERS:
+        for old, new in (("periods,1", f"periods,{it}"), ("1,2\n", f"{it},2\n"), ("A,1,", f"A,{it},"), ("1,7", f"{it},7"), (",7", f",{it}"),
+                         ("P,5", f"P,{it}"), ("P,50", f"P,{it}"), ("P,1,1", f"P,{it},1"), ("P,1,1", f"P,1,{it}")):
+            path = network(old, new)
+            out, err, status = tools.ran("explain.py", path)
+            want((status, err, len(out) < 1000), (3, "", True), out[:200])
+            want_in(out, ": 9999" if it[0] == "9" else ": 1000")
+            out, err, status = tools.ran("audit.py", path, certificate)
+            want((status, err, out), (3, "", "refused: `nrm print` says why\n"))
+            want_in(tools.stopped("lp.py", path), "is refused: `tools/explain.py")
+        for old, new in (("P,5", f"P,0{it}"), ("P,1,1", f"P,1,0{it}")):
+            path = network(old, new)
+            want_in(tools.ran("explain.py", path)[0], "without blanks and without a 0 in front")
+        want_in(tools.ran("explain.py", network("P,5", f"P,{it} EUR"))[0], "write digits alone: ")
+    for name, words in words_of_tools(tools).items():
+        if name not in ("explain.py", "audit.py", "log.py"):
+            want_in(tools.stopped(name, network("P,5", f"P,{LONG_NUMBERS[0]}"), *words[1:]), "refused")
+
+
+@test
+def long_numbers_in_other_files_and_words_are_refused(tools):
+    network = tools.file("few.csv", FEW)
+    heads = "Booked on,Departure,Fare product,Seats\n"
+    rows = tools.file("rows.csv", ",".join(["season", "mode", "bound", "revenue", "earned"]) + "\n0,first,1,1,{}\n")
+    for it in LONG_NUMBERS:
+        for line in (f"value {it}/1", f"value 1/{it}"):
+            path = tools.file("certificate", line + "\nproduct P 1/1\nleg A 5/1\n")
+            for name in ("audit.py", "explain.py"):
+                out, err, status = tools.ran(name, network, path)
+                want((status, err, out.partition("\n")[0]), (3, "", "refused certificate line 1 large"))
+        log = tools.file("log.csv", f"{heads}2025-03-01,2025-03-07,P,1\n2025-03-01,2025-03-07,P,{it}\n")
+        want_in(tools.stopped("log.py", log, *LOG_COLUMNS, "--cuts", "7"), "' is no number of seats\n")
+        good = tools.file("log.csv", f"{heads}2025-03-01,2025-03-07,P,1\n")
+        want_in(tools.stopped("log.py", good, *LOG_COLUMNS, "--cuts", f"{it},7"), "days before departure are wanted")
+        for number in (it, f"1e{it}", f"1e-{it}", f"0.{it}"):
+            text = WRITTEN_BY_GLPSOL.replace("0.666666666666667", number)
+            want_in(tools.stopped("lp.py", tools.file("thirds.csv", WITH_THIRDS), "--solution", tools.file("solution", text)), "has a line that")
+        text = WRITTEN_BY_ESOLVER.replace("2/3", f"2/{it}")
+        want_in(tools.stopped("lp.py", "thirds.csv", "--solution", tools.file("solution", text)), "has a line that")
+        try:
+            raise Wrong(f"rows were read: {results.Results.read(tools.file('rows.csv', Path(rows).read_text().replace('{}', it)))}")
+        except Stop as stop:
+            want_in(str(stop), "is no file of rows that simulate.py wrote")
+        tools.file("rows.csv", "season,mode,bound,revenue,earned\n0,first,1,1,{}\n")
+        for name, words in (("log.py", [good, *LOG_COLUMNS, "--cuts", "7", "--last", it]), ("replay.py", [network, "--seed", it]),
+                            ("thresholds.py", [network, it])):
+            tools.stopped(name, *words, status=2)
+
+
+@test
+def long_numbers_in_replies_are_refused(tools):
+    network = tools.file("few.csv", "periods,2,1\nleg,A,1\nproduct,P,5,A\ndemand,P,1,1\ndemand,P,2,1\n")
+    stream = tools.file("stream", "book P 1\n")
+    for it in LONG_NUMBERS:
+        for line in (f"hindsight {it}/1 revenue 0 withheld 0", f"hindsight 1/1 revenue {it} withheld 0"):
+            program = ["--program", "sh", tools.file("script", f"sed 's|^hindsight$|{line}|; s/^book.*/ok 1/'")]
+            want_in(tools.stopped("replay.py", network, *program), "has no bound")
+            answers = f"s/^plan/value none/; s/^leg A/leg A seats 1 authorised 1 sold 0 left 1/; s|^hindsight$|{line}|; s/^book.*/ok 1/"
+            want_in(tools.stopped("season.py", network, stream, "--program", "sh", tools.file("script", f"sed '{answers}'")), "replies don't fit")
+        for line in (f"value A {it}/1", f"protect A {it}", f"value A 1/{it}"):
+            program = ["--program", "sh", tools.file("script", f"echo class P 5; echo '{line}'")]
+            want_in(tools.stopped("optimum.py", network, "A", *program), "is no answer to it")
+        for line in (f"cuts A {it}", f"centres A {it}", f"cost A {it}"):
+            lines = [line if it.startswith(line.split()[0]) else it for it in ("cuts A", "centres A 5", "cost A 0")]
+            program = ["--program", "sh", tools.file("script", "".join(f"echo '{it}'\n" for it in lines))]
+            want_in(tools.stopped("thresholds.py", network, 2, *program), "is no answer to it")
+    zero = "s/^plan/leg A 1\\/0/; s/^leg A/leg A seats 1 authorised 1 sold 0 left 1/; s|^hindsight$|hindsight 1/0 revenue 0 withheld 0|"
+    want_in(tools.stopped("season.py", network, stream, "--program", "sh", tools.file("script", f"sed '{zero}'")), "replies don't fit")
+
+
+class Checkout:
+    """A checkout in a folder, with the tools, the scripts that build, a source and no program; and a kit that notes that it was asked."""
+
+    def __init__(self, tools):
+        self.tools, self.top, self.bin, self.kit = tools, tools.folder / "checkout", tools.folder / "bin", tools.folder / "kit"
+        shutil.copytree(TOOLS, self.top / "tools")
+        for it in ("nrm", "nrm_kept", "crates.txt"):
+            shutil.copy2(TOP / it, self.top)
+        self.source = self.top / "crates" / "nrm" / "src" / "main.rt"
+        for it in (self.source.parent, self.top / "crates" / "nrm" / "must-fail", self.bin, self.kit, tools.folder / "empty"):
+            it.mkdir(parents=True)
+        self.source.write_text("")
+        self.asked = tools.folder / "asked"
+        self.script(self.kit / "rt", f"touch '{self.asked}'; exit 1")
+        self.built = self.top / "crates" / "nrm" / "out" / "nrm"
+
+    def script(self, path, text):
+        path.parent.mkdir(parents=True, exist_ok=True)
+        path.write_text(f"#!/bin/sh\n{text}\n")
+        path.chmod(0o755)
+
+    def program(self, path, name):
+        """A program at a path that notes its name, and answers as the one of the tests."""
+        words = " ".join(f"'{it}'" for it in self.tools.program)
+        self.script(path, f"echo {name} >> '{self.tools.folder}/ran'; exec {words} \"$@\"")
+
+    def ran(self, name, words, *folders):
+        """How a tool ends, which programs it ran, what it told, and whether anything was to be built."""
+        (self.tools.folder / "ran").write_text("")
+        path = os.pathsep.join(map(str, [*folders, self.kit, "/usr/bin", "/bin"]))
+        done = subprocess.run([sys.executable, "-B", self.top / "tools" / name, *words], cwd=self.tools.folder, capture_output=True, text=True,
+                              env={**self.tools.blind(), "PATH": path}, timeout=SECONDS)
+        want(("Traceback" in done.stderr, self.asked.exists()), (False, False), f"{name} {done.stderr}")
+        return done.returncode, set((self.tools.folder / "ran").read_text().split()), done.stderr
+
+
+@test
+def tools_build_nothing(tools):
+    """In a checkout without a program they take the one on the path, be that of another checkout, or say how to get one."""
+    checkout = Checkout(tools)
+    words_of = {name: words[:words.index("--program")] for name, words in words_of_tools(tools).items() if "--program" in words}
+    want(sorted(words_of), ["optimum.py", "replay.py", "resume.py", "season.py", "thresholds.py"])
+    for name, words in words_of.items():
+        checkout.program(checkout.bin / "nrm", "path")
+        want(checkout.ran(name, words, checkout.bin)[:2], (0, {"path"}), name)
+        want(checkout.ran(name, words, tools.folder / "empty", checkout.top, checkout.bin)[:2], (0, {"path"}), name)
+        for more in ([], ["--program", str(checkout.top / "nrm")], ["--program", "nrm"]):
+            status, ran, err = checkout.ran(name, [*words, *more], checkout.top)
+            want((status, ran), (1, set()), err)
+            want_in(err, f"{name}: there is no program that fits the sources of {checkout.top}, ")
+            want_in(err, f"/nrm once, which proves and builds it, or say by --program which to run\n")
+        checkout.program(checkout.built, "built")
+        want(checkout.ran(name, words, checkout.bin)[:2], (0, {"built"}), name)
+        want(checkout.ran(name, [*words, "--program", "nrm"], checkout.top)[:2], (0, {"built"}), name)
+        checkout.built.unlink()
+
+
+@test
+def tools_take_no_program_that_is_older_than_its_sources(tools):
+    checkout, words = Checkout(tools), [EXAMPLES / "log" / "network.csv"]
+    checkout.program(checkout.bin / "nrm", "path")
+    checkout.program(checkout.built, "built")
+    edit, other = checkout.top / "crates" / "nrm" / "must-fail" / "edit", checkout.built.parent / "other"
+    for newer, is_taken in ((checkout.source, False), (checkout.top / "crates.txt", False), (edit, True), (other, True),
+                            (checkout.top / "tools" / "page.py", True)):
+        newer.touch()
+        os.utime(newer, ns=(2**62, 2**62))
+        want(checkout.ran("replay.py", words, checkout.bin)[:2], (0, {"built" if is_taken else "path"}), newer)
+        want(checkout.ran("replay.py", words)[0], 0 if is_taken else 1, newer)
+        newer.unlink() if newer in (edit, other) else os.utime(newer, ns=(0, 0))
 
 
 def headings_of(path):

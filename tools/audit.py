@@ -21,11 +21,19 @@ from math import lcm
 LONGEST_CERTIFICATE = 65_536
 GREATEST = 2**63 - 1  # of a number as it is written in a certificate
 LIMIT = 2**48  # no number of a certificate over its common denominators reaches it
+MOST_DIGITS = 19  # of a number in either file
 FRACTION = re.compile(rb"(0|[1-9][0-9]*)/([1-9][0-9]*)")
 
 
 class Refused(Exception):
     """The line that says why a file is refused."""
+
+
+def number_of(field):
+    """The number of a field; a ValueError where it is none, or longer than any may be."""
+    if len(field) > MOST_DIGITS:
+        raise ValueError
+    return int(field)
 
 
 class Network:
@@ -47,18 +55,19 @@ class Network:
 
     def take(self, kind, name, rest):
         if kind == "periods":
-            self.histories, self.periods, self.version = int(name), int(rest[0]), len(rest)
+            self.histories, self.periods, self.version = number_of(name), number_of(rest[0]), len(rest)
         elif kind == "leg":
-            seats, *thresholds = map(int, rest)
+            seats, *thresholds = map(number_of, rest)
             self.seats[name] = seats
             self.authorised[name] = thresholds.pop(0) if self.version == 2 else seats
             self.thresholds[name] = thresholds
         elif kind == "product":
-            self.fare[name], self.legs[name], self.refund[name], self.demand[name] = int(rest[0]), rest[1:], 100, 0
+            self.fare[name], self.legs[name], self.refund[name], self.demand[name] = number_of(rest[0]), rest[1:], 100, 0
         elif kind == "refund" and self.version == 2 and name in self.fare:
-            [self.refund[name]] = map(int, rest)
+            [self.refund[name]] = map(number_of, rest)
         elif kind == "demand":
-            self.demand[name] += sum(map(int, rest[1:]))  # the first number is that of the history
+            _, *seats = map(number_of, rest)  # the first number is that of the history
+            self.demand[name] += sum(seats)
         else:
             raise ValueError
 
@@ -73,7 +82,7 @@ def bytes_of(path):
 
 
 def is_large(digits):
-    return len(digits) > 19 or int(digits) > GREATEST
+    return len(digits) > MOST_DIGITS or int(digits) > GREATEST
 
 
 class Certificate:

@@ -70,6 +70,11 @@ def shown(text):
     return repr(text) if text != text.strip() or not text.isprintable() or not text else text
 
 
+def value_of(digits):
+    """The number that digits say; of more than any limit has it is one above all limits."""
+    return int(digits[:len(str(MOST_MONEY)) + 1])
+
+
 def name_of_field(kind, at, version):
     authorised = ["the authorised seats"] if version == 2 else []
     names = {"periods": ["the histories", "the periods", "the version"],
@@ -105,7 +110,7 @@ class Reading:
         """The histories and the periods, or None where the row that says them doesn't say them well."""
         fields = self.first_periods.fields if self.first_periods else []
         limits = (MOST_HISTORIES, MOST_PERIODS)
-        if len(fields) < 3 or not all(WHOLE.fullmatch(it) and 1 <= int(it) <= most for it, most in zip(fields[1:], limits)):
+        if len(fields) < 3 or not all(WHOLE.fullmatch(it) and 1 <= value_of(it) <= most for it, most in zip(fields[1:], limits)):
             return None, None
         return int(fields[1]), int(fields[2])
 
@@ -202,7 +207,7 @@ class Reading:
             if not WHOLE.fullmatch(row.fields[at]):
                 yield Fault(6, at, how_to_mend_a_number(row.fields[at], row.fields[0]))
         for at, least, most in limits:
-            if WHOLE.fullmatch(row.fields[at]) and not least <= int(row.fields[at]) <= most:
+            if WHOLE.fullmatch(row.fields[at]) and not least <= value_of(row.fields[at]) <= most:
                 yield Fault(7, at, how_to_mend_a_range(row.fields[0], at, least, most, self.version))
 
     def limits(self, row):
@@ -333,14 +338,14 @@ def how_to_mend_a_number(text, kind):
     if not digits:
         return "a number is wanted; where the row ends in commas, `sed 's/,*\\r*$//' FILE > NEW` takes them away"
     if re.fullmatch(r"[0-9]+", digits):
-        return f"write {int(digits)}, without blanks and without a 0 in front"
+        return f"write {shown(digits.lstrip('0') or '0')}, without blanks and without a 0 in front"
     if re.fullmatch(r"[0-9]{1,3}([,.' \u00a0\u2019\u202f][0-9]{3})+", digits):
-        return f"write digits alone: {re.sub('[^0-9]', '', digits)}, if the mark is for thousands"
+        return f"write digits alone: {shown(re.sub('[^0-9]', '', digits))}, if the mark is for thousands"
     if re.fullmatch(r"[0-9]+[.,][0-9]*", digits):
         return f"write a whole number, {'a percentage' if kind == 'refund' else 'fares in whole currency units'}: round it"
     found = re.fullmatch(r"[^0-9]*([0-9]+)[^0-9]*", digits)
     if found and not digits.startswith("-"):
-        return f"write digits alone: {int(found[1])}"
+        return f"write digits alone: {shown(found[1].lstrip('0') or '0')}"
     return "write a whole number in digits alone, without a sign"
 
 

@@ -2,7 +2,8 @@
 """From a log of requests, as a reservation system exports it, to the demand rows of a network file.
 
     tools/log.py LOG --departs COLUMN --booked COLUMN --product COLUMN.. [--seats COLUMN] --cuts DAYS,DAYS..
-                 [--without COLUMN TEXT..] [--network FILE] [--names FILE] [--weekday DAY] [--last N] [--dates dmy|mdy] > NEW
+                 [--without COLUMN TEXT..] [--network FILE] [--names FILE] [--weekday DAY] [--last N] [--dates dmy|mdy]
+                 [--multiline] > NEW
 
 LOG has a row of headings and below it a row for each request: the day of departure, the day on which it was made, what was
 asked for, and how many seats, 1 where no column says so. COLUMN is a heading, in capitals or not; what was asked for may stand in
@@ -10,6 +11,13 @@ several, such as the flight and the class, which are then joined. Rows above the
 columns and empty rows. Fields are kept apart by commas, semicolons, tabs or bars, and may stand in quotes. The file may be in
 UTF-8, in UTF-16 with its mark, or else in Windows-1252. --without status cancelled leaves out the rows that have that text, or one
 of several, in that column, in capitals or not; it may be said of more columns than one.
+
+QUOTES. A quote that isn't closed takes all that follows into its field, up to the next quote. So each row is to end in its line: where a
+quote is opened in it and not closed, or closed and followed by more text, the log is refused, with the line. --multiline is for logs
+whose fields have line feeds on purpose, within quotes; a quote that is closed nowhere is refused then too.
+
+WHAT IS READ. On standard error stands each time how many rows were read of how many lines; from which day to which there are
+departures, and how many; and which days between them have none: days of the week on which there never is one, and single days.
 
 SEASONS. Each day of departure is a season, and so a history: they are numbered from the earliest. With --weekday fri they are the
 Fridays alone, with --last N the N latest; a file takes 32.
@@ -29,8 +37,8 @@ in it stay, and new ones are added. So better ones may be written into it.
 What is written is the demand, as rows `demand`, with the row of periods above them. With --network FILE, which has rows of legs
 and products, it is the whole network file: the demand and the periods of FILE are replaced; its version, authorised seats and
 refunds stay. If these are more than a network file takes, `tools/split.py` cuts it. What is still to be done, such as the
-products to which FILE has no row, is told on standard error. A log that has a row that can't be read is refused: the first 20
-such rows are told, and how many more there are.
+products to which FILE has no row, is told on standard error. A log that has a row that can't be read is refused: it prints the first
+20 such rows, and how many more there are.
 """
 import csv
 import datetime
@@ -42,7 +50,7 @@ import sys
 from collections import Counter
 
 from nrm_tools import (LONGEST_NAME, MOST_HISTORIES, MOST_PERIODS, MOST_PRODUCTS, MOST_SEATS, NAME, Stop, bytes_in, end, named,
-                       parser, rows_in, text_of)
+                       number, parser, rows_in, text_of)
 
 SEPARATORS = [",", ";", "\t", "|"]
 MOST_ABOVE = 100  # rows above the headings
@@ -57,7 +65,8 @@ WITH_MONTH = re.compile(r"(\d{1,2})[- .]*([A-Za-z]{3})[a-z]*[- .,]*(\d{4}|\d{2})
 MONTH_FIRST = re.compile(r"([A-Za-z]{3})[a-z]*[ .]+(\d{1,2}),? +(\d{4})")
 EITHER_WAY = re.compile(r"(\d{1,2})([/-])(\d{1,2})\2(\d{4})")
 SHORT_YEAR = re.compile(r"\d{1,2}([./-]) ?\d{1,2}\1 ?\d{2}")
-MOST_TOLD = 20  # rows that can't be read
+MOST_TOLD = 20  # rows that can't be read, and days without a departure
+MOST_TEXT = 60  # that is shown of a line
 OF_A_SPREADSHEET = (b"PK\x03\x04", b"\xd0\xcf\x11\xe0")  # how .xlsx and .ods begin, and .xls
 
 
@@ -79,27 +88,77 @@ def text_in(path):
 
 
 class Log:
-    """The rows of a log: of each the line of the file, and what stands in the columns that are asked for."""
+    """The rows of a log: of each the line of the file in which it begins, and what stands in the columns that are asked for.
 
-    def __init__(self, path, columns):
+    above, empty, within  the lines that are no row: the headings and those above, the empty ones, and those with which a row goes on
+    """
+
+    def __init__(self, path, columns, is_multiline=False):
         text = text_in(path)
+        self.path, self.is_multiline, self.lines = path, is_multiline, list(io.StringIO(text, newline=""))
         try:
-            tried = (self.rows_below_headings(text, it, columns) for it in SEPARATORS)
-            self.rows = next((it for it in tried if it is not None), None)
+            separator, places = next(filter(all, ((it, self.headings(it, columns)) for it in SEPARATORS)), (None, None))
         except csv.Error as fault:
             raise Stop(f"{path} can't be read as fields with separators between them: {fault}")
-        if self.rows is None:
-            raise Stop(f"{path} {what_is_there(text, columns)}")
-
-    @staticmethod
-    def rows_below_headings(text, separator, columns):
-        """The rows behind the first that has all columns as headings, or None where there is none."""
-        reader = csv.reader(io.StringIO(text, newline=""), delimiter=separator)
-        places = next(filter(None, (places_of(columns, fields) for fields in itertools.islice(reader, MOST_ABOVE))), None)
         if not places:
-            return None
-        return [(reader.line_num, [fields[at].strip() if at < len(fields) else "" for at in places])
-                for fields in reader if any(map(str.strip, fields))]
+            raise Stop(f"{path} {what_is_there(text, columns)}")
+        self.rows, self.empty, self.within = [], 0, 0
+        for line, ends, fields in self.records(separator):
+            self.within += ends - line
+            if any(map(str.strip, fields)):
+                self.rows.append((line, [fields[at].strip() if at < len(fields) else "" for at in places]))
+            else:
+                self.empty += 1
+
+    def headings(self, separator, columns):
+        """Where the columns stand, by the first row that has all of them as headings, or None where there is none."""
+        reader, before = csv.reader(self.lines, delimiter=separator), 0
+        for fields in itertools.islice(reader, MOST_ABOVE):
+            if places := places_of(columns, fields):
+                self.above = before
+                self.above = next(self.records(separator))[1]
+                return places
+            before = reader.line_num
+        return None
+
+    def records(self, separator):
+        """The records below some lines, each with the lines in which it begins and ends; a Stop where one doesn't end as it should."""
+        reader, begins = csv.reader(self.lines[self.above:], delimiter=separator, strict=True), self.above + 1
+        while True:
+            try:
+                fields = next(reader, None)
+            except csv.Error as fault:
+                raise self.no_record(begins, self.above + reader.line_num, "end of data" in str(fault))
+            ends = self.above + reader.line_num
+            if fields is None:
+                return
+            if ends > begins and not self.is_multiline:
+                raise self.no_record(begins, ends)
+            yield begins, ends, fields
+            begins = ends + 1
+
+    def no_record(self, begins, ends, is_open=False):
+        """A Stop for a record that begins in a line and doesn't end as it should, which shows in another or in the same; a quote may
+        be open at the end of the file."""
+        if (ends > begins or is_open) and not self.is_multiline:
+            why = "a quote is opened in it and isn't closed in it, which would take the lines below with it: close it or take it out"
+            why += "; --multiline takes fields with line feeds"
+        elif is_open:
+            why = "a quote is opened in it that is closed nowhere: close it or take it out"
+        else:
+            why = f"a quote is opened and closed in it{f', in line {ends},' if ends > begins else ''} and more text stands behind it: close it"
+            why += " at the end of its field, or write a quote within a field twice"
+        line = self.lines[begins - 1].rstrip("\r\n")
+        return Stop(f"{self.path}: line {begins} can't be read: {why}\n    {shown(line)}")
+
+    def tell(self):
+        """Tells how many rows were read of how many lines, and what the other lines were."""
+        more = f", lines within fields {self.within}" if self.within else ""
+        tell(f"rows read {len(self.rows)} of {len(self.lines)} lines; down to the headings {self.above}, empty {self.empty}{more}")
+
+
+def shown(text):
+    return text if len(text) <= MOST_TEXT else text[:MOST_TEXT] + ".."
 
 
 def what_is_there(text, columns):
@@ -181,9 +240,9 @@ class Request:
             raise ValueError(f"it was made on {booked}, after its departure on {departs}")
         if not product:
             raise ValueError("it names no product")
-        if not re.fullmatch(r"[0-9]+([.,]0+)?", seats):
-            raise ValueError(f"{seats!r} is no number of seats")
-        self.product, self.seats = product, int(re.match("[0-9]+", seats)[0])
+        if not (found := re.fullmatch(r"([0-9]{1,18})(?:[.,]0+)?", seats)):
+            raise ValueError(f"{shown(seats)!r} is no number of seats")
+        self.product, self.seats = product, int(found[1])
 
 
 def day_of(dates, text, which):
@@ -193,12 +252,12 @@ def day_of(dates, text, which):
         return dates.day(text)
     except ValueError:
         why = "has a year of two digits" if SHORT_YEAR.fullmatch(without_time(text)) else "is no date that is known"
-        raise ValueError(f"{text!r} {why}; write it as 2025-03-07") from None
+        raise ValueError(f"{shown(text)!r} {why}; write it as 2025-03-07") from None
 
 
 def rows_kept(rows, without):
-    """The rows of a log without those that have one of some texts in a column; these columns are the last. Told is how many are
-    left out."""
+    """The rows of a log without those that have one of some texts in a column; these columns are the last. Tells how many are left
+    out."""
     kept = rows
     for at, (column, *texts) in enumerate(without, -len(without)):
         unwanted = {it.strip().lower() for it in texts}
@@ -209,10 +268,12 @@ def rows_kept(rows, without):
     return kept
 
 
-def requests_in(path, departs, booked, product, seats=None, order=None, without=()):
+def requests_in(path, departs, booked, product, seats=None, order=None, without=(), is_multiline=False):
     """The requests of the log at a path, whose columns have these headings; those of the product are a list."""
     columns = [departs, booked, *product, *([seats] if seats else [])]
-    rows = rows_kept(Log(path, [*columns, *[column for column, *_ in without]]).rows, without)
+    log = Log(path, [*columns, *[column for column, *_ in without]], is_multiline)
+    log.tell()
+    rows = rows_kept(log.rows, without)
     rows = [(line, fields[:len(columns)]) for line, fields in rows]
     dates = Dates((text for _, fields in rows for text in fields[:2]), order)
     requests, wrong = [], []
@@ -227,7 +288,31 @@ def requests_in(path, departs, booked, product, seats=None, order=None, without=
         raise Stop("\n    ".join([f"{path} has rows that can't be read; mend them, or take them out", *wrong[:MOST_TOLD], *more]))
     if not requests:
         raise Stop(f"{path} has no request below its headings")
+    tell_departures(sorted({it.departs for it in requests}))
     return requests
+
+
+def tell_departures(days):
+    """Tells how many days of departure there are, the first and the last, and which days between them have none."""
+    known, departing = set(days), {it.weekday() for it in days}
+    between = [days[0] + datetime.timedelta(it) for it in range(1, (days[-1] - days[0]).days)]
+    spans = spans_of(it for it in between if it not in known and it.weekday() in departing)
+    more = [f"and {len(spans) - MOST_TOLD} more times"] if len(spans) > MOST_TOLD else []
+    never = [WEEKDAYS[it] for it in sorted({it.weekday() for it in between} - departing)]
+    without = [", ".join([*spans[:MOST_TOLD], *more]), f"each {', '.join(never)}" if never else ""]
+    tell(f"departures on {len(days)} days, from {days[0]} to {days[-1]}; days between without one: "
+         f"{'; '.join(filter(None, without)) or 'none'}")
+
+
+def spans_of(days):
+    """Days in texts, those that follow one another as one."""
+    spans = []
+    for day in days:
+        if spans and day - spans[-1][1] == datetime.timedelta(1):
+            spans[-1][1] = day
+        else:
+            spans.append([day, day])
+    return [str(first) if first == last else f"{first} to {last}" for first, last in spans]
 
 
 # The demand
@@ -267,7 +352,7 @@ class Demand:
 def cuts_of(text):
     """The days before departure at which a new period begins, the earliest first."""
     try:
-        cuts = [int(it) for it in text.split(",")]
+        cuts = [number(it) for it in text.split(",")]
     except ValueError:
         raise Stop(f"--cuts {text}: days before departure are wanted, as 60,30,7")
     if cuts != sorted(set(cuts), reverse=True) or cuts[-1] < 0:
@@ -285,13 +370,16 @@ def names_in(path):
     if path is None or not os.path.exists(path):
         return {}
     text, names = text_in(path), {}
-    reader = csv.reader(io.StringIO(text, newline=""), delimiter=";" if text.startswith("name;") else ",")
-    if next(reader, None) != ["name", "stands for"]:
+    reader = csv.reader(io.StringIO(text, newline=""), delimiter=";" if text.startswith("name;") else ",", strict=True)
+    try:
+        first, *rows = [(reader.line_num, row) for row in reader] or [(1, [])]
+    except csv.Error:
+        raise Stop(f"{path} is no list of names: line {reader.line_num} or one above it has a quote that isn't closed")
+    if first[1] != ["name", "stands for"]:
         raise Stop(f"{path} is no list of names: its first row is to be `name,stands for`")
-    for row in filter(None, reader):
-        name, *stands_for = row
+    for line, (name, *stands_for) in ((line, row) for line, row in rows if row):
         if len(stands_for) != 1 or not NAME.fullmatch(name) or name in names.values() or stands_for[0] in names:
-            raise Stop(f"{path} is no list of names: line {reader.line_num} is to have a name of its own, of 1 to {LONGEST_NAME} of A-Z, "
+            raise Stop(f"{path} is no list of names: line {line} is to have a name of its own, of 1 to {LONGEST_NAME} of A-Z, "
                        "0-9 and -, and one text that it stands for")
         names[stands_for[0]] = name
     return names
@@ -362,15 +450,17 @@ def main():
     words.add_argument("--network", metavar="FILE")
     words.add_argument("--names", metavar="FILE")
     words.add_argument("--weekday", choices=WEEKDAYS)
-    words.add_argument("--last", metavar="N", type=int)
+    words.add_argument("--last", metavar="N", type=number)
     words.add_argument("--dates", choices=["dmy", "mdy"])
+    words.add_argument("--multiline", action="store_true")
     given = words.parse_args()
     if given.last is not None and not 1 <= given.last <= MOST_HISTORIES:
         raise Stop(f"--last {given.last}: a network file takes 1 to {MOST_HISTORIES} histories")
     if any(len(it) < 2 for it in given.without):
         raise Stop("--without wants a column and one text or more, as --without status cancelled")
     cuts, known = cuts_of(given.cuts), names_in(given.names)
-    requests = requests_in(given.log, given.departs, given.booked, given.product, given.seats, given.dates, given.without)
+    requests = requests_in(given.log, given.departs, given.booked, given.product, given.seats, given.dates, given.without,
+                           given.multiline)
     demand = Demand(requests, cuts, given.weekday, given.last)
     names = named(demand.products, known)
     if given.names is not None:

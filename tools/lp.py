@@ -24,9 +24,10 @@ must be the solver's. A leg without a product isn't in the program, and has pric
 import re
 from fractions import Fraction
 
-from nrm_tools import Network, Stop, bytes_in, end, parser
+from nrm_tools import MOST_DIGITS, Network, Stop, bytes_in, end, parser
 
 DIGITS = 15  # that glpsol writes of a number
+WRITTEN = re.compile(r"[+-]?[0-9]{1,40}(\.[0-9]{0,40})?(e[+-]?[0-9]{1,2})?|-?[0-9]{1,40}/[1-9][0-9]{0,39}")  # by either solver
 
 
 def legs_in(network):
@@ -51,9 +52,16 @@ def program(network):
     yield "end"
 
 
+def number_in(text):
+    """The number that a solver wrote; a ValueError where it is none, or longer than any that a certificate takes."""
+    if not WRITTEN.fullmatch(text):
+        raise ValueError(text[:MOST_DIGITS])
+    return Fraction(text)
+
+
 def fraction(text):
     """The simplest fraction that a decimal of 15 digits stands for."""
-    number = Fraction(text)
+    number = number_in(text)
     behind_the_point = max(DIGITS - len(str(abs(int(number)))), 0)
     return number.limit_denominator(10 ** (behind_the_point // 2))
 
@@ -78,7 +86,7 @@ class Solution:
                 found.setdefault(words[0] if words else "", []).append(words[1:])
         if [it[:5] for it in found["s"]] != [["bas", str(len(self.legs)), str(len(self.products)), "f", "f"]]:
             raise self.is_none()
-        return Fraction(found["s"][0][5]), [fraction(it[2]) for it in found["j"]], [fraction(it[3]) for it in found["i"]]
+        return number_in(found["s"][0][5]), [fraction(it[2]) for it in found["j"]], [fraction(it[3]) for it in found["i"]]
 
     def of_esolver(self, text):
         """The numbers that `esolver -O` wrote: under each title those that aren't 0, by their names."""
@@ -89,7 +97,7 @@ class Solution:
         value = re.search(r"^status OPTIMAL\n\s*Value = (\S+)$", head, re.M)
         if not value or not (seats.keys() <= set(products) and prices.keys() <= set(legs)):
             raise self.is_none()
-        return Fraction(value[1]), [Fraction(seats.get(it, 0)) for it in products], [Fraction(prices.get(it, 0)) for it in legs]
+        return number_in(value[1]), [number_in(seats.get(it, "0")) for it in products], [number_in(prices.get(it, "0")) for it in legs]
 
 
 def certificate(network, solution):
@@ -104,6 +112,8 @@ def certificate(network, solution):
 
 
 def written(number):
+    if max(abs(number.numerator), number.denominator) >= 10**MOST_DIGITS:
+        raise Stop(f"the solution has fractions of more than {MOST_DIGITS} digits, and no certificate takes such")
     return f"{number.numerator}/{number.denominator}"
 
 

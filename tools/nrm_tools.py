@@ -12,6 +12,7 @@ An analyst's own script may import it too, with the folder of this file on Pytho
 """
 import argparse
 import functools
+import hashlib
 import io
 import os
 import re
@@ -20,16 +21,18 @@ import signal
 import subprocess
 import sys
 import unicodedata
+from fractions import Fraction
 from pathlib import Path
 
 TOP = Path(__file__).resolve().parent.parent
-BUILT = TOP / "crates" / "nrm" / "out" / "nrm"
 MODES = ["first", "bid", "davn"]
 MOST_HISTORIES, MOST_PERIODS, MOST_LEGS, MOST_PRODUCTS, MOST_SEATS = 32, 16, 64, 256, 999
 LONGEST_FILE = 4_194_304
 LONGEST_NAME = 12
 NAME = re.compile(r"[A-Z0-9-]{1,12}")
 WHOLE = re.compile(r"0|[1-9][0-9]*")
+CHECKSUM = hashlib.sha256(Path(__file__).read_bytes()).hexdigest()  # of this script, as it was loaded
+MOST_DIGITS = 40  # of a number that is read: what the program takes or writes has fewer, and Python fails at more than 4,300
 
 
 # How a tool begins and ends
@@ -56,23 +59,64 @@ def add_program(words):
 
 
 def program(words=None):
-    """The words that run `nrm`: those given, else the `nrm` above this folder, else the one on the path."""
+    """The words that run `nrm`: those given, else the program above this folder, else the one on the path. Nothing is ever built: where
+    the script of a checkout is found, which builds, stands the program that it would run, if that one is no older than its sources."""
     if words:
+        path = shutil.which(words[0])
+        if path and is_script_of_checkout(path):
+            return [built_by(path) or no_program(path), *words[1:]]
         return words
-    here = TOP / "nrm"
-    is_there = here.exists() and (BUILT.exists() or bool(shutil.which("rt")) or not (TOP / "crates.txt").exists())
-    found = str(here) if is_there else shutil.which("nrm") or (str(here) if here.exists() else None)
-    if not found:
-        raise Stop(f"there is no `nrm`, neither in {TOP} nor on the path; --program says which to run")
-    return [found]
+    above = str(TOP / "nrm")
+    for path in (above, *(os.path.join(folder, "nrm") for folder in os.get_exec_path())):
+        if found := built_by(path) if is_script_of_checkout(path) else is_program(path) and path:
+            return [found]
+    if is_script_of_checkout(above):
+        no_program(above)
+    raise Stop(f"there is no `nrm`, neither in {TOP} nor on the path; --program says which to run")
+
+
+def no_program(script):
+    """Stops where the program of a script isn't built from its sources as they are, and says how to get it."""
+    top = os.path.dirname(os.path.realpath(script))
+    raise Stop(f"there is no program that fits the sources of {top}, nor another `nrm` on the path: run {script} once, which proves and "
+               "builds it, or say by --program which to run")
+
+
+def is_program(path):
+    return os.path.isfile(path) and os.access(path, os.X_OK)
+
+
+def is_script_of_checkout(path):
+    """Whether a path leads to the script at the top of a checkout, which builds the program before it runs it."""
+    top, name = os.path.split(os.path.realpath(path))
+    return name in ("nrm", "nrm_kept") and is_program(os.path.join(top, name)) and os.path.exists(os.path.join(top, "crates.txt"))
+
+
+def built_by(script):
+    """The path of the program that the script of a checkout has built, or None: where there is none, or its sources are newer."""
+    top, name = os.path.split(os.path.realpath(script))
+    found = os.path.join(top, "crates", name, "out", name)
+    return found if is_program(found) and not has_newer_sources(top, os.stat(found).st_mtime_ns) else None
+
+
+def has_newer_sources(top, time):
+    """Whether a source of a checkout was changed after a time, in nanoseconds: the files that the script looks at."""
+    if os.stat(os.path.join(top, "crates.txt")).st_mtime_ns > time:
+        return True
+    for folder, folders, files in os.walk(os.path.join(top, "crates")):
+        folders[:] = [it for it in folders if it not in ("out", "must-fail")]
+        if any(os.lstat(os.path.join(folder, it)).st_mtime_ns > time for it in files):
+            return True
+    return False
 
 
 def built(path=None):
     """The path of a built program: the one that is given, else the one that the sources are built into."""
-    found = os.path.abspath(path or BUILT)
-    if not (os.path.isfile(found) and os.access(found, os.X_OK)):
-        raise Stop(f"there is no program {found}{'' if path else '; `./nrm` builds it'}")
-    return found
+    if path is None:
+        return built_by(TOP / "nrm") or no_program(TOP / "nrm")
+    if not is_program(path):
+        raise Stop(f"there is no program {os.path.abspath(path)}")
+    return os.path.abspath(path)
 
 
 def no_tool(manual):
@@ -187,9 +231,29 @@ def text_of(rows):
 
 def whole(field):
     """The whole number that a field says."""
-    if not WHOLE.fullmatch(field):
-        raise ValueError(field)
+    if not is_whole(field):
+        raise ValueError(field[:MOST_DIGITS])
     return int(field)
+
+
+def is_whole(field):
+    """Whether a field is a whole number, and no longer than any may be."""
+    return len(field) <= MOST_DIGITS and WHOLE.fullmatch(field) is not None
+
+
+def number(text):
+    """The number that a text says, be there blanks, a sign or a 0 before it."""
+    if len(text) > MOST_DIGITS:
+        raise ValueError(text[:MOST_DIGITS])
+    return int(text)
+
+
+def fraction(text):
+    """The fraction that a text says: two whole numbers, of which the second isn't 0."""
+    numerator, _, denominator = text.partition("/")
+    if denominator == "0":
+        raise ValueError(text)
+    return Fraction(whole(numerator), whole(denominator))
 
 
 class Network:

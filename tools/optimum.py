@@ -5,13 +5,13 @@
 
 The classes are the products whose only leg is LEG, 1 to 10 of them, and they have all its authorised seats to themselves: what
 is sold over several legs has no part in this. The optimum is that of `nrm dp`. EMSR-b's protections are those of `nrm plan davn`
-on a network of this leg and these classes alone, with a bucket for each fare. Told are, for each class, its fare, its mean
+on a network of this leg and these classes alone, with a bucket for each fare. It prints, for each class, its fare, its mean
 demand in a history, and how many seats are kept from it by each for the classes above; and the mean revenue of a history by
 each, the second one worked out in exact fractions by the same model, with its share of the optimum.
 
 With --out the revenue over the number of seats, what each further seat adds to it, which is the bid price of that seat, and the
 protections are drawn, as optimum.png and optimum.svg in FOLDER. That needs matplotlib (Debian's python3-matplotlib). With no
---program it is the `nrm` above this folder, or the one on the path.
+--program it is the program above this folder, or the `nrm` on the path.
 
 WHAT THE NUMBERS MEAN. The model has the classes come one after the other, from the lowest fare to the highest. Each class asks
 for what it did in one of the histories, each as likely, and whatever the other classes ask for. If it comes so, no rule of
@@ -23,16 +23,12 @@ classes in them. So the share says how near EMSR-b's rule comes on this leg in a
 seasons, with the other legs and with new plans, `tools/replay.py` says.
 """
 import os
-import re
 import tempfile
 from collections import Counter
 from fractions import Fraction
 
-from nrm_tools import WHOLE, Network, Stop, add_program, end, parser, program, rows_in, text_of, whole
+from nrm_tools import Network, Stop, add_program, end, fraction, is_whole, parser, program, rows_in, text_of, whole
 from telling import answered, no_answer, no_pictures, table
-
-
-FRACTION = re.compile(r"(0|[1-9][0-9]*)/([1-9][0-9]*)")
 
 
 class Policy:
@@ -84,16 +80,24 @@ class Leg:
             match line.split(" "):
                 case ["class", name, fare] if name in network.fare and str(network.fare[name]) == fare:
                     self.classes.append((name, network.fare[name], demand_of(network, name)))
-                case ["value", self.name, number] if FRACTION.fullmatch(number):
-                    self.value = Fraction(number)
-                case ["protect", self.name, *numbers] if all(map(WHOLE.fullmatch, numbers)):
-                    kept = [0, *map(int, numbers)]
+                case ["value", self.name, value]:
+                    self.value = self.read(fraction, value, words)
+                case ["protect", self.name, *numbers]:
+                    kept = [0, *[self.read(whole, it, words) for it in numbers]]
                 case _:
                     raise no_answer(*words)
         if self.value is None or len(kept) != len(self.classes):
             raise no_answer(*words)
         self.optimal = Policy(kept, self.classes, self.seats)
         if self.optimal.values[-1] != self.value:
+            raise no_answer(*words)
+
+    @staticmethod
+    def read(reader, text, words):
+        """What a reader makes of a text in an answer to words of a run."""
+        try:
+            return reader(text)
+        except ValueError:
             raise no_answer(*words)
 
     def alone(self):
@@ -112,9 +116,9 @@ class Leg:
         buckets, levels = {}, None
         for line in lines:
             match line.split(" "):
-                case ["nest", self.name, name, _, bucket] if WHOLE.fullmatch(bucket):
+                case ["nest", self.name, name, _, bucket] if is_whole(bucket):
                     buckets[name] = int(bucket)
-                case ["protect", self.name, *numbers] if all(map(WHOLE.fullmatch, numbers)):
+                case ["protect", self.name, *numbers] if all(map(is_whole, numbers)):
                     levels = [0, *map(int, numbers)]
         try:
             return Policy([levels[buckets[name] - 1] for name, _, _ in self.classes], self.classes, self.seats)

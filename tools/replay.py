@@ -5,21 +5,21 @@
 
 Each history in its turn is taken out of NETWORK and becomes the season: its requests, a seat each, in the order of the periods
 and mixed within each period by the seed, with a line `reoptimise` at the start of each period but the first. `nrm` answers
-them in the three modes on the network of the other histories. Told are the bound of hindsight, and how much of it each mode
+them in the three modes on the network of the other histories. It prints the bound of hindsight, and how much of it each mode
 earns; nothing is cancelled, so nothing is withheld. `tools/simulate.py --leave-out` plays the same seasons many times, each in
-another order. With no --program it is the `nrm` above this folder, or the one on the path.
+another order. With no --program it is the program above this folder, or the `nrm` on the path.
 """
 import random
 import tempfile
 
-from nrm_tools import MODES, Network, Stop, add_program, bytes_in, end, parser, program
+from nrm_tools import MODES, Network, Stop, add_program, bytes_in, end, number, parser, program
 from seasons import DrawnSeason, Player, Settings, seats_asked_for
 
 
 def main():
     words = parser(__doc__)
     words.add_argument("network")
-    words.add_argument("--seed", type=int, default=1)
+    words.add_argument("--seed", type=number, default=1)
     add_program(words)
     given = words.parse_args()
     histories = Network.read(given.network).histories

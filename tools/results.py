@@ -10,7 +10,7 @@ from collections import defaultdict
 from dataclasses import dataclass
 
 import charts
-from nrm_tools import Stop, no_tool
+from nrm_tools import Stop, no_tool, number
 from telling import Table
 
 NINETY_FIVE = 1.96  # standard errors on each side of a mean, between which 95 of 100 lie
@@ -56,7 +56,7 @@ class Results:
         try:
             with open(path, encoding="ascii", newline="") as file:
                 return cls.of(csv.reader(file))
-        except (ValueError, LookupError, StopIteration):
+        except (ValueError, LookupError, StopIteration, OverflowError):
             raise Stop(f"{path} is no file of rows that simulate.py wrote")
 
     @classmethod
@@ -68,11 +68,11 @@ class Results:
         sums = {}
         for row in rows:
             mode, bound = row[places["mode"]], row[places["bound"]]
-            numbers = list(map(int, [row[places[name]] for name in counted]))
+            numbers = [number(row[places[name]]) for name in counted]
             sums[mode] = [a + b for a, b in zip(sums[mode], numbers)] if mode in sums else numbers
-            results.earned[mode].append(int(row[places["earned"]]))
-            results.revenue[mode].append(int(row[places["revenue"]]))
-            results.bounds[mode].append(int(bound.replace(".", "")) if bound else -1)
+            results.earned[mode].append(number(row[places["earned"]]))
+            results.revenue[mode].append(number(row[places["revenue"]]))
+            results.bounds[mode].append(number(bound.replace(".", "")) if bound else -1)
             results.above_bound += bool(bound) and results.revenue[mode][-1] * DECIMALS > results.bounds[mode][-1]
         results.sums = {mode: dict(zip(counted, it)) for mode, it in sums.items()}
         results.modes, results.seasons = list(sums), len(next(iter(results.earned.values())))

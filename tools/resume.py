@@ -12,8 +12,8 @@ not written again, and goes on with the lines of standard input; its replies and
 is given those alone that can have changed something: what they were answered begins with `ok`, `no`, `cancelled` or `optimised`.
 
 A line that was answered `memory` changed nothing, and may be answered otherwise another time, so it is never given again. If
-what was kept ends inside `memory`, the line has no whole reply, and the stream goes on there. With no --program it is the `nrm`
-above this folder, or the one on the path.
+what was kept ends inside `memory`, the line has no whole reply, and the stream goes on there. With no --program it is the program
+above this folder, or the `nrm` on the path.
 """
 import itertools
 import os

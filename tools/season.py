@@ -3,7 +3,7 @@
 
     tools/season.py NETWORK STREAM [--out FOLDER] [--leg LEG] [--decimal] [--program WORD...]
 
-`nrm` answers the lines of STREAM on NETWORK under `first`, `bid` and `davn`. Told are: the revenue of each mode beside the
+`nrm` answers the lines of STREAM on NETWORK under `first`, `bid` and `davn`. It prints the revenue of each mode beside the
 bound of hindsight, what it has withheld of cancelled bookings where some product's refund is below 100 per cent, and the bid
 prices of each leg, at the opening, at each line `reoptimise` and at the end; the seats of one leg, sold, left and protected; and
 of how many requests each product was refused. The seats left are those of the authorised seats.
@@ -12,7 +12,7 @@ The tables come on standard output; the pictures go to FOLDER, the current one w
 are the same each time. They need matplotlib (Debian's python3-matplotlib): without it there are the tables alone. Both are in
 season.html too, a page that stands alone in one file, without scripts. LEG is the leg
 whose seats are drawn, by default the one of which most seats were asked for. With --decimal the tables have decimals in the place
-of fractions, as a spreadsheet wants them. With no --program it is the `nrm` above this folder, or the one on the path.
+of fractions, as a spreadsheet wants them. With no --program it is the program above this folder, or the `nrm` on the path.
 
 HOW REPLIES ARE TOLD APART. Before the first line, behind each line `reoptimise K` of a period that the network has, and
 behind the last line, the lines `plan`, `leg LEG` for each leg, and `hindsight` are put into the stream. None of them changes
@@ -22,10 +22,9 @@ So the replies are dealt out to the lines in order, and those to the lines put i
 """
 import os
 import re
-from fractions import Fraction
 from pathlib import Path
 
-from nrm_tools import MODES, Network, Stop, add_program, bytes_in, end, make_folder, parser, program, replies
+from nrm_tools import MODES, Network, Stop, add_program, bytes_in, end, fraction, make_folder, parser, program, replies, whole
 from page import Page, write
 from telling import Table, no_pictures
 
@@ -63,16 +62,16 @@ class Point:
         if line == "plan":
             for words in map(str.split, reply):
                 if words[0] == "leg":
-                    self.prices[words[1]] = Fraction(words[2])
+                    self.prices[words[1]] = fraction(words[2])
                 elif words[0] == "protect":
-                    self.protections[words[1]] = [int(it) for it in words[2:]]
+                    self.protections[words[1]] = list(map(whole, words[2:]))
         elif line == "hindsight":
             words = reply[0].split()
             if words[0] == "hindsight":  # and not `overflow` or `memory`
-                self.bound, self.revenue, self.withheld = Fraction(words[1]), int(words[3]), int(words[5])
+                self.bound, self.revenue, self.withheld = fraction(words[1]), whole(words[3]), whole(words[5])
         else:
             words = reply[0].split()
-            self.sold[words[1]] = int(words[7])
+            self.sold[words[1]] = whole(words[7])
 
 
 class Season:
@@ -114,8 +113,8 @@ class Season:
             self.asked[words[1]] += 1
             self.refused[words[1]] += reply[0] == "no"
             if reply[0] == "ok":
-                self.bookings[reply[1]] = words[1], int(words[2])
-                self.sell(words[1], int(words[2]))
+                self.bookings[reply[1]] = words[1], whole(words[2])
+                self.sell(words[1], whole(words[2]))
         elif reply[0] == "cancelled":
             product, party = self.bookings.pop(reply[1])
             self.sell(product, -party)

@@ -12,22 +12,27 @@ import itertools
 import math
 import operator
 import os
+import platform
 import random
 import re
+import shutil
 import subprocess
 import tempfile
 import time
 from collections import Counter
 from dataclasses import dataclass, field
 from fractions import Fraction
+from pathlib import Path
 
-from nrm_tools import MODES, Network, Stop, no_tool, rows_of, text_of, unanswered
+import nrm_tools
+from nrm_tools import MODES, Network, Stop, no_tool, program, rows_of, text_of, unanswered
 
 DEMANDS, ORDERS = ("histories", "independent", "poisson"), ("mixed", "low-first")
 LARGEST_PARTY = 999
 LARGEST_STEP = 16  # of a mean whose exponential is taken at once
 LINES_AT_ONCE = 1000  # that are sent before their replies are read: they and their replies fit into a pipe
-LINES_REMEMBERED, NETWORKS_REMEMBERED = 65_536, 8  # by a process
+LINES_REMEMBERED, NETWORKS_REMEMBERED, FILES_REMEMBERED = 65_536, 8, 64  # by a process
+SCRIPTS = hashlib.sha256(nrm_tools.CHECKSUM.encode() + Path(__file__).read_bytes()).hexdigest()  # as they were loaded
 
 
 @dataclass(frozen=True)
@@ -270,6 +275,12 @@ class Session:
             replies += [self.process.stdout.readline().rstrip(b"\n") for _ in part]
         return replies
 
+    def number_of(self, reply):
+        """The number of the booking that a reply says."""
+        if not (found := BOOKED.fullmatch(reply)):
+            raise Stop(f"what `run {self.mode}` answers to a request is no number of a booking: is that another program?")
+        return int(found[1])
+
     def end(self):
         """Ends the input, and waits for the program; a Stop if it has another status than 0."""
         self.process.stdin.close()
@@ -297,7 +308,7 @@ def replies_with_cancellations(words, mode, path, season, clock):
                     if booked_at >= len(replies):
                         ask()
                     if replies[booked_at].startswith(b"ok "):
-                        waiting.append((False, f"cancel {int(replies[booked_at][3:])}"))
+                        waiting.append((False, f"cancel {session.number_of(replies[booked_at])}"))
                         cancelled.add(booked_at)
             ask()
             session.end()
@@ -312,7 +323,8 @@ def replies_with_cancellations(words, mode, path, season, clock):
 SECOND_LETTER = operator.itemgetter(1)  # it tells the replies `ok`, `no` and `memory` from each other and the rest
 OF_OK, OF_NO, OF_MEMORY = b"koe"
 ARE_OK = bytes(code == OF_OK for code in range(256))
-BOUND = re.compile(rb"hindsight ([0-9]+)/([1-9][0-9]*) revenue ([0-9]+) withheld ([0-9]+)")
+BOOKED = re.compile(rb"ok ([0-9]{1,40})")
+BOUND = re.compile(rb"hindsight ([0-9]{1,40})/([1-9][0-9]{0,39}) revenue ([0-9]{1,40}) withheld ([0-9]{1,40})")
 
 
 def played(network, season, words, mode, path, clock):
@@ -428,14 +440,44 @@ def numbers(counts, names):
     return list(map(str, map(counts.get, names, itertools.repeat(0))))
 
 
+@dataclass(frozen=True)
+class Maker:
+    """Who plays seasons: a machine, and the checksums of the program and of the scripts there, or None."""
+    machine: str
+    program: str | None = None
+    scripts: str | None = None
+
+
+def maker(words):
+    """Who plays seasons here, by the words that run the program: its checksum is that of the file that they name, or of the files."""
+    if not (first := shutil.which(words[0])):
+        raise Stop(f"`{words[0]}` can't be run: it isn't there, or not on the path")
+    files = [first, *[it for it in words[1:] if os.path.isfile(it)]]
+    sums = [sum_of_file(it, state_of_file(it)) for it in files]
+    return Maker(platform.node(), sums[0] if len(sums) == 1 else hashlib.sha256("".join(sums).encode()).hexdigest(), SCRIPTS)
+
+
+def state_of_file(path):
+    """What the system says of a file, which is otherwise once it has changed."""
+    it = os.stat(path)
+    return it.st_ino, it.st_size, it.st_mtime_ns, it.st_ctime_ns
+
+
+@functools.lru_cache(FILES_REMEMBERED)
+def sum_of_file(path, _):
+    """The checksum of a file, read anew where its state is another."""
+    return hashlib.sha256(Path(path).read_bytes()).hexdigest()
+
+
 @dataclass
 class Batch:
-    """Seasons that were played: their rows, the time it took, and of that the time in the program, in seconds; or why not."""
+    """Seasons that were played: their rows, the time it took, and of that the time in the program, in seconds; or why not; and by whom."""
     rows: str = ""
     seasons: int = 0
     seconds: float = 0.0
     in_program: float = 0.0
     why: str | None = None
+    maker: Maker = Maker("one with other scripts")
 
 
 @contextlib.contextmanager
@@ -452,18 +494,23 @@ def no_collector():
 
 def play_batch(source, settings, words, numbers):
     """Plays the seasons of some numbers on the network of a file's bytes. A Stop is given back as a text, since it may have far to go."""
-    clock, rows = Clock(), []
+    clock, rows, by = Clock(), [], Maker(platform.node(), scripts=SCRIPTS)
     try:
+        words = program(words)
+        by = maker(words)
         with tempfile.TemporaryDirectory() as folder, no_collector():
             player = Player(source, settings, words, folder)
             for number in numbers:
                 season = player.season(number)
                 rows += rows_of_season(player.network, settings, number, season, player.outcomes(season, clock))
+        before, by = by, maker(words)
+        if by.program != before.program:
+            raise Stop(f"`{' '.join(words)}` on {by.machine} became another program meanwhile")
     except Stop as stop:
-        return Batch(why=str(stop))
+        return Batch(why=str(stop), maker=by)
     except OSError as fault:
-        return Batch(why=f"`{' '.join(words)}` can't be run: {fault.strerror}")
-    return Batch("".join(rows), len(numbers), clock.passed(), clock.spent)
+        return Batch(why=f"`{' '.join(words)}` can't be run: {fault.strerror}", maker=by)
+    return Batch("".join(rows), len(numbers), clock.passed(), clock.spent, maker=by)
 
 
 if __name__ == "__main__":

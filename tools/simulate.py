@@ -3,10 +3,10 @@
 
     tools/simulate.py NETWORK... --seasons N [--seed S] [--out FOLDER] [--modes MODE...] [--demand HOW] [--order HOW]
                       [--parties SIZE:WEIGHT,...] [--cancel P] [--show P --denied-cost C] [--leave-out]
-                      [--workers N | --cluster ADDRESS] [--program WORD...]
+                      [--workers N | --cluster ADDRESS [--tls CA CERTIFICATE KEY]] [--patience SECONDS] [--program WORD...]
 
 For each NETWORK and season requests are drawn, with a line `reoptimise` at the start of each period but the first, and `nrm` answers
-them in each mode. Told are the revenue of each mode with its standard error and its share of the bound of hindsight; the difference
+them in each mode. It prints the revenue of each mode with its standard error and its share of the bound of hindsight; the difference
 of each two modes on the same requests, with its 95 per cent interval; the load of each leg; and the share of the requests for each
 product that was refused. If the networks differ in the authorised seats of one leg alone, what is earned is told by these.
 
@@ -21,14 +21,20 @@ networks that differ in the seats and thresholds of legs alone.
 
 WHERE IT RUNS. It needs Dask (Debian's python3-distributed, which is for /usr/bin/python3: if the Python that was asked has no
 Dask and that one has, it goes on under that one). It starts as many processes as there are processors, or --workers, on this
-machine; with --cluster it uses the workers of the Dask scheduler at ADDRESS, each of which must be able to run the words of
---program. The results don't depend on it.
+machine; they talk by TLS with keys of this run alone (Debian's python3-cryptography), so no other account of the machine reaches them.
+With --cluster it uses the workers of the Dask scheduler at ADDRESS, each of which must be able to run the words of --program. Whoever
+reaches a scheduler can run anything on its workers, and on the machine of each who asks it: so let it be tls://ADDRESS, and give
+with --tls the files of the certificate that signs for it, of your certificate and of your key, all as PEM. A worker whose program
+or whose scripts aren't those of this machine, byte for byte, is refused with both checksums. If no seasons come back, since a worker
+was stopped or is lost, that is told after 30 seconds, and ends the run after --patience, by default 300. The results don't depend on
+where it runs.
 
 WHAT IS WRITTEN. The summary comes on standard output, progress on standard error. With --out FOLDER there are also summary.txt,
 simulate.html with the tables and pictures, each picture as SVG, and for each network NAME-seasons.csv with a row for each season
 and mode. A run that was cut, by Ctrl-C too, has kept the seasons that were done, and the same line goes on from there; so does one
-with more seasons. Without --out nothing is kept. With no --program it is the `nrm` above this folder, or the one on the path.
+with more seasons. Without --out nothing is kept. With no --program it is the program above this folder, or the `nrm` on the path.
 """
+import concurrent.futures
 import contextlib
 import dataclasses
 import hashlib
@@ -40,11 +46,13 @@ import re
 import signal
 import sys
 import tempfile
+import threading
 import time
 from pathlib import Path
 
+import nrm_tools
 import seasons
-from nrm_tools import BUILT, MODES, TOP, Network, Stop, add_program, bytes_in, end, make_folder, parser, program
+from nrm_tools import MODES, MOST_DIGITS, Network, Stop, add_program, bytes_in, end, make_folder, number, parser, program
 from page import Page, write
 from results import Results, Study
 from seasons import DEMANDS, LARGEST_PARTY, ORDERS, Settings, play_batch
@@ -55,8 +63,10 @@ SECONDS_OF_A_TASK = 1.5
 FIRST_TASK, LARGEST_TASK = 5, 2000  # seasons
 TASKS_AHEAD = 3  # of each worker
 MOST_SEASONS = 10_000_000
-LOGGERS = ("distributed", *(f"distributed.{it}" for it in ("nanny", "worker", "scheduler", "core")), "asyncio", "tornado")
-PATIENCE = 10  # the seconds in which a scheduler must answer
+ANSWER_SECONDS = 10  # in which a scheduler must answer
+PATIENCE, LATE = 300, 30  # the seconds after which seasons that don't come back end the run, and after which they are told
+MOST_PATIENCE = 1_000_000
+LOOK_SECONDS = 0.01  # between looks for seasons that have come back
 
 
 # What is asked for
@@ -64,7 +74,7 @@ PATIENCE = 10  # the seconds in which a scheduler must answer
 
 def read_parties(text):
     """Sizes of parties and their weights."""
-    pairs = tuple((int(size), int(weight)) for size, weight in (it.split(":") for it in text.split(",")))
+    pairs = tuple((number(size), number(weight)) for size, weight in (it.split(":") for it in text.split(",")))
     if not all(1 <= size <= LARGEST_PARTY and weight >= 0 for size, weight in pairs) or not any(weight for _, weight in pairs):
         raise ValueError
     return pairs
@@ -80,9 +90,9 @@ def probability(text):
 def at_least(least, most=MOST_SEASONS):
     """A reader of whole numbers within two limits."""
     def whole_number(text):
-        if not least <= int(text) <= most:
+        if not least <= number(text) <= most:
             raise ValueError
-        return int(text)
+        return number(text)
     return whole_number
 
 
@@ -104,8 +114,12 @@ def words_given():
     where = words.add_mutually_exclusive_group()
     where.add_argument("--workers", type=at_least(1, 1024), metavar="N")
     where.add_argument("--cluster", metavar="ADDRESS")
+    words.add_argument("--tls", nargs=3, metavar=("CA", "CERTIFICATE", "KEY"))
+    words.add_argument("--patience", type=at_least(1, MOST_PATIENCE), default=PATIENCE, metavar="SECONDS")
     add_program(words)
     given = words.parse_args()
+    if given.tls and not (given.cluster or "").startswith("tls://"):
+        words.error("--tls goes with --cluster tls://ADDRESS")
     if (given.show is None) != (given.denied_cost is None):
         words.error("--show and --denied-cost go together")
     if given.leave_out and given.demand != "histories":
@@ -173,10 +187,10 @@ class Seasons:
         """Takes rows, those of a season only if each mode is there."""
         found = {}
         for line in lines:
-            number = line.partition(",")[0]
-            if number.isdecimal():
-                found.setdefault(int(number), []).append(line)
-        self.rows.update({number: "".join(it) for number, it in found.items() if len(it) == len(self.settings.modes)})
+            season = line.partition(",")[0]
+            if season.isdecimal() and len(season) <= MOST_DIGITS:
+                found.setdefault(int(season), []).append(line)
+        self.rows.update({season: "".join(it) for season, it in found.items() if len(it) == len(self.settings.modes)})
 
     def tasks(self):
         """Numbers of seasons that are to be played, as many at a time as fit into a task."""
@@ -255,51 +269,149 @@ class Progress:
             print(file=sys.stderr)
 
 
+def temporary_keys(distributed):
+    """Keys of this run alone, in memory, without which nobody is answered by the scheduler and the workers that it starts."""
+    try:
+        return distributed.Security.temporary()
+    except ImportError:
+        raise Stop(f"{sys.executable} can't make keys for the workers; `apt-get install python3-cryptography` installs what it takes")
+
+
+def keys_of(distributed, given):
+    """The keys by which a scheduler at an address is asked; None where it takes none."""
+    if not given.tls:
+        if not given.cluster.startswith("tls://"):
+            print(f"simulate.py: {given.cluster} has no TLS: whoever reaches it can run anything on its workers and here", file=sys.stderr)
+        return None
+    for path in given.tls:
+        bytes_in(path, 1)
+    authority, certificate, key = given.tls
+    return distributed.Security(tls_ca_file=authority, tls_client_cert=certificate, tls_client_key=key, require_encryption=True)
+
+
+def client_of(distributed, given):
+    """A client of the scheduler at an address."""
+    keys = keys_of(distributed, given)
+    try:
+        return distributed.Client(given.cluster, timeout=ANSWER_SECONDS, **({"security": keys} if keys else {}))
+    except (OSError, ValueError, TypeError, RuntimeError):
+        wants_keys = given.cluster.startswith("tls://")
+        why = f" that takes {', '.join(given.tls)}" if given.tls else "; --tls names the keys" if wants_keys else ""
+        raise Stop(f"there is no Dask scheduler at {given.cluster}{why}")
+
+
 @contextlib.contextmanager
 def cluster(distributed, given):
     """A client of a scheduler with workers: of the one at an address, or of one on this machine that ends with it."""
-    for name in LOGGERS:
-        logging.getLogger(name).setLevel(logging.CRITICAL)
+    logging.disable(logging.CRITICAL)  # what Dask tells of its own accord is told here in a sentence
     if given.cluster:
-        try:
-            client = distributed.Client(given.cluster, timeout=PATIENCE)
-        except (OSError, ValueError, TypeError):
-            raise Stop(f"there is no Dask scheduler at {given.cluster}")
-        with client:
+        with client_of(distributed, given) as client:
             yield client
         return
     with tempfile.TemporaryDirectory() as folder:
         before = signal.signal(signal.SIGINT, signal.SIG_IGN)  # which the workers inherit: Ctrl-C is for this process to deal with
         try:
+            keys = temporary_keys(distributed)
             local = distributed.LocalCluster(n_workers=given.workers or len(os.sched_getaffinity(0)), threads_per_worker=1, processes=True,
-                                             dashboard_address=None, silence_logs=logging.CRITICAL, local_directory=folder)
+                                             dashboard_address=None, silence_logs=logging.CRITICAL, local_directory=folder,
+                                             protocol="tls://", security=keys)
         finally:
             signal.signal(signal.SIGINT, before)
-        with local, distributed.Client(local) as client:
+        with local, distributed.Client(local, security=keys) as client:
             yield client
 
 
-def played_all(distributed, client, studies, settings, words, progress):
+def within(seconds, work, *words):
+    """What some work gives that may take so long, and not longer: it goes on in a thread that nobody waits for."""
+    done = concurrent.futures.Future()
+
+    def do():
+        try:
+            done.set_result(work(*words))
+        except Exception as fault:  # whatever it is, it is for who waits
+            done.set_exception(fault)
+
+    threading.Thread(target=do, daemon=True).start()
+    return done.result(seconds)
+
+
+class Waiting:
+    """The tasks that were given to workers and aren't back, and the patience with them."""
+
+    def __init__(self, ended, patience):
+        self.ended, self.patience, self.late, self.studies = ended, patience, min(LATE, patience / 2), {}
+        self.since, self.is_told = time.monotonic(), False
+
+    def add(self, future, study):
+        self.studies[future] = study
+        self.ended.add(future)
+
+    def next(self):
+        """The next task that comes back: its study, and its batch or the fault that it met."""
+        while not self.ended.has_ready():
+            self.look()
+            time.sleep(LOOK_SECONDS)
+        future, batch = next(self.ended)
+        self.since, self.is_told = time.monotonic(), False
+        return self.studies.pop(future), batch
+
+    def look(self):
+        """Tells, once, that nothing has come back for a while, and stops where it is too long."""
+        passed = time.monotonic() - self.since
+        if passed > self.patience:
+            raise Stop(f"no seasons have come back for {self.patience} s: is a worker stopped, lost or slow? --patience sets how long they are "
+                       "waited for; with --out the seasons that were done are kept, and the same line goes on from there")
+        if passed > self.late and not self.is_told:
+            self.is_told = True
+            print(f"simulate.py: no seasons have come back for {self.late:g} s; they are waited for up to {self.patience} s", file=sys.stderr,
+                  flush=True)
+
+
+def see_batch(batch, here):
+    """Stops where a batch wasn't played, or not by the program and the scripts of this machine."""
+    if not isinstance(batch, seasons.Batch):
+        fault = batch[1] if isinstance(batch, tuple) else batch
+        if isinstance(fault, concurrent.futures.CancelledError):
+            raise Stop("the scheduler has ended, or the connection to it")
+        raise Stop(f"a worker gave no seasons: {type(fault).__name__}{f', {fault}' if str(fault) else ''}")
+    by = batch.maker
+    if by.scripts != here.scripts:
+        raise Stop(f"a worker on {by.machine} has other scripts: their checksum there is {by.scripts}, and here {here.scripts}")
+    if by.program not in (None, here.program):
+        raise Stop(f"a worker on {by.machine} has another program: its checksum there is {by.program}, and here {here.program}")
+    if batch.why:
+        raise Stop(batch.why)
+
+
+def send_scripts(client, patience):
+    """Gives the scripts to all workers."""
+    for module in (nrm_tools, seasons):
+        try:
+            within(patience, client.upload_file, module.__file__)
+        except concurrent.futures.TimeoutError:
+            raise Stop(f"the workers don't take the scripts within {patience} s: is one stopped? --patience sets how long it may take")
+        except Exception as fault:  # whatever Dask has met there
+            raise Stop(f"the workers don't take the scripts: {type(fault).__name__}, {fault}")
+
+
+def played_all(distributed, client, studies, settings, words, progress, patience):
     """Plays what is to be played: so many tasks ahead of the workers, and as each ends its rows are kept."""
-    for module in ("nrm_tools", "seasons"):
-        client.upload_file(str(TOP / "tools" / f"{module}.py"))
+    send_scripts(client, patience)
     tasks = ((study, numbers) for study in studies for numbers in study.tasks())
-    waiting, times = {}, [0.0, 0.0]
-    ended = distributed.as_completed(with_results=True, raise_errors=True)
+    times, here = [0.0, 0.0], seasons.maker(program(words))
+    waiting = Waiting(distributed.as_completed(with_results=True, raise_errors=False), patience)
 
     def submit():
         for study, numbers in tasks:
-            future = client.submit(play_batch, study.source, settings, words, numbers, pure=False)
-            waiting[future] = study
-            ended.add(future)
+            waiting.add(client.submit(play_batch, study.source, settings, words, numbers, pure=False), study)
             return
 
     for _ in range(TASKS_AHEAD * max(1, len(client.scheduler_info()["workers"]))):
         submit()
-    for future, batch in ended:
-        if batch.why:
-            raise Stop(batch.why)
-        waiting.pop(future).keep(batch)
+    while waiting.studies:
+        study, batch = waiting.next()
+        see_batch(batch, here)
+        study.keep(batch)
         times = [times[0] + batch.seconds, times[1] + batch.in_program]
         progress.add(batch.seasons)
         submit()
@@ -313,7 +425,7 @@ def simulated(given, settings, studies, words):
     progress, begun = Progress(wanted, done), time.monotonic()
     try:
         with cluster(distributed, given) as client:
-            seconds, in_program = played_all(distributed, client, studies, settings, words, progress)
+            seconds, in_program = played_all(distributed, client, studies, settings, words, progress, given.patience)
     finally:
         progress.end()
         for it in studies:
@@ -375,12 +487,6 @@ def told(given, settings, studies):
             print(it.whole)
 
 
-def runnable(words, path):
-    """The words that run the program fast, once it has been seen to take a network: the built program in the place of the script."""
-    answered(words, "print", path)
-    return [str(BUILT)] if words == [str(TOP / "nrm")] and BUILT.exists() else words
-
-
 def main():
     given = words_given()
     see_dask()
@@ -389,9 +495,9 @@ def main():
         folder = given.out or spare
         make_folder(folder)
         studies = [Seasons(name, path, settings, given.seasons, folder) for name, path in zip(names_of(given.networks), given.networks)]
-        words = program(given.program)
+        words = given.program or program()
         for path in given.networks:
-            words = runnable(words, path)
+            answered(program(words), "print", path)  # it takes the network, and is there
         check_same(folder, settings, studies)
         for it in studies:
             it.go_on()

@@ -5,7 +5,7 @@
 
 For each leg that a product uses, `nrm cuts` divides the fares on it into at most GROUPS groups, 1 to 10, so that the seats that
 were asked for lie as close to the centres of their groups as can be: the cost is the sum, over the seats of all histories, of
-the distance of the fare from the centre. Told are, for each leg, the cuts, the centres, the cost, and the cost for each seat. A
+the distance of the fare from the centre. It prints, for each leg, the cuts, the centres, the cost, and the cost for each seat. A
 cut is the least fare of its group, and as a threshold of the leg it ends a bucket there: NETWORK's own thresholds have no say.
 
 With --out the network is written to FILE, with the cuts as the thresholds of the legs and all other rows as they stand. A leg
@@ -13,8 +13,8 @@ that no product uses keeps its thresholds. `nrm run davn FILE` then controls by 
 would have earned.
 
 With --pictures the fares of each leg are drawn with their cuts and centres, as thresholds.png and thresholds.svg in FOLDER. That
-needs matplotlib (Debian's python3-matplotlib): without it the fares are told in a table. With no --program it is the `nrm` above
-this folder, or the one on the path.
+needs matplotlib (Debian's python3-matplotlib): without it the fares are told in a table. With no --program it is the program above
+this folder, or the `nrm` on the path.
 
 WHICH FARES. A product of several legs stands on each of them with its whole fare. Its bucket, though, comes from what it brings the
 leg: its fare less the bid prices of the other legs. So where much is asked for over several legs, try the thresholds out before
