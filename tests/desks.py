@@ -499,6 +499,20 @@ def who_asks_for_long_work_waits_alone(folder, program):
 
 
 @test
+def who_asks_for_legs_waits_alone(folder, program):
+    """A text of a leg is long too: a flood of them leaves room for another's line."""
+    words = stub(folder, "nrm", {}, pause=0.05)
+    with Server(folder, words) as server, server.connect() as busy, server.connect() as other:
+        busy.sendall(b"leg A\n" * 90)
+        answers(busy, b"", 1)
+        want(answers(other, b"book A 1\n", 1), [b"unknown\n"], "another's reply")
+        at = got(folder).index("book A 1")
+        if at > 30:
+            raise Wrong(f"the other's line after a few, and not after {at}")
+        server.process.kill()
+
+
+@test
 def who_has_said_all_is_answered(folder, program):
     """The end of what a client says leaves its replies to come; half a line at the end is nothing."""
     stream, wanted = (EXAMPLES / "hub" / "commands.txt").read_bytes(), (EXAMPLES / "hub" / "replies.txt").read_bytes()

@@ -51,7 +51,7 @@ END_SECONDS = 10  # for a program that doesn't answer to end after its input
 JOURNAL_FAULT = 74
 KEEPS_BOOKINGS = "nrm_kept"
 TEXT_LINE = re.compile(rb"^(?:plan|leg [A-Z0-9-]{1,12})\r?\n", re.MULTILINE)  # its reply may have several lines
-LONG_WORK = re.compile(rb"^(?:plan|hindsight|reoptimise [1-9][0-9]?)\r?\n", re.MULTILINE)
+LONG_WORK = re.compile(rb"^(?:plan|hindsight|leg [A-Z0-9-]{1,12}|reoptimise [1-9][0-9]?)\r?\n", re.MULTILINE)
 CHANGED_NOTHING = (b"memory\n", b"store\n")
 
 
