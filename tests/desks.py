@@ -865,8 +865,13 @@ def a_desk_in_python_gets_typed_answers(folder, program):
         expect(of.Late, desk.plan)
         expect(of.Late, desk.plan)
     expect(of.Ended, lambda: Desk(folder / "none"))
-    with Desk.start(stub(folder, "odd", {"plan": "odd"}), "x", "y") as desk:
-        expect(of.Strange, desk.plan)
+    for odd in ["odd", "value 1/" + "9" * 4301, "value 1e9999999", "value 1/1\nproduct"]:
+        with Desk.start(stub(folder, "odd", {"plan": odd, "leg A": f"leg A seats {'9' * 4301} authorised 1 sold 1 left 1",
+                                             "cancel 1": "ok " + "9" * 4301}), "x", "y") as desk:
+            for call in (desk.plan, lambda: desk.leg("A"), lambda: desk.cancel(1)):
+                expect(of.Strange, call)
+    expect(of.Ended, lambda: Desk(("a" * 300, 80)))
+    expect(of.Ended, lambda: Desk(("127.0.0.1", 99_999)))
 
 
 def expect(kind, call):
