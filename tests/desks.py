@@ -9,9 +9,9 @@ must be one that a client sent. That is decided from the journal alone: most lin
 a line that is `bad`, and between two of these stands at most one that doesn't; which of those is whose is a matching. The seats that are
 sold are counted anew. The same is wanted after kills of the server, of the program and of clients, and after SIGTERM.
 
-The other tests are the functions marked so. PATTERN picks those that have it in their name. With no --program it is the script `nrm` at
-the top of the repository. What needs `cc` or rights to mount a small disk is told and left out where there is none. What fails is told;
-the last line is `N passed, M failed`.
+The other tests are the functions marked so. PATTERN picks those that have it in their name; those that take long are run only by
+a PATTERN, and all of them by `long`. With no --program it is the script `nrm` at the top of the repository. What needs `cc` or
+rights to mount a small disk is told and left out where there is none. What fails is told; the last line is `N passed, M failed`.
 """
 import bisect
 import collections
@@ -47,6 +47,7 @@ SECONDS = 30
 CLIENTS, WORKERS = 200, 4
 CRASH_SEED = 7
 test = checks.Tests()
+by_name = checks.Tests()  # those that take long
 
 
 # The network of the crowd: a product of its own for each client, on few seats
@@ -66,6 +67,10 @@ def crowd_file(folder):
 
 
 # A server
+
+
+def child_of(process):
+    return int(Path(f"/proc/{process}/task/{process}/children").read_text().split()[0])
 
 
 class Server:
@@ -93,7 +98,7 @@ class Server:
 
     def program(self):
         """The process of the program below it."""
-        return int(Path(f"/proc/{self.process.pid}/task/{self.process.pid}/children").read_text().split()[0])
+        return child_of(self.process.pid)
 
     def connect(self):
         made = socket.socket(socket.AF_UNIX)
@@ -621,6 +626,176 @@ def a_full_small_disk_is_told(folder, program):
 
 
 @test
+def half_a_number_is_cut_off(folder, program):
+    """What a full disk, or a kill, left of a number isn't joined with the next, which would be another line's."""
+    words, journal, void = stub(folder, "nrm", {"a": "store"}), folder / "journal", folder / "journal.void"
+    told = b""
+    with Server(folder, words, journal=journal, limit=below(1001)) as server, server.connect() as connection:
+        for _ in range(400):
+            with contextlib.suppress(OSError):
+                connection.sendall(b"a\n")
+            told += connection.recv(100) if not told.endswith(b"closed journal\n") else b""
+        server.end(74, sent=None)
+        want("journal.void: File too large" in server.told(), True, server.told())
+    numbers = void.read_text()
+    want(numbers, "".join(f"{it}\n" for it in range(1, numbers.count("\n") + 1)), "whole numbers")
+    want(told, b"store\n" * numbers.count("\n") + b"closed journal\n", "the replies: one to each line that is left out")
+    with void.open("a") as file:
+        file.write("3")
+    with Server(folder, words, journal=journal) as server, server.connect() as connection:
+        want("half a number" in server.told(), True, server.told())
+        want(answers(connection, b"a\n", 1), [b"store\n"], "a line more")
+        server.end()
+    want(void.read_text(), f"{numbers}{journal.read_bytes().count(10)}\n", "the numbers")
+
+
+@test
+def a_reply_that_cannot_be_remembered_is_not_sent(folder, program):
+    """Else its line would be given again, and could be sold then, though its client was told that it wasn't."""
+    words = stub(folder, "nrm", {"a": "store"})
+    with Server(folder, words, journal=folder / "journal") as server, server.connect() as connection:
+        (folder / "journal.void").mkdir()
+        connection.sendall(b"b\nb\na\nb\n")
+        want(all_from(connection), b"unknown\nunknown\nclosed journal\n", "what is told")
+        server.end(74, sent=None)
+        want(f"{folder}/journal.void: Is a directory" in server.told(), True, server.told())
+
+
+@test
+def numbers_of_other_lines_are_refused(folder, program):
+    """A line that was acknowledged would be left out."""
+    journal, void = folder / "journal", folder / "journal.void"
+    journal.write_bytes(b"book A 1\nbook A 1\nbook A 1\n")
+    for numbers, line in [("4\n", 1), ("2\n1\n", 2), ("2\n2\n", 2), ("1\n" + "9" * 4301 + "\n", 2), ("x\n", 1), ("1\n\n", 2),
+                          ("01\n", 1), ("1\xb2\n", 1), ("0\n", 1)]:
+        void.write_text(numbers)
+        with Server(folder, stub(folder, "nrm", {}), journal=journal, status=1) as server:
+            server.end(1, sent=None)
+            want((f"{void}: line {line} isn't the number" in server.told(), server.told().count("\n")), (True, 1), server.told())
+        want(void.read_text(), numbers, "what stands there")
+
+
+@test
+def a_journal_is_for_its_owner_alone(folder, program):
+    words, path = stub(folder, "nrm", {"a": "store"}), folder / "journal"
+    with Server(folder, words, journal=path, limit=lambda: os.umask(0)) as server, server.connect() as connection:
+        answers(connection, b"a\n", 1)
+        want([oct(os.stat(f"{path}{it}").st_mode & 0o777) for it in ("", ".void")], ["0o600", "0o600"], "the rights")
+        server.end()
+
+
+def patched(folder, lines):
+    """The variables with which a run of Python begins by some lines."""
+    (folder / "sitecustomize.py").write_text(lines)
+    return {"PYTHONPATH": str(folder)}
+
+
+@test
+def the_name_behind_a_link_is_on_the_disk(folder, program):
+    """A library of Python writes down the folders whose names it was asked to put there."""
+    for it in ("here", "there"):
+        (folder / it).mkdir()
+    for name in ("journal", "journal.void"):
+        (folder / "here" / name).symlink_to(folder / "there" / name)
+    variables = patched(folder, f"""import os
+flush = os.fsync
+def fsync(file):
+    flush(file)
+    number = file if isinstance(file, int) else file.fileno()
+    with open({str(folder / "flushed")!r}, "a") as told:
+        told.write(os.readlink("/proc/self/fd/%d" % number) + "\\n")
+os.fsync = fsync
+""")
+    with Server(folder, stub(folder, "nrm", {"a": "store"}), journal=folder / "here" / "journal", variables=variables) as server:
+        want(str(folder / "there") in (folder / "flushed").read_text().split("\n"), True, "the folder of the journal")
+        (folder / "flushed").unlink()
+        with server.connect() as connection:
+            answers(connection, b"a\n", 1)
+            flushed = (folder / "flushed").read_text().split("\n")
+            want([str(folder / it) in flushed for it in ("there", "there/journal.void")], [True, True], f"the void's: {flushed}")
+        server.end()
+
+
+SLOW_DISK = """import os, time
+flush = os.fsync
+def fsync(file):
+    time.sleep({seconds})
+    flush(file)
+os.fsync = fsync
+"""
+
+
+def die_while_it_writes(folder, seconds, pause):
+    """The program is killed while lines of one client are put on a slow disk, and those of another wait."""
+    words, variables = stub(folder, "nrm", {}), patched(folder, SLOW_DISK.format(seconds=seconds))
+    with Server(folder, words, journal=folder / "journal", variables=variables) as server, \
+            server.connect() as one, server.connect() as other:
+        one.sendall(b"book A 1\n")
+        time.sleep(pause)
+        other.sendall(b"book A 2\n")
+        time.sleep(pause)
+        os.kill(server.program(), signal.SIGKILL)
+        want([all_from(it)[-19:] for it in (one, other)], [b"closed program 137\n"] * 2, "what both are told")
+        server.end(137, sent=None)
+        want(server.told().splitlines()[-1], "desks.py: the program ended with status 137", "the last line")
+        want("Traceback" in server.told(), False, server.told())
+
+
+@test
+def a_program_may_die_while_lines_are_written(folder, program):
+    die_while_it_writes(folder, 0.5, 0.1)
+
+
+@by_name
+def a_program_may_die_long_while_lines_are_written(folder, program):
+    """At random moments."""
+    draw = random.Random(3)
+    for at in range(200):
+        place = folder / str(at)
+        place.mkdir()
+        die_while_it_writes(place, draw.uniform(0, 0.06), draw.uniform(0, 0.03))
+
+
+@test
+def what_is_no_plain_file_is_told(folder, program):
+    """A FIFO would wait for who writes into it, and what a device gets is gone."""
+    fifo = folder / "fifo"
+    os.mkfifo(fifo)
+    (folder / "journal.void").symlink_to(fifo)
+    (folder / "journal").touch()
+    begin, words = [sys.executable, str(TOOLS / "desks.py"), "--socket", str(folder / "socket")], ["--", *stub(folder, "nrm", {})]
+    for journal, path in [(fifo, fifo), ("/dev/null", "/dev/null"), (folder / "journal", folder / "journal.void")]:
+        done = subprocess.run([*begin, "--journal", str(journal), *words], capture_output=True, text=True, timeout=SECONDS)
+        want((done.returncode, done.stderr), (1, f"desks.py: {path} is no plain file\n"), journal)
+    network, stream = EXAMPLES / "hub" / "network.csv", EXAMPLES / "hub" / "commands.txt"
+    for words in ([fifo, stream], [stream, fifo]):
+        done = subprocess.run([sys.executable, str(TOOLS / "resume.py"), network, "first", *words, "--program", *program],
+                              capture_output=True, text=True, timeout=SECONDS)
+        want((done.returncode, done.stderr), (1, f"resume.py: {fifo} is no plain file\n"), words)
+
+
+@test
+def a_program_that_does_not_answer_is_ended(folder, program):
+    """Neither at the beginning, nor while it serves, nor once it has closed its output."""
+    with Server(folder, ["sleep", "1000"], "--answer", "1", status=1) as server:
+        server.end(1, sent=None)
+        want(server.told(), "desks.py: `sleep 1000` didn't answer in 1 seconds, and was ended\n", "what is told")
+    (folder / "around").write_text(f"#!/bin/sh\n{stub(folder, 'nrm', {})[0]}\ntrue\n")
+    (folder / "around").chmod(0o755)
+    with Server(folder, [str(folder / "around")], "--answer", "2", "--slow", "1") as server, server.connect() as connection:
+        os.kill(child_of(server.program()), signal.SIGSTOP)
+        connection.sendall(b"book A 1\n")
+        want(all_from(connection), b"closed program 137\n", "what a client is told")
+        server.end(137, sent=None)
+        want("hasn't answered for 2 seconds, and is ended" in server.told(), True, server.told())
+    lines = ["import os, time", "input()", "os.write(1, b'bad\\n')", "os.close(1)", "time.sleep(1000)"]
+    (folder / "closes").write_text("\n".join([f"#!{sys.executable}", *lines, ""]))
+    (folder / "closes").chmod(0o755)
+    with Server(folder, [str(folder / "closes")], "--slow", "1") as server:
+        server.end(137, sent=None)
+
+
+@test
 def a_torn_line_is_dropped(folder, program):
     journal = folder / "journal"
     journal.write_bytes(b"book HJ-Q 1\nplan\nleg HAM-FRA\nbook HJ-Q 40\nbook HJ-Q 4")
@@ -765,7 +940,12 @@ def a_mistake_is_told_in_a_line(folder, program):
             ([*place, "--journal", str(folder / "none" / "journal"), *run], 1, "No such file"),
             (["--socket", str(folder / "none" / "socket"), *run], 1, "No such file"), (["--socket", "x" * 200, *run], 1, "too long"),
             (["--listen", "nowhere", *run], 2, "HOST:PORT is wanted"), (["--listen", "127.0.0.1:99999", *run], 2, "HOST:PORT is wanted"),
-            (["--listen", "none.invalid:80", *run], 1, "--listen none.invalid:80: ")]:
+            (["--listen", "none.invalid:80", *run], 1, "--listen none.invalid:80: "),
+            (["--listen", "a" * 300 + ":80", *run], 1, "too long"),
+            (["--listen", "127.0.0.1:" + "9" * 4301, *run], 2, "HOST:PORT is wanted"),
+            ([*place, "--clients", "9" * 4301, *run], 2, "--clients"), ([*place, "--mode", "9", *run], 2, "invalid rights value"),
+            ([*place, "--journal", "", *run], 2, "want a name"), ([*place, "--answer", "0", *run], 2, "--answer"),
+            ([*place, "--slow", "1e" + "9" * 4301, *run], 2, "--slow")]:
         done = subprocess.run([sys.executable, str(TOOLS / "desks.py"), *words], capture_output=True, text=True, timeout=SECONDS)
         want((done.returncode, told in done.stderr, "Traceback" in done.stderr), (status, True, False), f"{words} {done.stderr}")
     want(list(folder.iterdir()), [], "what is left")
@@ -901,7 +1081,7 @@ def a_desk_in_c_gets_all_replies(folder, program):
 
 def main():
     given = checks.words_of(__doc__)
-    tests = test.picked(given.pattern)
+    tests = test.picked(given.pattern) + (by_name.picked(given.pattern) if given.pattern else [])
     if not checks.is_built(given.program):
         checks.ended(0, len(tests))
         return checks.NOT_BUILT
