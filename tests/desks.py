@@ -20,6 +20,7 @@ import os
 import random
 import re
 import resource
+import select
 import shutil
 import signal
 import socket
@@ -101,10 +102,15 @@ class Server:
         return child_of(self.process.pid)
 
     def connect(self):
-        made = socket.socket(socket.AF_UNIX)
+        made, deadline = socket.socket(socket.AF_UNIX), time.monotonic() + SECONDS
         made.settimeout(SECONDS)
-        made.connect(str(self.path))
-        return made
+        while True:
+            try:
+                made.connect(str(self.path))
+                return made
+            except BlockingIOError:  # so many wait to be taken that no more may
+                want(time.monotonic() < deadline, True, "a connection")
+                time.sleep(0.01)
 
     def end(self, status=0, sent=signal.SIGTERM):
         """Ends it, and waits for it."""
@@ -567,6 +573,135 @@ def a_tcp_port_is_of_this_machine(folder, program):
         want("--beyond-this-machine" in server.told(), True, "what is missing")
 
 
+# More than may come
+
+
+def allow_connections(count):
+    """Lets this process have so many connections open, or as many as it may; gives how many."""
+    soft, hard = resource.getrlimit(resource.RLIMIT_NOFILE)
+    most = count + 100 if hard == resource.RLIM_INFINITY else min(count + 100, hard)
+    if soft != resource.RLIM_INFINITY and soft < most:
+        resource.setrlimit(resource.RLIMIT_NOFILE, (most, hard))
+    return most - 100
+
+
+def few_files(count):
+    """Has a process begin with so many files that may be open, as from a shell."""
+    return lambda: resource.setrlimit(resource.RLIMIT_NOFILE, (count, resource.getrlimit(resource.RLIMIT_NOFILE)[1]))
+
+
+def waits_of(connection, seconds):
+    """How long a client that is there waits for each reply, while it asks now and then for some seconds."""
+    waits, deadline = [], time.monotonic() + seconds
+    while time.monotonic() < deadline:
+        begun = time.monotonic()
+        want(answers(connection, b"cancel 1\n", 1), [b"unknown\n"], "its reply")
+        waits.append(time.monotonic() - begun)
+        time.sleep(0.02)
+    return sorted(waits)
+
+
+def answered_soon(waits):
+    """Sees that replies came within a tenth of a second; of a hundred one may be late, on a machine that does other work too."""
+    if waits[len(waits) * 99 // 100] > 0.1:
+        raise Wrong(f"each reply within a tenth of a second, and not {waits[-5:]}")
+
+
+def told_now_and_then(server, since):
+    """Sees that what is told on standard error is no more than a line a second, and no traceback."""
+    told, seconds = server.told(), time.monotonic() - since
+    if "Traceback" in told or told.count("\n") > seconds + 3:
+        raise Wrong(f"a line a second in {seconds:.1f} seconds, and not {told.count(chr(10))} lines: {told[:600]!r}")
+
+
+@test
+def a_crowd_at_the_door_keeps_nobody_waiting(folder, program):
+    """Many more clients than may come: those that are there are answered, and each of the others is told. Then there is room
+    again."""
+    count, begun = allow_connections(1500), time.monotonic()
+    words = stub(folder, "nrm", {})
+    with Server(folder, words, "--clients", "20", limit=few_files(84)) as server, contextlib.ExitStack() as all_:
+        first = all_.enter_context(server.connect())
+        answers(first, b"cancel 1\n", 1)
+        others = [all_.enter_context(server.connect()) for _ in range(count)]
+        answered_soon(waits_of(first, 2))
+        told = Counter(all_from(it) for it in others[19:])
+        want(told, {b"closed clients\n": count - 19}, "what the others are told")
+        for it in others:
+            it.close()
+        answered_soon(waits_of(first, 1))
+        with server.connect() as last:
+            want(answers(last, b"cancel 1\n", 1), [b"unknown\n"], "a new one")
+        told_now_and_then(server, begun)
+        want("turned away, since 20 were there" in server.told(), True, server.told())
+        server.end()
+
+
+@test
+def no_file_for_one_more_is_told_now_and_then(folder, program):
+    """As when the machine has no more: those that come wait until there are files again."""
+    with Server(folder, stub(folder, "nrm", {})) as server, contextlib.ExitStack() as all_:
+        first, begun = all_.enter_context(server.connect()), time.monotonic()
+        answers(first, b"cancel 1\n", 1)
+        process, files = server.process.pid, len(os.listdir(f"/proc/{server.process.pid}/fd"))
+        before = resource.prlimit(process, resource.RLIMIT_NOFILE)
+        resource.prlimit(process, resource.RLIMIT_NOFILE, (files + 2, before[1]))
+        others = [all_.enter_context(server.connect()) for _ in range(6)]
+        answered_soon(waits_of(first, 3.5))
+        told_now_and_then(server, begun)
+        want("Too many open files" in server.told(), True, server.told())
+        resource.prlimit(process, resource.RLIMIT_NOFILE, before)
+        for it in others:
+            want(answers(it, b"cancel 1\n", 1), [b"unknown\n"], "who had to wait")
+        server.end()
+
+
+def storm(path, count, seconds):
+    """So many clients, each of which connects anew as soon as it is cut off, for some seconds. Gives 1 if none was."""
+    poll, there, tries, deadline = select.poll(), {}, 0, time.monotonic() + seconds
+    while time.monotonic() < deadline:
+        for _ in range(min(20, count - len(there))):
+            made = socket.socket(socket.AF_UNIX)
+            made.setblocking(False)
+            try:
+                made.connect(path)
+            except OSError:
+                made.close()
+                break
+            there[made.fileno()] = made
+            poll.register(made, select.POLLIN)
+        for number, _ in poll.poll(2):
+            with contextlib.suppress(ConnectionError):
+                there[number].recv(100)
+            poll.unregister(number)
+            there.pop(number).close()
+            tries += 1
+    return not tries
+
+
+def in_a_storm(folder, count, seconds):
+    allow_connections(count)
+    begun = time.monotonic()
+    with Server(folder, stub(folder, "nrm", {}), "--clients", "50") as server, server.connect() as first:
+        answers(first, b"cancel 1\n", 1)
+        words = [sys.executable, __file__, "--storm", str(server.path), str(count // 2), str(seconds)]
+        storms = [subprocess.Popen(words) for _ in range(2)]
+        answered_soon(waits_of(first, seconds))
+        want([it.wait(SECONDS) for it in storms], [0, 0], "storms in which somebody was cut off")
+        told_now_and_then(server, begun)
+        server.end()
+
+
+@test
+def a_storm_of_new_clients_keeps_nobody_waiting(folder, program):
+    in_a_storm(folder, 2000, 4)
+
+
+@by_name
+def a_long_storm_of_new_clients_keeps_nobody_waiting(folder, program):
+    in_a_storm(folder, 4000, 30)
+
+
 # The journal, and its faults
 
 
@@ -956,7 +1091,7 @@ def a_socket_of_another_is_left_alone(folder, program):
     with hub_server(folder, program) as first:
         words = ["--socket", str(first.path), "--", *program, "run", "first", HUB]
         second = subprocess.run([sys.executable, str(TOOLS / "desks.py"), *words], capture_output=True, text=True, timeout=SECONDS)
-        want((second.returncode, second.stderr), (1, f"desks.py: another process listens on {first.path}\n"), "a second run")
+        want((second.returncode, second.stderr), (1, f"desks.py: another run has the socket {first.path}\n"), "a second run")
         with first.connect() as connection:
             want(answers(connection, b"book HJ-Q 1\n", 1), [b"ok 1\n"], "the first goes on")
         first.end()
@@ -964,6 +1099,103 @@ def a_socket_of_another_is_left_alone(folder, program):
     with hub_server(folder, program, status=1) as server:
         server.end(1, sent=None)
     want((folder / "socket").read_text(), "mine", "the file")
+
+
+@test
+def a_socket_whose_queue_is_full_is_told(folder, program):
+    """By the server that would have its path, and by a desk, once its time is over."""
+    path = folder / "socket"
+    with socket.socket(socket.AF_UNIX) as other, contextlib.ExitStack() as all_:
+        other.bind(str(path))
+        other.listen(0)
+        with contextlib.suppress(BlockingIOError):
+            for _ in range(10):
+                asker = all_.enter_context(socket.socket(socket.AF_UNIX))
+                asker.setblocking(False)
+                asker.connect(str(path))
+        with Server(folder, stub(folder, "nrm", {}), status=1) as server:
+            server.end(1, sent=None)
+            want(server.told(), f"desks.py: another process listens on {path}\n", "what is told")
+        begun = time.monotonic()
+        want(str(expect(desks_in_python.Late, lambda: Desk(path, seconds=1))), f"{path}: no connection in 1 seconds", "why")
+        want(0.8 < time.monotonic() - begun < 10, True, "when")
+        want(sorted(it.name for it in folder.iterdir()), ["got", "nrm", "socket", "told"], "what is left")
+
+
+@test
+def a_server_that_ends_leaves_the_next_its_socket(folder, program):
+    """The first is told to end, and waits for a client that doesn't take its replies. Meanwhile another is started, again and
+    again until it listens, as a supervisor does."""
+    place = folder / "next"
+    place.mkdir()
+    words = stub(folder, "nrm", {"leg A": "leg A seats 1 authorised 1 sold 0 left 1" + "\non A B 1" * 400})
+    with Server(folder, words, "--slow", "3") as first, first.connect() as deaf:
+        deaf.setblocking(False)
+        deadline = time.monotonic() + 2
+        while time.monotonic() < deadline:
+            with contextlib.suppress(BlockingIOError):
+                deaf.send(b"leg A\n" * 100)
+            time.sleep(0.01)
+        first.process.terminate()
+        with next_server(place, words, first.path) as following:
+            want(first.process.wait(SECONDS), 0, "the first's status")
+            with first.connect() as connection:
+                want(answers(connection, b"cancel 1\n", 1), [b"unknown\n"], "the next one's reply")
+            want(sorted(it.name for it in folder.glob("socket*")), ["socket", "socket.lock"], "what is there")
+            following.end()
+    want(list(folder.glob("socket*")), [], "what is left")
+
+
+def next_server(folder, words, path):
+    """A server on a path, once it listens."""
+    deadline = time.monotonic() + SECONDS
+    while time.monotonic() < deadline:
+        server = Server.__new__(Server)
+        server.path, server.err = path, folder / "told"
+        with open(server.err, "w") as told:
+            server.process = subprocess.Popen([sys.executable, str(TOOLS / "desks.py"), "--socket", str(path), "--", *words],
+                                              stderr=told)
+        with contextlib.suppress(Wrong):
+            server.wait_until_it_listens()
+            return server
+    raise Wrong("the next server listens")
+
+
+@test
+def a_socket_is_had_by_one_of_many(folder, program):
+    """Of servers that are started at once on a socket that a killed one left, one has it, though each is slow to take the old one
+    away."""
+    with Server(folder, stub(folder, "nrm", {})) as killed:
+        killed.process.kill()
+    words = [sys.executable, str(TOOLS / "desks.py"), "--socket", str(folder / "socket"), "--", *stub(folder, "nrm", {})]
+    variables = patched(folder, """import os, time
+unlink = os.unlink
+def slow(path, **more):
+    time.sleep(0.3)
+    unlink(path, **more)
+os.unlink = slow
+""")
+    many = [subprocess.Popen(words, stderr=subprocess.PIPE, text=True, env={**os.environ, **variables}) for _ in range(8)]
+    try:
+        told = [it.stderr.readline() for it in many]
+        want(Counter(it.startswith("desks.py: listening on") for it in told), {True: 1, False: 7}, "those that listen")
+        with killed.connect() as connection:
+            want(answers(connection, b"cancel 1\n", 1), [b"unknown\n"], "its reply")
+    finally:
+        for it in many:
+            it.kill()
+            it.communicate()
+
+
+@test
+def a_loopback_address_may_be_written_as_one_of_ipv6(folder, program):
+    words = ["--", *stub(folder, "nrm", {})]
+    for host, is_beyond in [("[::ffff:127.0.0.1]", False), ("[::1]", False), ("[::ffff:10.1.2.3]", True), ("[::]", True)]:
+        with Server(folder, words[1:], "--listen", f"{host}:0", status=2) as server:
+            deadline = time.monotonic() + SECONDS
+            while not server.told() and time.monotonic() < deadline:
+                time.sleep(0.01)
+            want("is beyond this machine" in server.told(), is_beyond, f"{host}: {server.told()}")
 
 
 # The desks
@@ -1100,4 +1332,6 @@ def main():
 if __name__ == "__main__":
     if sys.argv[1:2] == ["--worker"]:
         worker(sys.argv[2], *map(int, sys.argv[3:6]), sys.argv[6])
+    if sys.argv[1:2] == ["--storm"]:
+        sys.exit(storm(sys.argv[2], *map(int, sys.argv[3:5])))
     sys.exit(main())

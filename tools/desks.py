@@ -5,9 +5,9 @@
 
 PROGRAM WORD... is `nrm run MODE FILE`, or another program that answers the same lines. It is started, and once it answers,
 clients are taken on the Unix socket PATH, whose rights are 0600, or those of --mode, and on HOST:PORT, which must be of this
-machine's loopback range unless --beyond-this-machine is given: anyone who can reach it can book. A client's lines are given to
-the program in the order in which they come, and each reply goes to who asked. The last part of a client's input without a line
-feed is never given.
+machine's loopback range unless --beyond-this-machine is given: anyone who can reach it can book. While it runs it has a lock in
+PATH.lock, so that no other run takes the same socket. A client's lines are given to the program in the order in which they come,
+and each reply goes to who asked. The last part of a client's input without a line feed is never given.
 
 With --journal each line is on the disk before the program gets it. Started again on the same journal, desks.py first gives its
 lines again, discards the replies, and tells how many lines they were. A last line without its line feed was never given to the
@@ -51,6 +51,10 @@ AT_ONCE = select.PIPE_BUF  # a pipe takes so many bytes whole or not at all
 LONGEST = AT_ONCE - 1
 MOST_ASKED = 100  # the lines of one client that are taken and not answered
 SOON = 0.0002  # the seconds in which most replies are there: to wait for them so is faster than another round of the loop
+BACKLOG = 1024  # clients that may wait to be taken
+IN_A_ROUND = 32  # of those, so many are taken before others are answered
+REST = 0.02  # the seconds for which none is taken after a round in which all were turned away, or for want of a file
+SPARE_FILES = 64  # beside those of the clients
 END_SECONDS = 10  # for a program that doesn't answer to end after its input
 JOURNAL_FAULT = 74
 KEEPS_BOOKINGS = "nrm_kept"
@@ -298,8 +302,6 @@ class Client(asyncio.BufferedProtocol):
         self.hub.clients.add(self)
         if self.hub.stops:
             self.leave("stopping")
-        elif len(self.hub.clients) > self.hub.limits.clients:
-            self.leave("clients")
 
     def connection_lost(self, _):
         self.transport, self.left = None, b""
@@ -429,7 +431,9 @@ class Hub:
     def __init__(self, controller, journal, limits):
         self.loop = asyncio.get_running_loop()
         self.controller, self.journal, self.limits = controller, journal, limits
-        self.clients, self.piece, self.unread = set(), memoryview(bytearray(PIECE)), 0
+        self.clients, self.coming, self.piece = set(), 0, memoryview(bytearray(PIECE))
+        self.unread = self.turned_away = 0  # how many clients, since that was told last
+        self.no_more = None  # why no further client could be taken, since that was told last
         self.now = self.loop.time()  # to the second, as `look` has it
         self.silent = 0  # the seconds for which the program hasn't answered, though it was asked
         self.waiting, self.is_due, self.is_giving, self.is_writing = [], False, False, False
@@ -631,12 +635,19 @@ class Hub:
         self.now = self.loop.time()
         for client in list(self.clients):
             client.look(self.now - 1)
-        if self.unread:
-            log(f"{self.unread} clients cut off that didn't take their replies")
-            self.unread = 0
+        self.tell_of_clients()
         if self.askers and not self.is_over:
             self.look_at_the_program()
         self.loop.call_later(1, self.look)
+
+    def tell_of_clients(self):
+        if self.unread:
+            log(f"{self.unread} clients cut off that didn't take their replies")
+        if self.turned_away:
+            log(f"{self.turned_away} clients turned away, since {self.limits.clients} were there")
+        if self.no_more:
+            log(f"those who come have to wait: {self.no_more}")
+        self.unread, self.turned_away, self.no_more = 0, 0, None
 
     def look_at_the_program(self):
         """Ends a program that hasn't answered for too long. Seconds are counted, so that none is in which this process was
@@ -652,37 +663,85 @@ class Hub:
 # Where clients come
 
 
-def unix_socket(path, mode):
-    """A socket that listens on a path. One that nobody listens on is left from a run that was killed, and goes."""
-    listener = socket.socket(socket.AF_UNIX)
-    with contextlib.suppress(FileNotFoundError):
-        if not stat.S_ISSOCK(os.stat(path).st_mode):
-            raise Stop(f"{path} is there, and no socket")
+class SocketPath:
+    """A path for a Unix socket. It is this run's alone, while this process has the lock in a file beside it."""
+
+    def __init__(self, path):
+        self.path, self.lock_path, self.bound = path, f"{path}.lock", None
+        self.lock = self.locked()
+
+    def locked(self):
+        """The file of the lock. One that its run took away when it ended isn't the one that is there now, and is opened anew."""
+        while True:
+            file = opened(self.lock_path, os.O_CREAT | os.O_NOFOLLOW)
+            if not is_locked(file):
+                raise Stop(f"another run has the socket {self.path}")
+            if self.is_there(self.lock_path, place_of(os.fstat(file.fileno()))):
+                return file
+            file.close()
+
+    def is_there(self, path, place):
+        """Whether a file is still the one at a path."""
+        with contextlib.suppress(FileNotFoundError):
+            return place_of(os.lstat(path)) == place
+
+    def listener(self, mode):
+        """A socket that is bound to the path. One that nobody listens on is left from a run that was killed, and goes."""
+        self.see_that_it_is_free()
+        listener = socket.socket(socket.AF_UNIX)
+        before = os.umask(0o177)
         try:
-            with socket.socket(socket.AF_UNIX) as other:
-                other.connect(path)
-            raise Stop(f"another process listens on {path}")
-        except ConnectionRefusedError:
-            os.unlink(path)
-    before = os.umask(0o177)
-    try:
-        listener.bind(path)
-    except OSError as fault:
-        raise Stop(f"{path}: {fault.strerror or fault}")
-    finally:
-        os.umask(before)
-    os.chmod(path, mode)
-    return listener
+            listener.bind(self.path)
+        except OSError as fault:
+            raise Stop(f"{self.path}: {fault.strerror or fault}")
+        finally:
+            os.umask(before)
+        self.bound = place_of(os.lstat(self.path))
+        os.chmod(self.path, mode)
+        return listener
+
+    def see_that_it_is_free(self):
+        with contextlib.suppress(FileNotFoundError), socket.socket(socket.AF_UNIX) as other:
+            if not stat.S_ISSOCK(os.stat(self.path).st_mode):
+                raise Stop(f"{self.path} is there, and no socket")
+            other.setblocking(False)
+            try:
+                other.connect(self.path)
+            except ConnectionRefusedError:
+                os.unlink(self.path)
+                return
+            except BlockingIOError:
+                pass  # so many wait to be taken that no more may
+            raise Stop(f"another process listens on {self.path}")
+
+    def unlink(self):
+        """Takes the socket away, if it is the one that was bound. That is still open, so that no other has its inode."""
+        if self.bound and self.is_there(self.path, self.bound):
+            os.unlink(self.path)
+        self.bound = None
+
+    def leave(self):
+        """Takes socket and lock away."""
+        self.unlink()
+        if self.is_there(self.lock_path, place_of(os.fstat(self.lock.fileno()))):
+            os.unlink(self.lock_path)
+        self.lock.close()
+
+
+def is_loopback(address):
+    """Whether an address is of this machine's loopback range, in which one of IPv4 may be written as one of IPv6."""
+    found = ipaddress.ip_address(address)
+    return (getattr(found, "ipv4_mapped", None) or found).is_loopback
 
 
 def tcp_socket(place, is_beyond_allowed):
-    """A socket that listens at HOST:PORT, of the loopback range unless others are allowed in so many words."""
+    """A socket that is bound to HOST:PORT, of the loopback range unless others are allowed in so many words."""
     host, _, port = place.rpartition(":")
     if not (host and re.fullmatch(r"[0-9]{1,5}", port) and int(port) < 65_536):
         raise Stop(f"--listen {place}: HOST:PORT is wanted", 2)
     try:
         family, kind, protocol, _, address = socket.getaddrinfo(host.strip("[]"), int(port), type=socket.SOCK_STREAM)[0]
-        if not ipaddress.ip_address(address[0]).is_loopback and not is_beyond_allowed:
+        if not is_loopback(address[0]) and not is_beyond_allowed:
             raise Stop(f"--listen {place} is beyond this machine's loopback range, and there is no --beyond-this-machine", 2)
         listener = socket.socket(family, kind, protocol)
         listener.setsockopt(socket.SOL_SOCKET, socket.SO_REUSEADDR, 1)
@@ -694,20 +753,84 @@ def tcp_socket(place, is_beyond_allowed):
     return listener
 
 
-async def serve(given, controller, journal, listeners):
+class Door:
+    """A socket that listens. It takes a few clients at a time, and rests after a round of those that are turned away, so that a
+    crowd of them doesn't keep others waiting."""
+
+    def __init__(self, hub, listener):
+        self.hub, self.listener, self.welcomes = hub, listener, set()
+        listener.setblocking(False)
+        listener.listen(BACKLOG)
+        name = listener.getsockname()
+        log(f"listening on {name if isinstance(name, str) else '{}:{}'.format(*name)}")
+        self.open()
+
+    def open(self):
+        if self.listener.fileno() >= 0:
+            self.hub.loop.add_reader(self.listener, self.take)
+
+    def rest(self):
+        self.hub.loop.remove_reader(self.listener)
+        self.hub.loop.call_later(REST, self.open)
+
+    def close(self):
+        self.hub.loop.remove_reader(self.listener)
+        self.listener.close()
+
+    def take(self):
+        """Takes the next clients that come, or turns them away."""
+        hub = self.hub
+        for _ in range(IN_A_ROUND):
+            try:
+                connection, _ = self.listener.accept()
+            except (BlockingIOError, ConnectionAbortedError):
+                return
+            except OSError as fault:  # as of too many open files, or no memory
+                hub.no_more = fault.strerror
+                self.rest()
+                return
+            if len(hub.clients) + hub.coming < hub.limits.clients:
+                self.welcome(connection)
+            else:
+                hub.turned_away += 1
+                turn_away(connection)
+        if len(hub.clients) + hub.coming >= hub.limits.clients:
+            self.rest()
+
+    def welcome(self, connection):
+        self.hub.coming += 1
+        task = self.hub.loop.create_task(self.begin(connection))
+        self.welcomes.add(task)  # since the loop alone would forget it
+        task.add_done_callback(self.welcomes.discard)
+
+    async def begin(self, connection):
+        try:
+            await self.hub.loop.connect_accepted_socket(lambda: Client(self.hub), connection)
+        except OSError:
+            connection.close()  # it has left
+        finally:
+            self.hub.coming -= 1
+
+
+def turn_away(connection):
+    """Says why, and ends a connection."""
+    with contextlib.suppress(OSError), connection:
+        connection.setblocking(False)
+        connection.send(b"closed clients\n")
+
+
+async def serve(given, controller, journal, listeners, path):
     """Takes clients until the program ends, and gives the status."""
     hub = Hub(controller, journal, given)
     for name in (signal.SIGTERM, signal.SIGINT, signal.SIGHUP):
         hub.loop.add_signal_handler(name, hub.stop)
-    servers = [await hub.loop.create_server(lambda: Client(hub), sock=it, backlog=1024) if it.family != socket.AF_UNIX else
-               await hub.loop.create_unix_server(lambda: Client(hub), sock=it, backlog=1024) for it in listeners]
-    for listener in listeners:
-        name = listener.getsockname()
-        log(f"listening on {name if isinstance(name, str) else '{}:{}'.format(*name)}")
+    doors = [Door(hub, it) for it in listeners]
     hub.look()
     status = await hub.ended
-    for server in servers:
-        server.close()
+    if path:
+        path.unlink()
+    for door in doors:
+        door.close()
     stop_at = hub.loop.time() + given.slow
     while hub.clients and hub.loop.time() < stop_at:
         await asyncio.sleep(0.02)  # what was answered is still to be sent
@@ -799,20 +922,20 @@ def allow_files(count):
 
 def main():
     given = words_given()
-    allow_files(given.clients + 64)
+    allow_files(given.clients + SPARE_FILES)
     journal = Journal(given.journal) if given.journal else None
     listeners = [tcp_socket(given.listen, given.beyond_this_machine)] if given.listen else []
-    controller = Controller(given.words, given.answer)
-    controller.ask_all([], 0)
-    if journal:
-        give_again(controller, journal, given.again)
-    listeners += [unix_socket(given.socket, given.mode)] if given.socket else []
+    path = SocketPath(given.socket) if given.socket else None
     try:
-        return asyncio.run(serve(given, controller, journal, listeners))
+        controller = Controller(given.words, given.answer)
+        controller.ask_all([], 0)
+        if journal:
+            give_again(controller, journal, given.again)
+        listeners += [path.listener(given.mode)] if path else []
+        return asyncio.run(serve(given, controller, journal, listeners, path))
     finally:
-        if given.socket:
-            with contextlib.suppress(FileNotFoundError):
-                os.unlink(given.socket)
+        if path:
+            path.leave()
 
 
 if __name__ == "__main__":
