@@ -55,6 +55,7 @@ BACKLOG = 1024  # clients that may wait to be taken
 IN_A_ROUND = 32  # of those, so many are taken before others are answered
 REST = 0.02  # the seconds for which none is taken after a round in which all were turned away, or for want of a file
 SPARE_FILES = 64  # beside those of the clients
+MOST_TRIES = 100  # to have the lock of a socket, while other runs end
 END_SECONDS = 10  # for a program that doesn't answer to end after its input
 JOURNAL_FAULT = 74
 KEEPS_BOOKINGS = "nrm_kept"
@@ -672,13 +673,14 @@ class SocketPath:
 
     def locked(self):
         """The file of the lock. One that its run took away when it ended isn't the one that is there now, and is opened anew."""
-        while True:
+        for _ in range(MOST_TRIES):
             file = opened(self.lock_path, os.O_CREAT | os.O_NOFOLLOW)
             if not is_locked(file):
                 raise Stop(f"another run has the socket {self.path}")
             if self.is_there(self.lock_path, place_of(os.fstat(file.fileno()))):
                 return file
             file.close()
+        raise Stop(f"{self.lock_path} is taken away again and again")
 
     def is_there(self, path, place):
         """Whether a file is still the one at a path."""
