@@ -523,6 +523,28 @@ def who_asks_for_legs_waits_alone(folder, program):
         server.process.kill()
 
 
+COUNTER = """import sys
+at = 0
+for line in sys.stdin:
+    at += bool(line.strip())
+    told = "bad" if not line.strip() else f"value {at}/1\\nproduct A 1/1" if line == "plan\\n" else f"ok {at}"
+    print(told, flush=True)
+"""
+
+
+@test
+def a_client_alone_gets_its_replies_in_order(folder, program):
+    """It sends far ahead, so that the program answers lines while replies to others are being dealt."""
+    (folder / "counter").write_text(f"#!{sys.executable}\n{COUNTER}")
+    (folder / "counter").chmod(0o755)
+    wanted = [b"value %d/1\nproduct A 1/1\n" % at if at % 7 == 0 else b"ok %d\n" % at for at in range(1, 3001)]
+    lines = b"".join(b"plan\n" if it.startswith(b"value") else b"cancel 1\n" for it in wanted)
+    for _ in range(3):
+        with Server(folder, [str(folder / "counter")]) as server, server.connect() as connection:
+            want(answers(connection, lines, len(wanted)), wanted, "the replies")
+            server.end()
+
+
 @test
 def who_has_said_all_is_answered(folder, program):
     """The end of what a client says leaves its replies to come; half a line at the end is nothing."""

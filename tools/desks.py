@@ -437,7 +437,7 @@ class Hub:
         self.no_more = None  # why no further client could be taken, since that was told last
         self.now = self.loop.time()  # to the second, as `look` has it
         self.silent = 0  # the seconds for which the program hasn't answered, though it was asked
-        self.waiting, self.is_due, self.is_giving, self.is_writing = [], False, False, False
+        self.waiting, self.is_due, self.is_dealing, self.is_writing = [], False, False, False
         self.pieces, self.is_full = collections.deque(), False  # what the pipe to the program hasn't taken
         self.askers, self.left = collections.deque(), b""  # who waits for how many replies, nobody for a mark's
         self.answered = journal.count if journal else 0
@@ -449,14 +449,14 @@ class Hub:
     # Lines
 
     def take(self, client, lines, count):
-        """Takes lines of a client: they are given to the program with all others that come in this round, and at once if there is no other
-        client and no reply is being dealt, which would have this call itself again and again."""
+        """Takes lines of a client: they are given to the program with all others that come in this round, and at once if there is no
+        other client and no reply is being dealt: the next replies mustn't be dealt before those that are left."""
         client.asked += count
         self.waiting.append((client, lines, count))
         if self.is_due:
             return
         self.is_due = True
-        if len(self.clients) > 1 or self.is_giving:
+        if len(self.clients) > 1 or self.is_dealing:
             self.loop.call_soon(self.give)
         else:
             self.give()
@@ -468,9 +468,7 @@ class Hub:
             return
         batch, self.waiting = self.waiting, []
         if not self.journal:
-            self.is_giving = True
             self.pass_on(batch)
-            self.is_giving = False
             return
         self.is_writing = True
         written = self.loop.run_in_executor(None, self.journal.write, b"".join([lines for _, lines, _ in batch]))
@@ -540,7 +538,9 @@ class Hub:
         if piece:
             self.silent = 0
             replies, self.left = whole_replies(self.left + piece)
+            self.is_dealing = True
             self.deal(replies)
+            self.is_dealing = False
         else:
             self.end_of_replies()
 
