@@ -300,6 +300,7 @@ class Client(asyncio.BufferedProtocol):
     def connection_made(self, transport):
         self.transport, self.since = transport, self.hub.now
         transport.set_write_buffer_limits(high=PIECE)
+        self.hub.coming.discard(self)
         self.hub.clients.add(self)
         if self.hub.stops:
             self.leave("stopping")
@@ -432,7 +433,7 @@ class Hub:
     def __init__(self, controller, journal, limits):
         self.loop = asyncio.get_running_loop()
         self.controller, self.journal, self.limits = controller, journal, limits
-        self.clients, self.coming, self.piece = set(), 0, memoryview(bytearray(PIECE))
+        self.clients, self.coming, self.piece = set(), set(), memoryview(bytearray(PIECE))
         self.unread = self.turned_away = 0  # how many clients, since that was told last
         self.no_more = None  # why no further client could be taken, since that was told last
         self.now = self.loop.time()  # to the second, as `look` has it
@@ -641,6 +642,9 @@ class Hub:
             self.look_at_the_program()
         self.loop.call_later(1, self.look)
 
+    def is_full_of_clients(self):
+        return len(self.clients) + len(self.coming) >= self.limits.clients
+
     def tell_of_clients(self):
         if self.unread:
             log(f"{self.unread} clients cut off that didn't take their replies")
@@ -791,27 +795,28 @@ class Door:
                 hub.no_more = fault.strerror
                 self.rest()
                 return
-            if len(hub.clients) + hub.coming < hub.limits.clients:
-                self.welcome(connection)
-            else:
+            if hub.is_full_of_clients():
                 hub.turned_away += 1
                 turn_away(connection)
-        if len(hub.clients) + hub.coming >= hub.limits.clients:
+            else:
+                self.welcome(connection)
+        if hub.is_full_of_clients():
             self.rest()
 
     def welcome(self, connection):
-        self.hub.coming += 1
-        task = self.hub.loop.create_task(self.begin(connection))
+        client = Client(self.hub)
+        self.hub.coming.add(client)
+        task = self.hub.loop.create_task(self.begin(client, connection))
         self.welcomes.add(task)  # since the loop alone would forget it
         task.add_done_callback(self.welcomes.discard)
 
-    async def begin(self, connection):
+    async def begin(self, client, connection):
         try:
-            await self.hub.loop.connect_accepted_socket(lambda: Client(self.hub), connection)
+            await self.hub.loop.connect_accepted_socket(lambda: client, connection)
         except OSError:
             connection.close()  # it has left
         finally:
-            self.hub.coming -= 1
+            self.hub.coming.discard(client)
 
 
 def turn_away(connection):
