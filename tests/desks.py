@@ -9,9 +9,9 @@ must be one that a client sent. That is decided from the journal alone: most lin
 a line that is `bad`, and between two of these stands at most one that doesn't; which of those is whose is a matching. The seats that are
 sold are counted anew. The same is wanted after kills of the server, of the program and of clients, and after SIGTERM.
 
-The other tests are the functions marked so. PATTERN picks those that have it in their name. With no --program it is the script `nrm` at
-the top of the repository. What needs `cc` or rights to mount a small disk is told and left out where there is none. What fails is told;
-the last line is `N passed, M failed`.
+The other tests are the functions marked so. PATTERN picks those that have it in their name; those that take long are run only by
+a PATTERN, and all of them by `long`. With no --program it is the script `nrm` at the top of the repository. What needs `cc` or
+rights to mount a small disk is told and left out where there is none. What fails is told; the last line is `N passed, M failed`.
 """
 import bisect
 import collections
@@ -20,6 +20,7 @@ import os
 import random
 import re
 import resource
+import select
 import shutil
 import signal
 import socket
@@ -47,6 +48,7 @@ SECONDS = 30
 CLIENTS, WORKERS = 200, 4
 CRASH_SEED = 7
 test = checks.Tests()
+by_name = checks.Tests()  # those that take long
 
 
 # The network of the crowd: a product of its own for each client, on few seats
@@ -66,6 +68,10 @@ def crowd_file(folder):
 
 
 # A server
+
+
+def child_of(process):
+    return int(Path(f"/proc/{process}/task/{process}/children").read_text().split()[0])
 
 
 class Server:
@@ -93,13 +99,18 @@ class Server:
 
     def program(self):
         """The process of the program below it."""
-        return int(Path(f"/proc/{self.process.pid}/task/{self.process.pid}/children").read_text().split()[0])
+        return child_of(self.process.pid)
 
     def connect(self):
-        made = socket.socket(socket.AF_UNIX)
+        made, deadline = socket.socket(socket.AF_UNIX), time.monotonic() + SECONDS
         made.settimeout(SECONDS)
-        made.connect(str(self.path))
-        return made
+        while True:
+            try:
+                made.connect(str(self.path))
+                return made
+            except BlockingIOError:  # so many wait to be taken that no more may
+                want(time.monotonic() < deadline, True, "a connection")
+                time.sleep(0.01)
 
     def end(self, status=0, sent=signal.SIGTERM):
         """Ends it, and waits for it."""
@@ -499,6 +510,42 @@ def who_asks_for_long_work_waits_alone(folder, program):
 
 
 @test
+def who_asks_for_legs_waits_alone(folder, program):
+    """A text of a leg is long too: a flood of them leaves room for another's line."""
+    words = stub(folder, "nrm", {}, pause=0.05)
+    with Server(folder, words) as server, server.connect() as busy, server.connect() as other:
+        busy.sendall(b"leg A\n" * 90)
+        answers(busy, b"", 1)
+        want(answers(other, b"book A 1\n", 1), [b"unknown\n"], "another's reply")
+        at = got(folder).index("book A 1")
+        if at > 30:
+            raise Wrong(f"the other's line after a few, and not after {at}")
+        server.process.kill()
+
+
+COUNTER = """import sys
+at = 0
+for line in sys.stdin:
+    at += bool(line.strip())
+    told = "bad" if not line.strip() else f"value {at}/1\\nproduct A 1/1" if line == "plan\\n" else f"ok {at}"
+    print(told, flush=True)
+"""
+
+
+@test
+def a_client_alone_gets_its_replies_in_order(folder, program):
+    """It sends far ahead, so that the program answers lines while replies to others are being dealt."""
+    (folder / "counter").write_text(f"#!{sys.executable}\n{COUNTER}")
+    (folder / "counter").chmod(0o755)
+    wanted = [b"value %d/1\nproduct A 1/1\n" % at if at % 7 == 0 else b"ok %d\n" % at for at in range(1, 3001)]
+    lines = b"".join(b"plan\n" if it.startswith(b"value") else b"cancel 1\n" for it in wanted)
+    for _ in range(3):
+        with Server(folder, [str(folder / "counter")]) as server, server.connect() as connection:
+            want(answers(connection, lines, len(wanted)), wanted, "the replies")
+            server.end()
+
+
+@test
 def who_has_said_all_is_answered(folder, program):
     """The end of what a client says leaves its replies to come; half a line at the end is nothing."""
     stream, wanted = (EXAMPLES / "hub" / "commands.txt").read_bytes(), (EXAMPLES / "hub" / "replies.txt").read_bytes()
@@ -546,6 +593,150 @@ def a_tcp_port_is_of_this_machine(folder, program):
     with hub_server(folder, program, "--listen", "0.0.0.0:1", status=2) as server:
         server.end(2, sent=None)
         want("--beyond-this-machine" in server.told(), True, "what is missing")
+
+
+# More than may come
+
+
+def allow_connections(count):
+    """Lets this process have so many connections open, or as many as it may; gives how many."""
+    soft, hard = resource.getrlimit(resource.RLIMIT_NOFILE)
+    most = count + 100 if hard == resource.RLIM_INFINITY else min(count + 100, hard)
+    if soft != resource.RLIM_INFINITY and soft < most:
+        resource.setrlimit(resource.RLIMIT_NOFILE, (most, hard))
+    return most - 100
+
+
+def few_files(count):
+    """Has a process begin with so many files that may be open, as from a shell."""
+    return lambda: resource.setrlimit(resource.RLIMIT_NOFILE, (count, resource.getrlimit(resource.RLIMIT_NOFILE)[1]))
+
+
+def waits_of(connection, seconds):
+    """How long a client that is there waits for each reply, while it asks now and then for some seconds. What three processes, which take
+    part in a reply, wait for the machine itself is taken off: it is three times what a pause takes longer than it should."""
+    waits, deadline = [], time.monotonic() + seconds
+    while time.monotonic() < deadline:
+        begun = time.monotonic()
+        want(answers(connection, b"cancel 1\n", 1), [b"unknown\n"], "its reply")
+        answered = time.monotonic()
+        time.sleep(0.02)
+        waits.append(answered - begun - 3 * (time.monotonic() - answered - 0.02))
+    return sorted(waits)
+
+
+def answered_soon(waits):
+    """Sees that replies came within a tenth of a second; of a hundred five may be late, on a machine that does other work too."""
+    if len(waits) < 20 or waits[len(waits) * 95 // 100] > 0.1:
+        raise Wrong(f"each reply within a tenth of a second, and not {len(waits)} replies, the last within {waits[-5:]}")
+
+
+def told_now_and_then(server, since):
+    """Sees that what is told on standard error is no more than a line a second, and no traceback."""
+    told, seconds = server.told(), time.monotonic() - since
+    if "Traceback" in told or told.count("\n") > seconds + 3:
+        raise Wrong(f"a line a second in {seconds:.1f} seconds, and not {told.count(chr(10))} lines: {told[:600]!r}")
+
+
+@test
+def a_crowd_at_the_door_keeps_nobody_waiting(folder, program):
+    """Many more clients than may come: those that are there are answered, and each of the others is told. Then there is room
+    again."""
+    count, begun = allow_connections(1500), time.monotonic()
+    words = stub(folder, "nrm", {})
+    with Server(folder, words, "--clients", "20", limit=few_files(84)) as server, contextlib.ExitStack() as all_:
+        first = all_.enter_context(server.connect())
+        answers(first, b"cancel 1\n", 1)
+        others = [all_.enter_context(server.connect()) for _ in range(count)]
+        answered_soon(waits_of(first, 2))
+        told = Counter(all_from(it) for it in others[19:])
+        want(told, {b"closed clients\n": count - 19}, "what the others are told")
+        for it in others:
+            it.close()
+        answered_soon(waits_of(first, 1))
+        with server.connect() as last:
+            want(answers(last, b"cancel 1\n", 1), [b"unknown\n"], "a new one")
+        told_now_and_then(server, begun)
+        want("turned away, since 20 were there" in server.told(), True, server.told())
+        server.end()
+
+
+@test
+def as_many_as_may_come_at_once_are_answered(folder, program):
+    """And as many again, once these have left."""
+    count = allow_connections(300)
+    with Server(folder, stub(folder, "nrm", {}), "--clients", str(count)) as server:
+        for _ in range(3):
+            with contextlib.ExitStack() as all_:
+                crowd = [all_.enter_context(server.connect()) for _ in range(count)]
+                want(Counter(answers(it, b"cancel 1\n", 1)[0] for it in crowd), {b"unknown\n": count}, "the replies")
+            time.sleep(1)
+        server.end()
+
+
+@test
+def no_file_for_one_more_is_told_now_and_then(folder, program):
+    """As when the machine has no more: those that come wait until there are files again."""
+    with Server(folder, stub(folder, "nrm", {})) as server, contextlib.ExitStack() as all_:
+        first, begun = all_.enter_context(server.connect()), time.monotonic()
+        answers(first, b"cancel 1\n", 1)
+        process, files = server.process.pid, len(os.listdir(f"/proc/{server.process.pid}/fd"))
+        before = resource.prlimit(process, resource.RLIMIT_NOFILE)
+        resource.prlimit(process, resource.RLIMIT_NOFILE, (files + 2, before[1]))
+        others = [all_.enter_context(server.connect()) for _ in range(6)]
+        answered_soon(waits_of(first, 3.5))
+        told_now_and_then(server, begun)
+        want("Too many open files" in server.told(), True, server.told())
+        resource.prlimit(process, resource.RLIMIT_NOFILE, before)
+        for it in others:
+            want(answers(it, b"cancel 1\n", 1), [b"unknown\n"], "who had to wait")
+        server.end()
+
+
+def storm(path, count, seconds):
+    """So many clients, each of which connects anew as soon as it is cut off, for some seconds. Gives 1 if none was."""
+    poll, there, tries, deadline = select.poll(), {}, 0, time.monotonic() + seconds
+    while time.monotonic() < deadline:
+        for _ in range(min(20, count - len(there))):
+            made = socket.socket(socket.AF_UNIX)
+            made.setblocking(False)
+            try:
+                made.connect(path)
+            except OSError:
+                made.close()
+                break
+            there[made.fileno()] = made
+            poll.register(made, select.POLLIN)
+        for number, _ in poll.poll(2):
+            with contextlib.suppress(ConnectionError):
+                there[number].recv(100)
+            poll.unregister(number)
+            there.pop(number).close()
+            tries += 1
+    return not tries
+
+
+def in_a_storm(folder, count, seconds):
+    allow_connections(count)
+    begun = time.monotonic()
+    with Server(folder, stub(folder, "nrm", {}), "--clients", "50") as server, server.connect() as first:
+        answers(first, b"cancel 1\n", 1)
+        words = [sys.executable, __file__, "--storm", str(server.path), str(count // 2), str(seconds)]
+        storms = [subprocess.Popen(words) for _ in range(2)]
+        answered_soon(waits_of(first, seconds))
+        want([it.wait(SECONDS) for it in storms], [0, 0], "storms in which somebody was cut off")
+        told_now_and_then(server, begun)
+        server.end()
+
+
+@test
+def a_storm_of_new_clients_keeps_nobody_waiting(folder, program):
+    in_a_storm(folder, 2000, 4)
+
+
+@by_name
+def a_long_storm_of_new_clients_keeps_nobody_waiting(folder, program):
+    in_a_storm(folder, 4000, 30)
 
 
 # The journal, and its faults
@@ -604,6 +795,176 @@ def a_full_small_disk_is_told(folder, program):
         told, _ = full_disk(folder, program, server, None)
         want("No space left" in server.told(), True, server.told())
     want((folder / "disk.kept").read_bytes().count(b"\n"), len(told), "as many lines as were answered")
+
+
+@test
+def half_a_number_is_cut_off(folder, program):
+    """What a full disk, or a kill, left of a number isn't joined with the next, which would be another line's."""
+    words, journal, void = stub(folder, "nrm", {"a": "store"}), folder / "journal", folder / "journal.void"
+    told = b""
+    with Server(folder, words, journal=journal, limit=below(1001)) as server, server.connect() as connection:
+        for _ in range(400):
+            with contextlib.suppress(OSError):
+                connection.sendall(b"a\n")
+            told += connection.recv(100) if not told.endswith(b"closed journal\n") else b""
+        server.end(74, sent=None)
+        want("journal.void: File too large" in server.told(), True, server.told())
+    numbers = void.read_text()
+    want(numbers, "".join(f"{it}\n" for it in range(1, numbers.count("\n") + 1)), "whole numbers")
+    want(told, b"store\n" * numbers.count("\n") + b"closed journal\n", "the replies: one to each line that is left out")
+    with void.open("a") as file:
+        file.write("3")
+    with Server(folder, words, journal=journal) as server, server.connect() as connection:
+        want("half a number" in server.told(), True, server.told())
+        want(answers(connection, b"a\n", 1), [b"store\n"], "a line more")
+        server.end()
+    want(void.read_text(), f"{numbers}{journal.read_bytes().count(10)}\n", "the numbers")
+
+
+@test
+def a_reply_that_cannot_be_remembered_is_not_sent(folder, program):
+    """Else its line would be given again, and could be sold then, though its client was told that it wasn't."""
+    words = stub(folder, "nrm", {"a": "store"})
+    with Server(folder, words, journal=folder / "journal") as server, server.connect() as connection:
+        (folder / "journal.void").mkdir()
+        connection.sendall(b"b\nb\na\nb\n")
+        want(all_from(connection), b"unknown\nunknown\nclosed journal\n", "what is told")
+        server.end(74, sent=None)
+        want(f"{folder}/journal.void: Is a directory" in server.told(), True, server.told())
+
+
+@test
+def numbers_of_other_lines_are_refused(folder, program):
+    """A line that was acknowledged would be left out."""
+    journal, void = folder / "journal", folder / "journal.void"
+    journal.write_bytes(b"book A 1\nbook A 1\nbook A 1\n")
+    for numbers, line in [("4\n", 1), ("2\n1\n", 2), ("2\n2\n", 2), ("1\n" + "9" * 4301 + "\n", 2), ("x\n", 1), ("1\n\n", 2),
+                          ("01\n", 1), ("1\xb2\n", 1), ("0\n", 1)]:
+        void.write_text(numbers)
+        with Server(folder, stub(folder, "nrm", {}), journal=journal, status=1) as server:
+            server.end(1, sent=None)
+            want((f"{void}: line {line} isn't the number" in server.told(), server.told().count("\n")), (True, 1), server.told())
+        want(void.read_text(), numbers, "what stands there")
+
+
+@test
+def a_journal_is_for_its_owner_alone(folder, program):
+    words, path = stub(folder, "nrm", {"a": "store"}), folder / "journal"
+    with Server(folder, words, journal=path, limit=lambda: os.umask(0)) as server, server.connect() as connection:
+        answers(connection, b"a\n", 1)
+        want([oct(os.stat(f"{path}{it}").st_mode & 0o777) for it in ("", ".void")], ["0o600", "0o600"], "the rights")
+        server.end()
+
+
+def patched(folder, lines):
+    """The variables with which a run of Python begins by some lines."""
+    (folder / "sitecustomize.py").write_text(lines)
+    return {"PYTHONPATH": str(folder)}
+
+
+@test
+def the_name_behind_a_link_is_on_the_disk(folder, program):
+    """A library of Python writes down the folders whose names it was asked to put there."""
+    for it in ("here", "there"):
+        (folder / it).mkdir()
+    for name in ("journal", "journal.void"):
+        (folder / "here" / name).symlink_to(folder / "there" / name)
+    variables = patched(folder, f"""import os
+flush = os.fsync
+def fsync(file):
+    flush(file)
+    number = file if isinstance(file, int) else file.fileno()
+    with open({str(folder / "flushed")!r}, "a") as told:
+        told.write(os.readlink("/proc/self/fd/%d" % number) + "\\n")
+os.fsync = fsync
+""")
+    with Server(folder, stub(folder, "nrm", {"a": "store"}), journal=folder / "here" / "journal", variables=variables) as server:
+        want(str(folder / "there") in (folder / "flushed").read_text().split("\n"), True, "the folder of the journal")
+        (folder / "flushed").unlink()
+        with server.connect() as connection:
+            answers(connection, b"a\n", 1)
+            flushed = (folder / "flushed").read_text().split("\n")
+            want([str(folder / it) in flushed for it in ("there", "there/journal.void")], [True, True], f"the void's: {flushed}")
+        server.end()
+
+
+SLOW_DISK = """import os, time
+flush = os.fsync
+def fsync(file):
+    time.sleep({seconds})
+    flush(file)
+os.fsync = fsync
+"""
+
+
+def die_while_it_writes(folder, seconds, pause):
+    """The program is killed while lines of one client are put on a slow disk, and those of another wait."""
+    words, variables = stub(folder, "nrm", {}), patched(folder, SLOW_DISK.format(seconds=seconds))
+    with Server(folder, words, journal=folder / "journal", variables=variables) as server, \
+            server.connect() as one, server.connect() as other:
+        one.sendall(b"book A 1\n")
+        time.sleep(pause)
+        other.sendall(b"book A 2\n")
+        time.sleep(pause)
+        os.kill(server.program(), signal.SIGKILL)
+        want([all_from(it)[-19:] for it in (one, other)], [b"closed program 137\n"] * 2, "what both are told")
+        server.end(137, sent=None)
+        want(server.told().splitlines()[-1], "desks.py: the program ended with status 137", "the last line")
+        want("Traceback" in server.told(), False, server.told())
+
+
+@test
+def a_program_may_die_while_lines_are_written(folder, program):
+    die_while_it_writes(folder, 0.5, 0.1)
+
+
+@by_name
+def a_program_may_die_long_while_lines_are_written(folder, program):
+    """At random moments."""
+    draw = random.Random(3)
+    for at in range(200):
+        place = folder / str(at)
+        place.mkdir()
+        die_while_it_writes(place, draw.uniform(0, 0.06), draw.uniform(0, 0.03))
+
+
+@test
+def what_is_no_plain_file_is_told(folder, program):
+    """A FIFO would wait for who writes into it, and what a device gets is gone."""
+    fifo = folder / "fifo"
+    os.mkfifo(fifo)
+    (folder / "journal.void").symlink_to(fifo)
+    (folder / "journal").touch()
+    begin, words = [sys.executable, str(TOOLS / "desks.py"), "--socket", str(folder / "socket")], ["--", *stub(folder, "nrm", {})]
+    for journal, path in [(fifo, fifo), ("/dev/null", "/dev/null"), (folder / "journal", folder / "journal.void")]:
+        done = subprocess.run([*begin, "--journal", str(journal), *words], capture_output=True, text=True, timeout=SECONDS)
+        want((done.returncode, done.stderr), (1, f"desks.py: {path} is no plain file\n"), journal)
+    network, stream = EXAMPLES / "hub" / "network.csv", EXAMPLES / "hub" / "commands.txt"
+    for words in ([fifo, stream], [stream, fifo]):
+        done = subprocess.run([sys.executable, str(TOOLS / "resume.py"), network, "first", *words, "--program", *program],
+                              capture_output=True, text=True, timeout=SECONDS)
+        want((done.returncode, done.stderr), (1, f"resume.py: {fifo} is no plain file\n"), words)
+
+
+@test
+def a_program_that_does_not_answer_is_ended(folder, program):
+    """Neither at the beginning, nor while it serves, nor once it has closed its output."""
+    with Server(folder, ["sleep", "1000"], "--answer", "1", status=1) as server:
+        server.end(1, sent=None)
+        want(server.told(), "desks.py: `sleep 1000` didn't answer in 1 seconds, and was ended\n", "what is told")
+    (folder / "around").write_text(f"#!/bin/sh\n{stub(folder, 'nrm', {})[0]}\ntrue\n")
+    (folder / "around").chmod(0o755)
+    with Server(folder, [str(folder / "around")], "--answer", "2", "--slow", "1") as server, server.connect() as connection:
+        os.kill(child_of(server.program()), signal.SIGSTOP)
+        connection.sendall(b"book A 1\n")
+        want(all_from(connection), b"closed program 137\n", "what a client is told")
+        server.end(137, sent=None)
+        want("hasn't answered for 2 seconds, and is ended" in server.told(), True, server.told())
+    lines = ["import os, time", "input()", "os.write(1, b'bad\\n')", "os.close(1)", "time.sleep(1000)"]
+    (folder / "closes").write_text("\n".join([f"#!{sys.executable}", *lines, ""]))
+    (folder / "closes").chmod(0o755)
+    with Server(folder, [str(folder / "closes")], "--slow", "1") as server:
+        server.end(137, sent=None)
 
 
 @test
@@ -751,7 +1112,12 @@ def a_mistake_is_told_in_a_line(folder, program):
             ([*place, "--journal", str(folder / "none" / "journal"), *run], 1, "No such file"),
             (["--socket", str(folder / "none" / "socket"), *run], 1, "No such file"), (["--socket", "x" * 200, *run], 1, "too long"),
             (["--listen", "nowhere", *run], 2, "HOST:PORT is wanted"), (["--listen", "127.0.0.1:99999", *run], 2, "HOST:PORT is wanted"),
-            (["--listen", "none.invalid:80", *run], 1, "--listen none.invalid:80: ")]:
+            (["--listen", "none.invalid:80", *run], 1, "--listen none.invalid:80: "),
+            (["--listen", "a" * 300 + ":80", *run], 1, "too long"),
+            (["--listen", "127.0.0.1:" + "9" * 4301, *run], 2, "HOST:PORT is wanted"),
+            ([*place, "--clients", "9" * 4301, *run], 2, "--clients"), ([*place, "--mode", "9", *run], 2, "invalid rights value"),
+            ([*place, "--journal", "", *run], 2, "want a name"), ([*place, "--answer", "0", *run], 2, "--answer"),
+            ([*place, "--slow", "1e" + "9" * 4301, *run], 2, "--slow")]:
         done = subprocess.run([sys.executable, str(TOOLS / "desks.py"), *words], capture_output=True, text=True, timeout=SECONDS)
         want((done.returncode, told in done.stderr, "Traceback" in done.stderr), (status, True, False), f"{words} {done.stderr}")
     want(list(folder.iterdir()), [], "what is left")
@@ -762,7 +1128,7 @@ def a_socket_of_another_is_left_alone(folder, program):
     with hub_server(folder, program) as first:
         words = ["--socket", str(first.path), "--", *program, "run", "first", HUB]
         second = subprocess.run([sys.executable, str(TOOLS / "desks.py"), *words], capture_output=True, text=True, timeout=SECONDS)
-        want((second.returncode, second.stderr), (1, f"desks.py: another process listens on {first.path}\n"), "a second run")
+        want((second.returncode, second.stderr), (1, f"desks.py: another run has the socket {first.path}\n"), "a second run")
         with first.connect() as connection:
             want(answers(connection, b"book HJ-Q 1\n", 1), [b"ok 1\n"], "the first goes on")
         first.end()
@@ -770,6 +1136,103 @@ def a_socket_of_another_is_left_alone(folder, program):
     with hub_server(folder, program, status=1) as server:
         server.end(1, sent=None)
     want((folder / "socket").read_text(), "mine", "the file")
+
+
+@test
+def a_socket_whose_queue_is_full_is_told(folder, program):
+    """By the server that would have its path, and by a desk, once its time is over."""
+    path = folder / "socket"
+    with socket.socket(socket.AF_UNIX) as other, contextlib.ExitStack() as all_:
+        other.bind(str(path))
+        other.listen(0)
+        with contextlib.suppress(BlockingIOError):
+            for _ in range(10):
+                asker = all_.enter_context(socket.socket(socket.AF_UNIX))
+                asker.setblocking(False)
+                asker.connect(str(path))
+        with Server(folder, stub(folder, "nrm", {}), status=1) as server:
+            server.end(1, sent=None)
+            want(server.told(), f"desks.py: another process listens on {path}\n", "what is told")
+        begun = time.monotonic()
+        want(str(expect(desks_in_python.Late, lambda: Desk(path, seconds=1))), f"{path}: no connection in 1 seconds", "why")
+        want(0.8 < time.monotonic() - begun < 10, True, "when")
+        want(sorted(it.name for it in folder.iterdir()), ["got", "nrm", "socket", "told"], "what is left")
+
+
+@test
+def a_server_that_ends_leaves_the_next_its_socket(folder, program):
+    """The first is told to end, and waits for a client that doesn't take its replies. Meanwhile another is started, again and
+    again until it listens, as a supervisor does."""
+    place = folder / "next"
+    place.mkdir()
+    words = stub(folder, "nrm", {"leg A": "leg A seats 1 authorised 1 sold 0 left 1" + "\non A B 1" * 400})
+    with Server(folder, words, "--slow", "3") as first, first.connect() as deaf:
+        deaf.setblocking(False)
+        deadline = time.monotonic() + 2
+        while time.monotonic() < deadline:
+            with contextlib.suppress(BlockingIOError):
+                deaf.send(b"leg A\n" * 100)
+            time.sleep(0.01)
+        first.process.terminate()
+        with next_server(place, words, first.path) as following:
+            want(first.process.wait(SECONDS), 0, "the first's status")
+            with first.connect() as connection:
+                want(answers(connection, b"cancel 1\n", 1), [b"unknown\n"], "the next one's reply")
+            want(sorted(it.name for it in folder.glob("socket*")), ["socket", "socket.lock"], "what is there")
+            following.end()
+    want(list(folder.glob("socket*")), [], "what is left")
+
+
+def next_server(folder, words, path):
+    """A server on a path, once it listens."""
+    deadline = time.monotonic() + SECONDS
+    while time.monotonic() < deadline:
+        server = Server.__new__(Server)
+        server.path, server.err = path, folder / "told"
+        with open(server.err, "w") as told:
+            server.process = subprocess.Popen([sys.executable, str(TOOLS / "desks.py"), "--socket", str(path), "--", *words],
+                                              stderr=told)
+        with contextlib.suppress(Wrong):
+            server.wait_until_it_listens()
+            return server
+    raise Wrong("the next server listens")
+
+
+@test
+def a_socket_is_had_by_one_of_many(folder, program):
+    """Of servers that are started at once on a socket that a killed one left, one has it, though each is slow to take the old one
+    away."""
+    with Server(folder, stub(folder, "nrm", {})) as killed:
+        killed.process.kill()
+    words = [sys.executable, str(TOOLS / "desks.py"), "--socket", str(folder / "socket"), "--", *stub(folder, "nrm", {})]
+    variables = patched(folder, """import os, time
+unlink = os.unlink
+def slow(path, **more):
+    time.sleep(0.3)
+    unlink(path, **more)
+os.unlink = slow
+""")
+    many = [subprocess.Popen(words, stderr=subprocess.PIPE, text=True, env={**os.environ, **variables}) for _ in range(8)]
+    try:
+        told = [it.stderr.readline() for it in many]
+        want(Counter(it.startswith("desks.py: listening on") for it in told), {True: 1, False: 7}, "those that listen")
+        with killed.connect() as connection:
+            want(answers(connection, b"cancel 1\n", 1), [b"unknown\n"], "its reply")
+    finally:
+        for it in many:
+            it.kill()
+            it.communicate()
+
+
+@test
+def a_loopback_address_may_be_written_as_one_of_ipv6(folder, program):
+    words = ["--", *stub(folder, "nrm", {})]
+    for host, is_beyond in [("[::ffff:127.0.0.1]", False), ("[::1]", False), ("[::ffff:10.1.2.3]", True), ("[::]", True)]:
+        with Server(folder, words[1:], "--listen", f"{host}:0", status=2) as server:
+            deadline = time.monotonic() + SECONDS
+            while not server.told() and time.monotonic() < deadline:
+                time.sleep(0.01)
+            want("is beyond this machine" in server.told(), is_beyond, f"{host}: {server.told()}")
 
 
 # The desks
@@ -851,8 +1314,13 @@ def a_desk_in_python_gets_typed_answers(folder, program):
         expect(of.Late, desk.plan)
         expect(of.Late, desk.plan)
     expect(of.Ended, lambda: Desk(folder / "none"))
-    with Desk.start(stub(folder, "odd", {"plan": "odd"}), "x", "y") as desk:
-        expect(of.Strange, desk.plan)
+    for odd in ["odd", "value 1/" + "9" * 4301, "value 1e9999999", "value 1/1\nproduct"]:
+        with Desk.start(stub(folder, "odd", {"plan": odd, "leg A": f"leg A seats {'9' * 4301} authorised 1 sold 1 left 1",
+                                             "cancel 1": "ok " + "9" * 4301}), "x", "y") as desk:
+            for call in (desk.plan, lambda: desk.leg("A"), lambda: desk.cancel(1)):
+                expect(of.Strange, call)
+    expect(of.Ended, lambda: Desk(("a" * 300, 80)))
+    expect(of.Ended, lambda: Desk(("127.0.0.1", 99_999)))
 
 
 def expect(kind, call):
@@ -882,7 +1350,7 @@ def a_desk_in_c_gets_all_replies(folder, program):
 
 def main():
     given = checks.words_of(__doc__)
-    tests = test.picked(given.pattern)
+    tests = test.picked(given.pattern) + (by_name.picked(given.pattern) if given.pattern else [])
     if not checks.is_built(given.program):
         checks.ended(0, len(tests))
         return checks.NOT_BUILT
@@ -901,4 +1369,6 @@ def main():
 if __name__ == "__main__":
     if sys.argv[1:2] == ["--worker"]:
         worker(sys.argv[2], *map(int, sys.argv[3:6]), sys.argv[6])
+    if sys.argv[1:2] == ["--storm"]:
+        sys.exit(storm(sys.argv[2], *map(int, sys.argv[3:5])))
     sys.exit(main())

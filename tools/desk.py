@@ -30,8 +30,10 @@ from nrm_tools import NAME, Network, no_tool, whole_replies
 
 SECONDS = 10.0
 PIECE = 65_536
+PAUSE = 0.05  # the seconds before a desk tries again to connect, where so many wait that no more may
 MOST_PARTY = 999
 MOST_NUMBER = 999_999_999_999
+MOST_SHOWN = 200  # characters of a strange reply
 MARK = b"bad\n"  # the reply to an empty line
 
 
@@ -43,8 +45,9 @@ class DeskError(Exception):
 
 
 class Late(DeskError):
-    """The answer didn't come in time. The desk asks no more, since it would take a late answer for that to another line: as after each
-    of these errors but a Strange answer, whoever goes on connects anew, and looks up what became of the line."""
+    """The answer didn't come in time, or the connection. The desk asks no more, since it would take a late answer for that to
+    another line: as after each of these errors but a Strange answer, whoever goes on connects anew. The controller doesn't tell a
+    desk what became of a line: the journal does."""
 
 
 class Ended(DeskError):
@@ -161,14 +164,23 @@ class Hindsight:
 
 SAME = {"unknown": Unknown(), "overflow": Overflow(), "memory": Memory(), "store": Store(), "no fare": NoFare(), "first": Plan(),
         "optimised none": Optimised(None)}
+TOO_LONG = re.compile(r"[0-9]{101}")  # no number of a reply has so many digits, and Python doesn't read all that are far longer
+FRACTION = re.compile(r"-?[0-9]+/[0-9]+")
 FORMS = [
-    (re.compile(r"ok (\d+)"), lambda number: Sold(int(number))),
+    (re.compile(r"ok ([0-9]+)"), lambda number: Sold(int(number))),
     (re.compile(r"no ([A-Z0-9-]+)"), NoLeg),
-    (re.compile(r"cancelled (\d+) (\d+)"), lambda number, amount: Cancelled(int(number), int(amount))),
-    (re.compile(r"optimised (-?\d+/\d+)"), lambda value: Optimised(Fraction(value))),
-    (re.compile(r"hindsight (\d+/\d+) revenue (\d+) withheld (\d+)"),
-     lambda bound, revenue, withheld: Hindsight(Fraction(bound), int(revenue), int(withheld))),
+    (re.compile(r"cancelled ([0-9]+) ([0-9]+)"), lambda number, amount: Cancelled(int(number), int(amount))),
+    (re.compile(r"optimised ([^ ]+)"), lambda value: Optimised(fraction(value))),
+    (re.compile(r"hindsight ([^ ]+) revenue ([0-9]+) withheld ([0-9]+)"),
+     lambda bound, revenue, withheld: Hindsight(fraction(bound), int(revenue), int(withheld))),
 ]
+
+
+def fraction(text):
+    """The fraction that a reply says; a ValueError if it is none."""
+    if not FRACTION.fullmatch(text):
+        raise ValueError(text)
+    return Fraction(text)
 
 
 def leg_of(lines):
@@ -180,14 +192,14 @@ def leg_of(lines):
 
 def plan_of(lines):
     """The plan that a text tells."""
-    plan = Plan(value=Fraction(lines[0].split(" ")[1]))
+    plan = Plan(value=fraction(lines[0].split(" ")[1]))
     for kind, name, *rest in (line.split(" ") for line in lines[1:]):
         if kind == "product":
-            plan.allocation[name] = Fraction(rest[0])
+            plan.allocation[name] = fraction(rest[0])
         elif kind == "leg":
-            plan.prices[name] = Fraction(rest[0])
+            plan.prices[name] = fraction(rest[0])
         elif kind == "nest":
-            plan.nests[name, rest[0]] = Fraction(rest[1]), int(rest[2])
+            plan.nests[name, rest[0]] = fraction(rest[1]), int(rest[2])
         elif kind == "protect":
             plan.protections[name] = [int(it) for it in rest]
     return plan
@@ -199,16 +211,23 @@ def answer_of(reply):
     if text in SAME:
         return SAME[text]
     try:
-        if text.startswith("leg "):
-            return leg_of(text.split("\n"))
-        if text.startswith("value "):
-            return plan_of(text.split("\n"))
+        if not TOO_LONG.search(text):
+            return typed(text)
     except (ValueError, IndexError, ZeroDivisionError):
-        raise Strange(repr(text))
+        pass
+    raise Strange(repr(text[:MOST_SHOWN]))
+
+
+def typed(text):
+    """The answer that the text of a reply means; one of some errors if it means none."""
+    if text.startswith("leg "):
+        return leg_of(text.split("\n"))
+    if text.startswith("value "):
+        return plan_of(text.split("\n"))
     for form, answer in FORMS:
         if found := form.fullmatch(text):
             return answer(*found.groups())
-    raise Strange(repr(text))
+    raise ValueError(text)
 
 
 # The desk
@@ -225,14 +244,14 @@ class Desk:
     def __init__(self, place, network=None, seconds=SECONDS):
         self.process = None
         try:
-            if isinstance(place, tuple):
-                self._begin(socket.create_connection(place, seconds), network, seconds)
-            else:
-                self._begin(socket.socket(socket.AF_UNIX), network, seconds)
-                self.socket.settimeout(seconds)
-                self.socket.connect(str(place))
-        except OSError as fault:
-            raise Ended(f"{place}: {fault.strerror or fault}")
+            self._begin(socket.create_connection(place, seconds) if isinstance(place, tuple) else unix_connection(place, seconds),
+                        network, seconds)
+        except TimeoutError:
+            raise Late(f"{place}: no connection in {seconds} seconds")
+        except (OSError, OverflowError) as fault:
+            raise Ended(f"{place}: {getattr(fault, 'strerror', None) or fault}")
+        except UnicodeError:  # which is how Python answers a part of more than 63 letters
+            raise Ended(f"{place}: the name of the host is too long, or not one")
 
     @classmethod
     def start(cls, program, mode, file, *words, seconds=SECONDS):
@@ -338,7 +357,7 @@ class Desk:
             if not piece or made and made[-1].startswith(b"closed "):
                 self._has_ended(b"".join(replies) + self.left)
         if replies[1:] != [MARK]:
-            raise Strange(repr(replies))
+            raise Strange(repr(replies)[:MOST_SHOWN])
         return replies[0]
 
     def _send(self, data, deadline):
@@ -371,6 +390,24 @@ class Desk:
         if found := re.fullmatch(r"closed program (\d+)", last):
             raise Ended("closed", int(found[1]))
         raise Ended(last or "the connection has ended")
+
+
+def unix_connection(path, seconds):
+    """A connection to a Unix socket. While so many wait there that no more may, it is tried again; a TimeoutError at the end."""
+    connection, deadline = socket.socket(socket.AF_UNIX), time.monotonic() + seconds
+    try:
+        while True:
+            try:
+                connection.settimeout(seconds)
+                connection.connect(str(path))
+                return connection
+            except BlockingIOError:
+                if time.monotonic() + PAUSE > deadline:
+                    raise TimeoutError
+                time.sleep(PAUSE)
+    except OSError:
+        connection.close()
+        raise
 
 
 def a_name(text):

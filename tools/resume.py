@@ -18,6 +18,7 @@ above this folder, or the `nrm` on the path.
 import itertools
 import os
 import re
+import stat
 import subprocess
 import sys
 import threading
@@ -127,6 +128,13 @@ def go_on(given, before):
     return session.fault or session.process.wait()
 
 
+def see_that_it_is_a_file(path):
+    """It is read more than once, which a FIFO can't be; and that would wait for who writes into it."""
+    if stat.S_ISFIFO(os.stat(path).st_mode):
+        raise Stop(f"{path} is no plain file")
+    bytes_in(path, 1)
+
+
 def main():
     words = parser(__doc__)
     words.add_argument("network")
@@ -139,7 +147,7 @@ def main():
     given.program = program(given.program)
     os.stat(given.network)  # what isn't there, or can't be read, is told before anything is run
     for path in (given.stream, given.replies):
-        bytes_in(path, 1)
+        see_that_it_is_a_file(path)
     number, size = line_to_go_on_at(given)
     print(f"go on at line {number}; {size} bytes of whole replies stand before it", file=sys.stderr if given.go_on else sys.stdout)
     return go_on(given, number) if given.go_on else 0
