@@ -1,5 +1,5 @@
 -- A booking that comes or goes, and the counts of the seats sold.
-use Rattle.std.proofs.Common.{ℕ, ◌≡◌, ◌≢◌, ◌∙◌, ◌+◌, ◌-◌, ◌<◌, ◌≤◌, All, AllPairs, true, false, cond, eqb, nat_eq, is_some, IsSome, Option, slice_get, unwrap_or, List, [], ◌∷◌, ◌++◌, length, get_or, map, sum_by, Vec, refl, sym, ap, subst, zero-add, arith}
+use Rattle.std.proofs.Common.{ℕ, ◌≡◌, ◌≢◌, ◌∙◌, ◌+◌, ◌-◌, ◌<◌, ◌≤◌, All, AllPairs, true, false, cond, eqb, slice_get, unwrap_or, List, [], ◌∷◌, ◌++◌, length, get_or, map, sum_by, Vec, refl, sym, ap, subst, zero-add, arith}
 use Rattle.std.specs.List.{remove, slice_index}
 use Rattle.std.specs.declared.alloc.Global.{Global}
 use Rattle.std.proofs.lemmas.List.FromFn.{get_or-map-range_with_len, length-map-range_with_len}
@@ -9,11 +9,9 @@ use Rattle.nrm_model.specs.Inventory.{Inventory, authorised_of, legs_of, uses_le
 use Rattle.nrm_book.specs.declared.booking.Booking.{Booking}
 use Rattle.nrm_book.specs.Bookings.{sold_of, sold_on}
 use Rattle.nrm_book.specs.Book.{BookValue, IsBook, IsInventory}
-use Rattle.nrm_book.specs.Seats.{SeatsValue, CanFall, CanRise, HasPair, changed, count_in, pairs_on, pairs_sold, seats_sold}
-use Rattle.nrm_book.proofs.CountChanges.{changed-is}
-use Rattle.nrm_number.proofs.Ranges.{lookup-kept, lookup-range}
+use Rattle.nrm_book.specs.Inner.Seats.{SeatsValue, CanFall, CanRise, changed, seats_sold}
+use Rattle.nrm_book.proofs.CountChanges.{all-legs, one-product}
 use Rattle.nrm_book.proofs.Revenues.{sold-within}
-use Rattle.std.specs.Map.{lookup}
 use Rattle.std.proofs.lemmas.Bool.{ne_eqb}
 use Rattle.std.proofs.lemmas.Bool.Decides.{nat_tests}
 use Rattle.nrm_book.proofs.Sold.{AreProducts, taken_on, sold_on-by_booking, sold_on-push, uses-each}
@@ -33,23 +31,11 @@ counted-on inventory bookings sold leg is short =
     let Counts : SeatsValue → Type 0 = λ sold. (leg < length sold.by_leg) × (slice_index sold.by_leg leg ≡ sold_on inventory bookings leg) in
     subst Counts (sym is) (omega (arith, length-map-range_with_len (sold_on inventory bookings) 0 (length inventory.authorised)), get_or-map-range_with_len (sold_on inventory bookings) 0 (length inventory.authorised) leg leg 0 short (zero-add leg))
 
--- the pairs of a leg
-pub leg-counted : (inventory : Inventory) (bookings : List Booking) (sold : SeatsValue) (leg : ℕ) → sold ≡ seats_sold inventory bookings → leg < length inventory.authorised
-    → IsSome (lookup (nat_eq leg) sold.by_product) × (pairs_on sold.by_product leg ≡ pairs_sold inventory bookings leg)
-leg-counted inventory bookings sold leg is low =
-    let Counts : SeatsValue → Type 0 = λ sold. IsSome (lookup (nat_eq leg) sold.by_product) × (pairs_on sold.by_product leg ≡ pairs_sold inventory bookings leg) in
-    let nest = lookup-range (pairs_sold inventory bookings) 0 (length inventory.authorised) leg (omega arith) (omega arith) in
-    subst Counts (sym is) (ap is_some nest, ap (λ (o : Option (List (ℕ × ℕ))). unwrap_or o []) nest)
-
--- and the count of a product there
-pub pair-counted : (inventory : Inventory) (bookings : List Booking) (sold : SeatsValue) (leg product : ℕ) → sold ≡ seats_sold inventory bookings → leg < length inventory.authorised → product < length inventory.legs → uses_leg inventory leg product ≡ true
-    → HasPair sold.by_product leg product × (count_in sold.by_product leg product ≡ sold_of bookings product)
-pair-counted inventory bookings sold leg product is low short uses =
-    let Counts : SeatsValue → Type 0 = λ sold. HasPair sold.by_product leg product × (count_in sold.by_product leg product ≡ sold_of bookings product) in
-    let nest = lookup-range (pairs_sold inventory bookings) 0 (length inventory.authorised) leg (omega arith) (omega arith) in
-    let pairs_are = ap (λ (o : Option (List (ℕ × ℕ))). unwrap_or o []) nest in
-    let count = ap (lookup (nat_eq product)) pairs_are ∙ lookup-kept (sold_of bookings) (uses_leg inventory leg) 0 (length inventory.legs) product (omega arith) (omega arith) uses in
-    subst Counts (sym is) (record { leg = ap is_some nest; product = ap is_some count }, ap (λ (o : Option ℕ). unwrap_or o 0) count)
+-- and of a product
+pub counted-of : (inventory : Inventory) (bookings : List Booking) (sold : SeatsValue) (product : ℕ) → sold ≡ seats_sold inventory bookings → product < length inventory.legs → (product < length sold.by_product) × (slice_index sold.by_product product ≡ sold_of bookings product)
+counted-of inventory bookings sold product is short =
+    let Counts : SeatsValue → Type 0 = λ sold. (product < length sold.by_product) × (slice_index sold.by_product product ≡ sold_of bookings product) in
+    subst Counts (sym is) (omega (arith, length-map-range_with_len (sold_of bookings) 0 (length inventory.legs)), get_or-map-range_with_len (sold_of bookings) 0 (length inventory.legs) product product 0 short (zero-add product))
 
 -- the party of a booking, if it is of this product
 abbrev pub party_of : ℕ → Booking → ℕ
@@ -84,44 +70,46 @@ module _ (inventory : Inventory) (few many : List Booking) (b : Booking) (is : I
 
   -- one booking more
   pub sold-is : AllPairs (λ a b. a ≢ b) (legs_of inventory b.product) → changed (λ sold. sold + b.party) (seats_sold inventory few) (legs_of inventory b.product) b.product ≡ seats_sold inventory many
-  sold-is distinct = changed-is inventory few many (λ sold. sold + b.party) b.product short other-party (sym own-party) distinct
-      (λ k d at. (low k d at, uses-each inventory b.product k d at, sym (one-party (get_or (legs_of inventory b.product) k d) (uses-each inventory b.product k d at)))) (λ i apart. sym (no-party i apart))
+  sold-is distinct =
+      let product = one-product few many (λ sold. sold + b.party) b.product (length inventory.legs) short other-party (sym own-party) in
+      let legs = all-legs inventory few many (λ sold. sold + b.party) b.product distinct
+      (λ k d at. (low k d at, sym (one-party (get_or (legs_of inventory b.product) k d) (uses-each inventory b.product k d at)))) (λ i apart. sym (no-party i apart)) in
+      λ k. record { by_product = product k; by_leg = legs k }
 
   -- one booking less
   pub given-back-is : AllPairs (λ a b. a ≢ b) (legs_of inventory b.product) → changed (λ sold. sold - b.party) (seats_sold inventory many) (legs_of inventory b.product) b.product ≡ seats_sold inventory few
-  given-back-is distinct = changed-is inventory many few (λ sold. sold - b.party) b.product short (λ j other. sym (other-party j other)) (omega (arith, own-party)) distinct
-      (λ k d at. (low k d at, uses-each inventory b.product k d at, omega (arith, one-party (get_or (legs_of inventory b.product) k d) (uses-each inventory b.product k d at)))) (λ i apart. no-party i apart)
+  given-back-is distinct =
+      let product = one-product many few (λ sold. sold - b.party) b.product (length inventory.legs) short (λ j other. sym (other-party j other)) (omega (arith, own-party)) in
+      let legs = all-legs inventory many few (λ sold. sold - b.party) b.product distinct
+      (λ k d at. (low k d at, omega (arith, one-party (get_or (legs_of inventory b.product) k d) (uses-each inventory b.product k d at)))) (λ i apart. no-party i apart) in
+      λ k. record { by_product = product k; by_leg = legs k }
 
   -- and there is enough to give back
-  pub can-fall : (sold : SeatsValue) → sold ≡ seats_sold inventory many → All (λ i. CanFall sold i b.product b.party) (legs_of inventory b.product)
-  can-fall sold are k d at =
-      let i = get_or (legs_of inventory b.product) k d in
-      let here = counted-on inventory many sold (get_or (legs_of inventory b.product) k d) are (low k d at) in
-      let pair = pair-counted inventory many sold (get_or (legs_of inventory b.product) k d) b.product are (low k d at) short (uses-each inventory b.product k d at) in
-      let party = one-party (get_or (legs_of inventory b.product) k d) (uses-each inventory b.product k d at) in
-      record {
-        leg = here.0;
-        sum = omega (arith, here.1, party);
-        pair = pair.0;
-        count = omega (arith, pair.1, own-party);
-      }
+  pub can-fall : (sold : SeatsValue) → sold ≡ seats_sold inventory many → CanFall sold.by_product b.product b.party × All (λ i. CanFall sold.by_leg i b.party) (legs_of inventory b.product)
+  can-fall sold are =
+      let own = counted-of inventory many sold b.product are short in (
+        record { there = own.0; sold = omega (arith, own.1, own-party) },
+        λ k d at.
+            let here = counted-on inventory many sold (get_or (legs_of inventory b.product) k d) are (low k d at) in
+            let party = one-party (get_or (legs_of inventory b.product) k d) (uses-each inventory b.product k d at) in
+            record { there = here.0; sold = omega (arith, here.1, party) },
+      )
 
 -- a party fits each count
-pub can-rise : (book : BookValue) (sold : SeatsValue) (product party : ℕ) → IsBook book → sold ≡ seats_sold book.inventory book.bookings → product < length book.inventory.legs → party ≤ 999 → All (λ i. CanRise sold i product party) (legs_of book.inventory product)
-can-rise book sold product party is are short sized k d at =
-    let leg = get_or (legs_of book.inventory product) k d in
-    let low = of-legs book.inventory (λ (legs : List ℕ). All (λ i. i < length book.inventory.authorised) legs) product is.inventory.legs short k d at in
-    let here = counted-on book.inventory book.bookings sold (get_or (legs_of book.inventory product) k d) are low in
-    let uses = uses-each book.inventory product k d at in
-    let pair = pair-counted book.inventory book.bookings sold (get_or (legs_of book.inventory product) k d) product are low short uses in
-    let within = is.seats (get_or (legs_of book.inventory product) k d) low in
-    let seats : authorised_of book.inventory (get_or (legs_of book.inventory product) k d) ≤ 999 = is.inventory.authorised (get_or (legs_of book.inventory product) k d) 0 low in
-    record {
-      leg = here.0;
-      sum = omega (arith, here.1, within, seats);
-      pair = pair.0;
-      count = omega (arith, pair.1, sold-within book (get_or (legs_of book.inventory product) k d) product is low uses);
-    }
+pub can-rise : (book : BookValue) (sold : SeatsValue) (product party : ℕ) → IsBook book → sold ≡ seats_sold book.inventory book.bookings → product < length book.inventory.legs → party ≤ 999
+    → CanRise sold.by_product product party × All (λ i. CanRise sold.by_leg i party) (legs_of book.inventory product)
+can-rise book sold product party is are short sized =
+    let low = of-legs book.inventory (λ (legs : List ℕ). All (λ i. i < length book.inventory.authorised) legs) product is.inventory.legs short in
+    let some = of-legs book.inventory (λ (legs : List ℕ). 1 ≤ length legs) product is.inventory.some_leg short in
+    let own = counted-of book.inventory book.bookings sold product are short in
+    let few = sold-within book (get_or (legs_of book.inventory product) 0 0) product is (low 0 0 some) (uses-each book.inventory product 0 0 some) in (
+      record { there = own.0; fits = omega (arith, own.1, few) },
+      λ k d at.
+          let here = counted-on book.inventory book.bookings sold (get_or (legs_of book.inventory product) k d) are (low k d at) in
+          let within = is.seats (get_or (legs_of book.inventory product) k d) (low k d at) in
+          let seats : authorised_of book.inventory (get_or (legs_of book.inventory product) k d) ≤ 999 = is.inventory.authorised (get_or (legs_of book.inventory product) k d) 0 (low k d at) in
+          record { there = here.0; fits = omega (arith, here.1, within, seats) },
+    )
 
 -- the seats of a booking that went
 pub sold_on-removed : (inventory : Inventory) (bookings items : List Booking) (k : ℕ) (b : Booking) → AreProducts inventory bookings → AreProducts inventory items → items ≡ remove bookings k → k < length bookings → b ≡ get_or bookings k b
@@ -138,10 +126,11 @@ sold_on-removed inventory bookings items k b are left less short read i =
 module _ (book : BookValue) (sold : SeatsValue) (product party : ℕ) (legs : List ℕ) (is : IsBook book) (are : sold ≡ seats_sold book.inventory book.bookings) (apart : All (λ (legs : List ℕ). AllPairs (λ a b. a ≢ b) legs) book.inventory.legs)
     (short : product < length book.inventory.legs) (own : legs ≡ legs_of book.inventory product) where
   -- a party can be sold
-  pub can-sell : party ≤ 999 → AllPairs (λ a b. a ≢ b) legs × All (λ i. CanRise sold i product party) legs
+  pub can-sell : party ≤ 999 → AllPairs (λ a b. a ≢ b) legs × CanRise sold.by_product product party × All (λ i. CanRise sold.by_leg i party) legs
   can-sell sized =
-      let P : List ℕ → Type 0 = λ legs. AllPairs (λ a b. a ≢ b) legs × All (λ i. CanRise sold i product party) legs in
-      subst P (sym own) (of-legs book.inventory (λ (legs : List ℕ). AllPairs (λ a b. a ≢ b) legs) product apart short, can-rise book sold product party is are short sized)
+      let P : List ℕ → Type 0 = λ legs. AllPairs (λ a b. a ≢ b) legs × CanRise sold.by_product product party × All (λ i. CanRise sold.by_leg i party) legs in
+      let can = can-rise book sold product party is are short sized in
+      subst P (sym own) (of-legs book.inventory (λ (legs : List ℕ). AllPairs (λ a b. a ≢ b) legs) product apart short, can.0, can.1)
 
 -- what is counted after a sale
 pub sold-next : (book : BookValue) (sold next : SeatsValue) (b : Booking) (legs : List ℕ) (items : List Booking) → IsBook book → sold ≡ seats_sold book.inventory book.bookings → All (λ (legs : List ℕ). AllPairs (λ a b. a ≢ b) legs) book.inventory.legs
@@ -172,10 +161,11 @@ module _ (book : BookValue) (sold : SeatsValue) (k : ℕ) (b : Booking) (legs : 
   distinct : AllPairs (λ a b. a ≢ b) (legs_of book.inventory b.product)
   distinct = of-legs book.inventory (λ (legs : List ℕ). AllPairs (λ a b. a ≢ b) legs) b.product apart short
 
-  pub can-give_back : AllPairs (λ a b. a ≢ b) legs × All (λ i. CanFall sold i b.product b.party) legs
+  pub can-give_back : AllPairs (λ a b. a ≢ b) legs × CanFall sold.by_product b.product b.party × All (λ i. CanFall sold.by_leg i b.party) legs
   can-give_back =
-      let P : List ℕ → Type 0 = λ legs. AllPairs (λ a b. a ≢ b) legs × All (λ i. CanFall sold i b.product b.party) legs in
-      subst P (sym own) (distinct, can-fall book.inventory items book.bookings b is.inventory short more of_product sold are)
+      let P : List ℕ → Type 0 = λ legs. AllPairs (λ a b. a ≢ b) legs × CanFall sold.by_product b.product b.party × All (λ i. CanFall sold.by_leg i b.party) legs in
+      let can = can-fall book.inventory items book.bookings b is.inventory short more of_product sold are in
+      subst P (sym own) (distinct, can.0, can.1)
 
   pub given_back-next : (next : SeatsValue) → next ≡ changed (λ sold. sold - b.party) sold legs b.product → next ≡ seats_sold book.inventory items
   given_back-next next changes =

@@ -10,7 +10,7 @@ use Rattle.nrm_model.specs.Limits.{IsNetwork}
 use Rattle.nrm_model.specs.Inventory.{Inventory, inventory_of}
 use Rattle.nrm_book.specs.declared.booking.Booking.{Booking}
 use Rattle.nrm_book.specs.Book.{BookValue, IsBook, IsInventory}
-use Rattle.nrm_book.specs.Seats.{SeatsValue, seats_sold}
+use Rattle.nrm_book.specs.Inner.Seats.{SeatsValue, seats_sold}
 use Rattle.nrm_book.proofs.Sold.{sold_on-by_booking}
 
 -- the inventory of a network is within its limits
@@ -52,11 +52,11 @@ IsBook-empty inventory is = record {
 }
 
 -- that of the parts that were copied out of a network
-pub IsBook-of : (net : NetworkValue) (seats fares : List ℕ) (legs : List (List ℕ)) (bookings : List Booking) → IsNetwork net → seats ≡ (inventory_of net).authorised → fares ≡ (inventory_of net).fares → legs ≡ (inventory_of net).legs → bookings ≡ []
-    → IsBook (record { inventory = record { authorised = seats; fares = fares; legs = legs }; bookings = bookings; next = 1 })
-IsBook-of net seats fares legs bookings is seats_are fares_are legs_are none =
-    let same : ◌≡◌ {A = BookValue} (record { inventory = inventory_of net; bookings = []; next = 1 }) (record { inventory = record { authorised = seats; fares = fares; legs = legs }; bookings = bookings; next = 1 }) =
-    λ k. record { inventory = record { authorised = sym seats_are k; fares = sym fares_are k; legs = sym legs_are k }; bookings = sym none k; next = 1 } in
+pub IsBook-of : (net : NetworkValue) (seats fares : List ℕ) (legs : List (List ℕ)) (bookings : List Booking) (next : ℕ) → IsNetwork net → seats ≡ (inventory_of net).authorised → fares ≡ (inventory_of net).fares → legs ≡ (inventory_of net).legs → bookings ≡ [] → next ≡ 1
+    → IsBook (record { inventory = record { authorised = seats; fares = fares; legs = legs }; bookings = bookings; next = next })
+IsBook-of net seats fares legs bookings next is seats_are fares_are legs_are none first =
+    let same : ◌≡◌ {A = BookValue} (record { inventory = inventory_of net; bookings = []; next = 1 }) (record { inventory = record { authorised = seats; fares = fares; legs = legs }; bookings = bookings; next = next }) =
+    λ k. record { inventory = record { authorised = sym seats_are k; fares = sym fares_are k; legs = sym legs_are k }; bookings = sym none k; next = sym first k } in
     subst IsBook same (IsBook-empty (inventory_of net) (IsInventory-of net is))
 
 -- no product of a network has a leg twice

@@ -1,7 +1,8 @@
 -- What a sale and a cancellation keep.
-use Rattle.std.proofs.Common.{ℕ, ◌≡◌, ◌∙◌, ◌+◌, ◌<◌, ◌≤◌, All, Bool, true, false, not, cond, eqb, List, [], ◌∷◌, ◌++◌, length, get_or, filter, sum, Some, None, inl, inr, refl, sym, ap, subst, suc, zero, ◌-◌, ◌==◌, nat_lt, arith, length-append}
+use Rattle.std.proofs.Common.{ℕ, ◌≡◌, ◌∙◌, ◌+◌, ◌<◌, ◌≤◌, All, Bool, true, false, not, cond, eqb, List, [], ◌∷◌, ◌++◌, length, get_or, filter, sum, Option, Some, None, inl, inr, refl, sym, ap, subst, suc, zero, ◌-◌, ◌==◌, nat_lt, arith, length-append}
 use Rattle.std.specs.Int.{IsInRange}
 use Rattle.std.specs.List.{position, position_or_len, remove, slice_get}
+use Rattle.std.proofs.lemmas.List.{get_or_default}
 use Rattle.std.proofs.lemmas.Bool.{cases_Bool, eqb-true}
 use Rattle.std.proofs.lemmas.Bool.Decides.{nat_tests}
 use Rattle.std.proofs.lemmas.List.Elements.{All-filter, All-head, All-push, All-tail}
@@ -124,25 +125,45 @@ absent-is bookings number at =
       sym (filter-all (λ (booking : Booking). not (booking.number == number)) bookings others),
     )
 
+-- the booking with a number has a place, and the others stay
+module _ (bookings : List Booking) (number : ℕ) (b : Booking) (rise : NumbersRise bookings) (live : Some b ≡ booking_numbered bookings number) where
+  pub live-place : (k : ℕ) × (k < length bookings) × (b ≡ get_or bookings k b) × (remove bookings k ≡ without bookings number)
+  live-place = by (position (λ (booking : Booking). booking.number == number) bookings) refl
+    where
+      by : (o : Option ℕ) → position (λ (booking : Booking). booking.number == number) bookings ≡ o
+          → (k : ℕ) × (k < length bookings) × (b ≡ get_or bookings k b) × (remove bookings k ≡ without bookings number)
+      by None e = absurd (none-some b ((absent-is bookings number e).0 ∙ sym live))
+      by (Some k) e =
+          let (short, has, before) = position-Some (λ (booking : Booking). booking.number == number) bookings k b e in
+          let found : Some (get_or bookings k b) ≡ Some b = found-is bookings k number (get_or bookings k b) e (get_or_default bookings k b (get_or bookings k b) short) ∙ sym live in
+          let same : b ≡ get_or bookings k b = cc in
+          (k, short, same, removed-is bookings k number rise e)
+
+-- and its product is one of the book's
+pub sold-short : (book : BookValue) (number : ℕ) (b : Booking) → IsBook book → Some b ≡ booking_numbered book.bookings number → b.product < length book.inventory.legs
+sold-short book number b is live =
+    let (k, short, read, gone) = live-place book.bookings number b is.rising live in
+    subst (λ (b : Booking). b.product < length book.inventory.legs) (sym read) (is.products k b short)
+
 -- the book with it, of the parts that the list's own call tells
-pub IsBook-grown : (book now : BookValue) (b : Booking) (bookings : List Booking) → book ≡ now → IsBook book → IsLoadable now b → bookings ≡ book.bookings ++ b ∷ []
-    → IsBook (record { inventory = book.inventory; bookings = bookings; next = b.number + 1 })
-IsBook-grown book now b bookings same is can are =
+pub IsBook-grown : (book now : BookValue) (b : Booking) (bookings : List Booking) (next : ℕ) → book ≡ now → IsBook book → IsLoadable now b → bookings ≡ book.bookings ++ b ∷ [] → next ≡ b.number + 1
+    → IsBook (record { inventory = book.inventory; bookings = bookings; next = next })
+IsBook-grown book now b bookings next same is can are above =
     let here : IsLoadable book b = subst (λ (book : BookValue). IsLoadable book b) (sym same) can in
-    let P : List Booking → Type 0 = λ bookings. IsBook (record { inventory = book.inventory; bookings = bookings; next = b.number + 1 }) in
-    subst P (sym are) (IsBook-loaded book b is here)
+    let whole : ◌≡◌ {A = BookValue} (with_loaded book b) (record { inventory = book.inventory; bookings = bookings; next = next }) =
+    λ k. record { inventory = book.inventory; bookings = sym are k; next = sym above k } in
+    subst IsBook whole (IsBook-loaded book b is here)
 
 -- and so there was room for it
 pub room-left : (book now : BookValue) (b : Booking) → book ≡ now → IsBook book → IsLoadable now b → length book.bookings < sum book.inventory.authorised
 room-left book now b same is can =
-    let after = IsBook-grown book now b (book.bookings ++ b ∷ []) same is can refl in
+    let after = IsBook-grown book now b (book.bookings ++ b ∷ []) (b.number + 1) same is can refl refl in
     let count = count-le-seats (record { inventory = book.inventory; bookings = book.bookings ++ b ∷ []; next = b.number + 1 }) after in
     omega (arith, length-append book.bookings (b ∷ []))
 
 -- the book after a cancellation, likewise
-pub IsBook-removed : (book now : BookValue) (number k : ℕ) (bookings : List Booking) → book ≡ now → IsBook book → position (λ (booking : Booking). booking.number == number) now.bookings ≡ Some k → bookings ≡ remove book.bookings k
-    → IsBook (record { inventory = book.inventory; bookings = bookings; next = book.next })
-IsBook-removed book now number k bookings same is at are =
-    let here = subst (λ (book : BookValue). position (λ (booking : Booking). booking.number == number) book.bookings ≡ Some k) (sym same) at in
-    let P : List Booking → Type 0 = λ bookings. IsBook (record { inventory = book.inventory; bookings = bookings; next = book.next }) in
-    subst P (sym (are ∙ removed-is book.bookings k number is.rising here)) (IsBook-without book number is)
+pub IsBook-removed : (book : BookValue) (number : ℕ) (bookings : List Booking) (next : ℕ) → IsBook book → bookings ≡ without book.bookings number → next ≡ book.next → IsBook (record { inventory = book.inventory; bookings = bookings; next = next })
+IsBook-removed book number bookings next is are stays =
+    let whole : ◌≡◌ {A = BookValue} (record book { bookings = without book.bookings number }) (record { inventory = book.inventory; bookings = bookings; next = next }) =
+    λ k. record { inventory = book.inventory; bookings = sym are k; next = sym stays k } in
+    subst IsBook whole (IsBook-without book number is)

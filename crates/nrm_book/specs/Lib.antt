@@ -1,5 +1,3 @@
 pub mod Book
 pub mod Bookings
-pub mod Seats
-pub mod Standing
-pub mod Stored
+pub mod Inner

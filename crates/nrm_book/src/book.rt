@@ -1,18 +1,17 @@
 //! The book: a plain list of bookings by rising number, with the authorised seats, the fares and the leg lists of its
 //! network, and beside it counters that are always what the list sums to: the seats sold and the revenue. Its room is
 //! reserved when it is made, for twice as many bookings as there are authorised seats in all (a live booking holds one or
-//! more): no later call takes memory. A cancellation moves the bookings on its nearer side by one place.
-ghost use Rattle.std.specs.Prelude.{◌≡◌, ◌+◌, ◌*◌, ◌<◌, ◌≤◌, ◌==◌, [], All, IfNone, IfOk, IfSome, length, map, position, sum, true};
+//! more): no later call takes memory. A cancellation leaves its place empty, and moves no other booking.
+ghost use Rattle.std.specs.Prelude.{◌≡◌, ◌+◌, ◌*◌, ◌<◌, ◌≤◌, [], All, IfNone, IfOk, IfSome, length, map, sum};
 ghost use Rattle.std.specs.Prelude.{slice_get, slice_index, unwrap_or};
 ghost use Rattle.std.specs.Int.{IsInRange};
-ghost use Rattle.nrm_model.specs.Inventory.{inventory_of, legs_of, products_on, authorised_of, uses_leg};
+ghost use Rattle.nrm_model.specs.Inventory.{inventory_of, legs_of, authorised_of};
 ghost use Rattle.nrm_model.specs.declared.limits.TheConstants.{BOOKING_LIMIT, MOST_LEGS, MOST_PARTY};
 ghost use Rattle.nrm_book.specs.Bookings.{booking_numbered, left_on, revenue_of, sold_of, sold_on, without};
 
 use crate::Booking;
 use crate::seats::SeatsSold;
-use crate::standing::Standing;
-use indexmap::IndexMap;
+use crate::standing::{Bookings, Standing};
 use nrm_model::Network;
 use std::alloc::{AllocError, Global};
 use std::marker::Model;
@@ -24,7 +23,6 @@ pub struct Book {
     fares: Vec<u32>,
     legs: Vec<Vec<u8>>,
     bookings: Standing,
-    next: u64,
     sold: SeatsSold,
     revenue: u64,
 }
@@ -32,21 +30,21 @@ pub struct Book {
 impl Model for Book {
     ghost use Rattle.std.specs.Prelude.{map};
     ghost use Rattle.nrm_book.specs.Book.{BookValue};
-    ghost use Rattle.nrm_book.specs.Stored.{IsStored};
+    ghost use Rattle.nrm_book.specs.Inner.Stored.{IsStored};
 
     ghost Value = { BookValue };
 
     ghost view = { λ b. record {
       inventory = record { authorised = b.authorised.items; fares = b.fares.items; legs = map (λ v. v.items) b.legs.items };
       bookings = b.bookings.items;
-      next = b.next;
+      next = b.bookings.next;
     } };
 
     ghost invariant = { λ b. IsStored
         (record {
           inventory = record { authorised = b.authorised.items; fares = b.fares.items; legs = map (λ v. v.items) b.legs.items };
           bookings = b.bookings.items;
-          next = b.next;
+          next = b.bookings.next;
         }) b.bookings b.sold b.revenue };
 }
 
@@ -72,7 +70,6 @@ impl Book {
             fares,
             legs,
             bookings,
-            next: 1,
             sold,
             revenue: 0,
         })
@@ -87,38 +84,27 @@ impl Book {
         self.authorised[leg as usize] - self.sold.on(leg)
     }
 
-    /// The seats sold of a product on one of its legs.
-    pub fn sold(&self, leg: u8, product: u16) -> u16
-        requires leg { leg < length self.now.inventory.authorised }
-        requires product { product < length self.now.inventory.legs }
-        requires uses { uses_leg self.now.inventory leg product ≡ true }
+    /// The seats sold of a product, on each of its legs.
+    pub fn sold(&self, product: u16) -> u16
+        requires { product < length self.now.inventory.legs }
         ensures { result ≡ sold_of self.now.bookings product }
     {
-        self.sold.of(leg, product)
-    }
-
-    /// The products of a leg in file order, each with its seats sold.
-    pub fn on_leg(&self, leg: u8) -> &IndexMap<u16, u16>
-        requires { leg < length self.now.inventory.authorised }
-        ensures { result.now.entries ≡ map (λ j. (j, sold_of self.now.bookings j)) (products_on self.now.inventory leg) }
-    {
-        self.sold.on_leg(leg)
+        self.sold.of(product)
     }
 
     /// The bookings that stand, by rising number.
-    pub fn bookings(&self) -> &[Booking]
-        ensures bookings { result.now ≡ self.now.bookings }
+    pub fn bookings(&self) -> Bookings<'_>
+        ensures bookings { result ≡ self.now.bookings }
         ensures kept { IsBook self.now }
     {
-        self.bookings.as_slice()
+        self.bookings.iter()
     }
 
     /// The booking with a number. `None` exactly where it isn't live.
     pub fn find(&self, number: u64) -> Option<Booking>
         ensures { result ≡ booking_numbered self.now.bookings number }
     {
-        let place = self.place_of(number)?;
-        Some(self.bookings.as_slice()[place])
+        self.bookings.find(number)
     }
 
     /// What the bookings are worth: party times fare, in whole currency units.
@@ -133,11 +119,11 @@ impl Book {
         ensures next { result ≡ self.now.next }
         ensures kept { IsBook self.now }
     {
-        self.next
+        self.bookings.next()
     }
 
     /// Books a party, and gives its number. It takes no memory; at most once in as many calls as there are authorised seats
-    /// in all does it move the bookings that stand, to the front of their room.
+    /// in all does it move the bookings that stand, to the front of their room: no more than one move a call, on average.
     pub fn add(&mut self, product: u16, party: u16) -> u64
         requires product { product < length self.old.inventory.legs }
         requires party { IsInRange 1 MOST_PARTY party }
@@ -147,7 +133,7 @@ impl Book {
         ensures added { self.new ≡ with_booking self.old product party }
         ensures kept { IsBook self.new }
     {
-        let number = self.next;
+        let number = self.next();
         self.load(Booking {
             number,
             product,
@@ -164,7 +150,6 @@ impl Book {
         ensures kept { IsBook self.new }
     {
         self.bookings.push(booking);
-        self.next = booking.number + 1;
         self.sold.sell(
             legs_of(&self.legs, booking.product),
             booking.product,
@@ -174,8 +159,7 @@ impl Book {
     }
 
     /// Takes a booking out of the book; the others and the next number stay. `None` exactly where it isn't live, and
-    /// then nothing changes. At most half of the others move, those on its nearer side: of 60,000 that stand at most
-    /// 480,000 bytes for one from the middle, and none for the oldest and the newest.
+    /// then nothing changes. No other booking is moved.
     pub fn remove(&mut self, number: u64) -> Option<Booking>
         ensures booking { result ≡ booking_numbered self.old.bookings number }
         ensures removed { self.new ≡ record self.old { bookings = without self.old.bookings number } }
@@ -183,8 +167,7 @@ impl Book {
         ensures dead { IfNone result (self.new ≡ self.old) }
         ensures kept { IsBook self.new }
     {
-        let place = self.place_of(number)?;
-        let booking = self.bookings.remove(place);
+        let booking = self.bookings.remove(number)?;
         self.sold.give_back(
             legs_of(&self.legs, booking.product),
             booking.product,
@@ -192,16 +175,6 @@ impl Book {
         );
         self.revenue -= worth(&self.fares, &booking);
         Some(booking)
-    }
-
-    // The place of a number in the list, found by halves: the numbers rise.
-    fn place_of(&self, number: u64) -> Option<usize>
-        ensures { result ≡ position (λ booking. booking.number == number) self.now.bookings }
-    {
-        self.bookings
-            .as_slice()
-            .binary_search_by_key(&number, |booking| booking.number)
-            .ok()
     }
 }
 

@@ -1,106 +1,183 @@
-//! The bookings that stand, in a row of places that is reserved when it is made, behind the places at its front that are
-//! given up. One is taken out by moving those on its nearer side by one place. Where the row has come to its end, those
-//! that stand move to its front: it has twice the places that were asked for, so that this comes at most once in as many
-//! bookings, as long as no more stand.
-ghost use Rattle.std.specs.Prelude.{◌≡◌, ◌+◌, ◌-◌, ◌*◌, ◌<◌, ◌≤◌, ◌++◌, ◌∷◌, [], IfOk, drop, length, slice_index_or, vec_capacity};
-ghost use Rattle.std.specs.List.{remove};
+//! The bookings that stand, in a row of slots that is reserved when it is made, by rising number. One that is cancelled leaves
+//! its slot empty, and no other moves. Where the row has come to its end, the slots that are taken move to its front: it has
+//! twice the slots that were asked for, so that this comes at most once in as many bookings, as long as no more stand.
+ghost use Rattle.std.specs.Prelude.{ℕ, ◌≡◌, ◌+◌, ◌*◌, ◌<◌, ◌≤◌, ◌==◌, ◌++◌, ◌∷◌, [], IfNone, IfOk, MatchOption, filter, length, position, slice_set};
+ghost use Rattle.std.specs.Prelude.{slice_index_or, vec_capacity};
+ghost use Rattle.nrm_model.specs.declared.limits.TheConstants.{BOOKING_LIMIT};
+ghost use Rattle.nrm_book.specs.Bookings.{booking_numbered, without};
+ghost use Rattle.nrm_book.specs.Inner.Standing.{IsRow, SlotsRise, emptied, is_taken, standing};
+ghost use Rattle.nrm_book.specs.declared.slot.Slot.{Slot as SlotValue};
 
 use crate::Booking;
+use crate::slot::Slot;
 use std::alloc::{AllocError, Global};
 use std::marker::Model;
 
-/// The bookings that stand, in order.
+/// The bookings that stand, in order, and the least number of the next one.
 #[derive(Drop)]
 pub(crate) struct Standing {
-    rows: Vec<Booking>,
-    gone: usize,
+    slots: Vec<Slot>,
+    next: u64,
 }
 
 impl Model for Standing {
-    ghost use Rattle.std.specs.Prelude.{◌≤◌, drop, length, vec_capacity};
-    ghost use Rattle.nrm_book.specs.Standing.{StandingValue};
+    ghost use Rattle.std.specs.Prelude.{vec_capacity};
+    ghost use Rattle.nrm_book.specs.Inner.Standing.{IsRow, StandingValue, standing};
 
     ghost Value = { StandingValue };
 
-    ghost view = { λ s. record { items = drop s.gone s.rows.items; room = vec_capacity s.rows } };
+    ghost view = { λ s. record { items = standing s.slots.items; next = s.next; room = vec_capacity s.slots } };
 
-    ghost invariant = { λ s. s.gone ≤ length s.rows.items };
+    ghost invariant = { λ s. IsRow s.slots.items s.next };
 }
 
 impl Standing {
-    /// None stand, with room for twice as many as are asked for.
+    /// None stand, with room for twice as many as are asked for, and the next number 1.
     ///
     /// # Errors
     /// Want of memory.
     pub(crate) fn with_room(alloc: Global, room: usize) -> Result<Standing, AllocError>
         requires { room ≤ 63936 }
         ensures items { IfOk result (λ standing. standing.items ≡ []) }
+        ensures next { IfOk result (λ standing. standing.next ≡ 1) }
         ensures room { IfOk result (λ standing. standing.room ≡ 2 * room) }
     {
-        let rows = Vec::with_capacity(alloc, 2 * room)?;
-        Ok(Standing { rows, gone: 0 })
+        let slots = Vec::with_capacity(alloc, 2 * room)?;
+        Ok(Standing { slots, next: 1 })
     }
 
     /// The bookings in order.
-    pub(crate) fn as_slice(&self) -> &[Booking]
-        ensures { result.now ≡ self.now.items }
+    pub(crate) fn iter(&self) -> Bookings<'_>
+        ensures { result ≡ self.now.items }
     {
-        &self.rows[self.gone..]
+        Bookings { slots: &self.slots }
+    }
+
+    /// The least number of the next booking.
+    pub(crate) fn next(&self) -> u64
+        ensures { result ≡ self.now.next }
+    {
+        self.next
+    }
+
+    /// The booking with a number. `None` exactly where it doesn't stand.
+    pub(crate) fn find(&self, number: u64) -> Option<Booking>
+        ensures { result ≡ booking_numbered self.now.items number }
+    {
+        let place = place_of(&self.slots, number)?;
+        self.slots[place].booking()
     }
 
     /// One booking more, behind the others. It takes no memory; where the row is at its end, those that stand move first.
     pub(crate) fn push(&mut self, booking: Booking)
-        requires { length self.old.items < self.old.room }
+        requires room { length self.old.items < self.old.room }
+        requires number { self.old.next ≤ booking.number }
+        requires low { booking.number < BOOKING_LIMIT }
         ensures items { self.new.items ≡ self.old.items ++ booking ∷ [] }
+        ensures next { self.new.next ≡ booking.number + 1 }
         ensures room { self.new.room ≡ self.old.room }
     {
-        if self.rows.len() == self.rows.capacity() {
-            pack(&mut self.rows, self.gone);
-            self.gone = 0;
-        }
-        self.rows.push_reserved(booking);
+        make_room(&mut self.slots);
+        self.slots.push_reserved(Slot::of(booking));
+        self.next = booking.number + 1;
     }
 
-    /// Takes out the booking at a place; the others keep their order. At most half of them move, and none does for the
-    /// first and the last.
-    pub(crate) fn remove(&mut self, place: usize) -> Booking
-        requires { place < length self.old.items }
-        ensures value { result ≡ slice_index_or self.old.items place result }
-        ensures items { self.new.items ≡ remove self.old.items place }
+    /// Takes out the booking with a number. The others stay where they are. `None` exactly where it doesn't stand.
+    pub(crate) fn remove(&mut self, number: u64) -> Option<Booking>
+        ensures booking { result ≡ booking_numbered self.old.items number }
+        ensures items { self.new.items ≡ without self.old.items number }
+        ensures dead { IfNone result (self.new ≡ self.old) }
+        ensures next { self.new.next ≡ self.old.next }
         ensures room { self.new.room ≡ self.old.room }
     {
-        let at = self.gone + place;
-        let behind = self.rows.len() - 1 - at;
-        if place < behind {
-            self.gone += 1;
-            remove_forward(&mut self.rows, self.gone - 1, at)
-        } else {
-            self.rows.remove(at)
-        }
+        let place = place_of(&self.slots, number)?;
+        let booking = self.slots[place].booking()?;
+        empty_slot(&mut self.slots, place);
+        Some(booking)
     }
 }
 
-// Moves the bookings that stand to the front.
-fn pack(rows: &mut Vec<Booking>, gone: usize)
-    requires { gone ≤ length rows.old.items }
-    ensures items { rows.new.items ≡ drop gone rows.old.items }
-    ensures room { vec_capacity rows.new ≡ vec_capacity rows.old }
-{
-    let len = rows.len();
-    rows.copy_within(gone..len, 0);
-    rows.truncate(len - gone);
+/// The bookings of a book that stand, by rising number. Contracts see the list of those to come.
+#[derive(Drop)]
+pub struct Bookings<'a> {
+    slots: &'a [Slot],
 }
 
-// Takes out the booking at a place. Those that stand before it move up by one, so that one place more is given up.
-fn remove_forward(rows: &mut Vec<Booking>, gone: usize, at: usize) -> Booking
-    requires gone { gone ≤ at }
-    requires at { at < length rows.old.items }
-    ensures value { result ≡ slice_index_or rows.old.items at result }
-    ensures items { drop (gone + 1) rows.new.items ≡ remove (drop gone rows.old.items) (at - gone) }
-    ensures len { length rows.new.items ≡ length rows.old.items }
-    ensures room { vec_capacity rows.new ≡ vec_capacity rows.old }
+impl<'a> Model for Bookings<'a> {
+    ghost use Rattle.std.specs.Prelude.{List};
+    ghost use Rattle.nrm_book.specs.declared.booking.Booking.{Booking as Own};
+    ghost use Rattle.nrm_book.specs.Inner.Standing.{standing};
+
+    ghost Value = { List Own };
+
+    ghost view = { λ b. standing b.slots.now };
+}
+
+impl<'a> Iterator for Bookings<'a> {
+    ghost use Rattle.std.specs.Iterator.{YieldsFirst, item_count};
+
+    type Item = Booking;
+
+    ghost next_gives = { YieldsFirst (λ bookings. bookings) };
+
+    ghost remaining = { item_count (λ bookings. bookings) };
+
+    fn next(&mut self) -> Option<Booking> {
+        let (booking, behind) = first_standing(self.slots)?;
+        self.slots = behind;
+        Some(booking)
+    }
+}
+
+// The first booking that stands in a row, and the row behind it.
+fn first_standing(slots: &[Slot]) -> Option<(Booking, &[Slot])>
+    ensures { MatchOption result (standing slots.now ≡ []) (λ p. standing slots.now ≡ p.0 ∷ standing p.1.now) }
 {
-    let booking = rows[at];
-    rows.copy_within(gone..at, gone + 1);
-    booking
+    for (place, slot) in slots.iter().enumerate() {
+        if let Some(booking) = slot.booking() {
+            return Some((booking, &slots[place + 1..]));
+        }
+    }
+    None
+}
+
+// The place of a number in a row, found by halves: the numbers rise.
+fn place_of(slots: &[Slot], number: u64) -> Option<usize>
+    requires { SlotsRise slots.now }
+    ensures { result ≡ position (λ slot. slot.number == number) slots.now }
+{
+    slots.binary_search_by_key(&number, |slot| slot.number).ok()
+}
+
+// Cancels the booking at a place.
+fn empty_slot(slots: &mut Vec<Slot>, place: usize)
+    requires { place < length slots.old.items }
+    ensures slot { (slot : SlotValue) → slot ≡ slice_index_or slots.old.items place slot
+        → slots.new.items ≡ slice_set slots.old.items place (emptied slot) }
+    ensures room { vec_capacity slots.new ≡ vec_capacity slots.old }
+{
+    let slot = &mut slots[place];
+    slot.sale = None;
+}
+
+// Sees that there is a slot more in the room: where there is none, those that are taken move to the front.
+fn make_room(slots: &mut Vec<Slot>)
+    requires { length (standing slots.old.items) < vec_capacity slots.old }
+    ensures stand { standing slots.new.items ≡ standing slots.old.items }
+    ensures row { (next : ℕ) → IsRow slots.old.items next → IsRow slots.new.items next }
+    ensures space { length slots.new.items < vec_capacity slots.new }
+    ensures room { vec_capacity slots.new ≡ vec_capacity slots.old }
+{
+    if slots.len() < slots.capacity() {
+        return;
+    }
+    pack(slots);
+}
+
+// Moves the slots that are taken to the front.
+fn pack(slots: &mut Vec<Slot>)
+    ensures items { slots.new.items ≡ filter is_taken slots.old.items }
+    ensures room { vec_capacity slots.new ≡ vec_capacity slots.old }
+{
+    slots.retain(|slot| slot.sale.is_some());
 }

@@ -5,7 +5,7 @@ ghost use Rattle.nrm_model.specs.Inventory.{inventory_of};
 ghost use Rattle.nrm_samples.specs.Networks.{two_legs, two_legs_authorised, two_legs_five_products};
 
 use crate::standing::Standing;
-use crate::{Book, Booking};
+use crate::{Book, Booking, Bookings};
 use nrm_samples::{two_legs, two_legs_authorised, two_legs_five_products};
 use std::alloc::{AllocError, Global};
 use std::process::Abort;
@@ -25,7 +25,7 @@ fn sells_by_hand(rt: HostRuntime) -> Result<(), Fail> {
     assert_eq!(rt; book.add(0, 2), 1);
     assert_eq!(rt; book.left(0), 1);
     assert_eq!(rt; book.left(1), 0);
-    assert_eq!(rt; book.sold(1, 0), 2);
+    assert_eq!(rt; (book.sold(0), book.sold(1)), (2, 0));
     assert_eq!(rt; book.revenue(), 1000);
     assert_eq!(rt;
         book.find(1),
@@ -92,7 +92,7 @@ fn cancels_by_hand(rt: HostRuntime) -> Result<(), Fail> {
     assert_eq!(rt; book.remove(1), None);
     assert_eq!(rt; book.left(0), 2);
     assert_eq!(rt; book.next(), 3);
-    assert_eq!(rt; book.bookings().len(), 1);
+    assert_numbers(&rt, book.bookings(), &[2]);
     Ok(())
 }
 
@@ -105,30 +105,28 @@ fn empty_book_of_five(alloc: Global) -> Result<Book, AllocError>
 }
 
 #[test]
-fn counts_a_leg_by_hand(rt: HostRuntime) -> Result<(), Fail> {
+fn counts_the_products_by_hand(rt: HostRuntime) -> Result<(), Fail> {
     let mut book = empty_book_of_five(rt.alloc())?;
     assert_eq!(rt; book.add(1, 3), 1);
-    let products = book.on_leg(0);
-    assert_eq!(rt; products.len(), 4);
-    assert_eq!(rt; products.get_index(0), Some((&0, &0)));
-    assert_eq!(rt; products.get_index(1), Some((&1, &3)));
-    assert_eq!(rt; products.get_index(2), Some((&2, &0)));
-    assert_eq!(rt; products.get_index(3), Some((&4, &0)));
+    assert_eq!(rt; book.add(2, 2), 2);
+    assert_eq!(rt; (book.sold(0), book.sold(1), book.sold(2)), (0, 3, 2));
+    assert_eq!(rt; (book.sold(3), book.sold(4)), (0, 0));
     Ok(())
 }
 
 // The bookings have these numbers, in this order.
-fn assert_numbers(rt: &impl Abort, bookings: &[Booking], numbers: &[u64]) {
-    assert_eq!(rt; bookings.len(), numbers.len());
-    for (booking, number) in bookings.iter().zip(numbers) {
-        assert_eq!(rt; booking.number, *number);
+fn assert_numbers(rt: &impl Abort, mut bookings: Bookings<'_>, numbers: &[u64]) {
+    for number in numbers {
+        assert_eq!(rt;
+            bookings.next().map(|booking| booking.number),
+            Some(*number)
+        );
     }
+    assert!(rt; bookings.next().is_none());
 }
 
-// Five bookings, with the numbers 1 to 5.
-fn five_standing(alloc: Global) -> Result<Standing, AllocError>
-    ensures { IfOk result (λ standing. length standing.items ≡ 5) }
-{
+// Five bookings, with the numbers 1 to 5, in room for ten.
+fn five_standing(alloc: Global) -> Result<Standing, AllocError> {
     let mut standing = Standing::with_room(alloc, 5)?;
     for before in 0..5 {
         standing.push(Booking {
@@ -143,14 +141,15 @@ fn five_standing(alloc: Global) -> Result<Standing, AllocError>
 #[test]
 fn keeps_the_order_whichever_is_taken_out(rt: HostRuntime) -> Result<(), Fail> {
     let mut standing = five_standing(rt.alloc())?;
-    assert_eq!(rt; standing.remove(0).number, 1);
-    assert_numbers(&rt, standing.as_slice(), &[2, 3, 4, 5]);
-    assert_eq!(rt; standing.remove(1).number, 3);
-    assert_numbers(&rt, standing.as_slice(), &[2, 4, 5]);
-    assert_eq!(rt; standing.remove(1).number, 4);
-    assert_numbers(&rt, standing.as_slice(), &[2, 5]);
-    assert_eq!(rt; standing.remove(1).number, 5);
-    assert_numbers(&rt, standing.as_slice(), &[2]);
+    assert!(rt; standing.remove(1).is_some());
+    assert_numbers(&rt, standing.iter(), &[2, 3, 4, 5]);
+    assert!(rt; standing.remove(3).is_some());
+    assert!(rt; standing.remove(3).is_none());
+    assert_numbers(&rt, standing.iter(), &[2, 4, 5]);
+    assert!(rt; standing.remove(5).is_some());
+    assert_numbers(&rt, standing.iter(), &[2, 4]);
+    assert!(rt; standing.find(5).is_none());
+    assert_eq!(rt; standing.find(4).map(|booking| booking.party), Some(1));
     Ok(())
 }
 

@@ -1,11 +1,14 @@
 -- What a network's inventory has of a leg or a product: one that was found, and one by its number.
-use Rattle.std.proofs.Common.{ℕ, ◌≡◌, ◌∙◌, [], map, slice_get, unwrap_or, option_map, Some, sym, ap, ◌≤◌, length}
+use Rattle.std.proofs.Common.{ℕ, ◌≡◌, ◌∙◌, ◌<◌, [], All, map, slice_get, unwrap_or, option_map, Some, true, sym, ap, subst, ◌≤◌, length}
 use Rattle.std.proofs.lemmas.Option.{get_or_from_slice_get, slice_get-map, unwrap_or-slice_get}
 use Rattle.std.proofs.Math.ListN.{get_or-map}
 use Rattle.std.proofs.lemmas.List.{get_or_past, length-map}
+use Rattle.std.proofs.lemmas.List.Elements.{All-filter, filter_passes}
+use Rattle.std.specs.List.{range_with_len}
+use Rattle.nrm_number.proofs.Ranges.{below-range}
 use Rattle.nrm_model.specs.declared.leg.Leg.{Leg}
 use Rattle.nrm_model.specs.declared.product.Product.{Product}
-use Rattle.nrm_model.specs.Inventory.{inventory_of, legs_of, fare_of, authorised_of}
+use Rattle.nrm_model.specs.Inventory.{inventory_of, legs_of, fare_of, authorised_of, products_on, uses_leg}
 use Rattle.nrm_model.specs.Network.{NetworkValue, leg_of, product_of}
 
 pub product_of-found : (net : NetworkValue) (j : ℕ) (product : Product) → Some product ≡ slice_get net.products j → product_of net j ≡ product
@@ -57,3 +60,12 @@ fares-count net = length-map net.products (λ (product : Product). product.fare)
 
 pub legs-count : (net : NetworkValue) → length (inventory_of net).legs ≡ length net.products
 legs-count net = length-map net.products (λ (product : Product). product.legs)
+
+-- ---- the products that use a leg
+pub on-leg-within : (net : NetworkValue) (i : ℕ) → All (λ j. j < length net.products) (products_on (inventory_of net) i)
+on-leg-within net i =
+    let Below : ℕ → Type 0 = λ n. All (λ j. j < n) (products_on (inventory_of net) i) in
+    subst Below (legs-count net) (All-filter (uses_leg (inventory_of net) i) (λ j. j < length (inventory_of net).legs) (range_with_len 0 (length (inventory_of net).legs)) (below-range (length (inventory_of net).legs)))
+
+pub on-leg-uses : (net : NetworkValue) (i : ℕ) → All (λ j. uses_leg (inventory_of net) i j ≡ true) (products_on (inventory_of net) i)
+on-leg-uses net i k d short = filter_passes (uses_leg (inventory_of net) i) (range_with_len 0 (length (inventory_of net).legs)) k d short

@@ -1,4 +1,5 @@
 pub mod Demand
+pub mod Inner
 pub mod Inventory
 pub mod Limits
 pub mod Network

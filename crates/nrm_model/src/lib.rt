@@ -5,7 +5,7 @@
 //!   is a network;
 //! - `n`, `t`, `leg_count`, `product_count`: how much there is of each;
 //! - `find_leg`, `find_product`, then `leg_at`, `product_at`: a leg or a product by its name, and by its number;
-//! - `uses_leg`, `least_authorised`: what a product takes and at most gets;
+//! - `uses_leg`, `products_on`, `least_authorised`: what a product takes, who takes a leg, and what a product at most gets;
 //! - `demand`, `to_come`, `total`: what was asked for, in a period, from one on, and in all histories;
 //! - `authorised_of_legs`, `fares_of_products`, `legs_of_products`: lists of the whole, for who keeps some beside the network.
 #![tactic(auto)]

@@ -1,8 +1,11 @@
 //! The network: legs and products in file order, tables of their names, and the demand of each product in each
-//! history and period, in one list. The tables hold the names in the order of the legs and the products.
+//! history and period, in one list. The tables hold the names in the order of the legs and the products. Beside them
+//! stand the numbers of the products that use each leg, so that nobody has to look for them among all products.
 ghost use Rattle.std.specs.Prelude.{◌≡◌, ◌≢◌, ◌+◌, ◌<◌, ◌≤◌, ◌^◌, All, AllPairs, IfOk, IfSome, length, map, min, slice_get, sum, Some};
 ghost use Rattle.std.specs.Int.{IsInRange};
+ghost use Rattle.std.specs.List.{range_with_len};
 ghost use Rattle.nrm_model.specs.declared.limits.TheConstants.{MOST_DEMAND, MOST_LEGS, MOST_PRODUCTS, MOST_SEATS, MOST_TOTAL_DEMAND};
+ghost use Rattle.nrm_model.specs.Inner.Kept.{numbers_using};
 
 use crate::{Leg, NameTable, Product};
 use nrm_text::Name;
@@ -20,12 +23,13 @@ pub struct Network {
     demand: Vec<u16>,
     leg_names: NameTable,
     product_names: NameTable,
+    products_on_legs: Vec<Vec<u16>>,
 }
 
 impl Model for Network {
+    ghost use Rattle.std.specs.Prelude.{map};
     ghost use Rattle.nrm_model.specs.Network.{NetworkValue};
-    ghost use Rattle.nrm_model.specs.Limits.{IsNetwork};
-    ghost use Rattle.nrm_model.specs.Tables.{NamesInOrder};
+    ghost use Rattle.nrm_model.specs.Inner.Kept.{IsKept};
 
     ghost Value = { NetworkValue };
 
@@ -37,28 +41,28 @@ impl Model for Network {
       demand = n.demand.items;
     } };
 
-    ghost invariant = { λ n. NamesInOrder
+    ghost invariant = { λ n. IsKept
         (record {
           histories = n.histories;
           periods = n.periods;
           legs = n.legs.items;
           products = n.products.items;
           demand = n.demand.items;
-        }) n.leg_names n.product_names };
+        }) n.leg_names n.product_names (map (λ v. v.items) n.products_on_legs.items) };
 }
 
 impl Network {
     ghost use Rattle.std.specs.List.{position_from};
     ghost use Rattle.nrm_model.specs.Limits.{IsLeg, IsNetwork, IsProduct};
     ghost use Rattle.nrm_model.specs.Network.{leg_named, least_authorised_of, product_named};
-    ghost use Rattle.nrm_model.specs.Inventory.{inventory_of, uses_leg};
+    ghost use Rattle.nrm_model.specs.Inventory.{inventory_of, products_on, uses_leg};
     ghost use Rattle.nrm_model.specs.Demand.{demand_in, demand_row, demand_to_come, total_to_come};
     ghost use Rattle.nrm_model.specs.Tables.{NamesInOrder};
 
     /// The network of these parts. `demand` is in seats, product by product, history by history, period by period.
     ///
     /// # Errors
-    /// Want of memory for the tables of names.
+    /// Want of memory for the tables of names and the lists of the products of each leg.
     pub fn new(
         alloc: Global,
         histories: u8,
@@ -75,7 +79,8 @@ impl Network {
     {
         let leg_names = names_of_legs(alloc, &legs)?;
         let product_names = names_of_products(alloc, &products)?;
-        Ok(Network::with_tables(
+        Network::with_tables(
+            alloc,
             histories,
             periods,
             legs,
@@ -83,11 +88,15 @@ impl Network {
             demand,
             leg_names,
             product_names,
-        ))
+        )
     }
 
-    /// The same, with the tables of the names, for a caller that has them. It takes no memory.
+    /// The same, with the tables of the names, for a caller that has them.
+    ///
+    /// # Errors
+    /// Want of memory for the lists of the products of each leg.
     pub fn with_tables(
+        alloc: Global,
         histories: u8,
         periods: u8,
         legs: Vec<Leg>,
@@ -95,14 +104,16 @@ impl Network {
         demand: Vec<u16>,
         leg_names: NameTable,
         product_names: NameTable,
-    ) -> Network
+    ) -> Result<Network, AllocError>
         requires { NamesInOrder
             (record { histories = histories; periods = periods; legs = legs.items; products = products.items; demand = demand.items })
             leg_names product_names }
-        ensures { result
-            ≡ record { histories = histories; periods = periods; legs = legs.items; products = products.items; demand = demand.items } }
+        ensures { IfOk result
+            (λ net. net
+            ≡ record { histories = histories; periods = periods; legs = legs.items; products = products.items; demand = demand.items }) }
     {
-        Network {
+        let products_on_legs = products_on_legs(alloc, legs.len(), &products)?;
+        Ok(Network {
             histories,
             periods,
             legs,
@@ -110,7 +121,8 @@ impl Network {
             demand,
             leg_names,
             product_names,
-        }
+            products_on_legs,
+        })
     }
 
     /// How many demand histories there are, N in the formulas: at least one.
@@ -170,6 +182,14 @@ impl Network {
         ensures { result ≡ uses_leg (inventory_of self.now) leg product }
     {
         self.product_at(product).legs.as_slice().contains(&leg)
+    }
+
+    /// The products that use a leg, in file order.
+    pub fn products_on(&self, leg: u8) -> &[u16]
+        requires { leg < length self.now.legs }
+        ensures { result.now ≡ products_on (inventory_of self.now) leg }
+    {
+        &self.products_on_legs[leg as usize]
     }
 
     /// The number of the product of this name. `None` exactly where no product has it.
@@ -330,4 +350,35 @@ fn names_of_products(alloc: Global, products: &[Product]) -> Result<NameTable, A
         names.add(product.name)?;
     }
     Ok(names)
+}
+
+// The numbers of the products that use each leg, leg by leg.
+fn products_on_legs(
+    alloc: Global,
+    leg_count: usize,
+    products: &[Product],
+) -> Result<Vec<Vec<u16>>, AllocError>
+    requires legs { leg_count ≤ MOST_LEGS }
+    requires products { length products.now ≤ MOST_PRODUCTS }
+    ensures { IfOk result (λ on. map (λ v. v.items) on.items ≡ map (numbers_using products.now) (range_with_len 0 leg_count)) }
+{
+    let mut on_legs = Vec::new(alloc);
+    for leg in 0..leg_count as u8 {
+        on_legs.push(products_using(alloc, products, leg)?)?;
+    }
+    Ok(on_legs)
+}
+
+// The numbers of the products that use a leg, in their order.
+fn products_using(alloc: Global, products: &[Product], leg: u8) -> Result<Vec<u16>, AllocError>
+    requires { length products.now ≤ MOST_PRODUCTS }
+    ensures { IfOk result (λ on. on.items ≡ numbers_using products.now leg) }
+{
+    let mut numbers = Vec::new(alloc);
+    for (number, product) in products.iter().enumerate() {
+        if product.legs.as_slice().contains(&leg) {
+            numbers.push(number as u16)?;
+        }
+    }
+    Ok(numbers)
 }

@@ -87,8 +87,8 @@ fn put_products<K: Sink>(net: &Network, book: &Book, leg: u8, sink: &mut K) -> R
         (flat_map (on_line net.now book.now.bookings leg) (products_on (inventory_of net.now) leg))) }
     ensures cause { HasCause (K.faults sink.old) (K.faults sink.new) result }
 {
-    for (product, sold) in book.on_leg(leg) {
-        put_product(net, leg, *product, *sold, sink)?;
+    for product in net.products_on(leg) {
+        put_product(net, leg, *product, book.sold(*product), sink)?;
     }
     Ok(())
 }

@@ -107,10 +107,8 @@ fn put_nests_of_leg<K: Sink>(
         (flat_map (nest_line net.now certificate.now leg) (products_on (inventory_of net.now) leg))) }
     ensures cause { HasCause (K.faults sink.old) (K.faults sink.new) result }
 {
-    for product in 0..net.product_count() as u16 {
-        if net.uses_leg(product, leg) {
-            put_nest(net, plan, certificate, leg, product, sink)?;
-        }
+    for product in net.products_on(leg) {
+        put_nest(net, plan, certificate, leg, *product, sink)?;
     }
     Ok(())
 }

@@ -37,6 +37,8 @@ fn seats_are_by_leg(rt: HostRuntime) -> Result<(), Fail> {
     assert_eq!(rt; net.least_authorised(0), 2);
     assert_eq!(rt; net.least_authorised(1), 3);
     assert!(rt; net.uses_leg(0, 1) && !net.uses_leg(1, 1));
+    assert_eq!(rt; net.products_on(0), [0, 1].as_slice());
+    assert_eq!(rt; net.products_on(1), [0].as_slice());
     let net = two_legs_authorised(rt.alloc())?;
     assert_eq!(rt; (net.leg_at(0).seats, net.leg_at(0).authorised), (3, 4));
     assert_eq!(rt; (net.least_authorised(0), net.least_authorised(1)), (1, 4));
@@ -60,6 +62,8 @@ fn thresholds_are_kept(rt: HostRuntime) -> Result<(), Fail> {
     let net = two_legs_five_products(rt.alloc())?;
     assert_eq!(rt; (net.leg_count(), net.product_count()), (2, 5));
     assert_eq!(rt; net.leg_at(0).cuts.as_slice(), [300, 100].as_slice());
+    assert_eq!(rt; net.products_on(0), [0, 1, 2, 4].as_slice());
+    assert_eq!(rt; net.products_on(1), [2, 3, 4].as_slice());
     Ok(())
 }
 

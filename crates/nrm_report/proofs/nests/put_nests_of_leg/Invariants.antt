@@ -1,13 +1,12 @@
-use Rattle.std.proofs.Common.{◌≡◌, filter, flat_map}
+use Rattle.std.proofs.Common.{◌≡◌, flat_map, take}
 use Rattle.std.specs.Io.KnownBytes.{Appends}
-use Rattle.std.specs.List.{range_with_len}
-use Rattle.nrm_model.specs.Inventory.{inventory_of, uses_leg}
+use Rattle.nrm_model.specs.Inventory.{inventory_of, products_on}
 use Rattle.nrm_report.specs.Texts.{nest_line}
 use Rattle.nrm_report.proofs.nests.put_nests_of_leg.Given as goal
 
 -- the lines of the products so far went out, and the count stands as it did
 abbrev pub invariant-loop-product : goal.invariant-loop-product
 invariant-loop-product g l = record {
-  sent : Appends (g.K.Sink.held l.initial.sink) (g.K.Sink.held l.sink) (flat_map (nest_line l.net l.certificate l.leg) (filter (uses_leg (inventory_of l.net) l.leg) (range_with_len 0 l.product)));
+  sent : Appends (g.K.Sink.held l.initial.sink) (g.K.Sink.held l.sink) (flat_map (nest_line l.net l.certificate l.leg) (take l.product-index (products_on (inventory_of l.net) l.leg)));
   count : g.K.Sink.faults l.sink ≡ g.K.Sink.faults l.initial.sink;
 }
