@@ -62,15 +62,15 @@ step-closes cfg st.AfterCr c =
     chosen-closes (c == 10) _ _ (open-closes st.StartRecord act.Skip refl) (start_record-closes cfg c)
 
 -- what a record that was read leaves: no open record, and no more text than there was
-Leaves : Read → ℕ → Type 0
+abbrev pub Leaves : Read → ℕ → Type 0
 Leaves p size = (ends_at_end p.1 ≡ false) × (length p.2 ≤ size)
 
 leaves-same : (x p : Read) (size : ℕ) → Some x ≡ Some p → Leaves x size → Leaves p size
 leaves-same x p size e h = let q : x ≡ p = cc in subst (λ (r : Read). Leaves r size) q h
 
-next-leaves : (cfg : Config) (s : State) (fields : List (List ℕ)) (field : List ℕ) (xs : List ℕ) (p : Read)
+pub next-leaves : (cfg : Config) (s : State) (fields : List (List ℕ)) (field : List ℕ) (xs : List ℕ) (p : Read)
     → next_record cfg s fields field xs ≡ Some p → Leaves p (length xs)
-unfolding next_record Leaves Closes
+unfolding next_record Closes
 next-leaves cfg s fields field [] p h =
     elim (cases_Bool (ends_at_end s)) [
       | inl e ↦ leaves-same _ p 0 (rw e at h) (refl, omega arith)
@@ -85,9 +85,9 @@ next-leaves cfg s fields field (c ∷ rest) p h =
     ]
 
 -- a record takes at least one byte
-next-shortens : (cfg : Config) (s : State) (c : ℕ) (rest : List ℕ) (p : Read) → next_record cfg s [] [] (c ∷ rest) ≡ Some p
+pub next-shortens : (cfg : Config) (s : State) (c : ℕ) (rest : List ℕ) (p : Read) → next_record cfg s [] [] (c ∷ rest) ≡ Some p
     → length p.2 ≤ length rest
-unfolding next_record Leaves Closes
+unfolding next_record Closes
 next-shortens cfg s c rest p h =
     elim (cases_Bool (is_end (step cfg s c).1)) [
       | inl e ↦ (leaves-same (fields_after (step cfg s c).1 [] [], (step cfg s c).0, rest) p (length rest) (rw e at h)
@@ -97,14 +97,14 @@ next-shortens cfg s c rest p h =
     ]
 
 -- where no record is open, the empty text has none
-next-empty : (cfg : Config) (s : State) → ends_at_end s ≡ false → next_record cfg s [] [] [] ≡ None
+pub next-empty : (cfg : Config) (s : State) → ends_at_end s ≡ false → next_record cfg s [] [] [] ≡ None
 unfolding next_record
 next-empty cfg s e = rw e refl
 
 -- all the records of a text are what `records_from` gives, with enough turns
 records-from_reached : (cfg : Config) (n : ℕ) (s : State) (xs : List ℕ) (rows : List Row) → ends_at_end s ≡ false → length xs < n
     → AreRecords cfg s xs rows → rows ≡ records_from cfg n s xs
-unfolding records_from Reached Leaves
+unfolding records_from Reached
 records-from_reached cfg zero s xs rows closed short are = absurd (omega arith)
 records-from_reached cfg (suc n) s xs [] closed short (s2, ys, (same, left), none) =
     let at_end : next_record cfg s [] [] xs ≡ None = rw (same, left) none in rw at_end refl
@@ -124,7 +124,7 @@ records-read xs rows are = records-from_reached default_config (length xs + 1) s
 front-from : (cfg : Config) (n : ℕ) (s s2 : State) (xs ys : List ℕ) (rows : List Row) → ends_at_end s ≡ false → length xs < n
     → Reached cfg s xs rows s2 ys
     → (rest : List Row) × (records_from cfg n s xs ≡ rows ++ rest) × (length rows ≤ length xs)
-unfolding records_from Reached Leaves
+unfolding records_from Reached
 front-from cfg zero s s2 xs ys rows closed short reached = absurd (omega arith)
 front-from cfg (suc n) s s2 xs ys [] closed short reached = (records_from cfg (suc n) s xs, refl, omega arith)
 front-from cfg (suc n) s s2 [] ys (r ∷ rs) closed short (p, next, r_is, reached) =

@@ -1,11 +1,20 @@
 -- Where a file is refused, by the rows that were accepted before: nowhere, at the place after the last row, or at the next row.
-use Rattle.std.proofs.Common.{◌≡◌, ◌∙◌, ◌+◌, true, false, List, [], ◌∷◌, ◌++◌, length, sym, ap, subst, refl, Option, Some, None}
+use Rattle.std.proofs.Common.{ℕ, ◌≡◌, ◌∙◌, ◌+◌, true, false, Err, List, [], ◌∷◌, ◌++◌, length, sym, ap, subst, refl, Option, Some, None}
 use Rattle.std.proofs.Common.{append_assoc}
 use Rattle.std.proofs.lemmas.List.{append-nil}
+use Rattle.std.specs.Prelude.{Ok}
+use Rattle.std.specs.Option.{option_map_or}
+use Rattle.nrm_network.specs.Answer.{AnswersFile}
+use Rattle.nrm_network.specs.Checks.{why_refused}
 use Rattle.nrm_network.specs.Rows.{Row}
-use Rattle.nrm_network.specs.Inner.Draft.{Accepts}
-use Rattle.nrm_network.specs.File.{refusal_after, lacks_a_kind}
+use Rattle.nrm_network.specs.Inner.Draft.{Accepts, TakesRow}
+use Rattle.nrm_network.specs.Inner.Faults.{fault_at}
+use Rattle.nrm_network.specs.File.{Refusal, lacks_a_kind, network_of, network_or_refusal, refusal_after}
+use Rattle.nrm_network.specs.declared.draft.Draft.{Draft}
+use Rattle.nrm_network.specs.declared.fault.RowRefusal.{RowRefusal}
+use Rattle.nrm_network.specs.declared.fault.RowRefusal.TheVariants as fault
 use Rattle.nrm_network.specs.declared.fault.Why.{Why}
+use Rattle.nrm_network.specs.declared.fault.Why.TheVariants as why
 
 pub Accepts-append : (cause : List Row → Row → Option Why) (before xs ys : List Row) → Accepts cause before xs
     → Accepts cause (before ++ xs) ys → Accepts cause before (xs ++ ys)
@@ -50,3 +59,14 @@ refusal_after-row cause lacking w before (r ∷ rows) row rest all refused =
     rw first (refusal_after-row cause lacking w (before ++ r ∷ []) rows row rest all.1
     (subst (λ (b : List Row). cause b row ≡ Some w) (sym (append_assoc before (r ∷ []) rows)) refused)
     ∙ ap (λ (x : List Row). Some (length x + 1, w)) (append_assoc before (r ∷ []) rows))
+
+-- so a row that isn't taken decides the file
+pub refused-at : (after : Draft) (all taken rest : List Row) (row : Row) (n : ℕ) (f : RowRefusal) → Accepts why_refused [] taken
+    → all ≡ taken ++ row ∷ rest → n ≡ length taken → TakesRow after taken row (Err f)
+    → AnswersFile (Err (fault_at (n + 1) f)) (network_or_refusal why_refused why.Empty all)
+refused-at after all taken rest row n (fault.Refused w) accepted are count takes =
+    ap (λ (rows : List Row). network_or_refusal why_refused why.Empty rows) are
+    ∙ ap (λ (r : Option Refusal). option_map_or (λ (refusal : Refusal). Err refusal) r (Ok (network_of (taken ++ row ∷ rest))))
+    (refusal_after-row why_refused why.Empty w [] taken row rest accepted takes)
+    ∙ ap (λ (m : ℕ). Err (m + 1, w)) (sym count)
+refused-at after all taken rest row n fault.NoMemory accepted are count takes = tt

@@ -2,4 +2,6 @@ pub mod Draft
 pub mod Entries
 pub mod Faults
 pub mod Fields
+pub mod Lines
+pub mod RowFields
 pub mod RowText

@@ -6,7 +6,7 @@ ghost use Rattle.std.specs.List.{list_all, list_any, position_from};
 ghost use Rattle.std.specs.Int.{IsInRange};
 ghost use Rattle.nrm_model.specs.Limits.{differ, falls};
 ghost use Rattle.nrm_model.specs.declared.limits.TheConstants.{MOST_DEMAND, MOST_PRODUCTS};
-ghost use Rattle.csv.specs.Records.{fields_of};
+ghost use Rattle.nrm_network.specs.Inner.RowFields.{fields_in};
 ghost use Rattle.nrm_network.specs.Rows.{Row, is_named};
 ghost use Rattle.nrm_network.specs.Answer.{AnswersFile};
 ghost use Rattle.nrm_network.specs.Checks.{why_refused};
@@ -18,7 +18,7 @@ ghost use Rattle.nrm_network.specs.declared.entry.Entry.TheVariants as says;
 
 use crate::entry::{Counts, DemandEntry, Entry, ProductEntry, RefundEntry, read_row};
 use crate::fault::{NetFault, RowRefusal, Why};
-use csv::ByteRecord;
+use crate::row::RowFields;
 use nrm_model::{Leg, LegNumbers, MOST_DEMAND, MOST_REFUND, NameTable, Network, Product};
 use nrm_text::Name;
 use std::alloc::{AllocError, Global};
@@ -283,9 +283,9 @@ impl Draft {
     ///
     /// # Errors
     /// The first check that refuses the row against those before it, or want of memory.
-    pub(crate) fn take(&mut self, alloc: Global, row: &ByteRecord) -> Result<(), RowRefusal>
+    pub(crate) fn take(&mut self, alloc: Global, row: &RowFields<'_>) -> Result<(), RowRefusal>
         requires { (taken : List Row) × Stands self.old taken }
-        ensures { Takes self.old self.new (fields_of row.now) result }
+        ensures { Takes self.old self.new (fields_in row.now) result }
     {
         let mut places = [0; 16];
         match read_row(alloc, self.counts(), self.recent_name(), row, &mut places)? {
@@ -311,11 +311,11 @@ impl Draft {
         self.legs.is_empty() || self.products.is_empty()
     }
 
-    /// The network of the rows, of which there were so many. It has the draft's tables of names, and takes no memory.
+    /// The network of the rows, of which there were so many. It has the draft's tables of names.
     ///
     /// # Errors
-    /// There is no leg or no product: the place after the last row.
-    pub(crate) fn finish(self, rows: u32) -> Result<Network, NetFault>
+    /// There is no leg or no product: the place after the last row; or want of memory for what the network keeps beside its parts.
+    pub(crate) fn finish(self, alloc: Global, rows: u32) -> Result<Network, NetFault>
         requires stands { (taken : List Row) × Stands self taken }
         requires few { rows < 2 ^ 32 - 1 }
         ensures { (taken : List Row) → Stands self taken → rows ≡ length taken
@@ -327,7 +327,8 @@ impl Draft {
                 why: Why::Empty,
             });
         }
-        Ok(Network::with_tables(
+        let net = Network::with_tables(
+            alloc,
             self.histories,
             self.periods,
             self.legs,
@@ -335,6 +336,7 @@ impl Draft {
             self.demand,
             self.leg_names,
             self.product_names,
-        ))
+        )?;
+        Ok(net)
     }
 }

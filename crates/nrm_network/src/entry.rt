@@ -1,15 +1,15 @@
 //! A row as it is read: its fields by their meaning, each read once. What is asked of a row before any look-up stands
 //! here, kind by kind: its place, how many fields it has, that there is room for it, and what its fields are.
 ghost use Rattle.std.specs.Prelude.{◌≡◌, ◌≤◌, List, ℕ, MatchResult, false};
-ghost use Rattle.csv.specs.Records.{fields_of};
+ghost use Rattle.nrm_network.specs.Inner.RowFields.{fields_in};
 ghost use Rattle.nrm_network.specs.Rows.{kind_of, periods_kind, leg_kind, product_kind, demand_kind, refund_kind};
 ghost use Rattle.nrm_network.specs.Inner.Entries.{Counted, ReadsAs, ReadsRow, first_refusal, kind_by, kind_seen};
 
 use crate::fault::{RowRefusal, Why};
 use crate::row::{
-    field, leg_figures_in, name_again, name_in, names_in, number_in, seats_in, version_of,
+    RowFields, field, leg_figures_in, name_again, name_in, names_in, number_in, seats_in,
+    version_of,
 };
-use csv::ByteRecord;
 use nrm_model::{
     Leg, MOST_DEMAND, MOST_FARE, MOST_HISTORIES, MOST_LEGS, MOST_LEGS_OF_A_PRODUCT, MOST_PERIODS,
     MOST_PRODUCTS, MOST_REFUND, MOST_THRESHOLDS, Thresholds,
@@ -95,8 +95,8 @@ fn kind_named(word: &[u8]) -> RowKind
     }
 }
 
-fn kind_of(row: &ByteRecord) -> RowKind
-    ensures { kind_seen result ≡ kind_of (fields_of row.now) }
+fn kind_of(row: &RowFields<'_>) -> RowKind
+    ensures { kind_seen result ≡ kind_of (fields_in row.now) }
 {
     kind_named(field(row, 0))
 }
@@ -119,8 +119,8 @@ fn admit(out_of_order: bool, miscounted: bool, too_many: bool) -> Result<(), Why
     Ok(())
 }
 
-fn read_periods<'a>(counts: Counts, row: &ByteRecord) -> Result<Entry<'a>, RowRefusal>
-    ensures { ReadsAs periods_kind counts (fields_of row.now) result }
+fn read_periods<'a>(counts: Counts, row: &RowFields<'_>) -> Result<Entry<'a>, RowRefusal>
+    ensures { ReadsAs periods_kind counts (fields_in row.now) result }
 {
     let first = counts.histories == 0;
     let count = row.len();
@@ -135,8 +135,9 @@ fn read_periods<'a>(counts: Counts, row: &ByteRecord) -> Result<Entry<'a>, RowRe
     })
 }
 
-fn read_leg<'a>(alloc: Global, counts: Counts, row: &ByteRecord) -> Result<Entry<'a>, RowRefusal>
-    ensures { ReadsAs leg_kind counts (fields_of row.now) result }
+fn read_leg<'a>(alloc: Global, counts: Counts, row: &RowFields<'_>) -> Result<Entry<'a>, RowRefusal>
+    requires { counts.version ≤ 2 }
+    ensures { ReadsAs leg_kind counts (fields_in row.now) result }
 {
     let version = counts.version as usize;
     let count = row.len();
@@ -159,9 +160,9 @@ fn read_leg<'a>(alloc: Global, counts: Counts, row: &ByteRecord) -> Result<Entry
 fn read_product<'a>(
     alloc: Global,
     counts: Counts,
-    row: &ByteRecord,
+    row: &RowFields<'_>,
 ) -> Result<Entry<'a>, RowRefusal>
-    ensures { ReadsAs product_kind counts (fields_of row.now) result }
+    ensures { ReadsAs product_kind counts (fields_in row.now) result }
 {
     let count = row.len();
     admit(
@@ -182,11 +183,11 @@ fn read_product<'a>(
 fn read_demand<'a>(
     counts: Counts,
     recent: Option<&Name>,
-    row: &ByteRecord,
+    row: &RowFields<'_>,
     places: &'a mut [u16; 16],
 ) -> Result<Entry<'a>, RowRefusal>
     requires { counts.periods ≤ 16 }
-    ensures { ReadsAs demand_kind counts (fields_of row.now) result }
+    ensures { ReadsAs demand_kind counts (fields_in row.now) result }
 {
     let periods = counts.periods as usize;
     admit(counts.histories == 0, row.len() != 3 + periods, false)?;
@@ -205,8 +206,8 @@ fn read_demand<'a>(
     }))
 }
 
-fn read_refund<'a>(counts: Counts, row: &ByteRecord) -> Result<Entry<'a>, RowRefusal>
-    ensures { ReadsAs refund_kind counts (fields_of row.now) result }
+fn read_refund<'a>(counts: Counts, row: &RowFields<'_>) -> Result<Entry<'a>, RowRefusal>
+    ensures { ReadsAs refund_kind counts (fields_in row.now) result }
 {
     if counts.version != 2 {
         return Err(RowRefusal::Refused(Why::Kind));
@@ -229,11 +230,12 @@ pub(crate) fn read_row<'a>(
     alloc: Global,
     counts: Counts,
     recent: Option<&Name>,
-    row: &ByteRecord,
+    row: &RowFields<'_>,
     places: &'a mut [u16; 16],
 ) -> Result<Entry<'a>, RowRefusal>
-    requires { counts.periods ≤ 16 }
-    ensures { ReadsRow counts (fields_of row.now) result }
+    requires version { counts.version ≤ 2 }
+    requires periods { counts.periods ≤ 16 }
+    ensures { ReadsRow counts (fields_in row.now) result }
 {
     match kind_of(row) {
         RowKind::Periods => read_periods(counts, row),

@@ -5,6 +5,7 @@ mod draft;
 mod entry;
 mod fault;
 mod laws;
+mod line;
 mod numbers;
 mod reading;
 mod row;

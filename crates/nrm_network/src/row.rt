@@ -1,12 +1,14 @@
 //! The fields of a row, each read once.
-ghost use Rattle.std.specs.Prelude.{◌≡◌, ◌+◌, length};
+ghost use Rattle.std.specs.Prelude.{◌≡◌, ◌≤◌, ◌<◌, ◌+◌, length};
 ghost use Rattle.std.specs.Int.{IsInRange};
 ghost use Rattle.csv.specs.Records.{fields_of};
+ghost use Rattle.nrm_network.specs.Inner.RowFields.{fields_in};
 ghost use Rattle.nrm_model.specs.declared.limits.TheConstants.{MOST_DEMAND};
 ghost use Rattle.nrm_network.specs.Rows.{field};
 ghost use Rattle.nrm_network.specs.Inner.Fields.{LegFiguresIn, NameIn, NamesIn, NumberIn, NumbersIn, SeatsIn, TwoCountsIn, VersionIn};
 
 use crate::fault::{RowRefusal, Why};
+use crate::line::{Line, MOST_FIELDS};
 use csv::ByteRecord;
 use nrm_model::{MOST_DEMAND, MOST_FARE, MOST_SEATS};
 use nrm_text::{Name, NumberFault, name_of, read_whole};
@@ -20,13 +22,46 @@ pub(crate) struct LegFigures {
     pub(crate) cuts: Vec<u32>,
 }
 
-/// The field at a place, counted from 0; past the last one it is empty.
-pub(crate) fn field(row: &ByteRecord, i: usize) -> &[u8]
-    ensures { result.now ≡ field (fields_of row.now) i }
+/// The fields of a row: those of a line, lent where they stand, or those of a record that `csv` read.
+#[derive(Drop)]
+pub(crate) enum RowFields<'a> {
+    Line(&'a Line<'a>),
+    Record(&'a ByteRecord),
+}
+
+impl RowFields<'_> {
+    ghost use Rattle.std.specs.Prelude.{◌≡◌, length};
+    ghost use Rattle.nrm_network.specs.Inner.RowFields.{fields_in};
+
+    /// How many fields the row has.
+    pub(crate) fn len(&self) -> usize
+        ensures { result ≡ length (fields_in self.now) }
+    {
+        match self {
+            RowFields::Line(line) => line.len(),
+            RowFields::Record(record) => record.len(),
+        }
+    }
+}
+
+// The field of a record at a place, counted from 0; past the last one it is empty.
+fn field_of(read: &ByteRecord, i: usize) -> &[u8]
+    ensures { result.now ≡ field (fields_of read.now) i }
 {
-    match row.get(i) {
+    match read.get(i) {
         Some(field) => field,
         None => &[],
+    }
+}
+
+/// The field at a place, counted from 0; past the last one it is empty.
+pub(crate) fn field<'a>(row: &'a RowFields<'_>, i: usize) -> &'a [u8]
+    requires { i < MOST_FIELDS }
+    ensures { result.now ≡ field (fields_in row.now) i }
+{
+    match row {
+        RowFields::Line(line) => line.field(i),
+        RowFields::Record(record) => field_of(record, i),
     }
 }
 
@@ -48,8 +83,9 @@ pub(crate) fn name_again(text: &[u8], recent: Option<&Name>) -> Result<Name, Why
 }
 
 /// The names that the fields from the fourth on are.
-pub(crate) fn names_in(alloc: Global, row: &ByteRecord) -> Result<Vec<Name>, RowRefusal>
-    ensures { NamesIn (fields_of row.now) result }
+pub(crate) fn names_in(alloc: Global, row: &RowFields<'_>) -> Result<Vec<Name>, RowRefusal>
+    requires { length (fields_in row.now) ≤ MOST_FIELDS }
+    ensures { NamesIn (fields_in row.now) result }
 {
     let mut names = Vec::new(alloc);
     for i in 3..row.len() {
@@ -82,9 +118,9 @@ fn two_counts_in(first: &[u8], second: &[u8]) -> Result<Option<(u16, u16)>, Why>
 }
 
 /// The file's version by its first row: 1 where that has three fields, and 2 where it has four and the fourth says so.
-pub(crate) fn version_of(row: &ByteRecord) -> Result<Option<u8>, Why>
-    requires { IsInRange 3 4 (length (fields_of row.now)) }
-    ensures { VersionIn (fields_of row.now) result }
+pub(crate) fn version_of(row: &RowFields<'_>) -> Result<Option<u8>, Why>
+    requires { IsInRange 3 4 (length (fields_in row.now)) }
+    ensures { VersionIn (fields_in row.now) result }
 {
     if row.len() == 3 {
         return Ok(Some(1));
@@ -99,9 +135,11 @@ pub(crate) fn version_of(row: &ByteRecord) -> Result<Option<u8>, Why>
 pub(crate) fn leg_figures_in(
     alloc: Global,
     version: u8,
-    row: &ByteRecord,
+    row: &RowFields<'_>,
 ) -> Result<Option<LegFigures>, RowRefusal>
-    ensures { LegFiguresIn version (fields_of row.now) result }
+    requires version { version ≤ 2 }
+    requires few { length (fields_in row.now) ≤ MOST_FIELDS }
+    ensures { LegFiguresIn version (fields_in row.now) result }
 {
     let from = version as usize;
     let counts = two_counts_in(field(row, 2), field(row, 1 + from))?;
@@ -119,12 +157,13 @@ pub(crate) fn leg_figures_in(
 // The numbers that the fields from a place on write, if each lies within these bounds.
 fn numbers_in(
     alloc: Global,
-    row: &ByteRecord,
+    row: &RowFields<'_>,
     from: usize,
     least: u32,
     greatest: u32,
 ) -> Result<Option<Vec<u32>>, RowRefusal>
-    ensures { NumbersIn from least greatest (fields_of row.now) result }
+    requires { length (fields_in row.now) ≤ MOST_FIELDS }
+    ensures { NumbersIn from least greatest (fields_in row.now) result }
 {
     let mut numbers = Vec::with_capacity(alloc, row.len())?;
     let mut within = true;
@@ -137,8 +176,18 @@ fn numbers_in(
     Ok(within.then_some(numbers))
 }
 
-// The number of seats that a field writes, if it is one: 0 to [`nrm_model::MOST_DEMAND`]. Most have a digit or two, which are
-// read at once.
+// The number of seats that a field writes, if it is one: 0 to [`nrm_model::MOST_DEMAND`]. The call keeps the loop over most fields short.
+#[inline(never)]
+fn long_seat_count_in(text: &[u8]) -> Result<Option<u16>, Why>
+    ensures { NumberIn (text.now, 0, MOST_DEMAND) result }
+{
+    match number_in(text, 0, MOST_DEMAND)? {
+        Some(number) => Ok(Some(number as u16)),
+        None => Ok(None),
+    }
+}
+
+// The same. Most have a digit or two, which are read at once.
 #[inline(always)]
 fn seat_count_in(text: &[u8]) -> Result<Option<u16>, Why>
     ensures { NumberIn (text.now, 0, MOST_DEMAND) result }
@@ -148,18 +197,16 @@ fn seat_count_in(text: &[u8]) -> Result<Option<u16>, Why>
         [tens @ b'1'..=b'9', ones @ b'0'..=b'9'] => {
             Ok(Some(u16::from(*tens - b'0') * 10 + u16::from(*ones - b'0')))
         }
-        _ => match number_in(text, 0, MOST_DEMAND)? {
-            Some(number) => Ok(Some(number as u16)),
-            None => Ok(None),
-        },
+        _ => long_seat_count_in(text),
     }
 }
 
 /// Writes the seats that the fields from the fourth on write, and says whether each number is one of seats: 0 to
 /// [`nrm_model::MOST_DEMAND`].
-pub(crate) fn seats_in(row: &ByteRecord, seats: &mut [u16]) -> Result<bool, Why>
-    requires { length (fields_of row.now) ≡ 3 + length seats.old }
-    ensures { SeatsIn (fields_of row.now) seats.new result }
+pub(crate) fn seats_in(row: &RowFields<'_>, seats: &mut [u16]) -> Result<bool, Why>
+    requires places { length (fields_in row.now) ≡ 3 + length seats.old }
+    requires few { length (fields_in row.now) ≤ MOST_FIELDS }
+    ensures { SeatsIn (fields_in row.now) seats.new result }
 {
     let mut within = true;
     for i in 0..seats.len() {

@@ -1,7 +1,7 @@
 -- The seats that were read so far are those of the fields so far.
 use Rattle.std.proofs.Common.{ℕ, ◌≡◌, ◌+◌, ◌<◌, List, [], ◌∷◌, ◌++◌, length, take, false, subst, arith, rules, Err}
 use Rattle.std.proofs.lemmas.List.{take_more_set, length-set}
-use Rattle.csv.specs.Records.{fields_of}
+use Rattle.nrm_network.specs.Inner.RowFields.{fields_in}
 use Rattle.nrm_network.proofs.RowFields.{ReadTo, read-within, read-outside, read-off, read-freely}
 use Rattle.nrm_network.proofs.row.seats_in.Goals as goal
 use Rattle.nrm_network.proofs.row.seats_in.Goals.{in-Some, in-None}
@@ -9,18 +9,18 @@ use Rattle.nrm_network.proofs.row.seats_in.Goals.{in-Some, in-None}
 pub returns-in_err-count : goal.returns-in_err-count
 returns-in_err-count c =
     let (places, so_far) = c.loop-i.invariant in
-    let short : c.loop-i.i + 3 < length (fields_of c.args.row.now) = omega (arith, places, c.loop-i-test.true) in
+    let short : c.loop-i.i + 3 < length (fields_in c.args.row.now) = omega (arith, places, c.loop-i-test.true) in
     let gives : c.from_residual.result ≡ Err c.in_err-count.field-0.0 = search rules in
     let off = c.in_err-count.ensures in
     rw gives (
-      read-off 3 0 999 (fields_of c.args.row.now) (c.loop-i.i + 3) short c.field.result.now
+      read-off 3 0 999 (fields_in c.args.row.now) (c.loop-i.i + 3) short c.field.result.now
           (take c.loop-i.i c.loop-i.seats) c.loop-i.within c.field.ensures off.0 so_far,
       off.1,
     )
 
 pub loop-i-preserved : goal.loop-i-preserved
 loop-i-preserved c =
-    let fields : List (List ℕ) = fields_of c.args.row.now in
+    let fields : List (List ℕ) = fields_in c.args.row.now in
     let i : ℕ = c.loop-i.i in
     let seats : List ℕ = c.loop-i.seats in
     let (places, so_far) = c.loop-i.invariant in

@@ -3,7 +3,7 @@ use Rattle.std.proofs.Common.{ℕ, ◌≡◌, ◌∙◌, ◌&&◌, Bool, true, f
 use Rattle.std.specs.List.{list_all}
 use Rattle.std.proofs.lemmas.List.{drop_all}
 use Rattle.std.proofs.lemmas.Bool.{eq-eqb}
-use Rattle.csv.specs.Records.{fields_of}
+use Rattle.nrm_network.specs.Inner.RowFields.{fields_in}
 use Rattle.nrm_text.specs.Numbers.{is_whole}
 use Rattle.nrm_network.specs.Rows.{Row, field, further, version_in}
 use Rattle.nrm_network.specs.Checks.{is_within}
@@ -26,7 +26,7 @@ last-within row b four is = rw (last-field row four) (ap (λ (c : Bool). c && tr
 
 pub returns-in_err-number_in : goal.returns-in_err-number_in
 returns-in_err-number_in c =
-    let row : Row = fields_of c.args.row.now in
+    let row : Row = fields_in c.args.row.now in
     let four : length row ≡ 4 = omega (arith, c.len.ensures, c.if-len-eq3.false) in
     let gives : c.from_residual.result ≡ Err c.in_err-number_in.field-0.0 = search rules in
     let off = c.in_err-number_in.ensures in
@@ -34,7 +34,7 @@ returns-in_err-number_in c =
 
 pub returns-in-Some : goal.returns-in-Some
 returns-in-Some c =
-    let row : Row = fields_of c.args.row.now in
+    let row : Row = fields_in c.args.row.now in
     let four : length row ≡ 4 = omega (arith, c.len.ensures, c.if-len-eq3.false) in
     let number = rw c.in-Some.is at c.in_ok-number_in.ensures in (
       last-whole row true four (subst (λ (t : List ℕ). is_whole t ≡ true) c.field.ensures number.0),
@@ -44,7 +44,7 @@ returns-in-Some c =
 
 pub returns-in-None : goal.returns-in-None
 returns-in-None c =
-    let row : Row = fields_of c.args.row.now in
+    let row : Row = fields_in c.args.row.now in
     let four : length row ≡ 4 = omega (arith, c.len.ensures, c.if-len-eq3.false) in
     let number = rw c.in-None.is at c.in_ok-number_in.ensures in (
       last-whole row true four (subst (λ (t : List ℕ). is_whole t ≡ true) c.field.ensures number.0),

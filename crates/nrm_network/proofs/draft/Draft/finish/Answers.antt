@@ -53,4 +53,4 @@ pub returns : goal.returns
 returns c = λ taken is rows.
     let lacks = sym (c.lacks_a_kind.ensures taken is) ∙ c.if-lacks_a_kind.false in
     answers taken None (refusal_after-none why_refused why.Empty [] taken is.accepted lacks)
-    ∙ ap (λ (n : NetworkValue). Ok n) (sym (c.with_tables.ensures ∙ network-is c.args.self taken is))
+    ∙ ap (λ (n : NetworkValue). Ok n) (sym (c.in_ok-net.ensures ∙ network-is c.args.self taken is))

@@ -4,7 +4,7 @@ use Rattle.csv.specs.declared.parser.State.TheVariants as st
 use Rattle.csv.specs.declared.reader.Trim.TheVariants as trim
 use Rattle.nrm_network.specs.Inner.Draft.{Stands}
 use Rattle.nrm_network.specs.Rows.{Row}
-use Rattle.nrm_network.proofs.reading.read_rows.Given as goal
+use Rattle.nrm_network.proofs.reading.read_records.Given as goal
 
 abbrev pub invariant-loop-row : goal.invariant-loop-row
 invariant-loop-row l = (l.rdr.trim ≡ trim.None) × Ready l.rdr × (l.rdr.config ≡ default_config)

@@ -19,20 +19,9 @@ use Rattle.nrm_network.specs.declared.fault.RowRefusal.{RowRefusal}
 use Rattle.nrm_network.specs.declared.fault.RowRefusal.TheVariants as fault
 use Rattle.nrm_network.specs.declared.fault.Why.TheVariants as why
 use Rattle.nrm_network.proofs.CsvRows.{records-front, records-read, strip-shortens}
-use Rattle.nrm_network.proofs.RefusalPlace.{refusal_after-row}
-use Rattle.nrm_network.proofs.reading.read_rows.Goals as goal
-use Rattle.nrm_network.proofs.reading.read_rows.Goals.{At-loop-row, In_ok-read_byte_record}
-
--- a row that isn't taken decides the file
-refused : (after : Draft) (bytes : List ℕ) (taken rest : List Row) (row : Row) (n : ℕ) (f : RowRefusal) → Accepts why_refused [] taken
-    → rows_of bytes ≡ taken ++ row ∷ rest → n ≡ length taken → TakesRow after taken row (Err f)
-    → AnswersFile (Err (fault_at (n + 1) f)) (network_or_refusal why_refused why.Empty (rows_of bytes))
-refused after bytes taken rest row n (fault.Refused w) accepted are count takes =
-    ap (λ (rows : List Row). network_or_refusal why_refused why.Empty rows) are
-    ∙ ap (λ (r : Option Refusal). option_map_or (λ (refusal : Refusal). Err refusal) r (Ok (network_of (taken ++ row ∷ rest))))
-    (refusal_after-row why_refused why.Empty w [] taken row rest accepted takes)
-    ∙ ap (λ (m : ℕ). Err (m + 1, w)) (sym count)
-refused after bytes taken rest row n fault.NoMemory accepted are count takes = tt
+use Rattle.nrm_network.proofs.RefusalPlace.{refused-at}
+use Rattle.nrm_network.proofs.reading.read_records.Goals as goal
+use Rattle.nrm_network.proofs.reading.read_records.Goals.{At-loop-row, In_ok-read_byte_record}
 
 -- how many rows were read
 few-rows : (bytes y : List ℕ) (taken : ℕ) (rows : List Row) (s : State) → length bytes ≤ 4194304
@@ -89,7 +78,7 @@ returns-in-Err c =
     let m = rows-more (λ (s : Bor (List ℕ)). Some s.now) c.loop-row.rdr c.read_byte_record.new.self row default_config st.StartRecord
     (strip_bom c.args.bytes.now) inv.3 inv.4 inv.2 inv.5 inv.6 s in
     let (rest, are) = rows-front c.args.bytes.now m.0 inv.4 row c.read_byte_record.new.self.state m.2 in
-    rw c.at.ensures (refused c.take.new.self c.args.bytes.now inv.4 rest row c.loop-row.taken c.in-Err.fault inv.7.accepted are inv.8
+    rw c.at.ensures (refused-at c.take.new.self (rows_of c.args.bytes.now) inv.4 rest row c.loop-row.taken c.in-Err.fault inv.7.accepted are inv.8
     (c.in-Err.ensures inv.4 inv.7))
 
 pub loop-row-preserved : goal.loop-row-preserved

@@ -3,7 +3,7 @@ use Rattle.std.proofs.Common.{ℕ, zero, suc, ◌≡◌, ◌∙◌, List, [], �
 use Rattle.std.specs.Prelude.{slice_get, unwrap_or}
 use Rattle.csv.specs.Records.{fields_of, field_at}
 use Rattle.nrm_network.specs.Rows.{field}
-use Rattle.nrm_network.proofs.row.field.Goals as goal
+use Rattle.nrm_network.proofs.row.field_of.Goals as goal
 
 at-place : (fields : List (List ℕ)) (i : ℕ) → field_at fields i ≡ slice_get fields i
 unfolding field_at
@@ -15,7 +15,7 @@ found : (fields : List (List ℕ)) (i : ℕ) (o : Option (List ℕ)) → o ≡ f
 found fields i o is = ap (λ (x : Option (List ℕ)). unwrap_or x []) (is ∙ at-place fields i)
 
 pub returns-in-Some : goal.returns-in-Some
-returns-in-Some c = found (fields_of c.args.row.now) c.args.i (Some c.in-Some.field.now) c.in-Some.ensures.value
+returns-in-Some c = found (fields_of c.args.read.now) c.args.i (Some c.in-Some.field.now) c.in-Some.ensures.value
 
 pub returns-in-None : goal.returns-in-None
-returns-in-None c = found (fields_of c.args.row.now) c.args.i None c.in-None.ensures.value
+returns-in-None c = found (fields_of c.args.read.now) c.args.i None c.in-None.ensures.value
