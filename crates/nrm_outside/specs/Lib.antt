@@ -1,4 +1,5 @@
 pub mod Faults
+pub mod Inner
 pub mod NetworkFile
 pub mod Outside
 pub mod Refusals

@@ -2,6 +2,7 @@
 use Rattle.std.specs.Prelude.{ℕ, ◌≡◌, ◌≤◌, List, Option, Some, None, Result, Ok, Err, ⊤}
 use Rattle.nrm_edge.specs.Causes.{Rose}
 use Rattle.nrm_edge.specs.Fetch.{Folder}
+use Rattle.nrm_model.specs.Limits.{IsNetwork}
 use Rattle.nrm_model.specs.Network.{NetworkValue}
 use Rattle.nrm_outside.specs.Outside.{OnFile}
 use Rattle.nrm_outside.specs.Refusals.{no_file, at_row, network_under, refusal_line, file_fault_line}
@@ -31,3 +32,7 @@ reason_line none.Absent = Some (refusal_line no_file)
 reason_line (none.Refused row cause) = Some (refusal_line (at_row row cause))
 reason_line none.Fault = Some file_fault_line
 reason_line none.NoMemory = None
+
+-- what a file gives is a network within the limits, as the laws of sessions ask for
+abbrev pub FilesGiveNetworks : Type 0
+FilesGiveNetworks = (contents : Option (List ℕ)) (net : NetworkValue) → network_under contents ≡ Ok net → IsNetwork net

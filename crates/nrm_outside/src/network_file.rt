@@ -1,6 +1,7 @@
 //! From a file's name to its network.
 ghost use Rattle.std.specs.Prelude.{◌≡◌};
 ghost use Rattle.nrm_outside.specs.NetworkFile.{CountsFetch, OpensFile};
+ghost use Rattle.nrm_outside.specs.Inner.Fetched.{ReadsNetwork};
 
 use nrm_edge::{Fetched, FileFault, Files};
 use nrm_model::{MOST_NETWORK_BYTES, Network};
@@ -48,6 +49,20 @@ impl From<NetFault> for NoNetwork {
     }
 }
 
+// The network of what was fetched, read.
+fn network_in(alloc: Global, fetched: Fetched) -> Result<Network, NoNetwork>
+    ensures { ReadsNetwork fetched result }
+{
+    match fetched {
+        Fetched::Whole(bytes) => Ok(parse(alloc, &bytes)?),
+        Fetched::Longer => Err(NoNetwork::Refused {
+            row: 0,
+            why: Why::Size,
+        }),
+        Fetched::Absent => Err(NoNetwork::Absent),
+    }
+}
+
 /// The network of the file of this name.
 ///
 /// # Errors
@@ -61,12 +76,5 @@ pub fn open_network<F: Files>(
     ensures counts { CountsFetch (F.faults files.old) (F.faults files.new) result }
     ensures stays { F.contents files.new ≡ F.contents files.old }
 {
-    match files.fetch(alloc, name, MOST_NETWORK_BYTES)? {
-        Fetched::Whole(bytes) => Ok(parse(alloc, &bytes)?),
-        Fetched::Longer => Err(NoNetwork::Refused {
-            row: 0,
-            why: Why::Size,
-        }),
-        Fetched::Absent => Err(NoNetwork::Absent),
-    }
+    network_in(alloc, files.fetch(alloc, name, MOST_NETWORK_BYTES)?)
 }
