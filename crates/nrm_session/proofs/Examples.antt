@@ -1,5 +1,5 @@
 -- Sessions and replies by hand, on a network of two legs with a seat each: BACK takes BC and then AB.
-use Rattle.std.proofs.Common.{lit<, arith, zero, suc}
+use Rattle.std.proofs.Common.{lit<, ap, arith, inl, inr, zero, suc}
 use Rattle.std.specs.Prelude.{◌≡◌, ◌<◌, ◌≤◌, ℕ, pos, List, [], ◌∷◌, ◌++◌, codes, length, take, get_or, Option, Some, None, option_map, refl}
 use Rattle.std.specs.Fmt.{digits}
 use Rattle.nrm_fraction.specs.Fraction.{Fraction}
@@ -18,11 +18,12 @@ use Rattle.nrm_session.specs.Answering.{IsTellable, reply_in}
 use Rattle.nrm_session.specs.Hindsight.{requests_in}
 use Rattle.nrm_session.specs.Laws.{NoLegOversold, Solves}
 use Rattle.nrm_session.specs.Money.{given_back_in_all, sold_in_all}
+use Rattle.nrm_session.specs.PhysicalSeats.{DifferInSeats, SameButLegText}
 use Rattle.nrm_session.specs.Serving.{SentOn, ServesBy, Streams, WritesCut}
 use Rattle.nrm_session.specs.declared.serving.End.TheVariants as end
 use Rattle.nrm_stream.specs.Commands.{whole_commands}
 use Rattle.nrm_stream.specs.declared.command.Command.{Command}
-use Rattle.nrm_session.specs.Replies.{Reply, bad, unknown, sold, no_leg, no_fare, cancelled, hindsight_told, memory, optimised}
+use Rattle.nrm_session.specs.Replies.{Reply, bad, leg_told, unknown, sold, no_leg, no_fare, cancelled, hindsight_told, memory, optimised}
 use Rattle.nrm_session.specs.Replies.{optimised_at, optimised_none, overflow, plan_told, text_of}
 use Rattle.nrm_session.specs.Run.{Run}
 use Rattle.nrm_session.specs.Step.{LooksBack, Reoptimises, Step, is_large, lacks_memory, optimises, overflows, tells, wants_memory}
@@ -288,3 +289,27 @@ standing_by_hand = refl
 
 withheld_by_hand : sold_three.withheld ≡ 267
 withheld_by_hand = refl
+
+-- ---- two networks that differ in their physical seats, and one that differs in authorised seats; other replies than a leg's text are the same
+abbrev fewer_seats : NetworkValue
+fewer_seats = record two_legs_authorised {
+  legs = record { name = codes "AB"; seats = 0; authorised = 4; cuts = [] } ∷ record { name = codes "BC"; seats = 999; authorised = 1; cuts = [] } ∷ [];
+}
+
+abbrev fewer_authorised : NetworkValue
+fewer_authorised = record two_legs_authorised {
+  legs = record { name = codes "AB"; seats = 3; authorised = 3; cuts = [] } ∷ record { name = codes "BC"; seats = 2; authorised = 1; cuts = [] } ∷ [];
+}
+
+they_differ_in_seats : DifferInSeats two_legs_authorised fewer_seats
+they_differ_in_seats = refl
+
+they_differ_in_more : DifferInSeats two_legs_authorised fewer_authorised → ⊥
+they_differ_in_more same = let four = ap (λ (net : NetworkValue). authorised_of (inventory_of net) 0) same in omega (arith, four)
+
+another_number : SameButLegText (sold 1) (sold 2) → ⊥
+another_number (inl same) = cc same
+another_number (inr (text, told, sells, other)) = cc sells
+
+another_text : SameButLegText (leg_told (codes "x")) (leg_told (codes "y"))
+another_text = inr (codes "x", codes "y", refl, refl)

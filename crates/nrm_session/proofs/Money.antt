@@ -24,7 +24,7 @@ use Rattle.nrm_control.proofs.Cancellations.{refund-and-rest, sum-without}
 use Rattle.nrm_report.specs.Texts.{leg_text}
 use Rattle.nrm_stream.specs.declared.command.Command.{Command}
 use Rattle.nrm_stream.specs.declared.command.Command.TheVariants as command
-use Rattle.nrm_session.specs.Money.{MoneyAddsUp, given_back, given_back_in_all, paid_for, sold_in_all}
+use Rattle.nrm_session.specs.Money.{MoneyAddsUp, MoneyGoesOn, given_back, given_back_in_all, paid_for, sold_in_all}
 use Rattle.nrm_session.specs.Replies.{Reply, cancelled, hindsight_told, leg_told, optimised_at, overflow, memory, reply_to, sold, unknown}
 use Rattle.nrm_session.specs.Run.{Run}
 use Rattle.nrm_session.specs.Step.{LooksBack, Reoptimises, Step, is_large, lacks_memory, lacks_period, optimises, overflows, tells}
@@ -201,5 +201,9 @@ adds-up net plan commands replies s is run =
       sum = omega (arith, all);
       told = λ value revenue withheld after step.
           let (found, worth, rest) = told-so net s (hindsight_told value revenue withheld) value revenue withheld step.0 refl in
-          omega (arith, all, worth, rest);
+          (sym worth, sym rest);
     }
+
+pub goes-on : MoneyGoesOn
+goes-on net s commands replies s' is numbered run =
+    let all = run-moves net s commands replies s' is (record { rising = numbered.rising; below = numbered.below }) run in omega (arith, all)

@@ -1,5 +1,5 @@
 -- Physical seats decide nothing: two networks that differ in them alone have the same steps, but for the text of a leg.
-use Rattle.std.proofs.Common.{ℕ, ◌≡◌, ◌∙◌, ◌+◌, Bool, true, false, if◌then◌else◌, List, [], ◌∷◌, length, find, map, min, nat_lt, Option, Some, None}
+use Rattle.std.proofs.Common.{ℕ, ℤ, ◌≡◌, ◌∙◌, ◌+◌, Bool, true, false, if◌then◌else◌, List, [], ◌∷◌, length, find, map, min, nat_lt, Option, Some, None}
 use Rattle.std.proofs.Common.{MatchOption, inl, inr, refl, subst}
 use Rattle.std.specs.Bool.{MatchBool}
 use Rattle.std.specs.List.{range_with_len}
@@ -8,16 +8,17 @@ use Rattle.nrm_fraction.specs.Fraction.{Fraction}
 use Rattle.nrm_fraction.specs.Large.{size_limit}
 use Rattle.nrm_model.specs.declared.leg.Leg.{Leg}
 use Rattle.nrm_model.specs.Inventory.{inventory_of}
+use Rattle.nrm_model.specs.declared.mode.Mode.{Mode}
 use Rattle.nrm_model.specs.Network.{NetworkValue, leg_named, product_named, product_of}
 use Rattle.nrm_lp.specs.Overflow.{Overflows}
 use Rattle.nrm_lp.specs.Program.{ProgramValue}
 use Rattle.nrm_simplex.specs.Solving.{IsClosing}
 use Rattle.nrm_dlp.specs.Hindsight.{IsHindsight}
-use Rattle.nrm_dlp.specs.Programs.{hindsight_program}
+use Rattle.nrm_dlp.specs.Programs.{hindsight_program, opening_program, program_at}
 use Rattle.nrm_book.specs.declared.booking.Booking.{Booking}
 use Rattle.nrm_book.specs.Bookings.{left_on}
 use Rattle.nrm_hindsight.specs.Requests.{Request, asked_for, tallies_of}
-use Rattle.nrm_plan.specs.Plans.{IsPlanFor, PlanOverflows, fare_refuses}
+use Rattle.nrm_plan.specs.Plans.{IsOpeningPlan, IsPlanFor, OpeningOverflows, PlanOverflows, PlanValue, fare_refuses}
 use Rattle.nrm_control.specs.State.{SeatState, after_answer, after_request, answer_in, seats_left}
 use Rattle.nrm_control.specs.declared.answer.Answer.{Answer}
 use Rattle.nrm_control.specs.declared.answer.Answer.TheVariants as answer
@@ -28,7 +29,7 @@ use Rattle.nrm_session.specs.Replies.{Reply, leg_told, no_leg, plan_told, reply_
 use Rattle.nrm_session.specs.Step.{Gives, LooksBack, Reoptimises, Step, is_large, lacks_memory, lacks_period, optimises, overflows, tells}
 use Rattle.nrm_session.specs.Step.{wants_memory}
 use Rattle.nrm_session.specs.Run.{Run}
-use Rattle.nrm_session.specs.PhysicalSeats.{PhysicalSeatsDecideNothing, SameButLegText, SameButLegTexts}
+use Rattle.nrm_session.specs.PhysicalSeats.{DifferInSeats, OpeningsAreSame, PhysicalSeatsDecideNothing, SameButLegText, SameButLegTexts, SessionsAreSame}
 use Rattle.nrm_session.proofs.SeatlessLegs.{AreSameLegs, with_legs, count-same, inventory-same, least-same, name-same, named-same}
 use Rattle.nrm_session.proofs.SeatlessPlans.{kept-same, plan_for-same, text-same}
 
@@ -147,15 +148,43 @@ module _ (net : NetworkValue) (legs : List Leg) (same : AreSameLegs net.legs leg
       let (others, run', alike') = run-same mid s' commands replies run in
       (told ∷ others, (mid, step', run'), (alike, alike'))
 
+  program-same : opening_program net ≡ opening_program other
+  program-same = λ at. program_at net (inventory-same net legs same at).authorised 1
+
+  overflow-same : (m : Mode) (n : ℕ) (number : ℤ) → OpeningOverflows net m n number → OpeningOverflows other m n number
+  overflow-same m n number large =
+      subst (λ (left : List ℕ). PlanOverflows other m left 1 n number) (λ at. (inventory-same net legs same at).authorised) large
+
+  opening-same : (m : Mode) (plan : PlanValue) → IsOpeningPlan net m plan → IsOpeningPlan other m plan
+  opening-same m plan for =
+      subst (λ (left : List ℕ). IsPlanFor other m left 1 plan) (λ at. (inventory-same net legs same at).authorised)
+      (plan_for-same net legs same m (inventory_of net).authorised 1 plan for)
+
 -- the other network is the one with the other's legs
+module _ (net second : NetworkValue) (differ : DifferInSeats net second) where
+  is-second : with_legs net second.legs ≡ second
+  is-second = λ at. record {
+    histories = (differ at).histories;
+    periods = (differ at).periods;
+    legs = second.legs;
+    products = (differ at).products;
+    demand = (differ at).demand;
+  }
+
+  same-legs : AreSameLegs net.legs second.legs
+  same-legs = record { but_seats = λ at. (differ at).legs }
+
+openings : (net second : NetworkValue) (m : Mode) → DifferInSeats net second → OpeningsAreSame net second m
+openings net second m differ = subst (λ (o : NetworkValue). OpeningsAreSame net o m) (is-second net second differ) (record {
+  plan = opening-same net second.legs (same-legs net second differ) m;
+  overflow = overflow-same net second.legs (same-legs net second differ) m;
+  program = program-same net second.legs (same-legs net second differ);
+})
+
+sessions : SessionsAreSame
+sessions net second s s' commands replies differ run =
+    subst (λ (o : NetworkValue). HasRun o s s' commands replies) (is-second net second differ)
+    (run-same net second.legs (same-legs net second differ) s s' commands replies run)
+
 pub decide-nothing : PhysicalSeatsDecideNothing
-decide-nothing net other s s' commands replies differ run =
-    let is : with_legs net other.legs ≡ other = λ m. record {
-      histories = (differ m).histories;
-      periods = (differ m).periods;
-      legs = other.legs;
-      products = (differ m).products;
-      demand = (differ m).demand;
-    } in
-    let same : AreSameLegs net.legs other.legs = record { but_seats = λ m. (differ m).legs } in
-    subst (λ (o : NetworkValue). HasRun o s s' commands replies) is (run-same net other.legs same s s' commands replies run)
+decide-nothing = record { openings = openings; sessions = sessions }

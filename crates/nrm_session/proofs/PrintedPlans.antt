@@ -24,7 +24,7 @@ use Rattle.nrm_session.specs.Replies.{Reply, bad, memory, optimised, optimised_a
 use Rattle.nrm_session.specs.Step.{Gives, LooksBack, Reoptimises, Step, is_large, lacks_memory, optimises, overflows, tells, wants_memory}
 use Rattle.nrm_session.specs.Step.{lacks_period}
 use Rattle.nrm_session.specs.Run.{Run}
-use Rattle.nrm_session.specs.LastPlan.{at_line, at_opening, IsPlannedFor, NoneTellsOfPlan, PrintedPricesAreOptimal}
+use Rattle.nrm_session.specs.LastPlan.{at_line, at_opening, IsPlannedFor, NoneTellsOfPlan, PrintedFromOpeningPlans, PrintedPricesAreOptimal, PrintsOptimalPrices}
 use Rattle.nrm_session.specs.LastPlan.{PrintsOptimalPrices, TellsOfPlan}
 use Rattle.nrm_session.proofs.InForce.{plans-kept}
 
@@ -166,15 +166,15 @@ last-line net s s' (c ∷ commands) (reply ∷ replies) (mid, step, run) =
       last = found.last;
     })
 
--- from an opening on, as it is printed
-module _ (net : NetworkValue) (m : Mode) (plan : PlanValue) (commands : List Command) (replies : List Reply) (mid : SeatState)
+-- from a state with an opening plan on, as it is printed
+module _ (net : NetworkValue) (m : Mode) (s : SeatState) (commands : List Command) (replies : List Reply) (mid : SeatState)
     (reply : Reply) (prices : Certificate)
-    (opens : IsOpeningPlan net m plan) (has : mid.plan.certificate ≡ Some prices)
+    (opens : IsOpeningPlan net m s.plan) (has : mid.plan.certificate ≡ Some prices)
     (certifies : Certifies size_limit (program_at net mid.plan.left mid.plan.period) prices)
     (printed : reply ≡ plan_told (text_of_plan net m mid.plan.period (Some prices))) where
   prints : (left : List ℕ) (period : ℕ) → mid.plan.left ≡ left → mid.plan.period ≡ period
-      → IsPlannedFor net (opening plan) commands replies prices left period
-      → PrintsOptimalPrices net m (opening plan) commands replies reply
+      → IsPlannedFor net s commands replies prices left period
+      → PrintsOptimalPrices net m s commands replies reply
   prints left period left_is period_is planned = record {
     left = left;
     period = period;
@@ -185,8 +185,8 @@ module _ (net : NetworkValue) (m : Mode) (plan : PlanValue) (commands : List Com
         (subst (λ (l : List ℕ). Certifies size_limit (program_at net l mid.plan.period) prices) left_is certifies);
   }
 
-  by-line : ((mid.plan ≡ plan) × NoneTellsOfPlan replies) ⊎ IsOfLastLine net (opening plan) commands replies mid
-      → PrintsOptimalPrices net m (opening plan) commands replies reply
+  by-line : ((mid.plan ≡ s.plan) × NoneTellsOfPlan replies) ⊎ IsOfLastLine net s commands replies mid
+      → PrintsOptimalPrices net m s commands replies reply
   by-line (inl (same, none)) =
       prints (inventory_of net).authorised 1 (ap (λ (p : PlanValue). p.left) same ∙ opens.left_is)
       (ap (λ (p : PlanValue). p.period) same ∙ opens.period_is) (at_opening none)
@@ -205,11 +205,17 @@ module _ (net : NetworkValue) (m : Mode) (plan : PlanValue) (commands : List Com
         last = found.last;
       }))
 
-pub printed-optimal : PrintedPricesAreOptimal
-printed-optimal net m plan commands replies mid after reply is solves opens run step =
-    let planned = plans-kept.1 net m _ mid commands replies is (plans-kept.0 net m plan is opens) run in
+pub printed-from : PrintedFromOpeningPlans
+printed-from net m s commands replies mid after reply is solves opens run step =
+    let first = plans-kept.0 net m s.plan is opens in
+    let planned = plans-kept.1 net m s mid commands replies is
+    (record { mode_is = first.mode_is; planned = first.planned; optimal = first.optimal }) run in
     let (prices, has, certifies) = planned.optimal solves in
-    by-line net m plan commands replies mid reply prices opens has certifies
+    by-line net m s commands replies mid reply prices opens has certifies
     (step.0 ∙ ap (λ (its : Mode). plan_told (text_of_plan net its mid.plan.period mid.plan.certificate)) planned.mode_is
     ∙ ap (λ (its : Option Certificate). plan_told (text_of_plan net m mid.plan.period its)) has)
-    (last-line net (opening plan) mid commands replies run)
+    (last-line net s mid commands replies run)
+
+pub printed-optimal : PrintedPricesAreOptimal
+printed-optimal net m plan commands replies mid after reply is solves opens run step =
+    printed-from net m (opening plan) commands replies mid after reply is solves opens run step

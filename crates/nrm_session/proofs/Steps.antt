@@ -1,13 +1,17 @@
 -- The steps that a controller makes, and their replies.
-use Rattle.std.proofs.Common.{ℕ, ℤ, ◌≡◌, ◌≢◌, ◌∙◌, ◌+◌, Bool, false, List, Option, Some, None, MatchOption, option_map, refl, sym, ap}
-use Rattle.std.proofs.Common.{subst, arith}
+use Rattle.std.proofs.Common.{ℕ, ℤ, ◌≡◌, ◌≢◌, ◌∙◌, ◌+◌, Bool, false, List, Option, Some, None, Result, Ok, Err, MatchOption, OnErr, OnOk, IfErr, IfOk, option_map, pos, refl, sym}
+use Rattle.std.proofs.Common.{ap, subst, arith}
 use Rattle.std.specs.Bool.{MatchBool}
-use Rattle.nrm_fraction.specs.Fraction.{Fraction}
+use Rattle.nrm_fraction.specs.Fraction.{Fraction, ◌over◌}
 use Rattle.nrm_model.specs.Inventory.{inventory_of}
 use Rattle.nrm_model.specs.Network.{NetworkValue, leg_named, leg_of, product_named}
 use Rattle.nrm_model.specs.declared.mode.Mode.{Mode}
 use Rattle.nrm_model.specs.declared.mode.Mode.TheVariants as mode
 use Rattle.nrm_dlp.specs.Hindsight.{HindsightOverflows, IsHindsight}
+use Rattle.nrm_simplex.specs.declared.fault.SolveFault.{SolveFault}
+use Rattle.nrm_simplex.specs.declared.fault.SolveFault.TheVariants as fault
+use Rattle.nrm_simplex.specs.Solving.{IsSolveFault}
+use Rattle.nrm_dlp.specs.Programs.{hindsight_program}
 use Rattle.nrm_book.specs.declared.booking.Booking.{Booking}
 use Rattle.nrm_book.specs.Bookings.{booking_numbered, revenue_of, without}
 use Rattle.nrm_control.specs.Refunds.{refund_of, withheld_by}
@@ -16,7 +20,7 @@ use Rattle.nrm_control.specs.Standing.{ControlValue, StandsFor, with_answer}
 use Rattle.nrm_control.specs.Verdict.{verdict_of}
 use Rattle.nrm_control.specs.declared.answer.Answer.{Answer}
 use Rattle.nrm_control.specs.declared.answer.Answer.TheVariants as answer
-use Rattle.nrm_plan.specs.Plans.{IsPlanFor, PlanOverflows, PlanValue, value_of}
+use Rattle.nrm_plan.specs.Plans.{IsPlanFault, IsPlanFor, PlanOverflows, PlanValue, value_of}
 use Rattle.nrm_control.proofs.States.{answer-same}
 use Rattle.nrm_report.specs.Texts.{leg_text}
 use Rattle.nrm_stream.specs.declared.command.Command.TheVariants as command
@@ -26,7 +30,8 @@ use Rattle.nrm_session.specs.Step.{Gives, LooksBack, Reoptimises, Step, is_large
 use Rattle.nrm_session.specs.Step.{wants_memory}
 use Rattle.std.specs.Int.{IsInRange}
 use Rattle.nrm_session.proofs.Periods.{has-not}
-use Rattle.nrm_session.specs.Answering.{Steps}
+use Rattle.nrm_session.specs.Answering.{Steps, reply_in}
+use Rattle.nrm_session.specs.Inner.Solved.{reply_looking_back, reply_planned}
 
 -- a request that was refused leaves the network and the next number
 refused-steps : (old new : ControlValue) (name : List ℕ) (j party : ℕ) (given : Answer) → Some j ≡ product_named old.net name → given
@@ -118,7 +123,7 @@ module _ (control : ControlValue) where
       → Steps control control command.Hindsight reply
   looks reply told = record { network = refl; next = omega arith; step = λ s stands. (s, (told s stands, refl), stands) }
 
-  pub hindsight-steps : (value : Fraction) (revenue withheld : ℕ) → IsHindsight control.net control.tallies value
+  hindsight-steps : (value : Fraction) (revenue withheld : ℕ) → IsHindsight control.net control.tallies value
       → revenue ≡ revenue_of (inventory_of control.net) control.bookings → withheld ≡ control.withheld
       → Steps control control command.Hindsight (hindsight_told value revenue withheld)
   hindsight-steps value revenue withheld is worth rest =
@@ -127,13 +132,23 @@ module _ (control : ControlValue) where
       (λ k. hindsight_told value ((ap (revenue_of (inventory_of control.net)) stands.bookings ∙ sym worth) k) ((stands.withheld ∙ sym rest) k))
       (tells value (subst (λ (tallies : List ℕ). IsHindsight control.net tallies value) (sym stands.tallies) is)))
 
-  pub hindsight-overflows : (n : ℕ) (number : ℤ) → HindsightOverflows control.net control.tallies n number
+  hindsight-overflows : (n : ℕ) (number : ℤ) → HindsightOverflows control.net control.tallies n number
       → Steps control control command.Hindsight overflow
   hindsight-overflows n number large = looks overflow (λ s stands. is_large n number
       (subst (λ (tallies : List ℕ). HindsightOverflows control.net tallies n number) (sym stands.tallies) large))
 
-  pub hindsight-lacks-memory : Steps control control command.Hindsight memory
+  hindsight-lacks-memory : Steps control control command.Hindsight memory
   hindsight-lacks-memory = looks memory (λ s stands. lacks_memory)
+
+  -- by what was answered
+  pub looking-back-steps : (answer : Result (ℕ × ℕ) SolveFault) (revenue withheld : ℕ)
+      → IfOk answer (λ value. IsHindsight control.net control.tallies (pos value.0 over value.1))
+      → IfErr answer (IsSolveFault (hindsight_program control.net control.tallies))
+      → revenue ≡ revenue_of (inventory_of control.net) control.bookings → withheld ≡ control.withheld
+      → Steps control control command.Hindsight (reply_in control (reply_looking_back answer revenue withheld))
+  looking-back-steps (Ok (num, den)) revenue withheld is fault worth rest = hindsight-steps (pos num over den) revenue withheld is worth rest
+  looking-back-steps (Err (fault.Overflow pivots number)) revenue withheld is (n, large, counted) worth rest = hindsight-overflows n number large
+  looking-back-steps (Err fault.NoMemory) revenue withheld is fault worth rest = hindsight-lacks-memory
 
 -- ---- an optimisation at a period that the network has
 module _ (old new : ControlValue) (k : ℕ) (within : IsInRange 1 old.net.periods k) where
@@ -150,7 +165,7 @@ module _ (old new : ControlValue) (k : ℕ) (within : IsInRange 1 old.net.period
       subst (λ (bookings : List Booking). P s.plan.mode bookings) (sym stands.bookings)
       (subst (λ (m : Mode). P m old.bookings) (ap (λ (plan : PlanValue). plan.mode) (sym stands.plan)) holds)
 
-  pub planned-steps : IsPlanFor old.net old.plan.mode (seats_left old.net old.bookings) k new.plan → new ≡ record old { plan = new.plan }
+  planned-steps : IsPlanFor old.net old.plan.mode (seats_left old.net old.bookings) k new.plan → new ≡ record old { plan = new.plan }
       → ((s : SeatState) → StandsFor old s → StandsFor new (with_plan s new.plan)) → (told : Option Fraction) → told
       ≡ value_of old.net new.plan → Steps old new (command.Reoptimise k) (optimised_at told)
   planned-steps for rest stay told value = record {
@@ -174,10 +189,23 @@ module _ (old new : ControlValue) (k : ℕ) (within : IsInRange 1 old.net.period
     step = λ s stands. (s, in-period s s reply (made s stands), subst (λ (control : ControlValue). StandsFor control s) (sym same) stands);
   }
 
-  pub overflow-steps : new ≡ old → (n : ℕ) (number : ℤ) → PlanOverflows old.net old.plan.mode (seats_left old.net old.bookings) k n number
+  overflow-steps : new ≡ old → (n : ℕ) (number : ℤ) → PlanOverflows old.net old.plan.mode (seats_left old.net old.bookings) k n number
       → Steps old new (command.Reoptimise k) overflow
   overflow-steps same n number large = kept-steps same overflow (λ s stands. overflows n number
       (of-state (λ m bookings. PlanOverflows old.net m (seats_left old.net bookings) k n number) s stands large))
 
-  pub memory-steps : new ≡ old → old.plan.mode ≢ mode.FirstCome → Steps old new (command.Reoptimise k) memory
+  memory-steps : new ≡ old → old.plan.mode ≢ mode.FirstCome → Steps old new (command.Reoptimise k) memory
   memory-steps same solves = kept-steps same memory (λ s stands. wants_memory (of-state (λ m bookings. m ≢ mode.FirstCome) s stands solves))
+
+  -- by what was answered
+  pub replanned-steps : (answer : Result (Option (ℕ × ℕ)) SolveFault)
+      → OnOk answer (IsPlanFor old.net old.plan.mode (seats_left old.net old.bookings) k new.plan)
+      → IfOk answer (λ told. option_map (λ value. pos value.0 over value.1) told ≡ value_of old.net new.plan)
+      → IfErr answer (IsPlanFault old.net old.plan.mode (seats_left old.net old.bookings) k)
+      → OnErr answer (new ≡ old) → new ≡ record old { plan = new.plan }
+      → ((s : SeatState) → StandsFor old s → StandsFor new (with_plan s new.plan))
+      → Steps old new (command.Reoptimise k) (reply_in new (reply_planned answer))
+  replanned-steps (Ok (Some (num, den))) for value fault same rest stay = planned-steps for rest stay (Some (pos num over den)) value
+  replanned-steps (Ok None) for value fault same rest stay = planned-steps for rest stay None value
+  replanned-steps (Err (fault.Overflow pivots number)) for value (n, large, counted) same rest stay = overflow-steps same n number large
+  replanned-steps (Err fault.NoMemory) for value solves same rest stay = memory-steps same solves

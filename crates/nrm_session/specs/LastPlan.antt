@@ -67,3 +67,11 @@ PrintedPricesAreOptimal = (net : NetworkValue) (m : Mode) (plan : PlanValue) (co
     → IsNetwork net → m ≢ mode.FirstCome → IsOpeningPlan net m plan → Run net (opening plan) commands replies mid
     → Step net mid command.Plan reply after
     → PrintsOptimalPrices net m (opening plan) commands replies reply
+
+-- So it is from each state on in which an opening plan is in force, whatever bookings stand in it.
+abbrev pub PrintedFromOpeningPlans : Type 0
+PrintedFromOpeningPlans = (net : NetworkValue) (m : Mode) (s : SeatState) (commands : List Command) (replies : List Reply)
+    (mid after : SeatState) (reply : Reply)
+    → IsNetwork net → m ≢ mode.FirstCome → IsOpeningPlan net m s.plan → Run net s commands replies mid
+    → Step net mid command.Plan reply after
+    → PrintsOptimalPrices net m s commands replies reply

@@ -14,7 +14,7 @@ use Rattle.nrm_stream.specs.declared.command.Command.{Command}
 use Rattle.nrm_stream.specs.declared.command.Command.TheVariants as command
 use Rattle.nrm_session.specs.Replies.{Reply, memory}
 use Rattle.nrm_session.specs.Step.{Step}
-use Rattle.nrm_session.specs.Run.{Run}
+use Rattle.nrm_session.specs.Run.{Run, RunBy}
 
 -- no leg of the network has more seats sold than are authorised
 abbrev pub NoLegOversold : NetworkValue → SeatState → Type 0
@@ -82,8 +82,10 @@ PlansAreKept = ((net : NetworkValue) (m : Mode) (plan : PlanValue) → IsNetwork
     → IsNetwork net → IsPlanned net m s → Run net s commands replies s' → IsPlanned net m s')
 
 -- each first part of a run is a run, and the rest is one from where it came: so what holds after each run holds in every state on the way
+abbrev pub HasFirstParts : {R : Type 0} → (SeatState → Command → R → SeatState → Type 0) → Type 0
+HasFirstParts {R = R} step = (s s' : SeatState) (first rest : List Command) (replies : List R) → RunBy step s (first ++ rest) replies s'
+    → (before : List R) × (later : List R) × (mid : SeatState) × (replies ≡ before ++ later) × RunBy step s first before mid
+    × RunBy step mid rest later s'
+
 abbrev pub RunsHaveFirstParts : Type 0
-RunsHaveFirstParts = (net : NetworkValue) (s s' : SeatState) (first rest : List Command) (replies : List Reply)
-    → Run net s (first ++ rest) replies s'
-    → (before : List Reply) × (later : List Reply) × (mid : SeatState) × (replies ≡ before ++ later) × Run net s first before mid
-    × Run net mid rest later s'
+RunsHaveFirstParts = (net : NetworkValue) → HasFirstParts (Step net)

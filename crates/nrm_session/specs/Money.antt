@@ -1,11 +1,12 @@
 -- Money, to be read aloud: what was sold in all is the revenue of the bookings that stand, what was given back, and what is withheld.
-use Rattle.std.specs.Prelude.{ℕ, ◌≡◌, ◌+◌, ◌*◌, List, [], ◌∷◌, sum_by}
+use Rattle.std.specs.Prelude.{ℕ, ◌≡◌, ◌+◌, ◌*◌, ◌<◌, All, List, [], ◌∷◌, sum_by}
 use Rattle.std.specs.Option.{option_map_or}
 use Rattle.nrm_fraction.specs.Fraction.{Fraction}
 use Rattle.nrm_model.specs.Inventory.{inventory_of}
 use Rattle.nrm_model.specs.Limits.{IsNetwork}
 use Rattle.nrm_model.specs.Network.{NetworkValue, product_named, product_of}
-use Rattle.nrm_book.specs.Bookings.{revenue_of}
+use Rattle.nrm_book.specs.Bookings.{NumbersRise, revenue_of}
+use Rattle.nrm_book.specs.declared.booking.Booking.{Booking}
 use Rattle.nrm_plan.specs.Plans.{PlanValue}
 use Rattle.nrm_control.specs.State.{SeatState, opening}
 use Rattle.nrm_stream.specs.declared.command.Command.{Command}
@@ -38,8 +39,20 @@ pub record AddsUp (net : NetworkValue) (commands : List Command) (replies : List
   pub sum : sold_in_all net commands replies ≡ revenue_of (inventory_of net) s.bookings + given_back_in_all replies + s.withheld
   pub told : (value : Fraction) (revenue withheld : ℕ) (after : SeatState)
       → Step net s command.Hindsight (hindsight_told value revenue withheld) after
-      → sold_in_all net commands replies ≡ revenue + given_back_in_all replies + withheld
+      → (revenue ≡ revenue_of (inventory_of net) s.bookings) × (withheld ≡ s.withheld)
 
 abbrev pub MoneyAddsUp : Type 0
 MoneyAddsUp = (net : NetworkValue) (plan : PlanValue) (commands : List Command) (replies : List Reply) (s : SeatState) → IsNetwork net
     → Run net (opening plan) commands replies s → AddsUp net commands replies s
+
+-- From any state on, whose bookings have numbers that rise below the next one: what stood and was withheld, and what was sold since, is
+-- what stands, what was given back since, and what is withheld.
+pub record AreNumbered (s : SeatState) : Type 0 where
+  pub rising : NumbersRise s.bookings
+  pub below : All (λ (booking : Booking). booking.number < s.next) s.bookings
+
+abbrev pub MoneyGoesOn : Type 0
+MoneyGoesOn = (net : NetworkValue) (s : SeatState) (commands : List Command) (replies : List Reply) (s' : SeatState) → IsNetwork net
+    → AreNumbered s → Run net s commands replies s'
+    → revenue_of (inventory_of net) s.bookings + s.withheld + sold_in_all net commands replies
+    ≡ revenue_of (inventory_of net) s'.bookings + given_back_in_all replies + s'.withheld

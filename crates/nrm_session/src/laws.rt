@@ -1,10 +1,10 @@
 //! Laws of whole sessions. Each is the contract of a function that does nothing.
 ghost use Rattle.nrm_session.specs.Headline.{RequestsAreAnswered};
 ghost use Rattle.nrm_session.specs.Hindsight.{HindsightBounds, HindsightBoundsOn};
-ghost use Rattle.nrm_session.specs.LastPlan.{PrintedPricesAreOptimal};
+ghost use Rattle.nrm_session.specs.LastPlan.{PrintedFromOpeningPlans, PrintedPricesAreOptimal};
 ghost use Rattle.nrm_session.specs.Laws.{EachListHasARun, OtherLinesNeedNoMemory, PlansAreKept, RepliesAreDetermined, RunsHaveFirstParts};
 ghost use Rattle.nrm_session.specs.Laws.{SeatsAreKept, StatesAreDetermined};
-ghost use Rattle.nrm_session.specs.Money.{MoneyAddsUp};
+ghost use Rattle.nrm_session.specs.Money.{MoneyAddsUp, MoneyGoesOn};
 ghost use Rattle.nrm_session.specs.PhysicalSeats.{PhysicalSeatsDecideNothing};
 
 /// No leg has more seats sold than are authorised in an opening, and a run keeps that from any state.
@@ -41,7 +41,8 @@ pub fn plans_are_kept()
 /// What a `plan` line prints, after any commands from an opening, are optimal bid prices of the program at the seats left and
 /// from the period of the last line that was answered `optimised`, or of the opening.
 pub fn printed_prices_are_optimal()
-    ensures { PrintedPricesAreOptimal }
+    ensures opening { PrintedPricesAreOptimal }
+    ensures on { PrintedFromOpeningPlans }
 {}
 
 /// Each first part of a run is a run, and the rest is one from where it came.
@@ -65,10 +66,12 @@ pub fn hindsight_bounds()
 /// After any commands from an opening, what was sold in all is the revenue of the bookings that stand, what was given back, and what
 /// is withheld, to the unit.
 pub fn money_adds_up()
-    ensures { MoneyAddsUp }
+    ensures opening { MoneyAddsUp }
+    ensures on { MoneyGoesOn }
 {}
 
-/// From one state, with its plan, two networks that differ in their physical seats alone have the same replies to the same commands, but
+/// Two networks that differ in their physical seats alone have the same opening plan, or their opening programs are too large in the same
+/// place; and from one state, with its plan, they have the same replies to the same commands, but
 /// for the text of a leg.
 pub fn physical_seats_decide_nothing()
     ensures { PhysicalSeatsDecideNothing }

@@ -11,6 +11,7 @@ ghost use Rattle.nrm_stream.specs.Commands.{IsCommand};
 ghost use Rattle.nrm_stream.specs.declared.command.Command.TheVariants as command;
 ghost use Rattle.nrm_session.specs.Answering.{AnswersLine, CutsLine, IsTellable, reply_in, Steps};
 ghost use Rattle.nrm_session.specs.Replies.{cancelled, hindsight_told, no_leg, optimised, sold, text_of};
+ghost use Rattle.nrm_session.specs.Inner.Solved.{reply_looking_back, reply_planned, reply_unsolved};
 
 use nrm_control::{Answer, Controller};
 use nrm_edge::{Failed, Sink, put_all};
@@ -101,6 +102,42 @@ fn cancel(controller: &mut Controller, number: u64) -> Reply
     }
 }
 
+// The reply to a line whose program was not solved.
+fn reply_unsolved(why: SolveFault) -> Reply
+    ensures { result ≡ reply_unsolved why }
+{
+    match why {
+        SolveFault::Overflow { .. } => Reply::Overflow,
+        SolveFault::NoMemory => Reply::Memory,
+    }
+}
+
+// The reply to a `reoptimise` line, by what the controller answered.
+fn reply_planned(answer: Result<Option<(u64, u64)>, SolveFault>) -> Reply
+    ensures { result ≡ reply_planned answer }
+{
+    match answer {
+        Ok(Some((num, den))) => Reply::Optimised { num, den },
+        Ok(None) => Reply::OptimisedNone,
+        Err(why) => reply_unsolved(why),
+    }
+}
+
+// The reply to a `hindsight` line, by what the controller answered, the revenue and the sum withheld.
+fn reply_looking_back(answer: Result<(u64, u64), SolveFault>, revenue: u64, withheld: u128) -> Reply
+    ensures { result ≡ reply_looking_back answer revenue withheld }
+{
+    match answer {
+        Ok((num, den)) => Reply::Hindsight {
+            num,
+            den,
+            revenue,
+            withheld,
+        },
+        Err(why) => reply_unsolved(why),
+    }
+}
+
 // Carries out a `reoptimise` line, which is rare and long.
 #[inline(never)]
 fn reoptimise(alloc: Global, controller: &mut Controller, period: u8) -> Reply
@@ -112,12 +149,7 @@ fn reoptimise(alloc: Global, controller: &mut Controller, period: u8) -> Reply
     if period > controller.network().t() {
         return Reply::Unknown;
     }
-    match controller.reoptimise(alloc, period) {
-        Ok(Some((num, den))) => Reply::Optimised { num, den },
-        Ok(None) => Reply::OptimisedNone,
-        Err(SolveFault::Overflow { .. }) => Reply::Overflow,
-        Err(SolveFault::NoMemory) => Reply::Memory,
-    }
+    reply_planned(controller.reoptimise(alloc, period))
 }
 
 // Carries out a `hindsight` line, which is rare and long.
@@ -126,16 +158,9 @@ fn look_back(alloc: Global, controller: &Controller) -> Reply
     ensures step { Steps controller.now controller.now command.Hindsight (reply_in controller.now result) }
     ensures tellable { IsTellable controller.now.net result }
 {
-    match controller.hindsight(alloc) {
-        Ok((num, den)) => Reply::Hindsight {
-            num,
-            den,
-            revenue: controller.book().revenue(),
-            withheld: controller.withheld(),
-        },
-        Err(SolveFault::Overflow { .. }) => Reply::Overflow,
-        Err(SolveFault::NoMemory) => Reply::Memory,
-    }
+    let revenue = controller.book().revenue();
+    let withheld = controller.withheld();
+    reply_looking_back(controller.hindsight(alloc), revenue, withheld)
 }
 
 // Finds the leg of a `leg` line.
