@@ -1,5 +1,5 @@
 -- If the words are good, the files are told, the file is valid and nothing failed, the job is done.
-use Rattle.std.proofs.Common.{ℕ, ℤ, ◌≡◌, ◌∙◌, ◌≤◌, ◌++◌, List, length, Option, Some, None, Ok, Err, refl, ap, sym, inl, inr, arith, append-nil, length-append, subst}
+use Rattle.std.proofs.Common.{ℕ, ℤ, ◌≡◌, ◌≢◌, ◌∙◌, ◌≤◌, ◌++◌, List, length, Option, Some, None, Ok, Err, refl, ap, sym, inl, inr, arith, append-nil, length-append, subst}
 use Rattle.std.specs.Io.KnownBytes.{Consumes, IsAtEnd}
 use Rattle.std.proofs.lemmas.Option.{none-some}
 use Rattle.nrm_edge.specs.Fetch.{Folder}
@@ -41,7 +41,7 @@ listed-is : (told : Option (List KeptRow)) (list rows : List KeptRow) → told �
 listed-is told list rows is lists = subst (λ (o : Option (List KeptRow)). Lists list o) is lists
 
 module _ (asked : Option KeptJob) (before after : KeptOutside) (job : KeptJob) (files : Folder) (net : NetworkValue)
-    (asks : asked ≡ Some job) (told : before.at.files ≡ Some files) (valid : network_under (files job.file) ≡ Ok net) (nothing : NothingHinders before after) where
+    (asks : asked ≡ Some job) (told : before.at.files ≡ Some files) (valid : network_under (files job.file) ≡ Ok net) (result : KeptStatus) (nothing : NothingHinders before after result) where
   same-job : (other : KeptJob) → asked ≡ Some other → other ≡ job
   same-job other is = let e : Some other ≡ Some job = sym is ∙ asks in cc
 
@@ -93,19 +93,19 @@ module _ (asked : Option KeptJob) (before after : KeptOutside) (job : KeptJob) (
       let (count, same) = (one-plan net job.mode (inventory_of net).authorised 1).overflow n n' number number' large large' in
       inl (refl, subst (λ (text : List ℕ). Wrote before.at after.at text) (λ i. overflow_line (told_pivots (sym count i)) (sym same i)) wrote)
 
-  complete-told : (s : KeptStatus) (text : List ℕ) → Tells asked before after s text → Wrote before.at after.at text → Complete s
-  complete-told s text (usage none) wrote = let no : None ≡ Some job = sym none ∙ asks in absurd (none-some job no)
-  complete-told s text (refused other refusal is on) wrote = absurd (not-refused other refusal is on)
-  complete-told s text (file_fault other is rose) wrote = absurd (nothing.files rose)
-  complete-told s text (overflow other given n number is opens large) wrote =
+  complete-told : (s : KeptStatus) (text : List ℕ) → s ≢ status.StoreFault → Tells asked before after s text → Wrote before.at after.at text → Complete s
+  complete-told s text listed (usage none) wrote = let no : None ≡ Some job = sym none ∙ asks in absurd (none-some job no)
+  complete-told s text listed (refused other refusal is on) wrote = absurd (not-refused other refusal is on)
+  complete-told s text listed (file_fault other is rose) wrote = absurd (nothing.files rose)
+  complete-told s text listed (overflow other given n number is opens large) wrote =
       let of_job = subst (λ (j : KeptJob). OpeningOverflows given j.mode n number) (same-job other is) large in
       let own : OpeningOverflows net job.mode n number = subst (λ (n' : NetworkValue). OpeningOverflows n' job.mode n number) (same-net other given is opens) of_job in (
         large-told n number own wrote,
         (λ plan rows refused-at planned told refuses. absurd ((one-plan net job.mode (inventory_of net).authorised 1).apart plan n number planned own)),
         (λ plan rows loaded stream planned told loads coming short. absurd ((one-plan net job.mode (inventory_of net).authorised 1).apart plan n number planned own)),
       )
-  complete-told s text (store_fault begins rose) wrote = absurd (nothing.store rose)
-  complete-told s text (store_refused begins rows number lists refuses) wrote = (
+  complete-told s text listed (store_fault begins rose) wrote = absurd (listed refl)
+  complete-told s text listed (store_refused begins rows number lists refuses) wrote = (
     planned-apart begins.plan (begun-plan begins) status.StoreRefused,
     (λ plan own other planned is not.
         let e : Err number ≡ Err other = sym (refused-number begins rows number lists refuses own is) ∙ not in
@@ -115,8 +115,8 @@ module _ (asked : Option KeptJob) (before after : KeptOutside) (job : KeptJob) (
         let e : Err number ≡ Ok loaded = sym (refused-number begins rows number lists refuses own is) ∙ loads in cc),
   )
 
-  pub complete : (s : KeptStatus) → Ends asked before after s → Complete s
-  complete status.Done ran =
+  pub complete : (s : KeptStatus) → s ≢ status.StoreFault → Ends asked before after s → Complete s
+  complete status.Done listed ran =
       let st = ran.starts in
       let (taken, output, did, ended, runs) = ran.serves in
       let (last, leaves, writes) = runs in (
@@ -136,17 +136,17 @@ module _ (asked : Option KeptJob) (before after : KeptOutside) (job : KeptJob) (
             subst (λ (bytes : List ℕ). KeptWrites net (loaded_state plan loaded) (commands_of bytes) output last before.store_faults after.store_faults) all second in
             inl (refl, (output, last, own, did.written))),
       )
-  complete status.Usage t = complete-told status.Usage t.text t.tells t.wrote
-  complete status.Refused t = complete-told status.Refused t.text t.tells t.wrote
-  complete status.ReadFault ends = absurd (nothing.stream ends.0)
-  complete status.WriteFault ends = absurd (nothing.output ends.0)
-  complete status.NoMemory ran = (
+  complete status.Usage listed t = complete-told status.Usage t.text listed t.tells t.wrote
+  complete status.Refused listed t = complete-told status.Refused t.text listed t.tells t.wrote
+  complete status.ReadFault listed ends = absurd (nothing.stream ends.0)
+  complete status.WriteFault listed ends = absurd (nothing.output ends.0)
+  complete status.NoMemory listed ran = (
     (λ n number large. inr (refl, ran.wrote)),
     (λ plan rows number planned is refuses. inr (refl, ran.wrote)),
     (λ plan rows loaded stream planned is loads coming short. inr (refl, ran.wrote)),
   )
-  complete status.Overflow t = complete-told status.Overflow t.text t.tells t.wrote
-  complete status.TooLong ran =
+  complete status.Overflow listed t = complete-told status.Overflow t.text listed t.tells t.wrote
+  complete status.TooLong listed ran =
       let st = ran.starts in
       let (taken, output, took, long, wrote, writes) = ran.serves in (
         planned-apart st.begins.plan (begun-plan st.begins) status.TooLong,
@@ -155,10 +155,10 @@ module _ (asked : Option KeptJob) (before after : KeptOutside) (job : KeptJob) (
             let few = no-more stream taken after.at.coming (rw coming at took) in
             absurd (omega (arith, few, long, short))),
       )
-  complete status.FileFault t = complete-told status.FileFault t.text t.tells t.wrote
-  complete status.StoreFault t = complete-told status.StoreFault t.text t.tells t.wrote
-  complete status.StoreRefused t = complete-told status.StoreRefused t.text t.tells t.wrote
+  complete status.FileFault listed t = complete-told status.FileFault t.text listed t.tells t.wrote
+  complete status.StoreFault listed t = complete-told status.StoreFault t.text listed t.tells t.wrote
+  complete status.StoreRefused listed t = complete-told status.StoreRefused t.text listed t.tells t.wrote
 
 -- so what each status says gives completeness
 pub completes : (asked : Option KeptJob) (before after : KeptOutside) (s : KeptStatus) → Ends asked before after s → Completes asked before after s
-completes asked before after s ends job files net asks told valid nothing = complete asked before after job files net asks told valid nothing s ends
+completes asked before after s ends job files net asks told valid nothing = complete asked before after job files net asks told valid s nothing s nothing.listing ends

@@ -1,5 +1,5 @@
 -- Sessions that keep their bookings are sessions without the lines that weren't carried out.
-use Rattle.std.proofs.Common.{ℕ, ◌≡◌, ◌<◌, ◌≤◌, All, List, [], ◌∷◌, ◌++◌, length, Option, Some, None, Ok, Err, Bool, true, false, refl, subst, arith}
+use Rattle.std.proofs.Common.{ℕ, ◌≡◌, ◌+◌, ◌<◌, ◌≤◌, All, List, [], ◌∷◌, ◌++◌, length, Option, Some, None, Ok, Err, Bool, true, false, refl, subst, arith}
 use Rattle.std.proofs.lemmas.List.{length-map}
 use Rattle.std.proofs.lemmas.List.Elements.{All-nil, All-push}
 use Rattle.nrm_model.specs.declared.product.Product.{Product}
@@ -19,11 +19,16 @@ use Rattle.nrm_session.specs.Laws.{IsKept}
 use Rattle.nrm_session.specs.Replies.{Reply, bad, unknown, sold, no_leg, no_fare, cancelled, optimised, optimised_none, overflow, memory, hindsight_told, leg_told, plan_told}
 use Rattle.nrm_session.specs.Run.{Run}
 use Rattle.nrm_session.specs.Step.{Step}
+use Rattle.std.proofs.lemmas.List.Quantifiers.{all_pairs_push}
+use Rattle.nrm_session.specs.Money.{AreNumbered}
+use Rattle.nrm_session.proofs.FirstParts.{parts-first}
 use Rattle.nrm_session.proofs.Hindsights.{bounded}
+use Rattle.nrm_session.proofs.Money.{goes-on}
+use Rattle.nrm_session.proofs.PrintedPlans.{printed-from}
 use Rattle.nrm_session.proofs.OtherLines.{other-lines}
 use Rattle.nrm_session.proofs.Seats.{kept, product-below}
 use Rattle.nrm_keeper.specs.declared.row.KeptRow.{KeptRow}
-use Rattle.nrm_keeping.specs.Laws.{FaultsLeaveNothing, KeptHindsightBounds, KeptSeatsAreKept, carried_out, replies_to_those}
+use Rattle.nrm_keeping.specs.Laws.{FaultsLeaveNothing, KeptHindsightBounds, KeptMoneyAddsUp, KeptPlansAreOptimal, KeptRunsHaveFirstParts, KeptSeatsAreKept, carried_out, replies_to_those}
 use Rattle.nrm_keeping.specs.Rows.{Loaded, booking_of, load, load_behind, loaded_more, loaded_state, nothing_loaded, row_fits}
 use Rattle.nrm_keeping.specs.Step.{KeptReply, KeptStep, as_ever, lacks_memory, not_stored, told}
 use Rattle.nrm_keeping.proofs.Loads.{fits-of}
@@ -114,3 +119,51 @@ pub hindsight-bounds : KeptHindsightBounds
 hindsight-bounds net plan rows l is loads mid after commands replies value revenue withheld run step =
     bounded net (loaded_state plan l) is (loaded-kept net plan rows l loads) (all-chosen (requests_of l.bookings)) (carried_out commands replies) (replies_to_those replies) mid after value revenue withheld
     (faults-leave-nothing net (loaded_state plan l) mid commands replies run) step
+
+-- ---- money
+more-numbered : (net : NetworkValue) (plan : PlanValue) (l : Loaded) (row : KeptRow) (b : Booking) → AreNumbered (loaded_state plan l)
+    → booking_of net l row ≡ Some b → AreNumbered (loaded_state plan (loaded_more l b))
+more-numbered net plan l row b are gives = by (product_named net row.product) refl
+  where
+    by : (o : Option ℕ) → product_named net row.product ≡ o → AreNumbered (loaded_state plan (loaded_more l b))
+    by None e = absurd (let none : None ≡ Some b = rw e at gives in cc)
+    by (Some j) e = fits (row_fits net l row j) refl
+      where
+        fits : (test : Bool) → row_fits net l row j ≡ test → AreNumbered (loaded_state plan (loaded_more l b))
+        fits false f = absurd (let none : None ≡ Some b = rw (e, f) at gives in cc)
+        fits true f =
+            let is : Some (record { number = row.number; product = j; party = row.party }) ≡ Some b = rw (e, f) at gives in
+            let same : record { number = row.number; product = j; party = row.party } ≡ b = cc in
+            let high = (fits-of net l row j f).number in
+            subst (λ (b : Booking). AreNumbered (loaded_state plan (loaded_more l b))) same (record {
+              rising = all_pairs_push (λ (earlier later : Booking). earlier.number < later.number) l.bookings (record { number = row.number; product = j; party = row.party }) are.rising (λ k d at. omega (arith, are.below k d at, high));
+              below = All-push (λ (b : Booking). b.number < row.number + 1) l.bookings (record { number = row.number; product = j; party = row.party }) (λ k d at. omega (arith, are.below k d at, high)) (omega arith);
+            })
+
+loaded-numbered : (net : NetworkValue) (plan : PlanValue) (l m : Loaded) (rows : List KeptRow) → AreNumbered (loaded_state plan l) → load_behind net l rows ≡ Ok m → AreNumbered (loaded_state plan m)
+loaded-numbered net plan l m [] are loads = let same : Ok l ≡ Ok m = loads in let is : l ≡ m = cc in subst (λ (l : Loaded). AreNumbered (loaded_state plan l)) is are
+loaded-numbered net plan l m (row ∷ rows) are loads = by (booking_of net l row) refl (λ b. loaded-numbered net plan (loaded_more l b) m rows)
+  where
+    by : (o : Option Booking) → booking_of net l row ≡ o → ((b : Booking) → AreNumbered (loaded_state plan (loaded_more l b)) → load_behind net (loaded_more l b) rows ≡ Ok m → AreNumbered (loaded_state plan m)) → AreNumbered (loaded_state plan m)
+    by None e rest = absurd (let clash : Err row.number ≡ Ok m = rw e at loads in cc)
+    by (Some b) e rest = rest b (more-numbered net plan l row b are e) (rw e at loads)
+
+none-numbered : (plan : PlanValue) → AreNumbered (loaded_state plan nothing_loaded)
+none-numbered plan = record { rising = λ i j d low high. absurd (omega (arith, high)); below = All-nil (λ (b : Booking). b.number < 1) }
+
+pub money-adds-up : KeptMoneyAddsUp
+money-adds-up net plan rows l is loads s' commands replies run =
+    let all = goes-on net (loaded_state plan l) (carried_out commands replies) (replies_to_those replies) s' is
+    (loaded-numbered net plan nothing_loaded l rows (none-numbered plan) loads)
+    (faults-leave-nothing net (loaded_state plan l) s' commands replies run) in
+    omega (arith, all)
+
+-- ---- plans
+pub plans-optimal : KeptPlansAreOptimal
+plans-optimal net m plan l is solves opens mid after commands replies reply run step =
+    printed-from net m (loaded_state plan l) (carried_out commands replies) (replies_to_those replies) mid after reply is solves opens
+    (faults-leave-nothing net (loaded_state plan l) mid commands replies run) step
+
+-- ---- first parts
+pub parts-kept : KeptRunsHaveFirstParts
+parts-kept net = parts-first (KeptStep net)

@@ -201,18 +201,19 @@ AnswersAll job net before after s =
     × KeptWrites net (loaded_state plan loaded) (commands_of stream) output last before.store_faults after.store_faults
     × Wrote before.at after.at output)) ⊎ ((s ≡ status.NoMemory) × WroteNothing before.at after.at)
 
--- nothing failed that ends a call before its time. Faults of the store in a session don't: `counted` of the run has each of them.
-pub record NothingHinders (before after : KeptOutside) : Type 0 where
+-- Nothing failed that ends a call before its time: of the store that is its listing alone, which has a status of its own. Its faults in a
+-- session end none: `counted` of the run has each of them.
+pub record NothingHinders (before after : KeptOutside) (s : KeptStatus) : Type 0 where
   pub files : ¬ (FilesFailed before.at after.at)
   pub stream : ¬ (SourceFailed before.at after.at)
   pub output : ¬ (SinkFailed before.at after.at)
-  pub store : ¬ (StoreFailed before after)
+  pub listing : s ≢ status.StoreFault
 
--- if the words are good, the files are told, the file is valid and nothing failed, the job is done
+-- if the words are good, the files are told, the file is valid and nothing failed that ends a call, the job is done
 abbrev pub Completes : Option KeptJob → KeptOutside → KeptOutside → KeptStatus → Type 0
 Completes asked before after s =
     (job : KeptJob) (files : Folder) (net : NetworkValue) → asked ≡ Some job → before.at.files ≡ Some files
-    → network_under (files job.file) ≡ Ok net → NothingHinders before after
+    → network_under (files job.file) ≡ Ok net → NothingHinders before after s
     → TellsOverflow job net before after s × RefusesRows job net before after s × AnswersAll job net before after s
 
 -- after every status but that of a failed output nothing is kept back, from an output on that kept nothing back

@@ -1,5 +1,5 @@
 //! Laws of sessions that keep their bookings. Each is the contract of a function that does nothing.
-ghost use Rattle.nrm_keeping.specs.Laws.{FaultsLeaveNothing, KeptHindsightBounds, KeptSeatsAreKept, RowsLoadAgain};
+ghost use Rattle.nrm_keeping.specs.Laws.{FaultsLeaveNothing, KeptHindsightBounds, KeptMoneyAddsUp, KeptPlansAreOptimal, KeptRunsHaveFirstParts, KeptSeatsAreKept, RowsLoadAgain};
 
 /// A line that is answered `store` or `memory` leaves everything as it was: without such lines a run is one of a session without a store.
 pub fn faults_leave_nothing()
@@ -21,4 +21,20 @@ pub fn kept_hindsight_bounds()
 /// The bookings of a book load again from their rows, just as they stand, as long as a store can hold their numbers.
 pub fn rows_load_again()
     ensures { RowsLoadAgain }
+{}
+
+/// What the loaded bookings are worth, and what was sold since, is the revenue of the bookings that stand, what was given back since,
+/// and what is withheld.
+pub fn kept_money_adds_up()
+    ensures { KeptMoneyAddsUp }
+{}
+
+/// What a `plan` line prints once rows have loaded, after any commands from there, are optimal bid prices.
+pub fn kept_plans_are_optimal()
+    ensures { KeptPlansAreOptimal }
+{}
+
+/// Each first part of a run is a run, and the rest is one from where it came.
+pub fn kept_runs_have_first_parts()
+    ensures { KeptRunsHaveFirstParts }
 {}

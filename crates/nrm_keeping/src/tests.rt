@@ -268,11 +268,11 @@ fn keeps_book(alloc: Global, keeper: &mut MemKeeper, controller: &Controller) ->
     let Ok(rows) = rows_of(alloc, keeper) else {
         return false;
     };
-    let bookings = controller.book().bookings();
-    if rows.len() != bookings.len() {
-        return false;
-    }
-    for (row, booking) in rows.iter().zip(bookings) {
+    let mut bookings = controller.book().bookings();
+    for row in &rows {
+        let Some(booking) = bookings.next() else {
+            return false;
+        };
         let Some(product) = controller.network().find_product(&row.product) else {
             return false;
         };
@@ -280,7 +280,7 @@ fn keeps_book(alloc: Global, keeper: &mut MemKeeper, controller: &Controller) ->
             return false;
         }
     }
-    true
+    bookings.next().is_none()
 }
 
 // What is wanted of a session in which the line at a place was answered `store`: that of a session without the line.

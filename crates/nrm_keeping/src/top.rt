@@ -1,5 +1,6 @@
 //! The top call of the program that keeps its bookings.
 ghost use Rattle.std.specs.Prelude.{◌≡◌, ◌≤◌, Some, is_some, map, option_map, string_bytes};
+ghost use Rattle.nrm_outside.specs.NetworkFile.{FilesGiveNetworks};
 ghost use Rattle.nrm_outside.specs.Outside.{Goes};
 ghost use Rattle.nrm_session.specs.Clerks.{is_control};
 ghost use Rattle.nrm_session.specs.Serving.{CountsFaults, ServesBy, streams};
@@ -8,7 +9,8 @@ ghost use Rattle.nrm_keeping.specs.Ends.{Ends, Failures, KeptCall, SentOn, kept_
 ghost use Rattle.nrm_keeping.specs.Inner.Keeping.{KeptRefines, KeptRefinesCut};
 ghost use Rattle.nrm_keeping.specs.Inner.Parts.{job_in, status_at};
 ghost use Rattle.nrm_keeping.specs.Jobs.{kept_job_of};
-ghost use Rattle.nrm_keeping.specs.Laws.{FaultsLeaveNothing, KeptHindsightBounds, KeptSeatsAreKept, RowsLoadAgain};
+ghost use Rattle.nrm_keeping.specs.Laws.{FaultsLeaveNothing, KeptHindsightBounds, KeptMoneyAddsUp, KeptPlansAreOptimal, KeptRunsHaveFirstParts, KeptSeatsAreKept};
+ghost use Rattle.nrm_keeping.specs.Laws.{RowsLoadAgain};
 
 use crate::KeptStatus;
 use crate::keeping::Keeping;
@@ -136,7 +138,10 @@ fn run_job<F: Files, S: Source, K: Sink, P: Keeper>(
 /// The other clauses are laws about every such session, whatever the faults of its store. Without the lines that were answered `store` or
 /// `memory` it is a session without a store (`faults`), of which the laws of `nrm_cli::run` hold. No leg has more seats sold than are
 /// authorised (`seats`). At each line of hindsight that tells a value, no selection of the loaded bookings and of the requests since
-/// earns more (`hindsight`). The bookings of a book load again from their rows, just as they stand (`again`).
+/// earns more (`hindsight`). What the loaded bookings are worth, and what was sold since, is the revenue of the bookings that stand, what was
+/// given back since, and what is withheld (`money`). What a `plan` line prints are optimal bid prices (`printed`). A first part of such a
+/// session is one, so each law holds in every state on the way (`parts`), and what a file gives is a network as the laws ask for
+/// (`networks`). The bookings of a book load again from their rows, just as they stand (`again`).
 pub fn run_kept<F: Files, S: Source, K: Sink, P: Keeper>(
     alloc: Global,
     words: &[String],
@@ -152,6 +157,10 @@ pub fn run_kept<F: Files, S: Source, K: Sink, P: Keeper>(
     ensures faults { FaultsLeaveNothing }
     ensures seats { KeptSeatsAreKept }
     ensures hindsight { KeptHindsightBounds }
+    ensures money { KeptMoneyAddsUp }
+    ensures printed { KeptPlansAreOptimal }
+    ensures parts { KeptRunsHaveFirstParts }
+    ensures networks { FilesGiveNetworks }
     ensures again { RowsLoadAgain }
 {
     match asked_in(words) {

@@ -31,24 +31,10 @@ fn answered(
     let mut source = StdSource::new(rt.stdin());
     let mut output = StdSink::new(io::writer(rt));
     if !asks_for_a_session(words) {
-        return Ok(run_kept(
-            alloc,
-            words,
-            &mut files,
-            &mut source,
-            &mut output,
-            keeper,
-        ));
+        return Ok(run_kept(alloc, words, &mut files, &mut source, &mut output, keeper));
     }
     let mut sink = GatheringSink::new(alloc, output, GATHERED)?;
-    Ok(run_kept(
-        alloc,
-        words,
-        &mut files,
-        &mut source,
-        &mut sink,
-        keeper,
-    ))
+    Ok(run_kept(alloc, words, &mut files, &mut source, &mut sink, keeper))
 }
 
 // The status of a run. The store is closed behind it, all replies being sent; if that fails the rows stand as they did, and so does

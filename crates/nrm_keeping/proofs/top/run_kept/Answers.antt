@@ -3,11 +3,12 @@ use Rattle.nrm_keeping.specs.Ends.{usage}
 use Rattle.nrm_keeping.specs.Jobs.{usage_line}
 use Rattle.nrm_keeping.specs.Inner.Parts.{job_in}
 use Rattle.nrm_keeping.specs.declared.status.KeptStatus.TheVariants as status
+use Rattle.nrm_outside.proofs.Networks.{taken-network}
 use Rattle.nrm_keeping.proofs.Again.{load-again}
 use Rattle.nrm_keeping.proofs.Complete.{completes}
 use Rattle.nrm_keeping.proofs.Counts.{told-counts}
 use Rattle.nrm_keeping.proofs.Ending.{same-job-ends, told-ends, unasked}
-use Rattle.nrm_keeping.proofs.KeptLaws.{faults-leave-nothing, hindsight-bounds, seats-kept}
+use Rattle.nrm_keeping.proofs.KeptLaws.{faults-leave-nothing, hindsight-bounds, money-adds-up, parts-kept, plans-optimal, seats-kept}
 use Rattle.nrm_keeping.proofs.top.run_kept.Goals as goal
 
 pub returns-in-Some-clause-call : goal.returns-in-Some-clause-call
@@ -50,3 +51,27 @@ returns-in-None-clause-hindsight g c = hindsight-bounds
 
 pub returns-in-None-clause-again : goal.returns-in-None-clause-again
 returns-in-None-clause-again g c = load-again
+
+pub returns-in-Some-clause-money : goal.returns-in-Some-clause-money
+returns-in-Some-clause-money g c = money-adds-up
+
+pub returns-in-Some-clause-printed : goal.returns-in-Some-clause-printed
+returns-in-Some-clause-printed g c = plans-optimal
+
+pub returns-in-None-clause-money : goal.returns-in-None-clause-money
+returns-in-None-clause-money g c = money-adds-up
+
+pub returns-in-None-clause-printed : goal.returns-in-None-clause-printed
+returns-in-None-clause-printed g c = plans-optimal
+
+pub returns-in-Some-clause-parts : goal.returns-in-Some-clause-parts
+returns-in-Some-clause-parts g c = parts-kept
+
+pub returns-in-Some-clause-networks : goal.returns-in-Some-clause-networks
+returns-in-Some-clause-networks g c = taken-network
+
+pub returns-in-None-clause-parts : goal.returns-in-None-clause-parts
+returns-in-None-clause-parts g c = parts-kept
+
+pub returns-in-None-clause-networks : goal.returns-in-None-clause-networks
+returns-in-None-clause-networks g c = taken-network
