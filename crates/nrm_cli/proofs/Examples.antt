@@ -184,6 +184,18 @@ summed_up : text_line (summary_words their_counts 1000 (codes "1200/1")) ≡ cod
 unfolding digits
 summed_up = refl
 
+-- each kind of reply has a count of its own, and each count its own word
+counted_apart : counts_from nothing_counted
+    (no_leg (codes "AB") ∷ no_leg (codes "AB") ∷ no_fare ∷ cancelled 2 200 ∷ cancelled 3 200 ∷ cancelled 4 200 ∷ unknown ∷ unknown ∷ unknown ∷ unknown
+    ∷ overflow ∷ bad ∷ [])
+    ≡ record { sold = 0; no_leg = 2; no_fare = 1; cancelled = 3; unknown = 4; legs = 0; optimised = 0; overflow = 1 }
+counted_apart = refl
+
+told_apart : text_line (summary_words (record { sold = 1; no_leg = 2; no_fare = 3; cancelled = 4; unknown = 5; legs = 6; optimised = 7; overflow = 8 }) 9 (codes "10/1"))
+    ≡ codes "made lines 10000 ok 1 no 2 fare 3 cancelled 4 unknown 5 legs 6 optimised 7 overflow 8 revenue 9 hindsight 10/1\n"
+unfolding digits
+told_apart = refl
+
 without_a_value : hindsight_word overflow ≡ codes "overflow"
 without_a_value = refl
 
@@ -254,6 +266,19 @@ lines_of_values : values_text two_legs (codes "AB") 3 (1 ∷ []) (record { histo
     ≡ codes "class LOC 200\nvalue AB 0/1\nprotect AB\n"
 unfolding digits fraction.◌over◌
 lines_of_values = refl
+
+-- two classes of two histories, on three seats: 2200 over four combinations is 550, and two seats are kept for the dearer one
+abbrev high_and_low : NetworkValue
+high_and_low = record two_legs {
+  histories = 2;
+  products = record { name = codes "LO"; fare = 100; refund = 100; legs = 0 ∷ [] } ∷ record { name = codes "HI"; fare = 300; refund = 100; legs = 0 ∷ [] } ∷ [];
+  demand = 2 ∷ 3 ∷ 1 ∷ 2 ∷ [];
+}
+
+lines_of_two_classes : values_text high_and_low (codes "AB") 3 (1 ∷ 0 ∷ []) (record { histories = 2; fares = 300 ∷ 100 ∷ []; demands = 1 ∷ 2 ∷ 2 ∷ 3 ∷ [] })
+    ≡ codes "class HI 300\nclass LO 100\nvalue AB 550/1\nprotect AB 2\n"
+unfolding digits fraction.◌over◌
+lines_of_two_classes = refl
 
 -- THRU uses both legs, so BC has no class, and nor has a leg that isn't there
 counts_of_classes : map (class_count two_legs) (codes "AB" ∷ codes "BC" ∷ codes "CD" ∷ []) ≡ 1 ∷ 0 ∷ 0 ∷ []

@@ -4,10 +4,12 @@ pub mod CutTexts  -- a text that was put whole and couldn't be sent on, and one 
 pub mod Examples  -- sessions, refusals, statuses and ends worked, from the bytes of the file and of the stream to those that are written
 pub mod LegClasses  -- where a leg has no points, and which products are in its classes
 pub mod LegEnds  -- how a job ends that tells of a leg
+pub mod LegMeans  -- the fraction that `dp` writes is the best mean over all seasons
 pub mod LegTables  -- the rows of the table of a leg's values, and its protections
 pub mod LegTexts  -- the lines that tell of a leg, piece by piece
 pub mod MadeRuns  -- the commands of a maker are answered one after another, their replies counted and summed up
 pub mod NoNetworkEnds  -- how a job ends if its file gives no network
+pub mod OneLegText  -- what is told of a leg is determined
 pub mod OwnPasses  -- the text of the closing of a network's program is found optimal, and so is each optimal certificate
 pub mod PlanEnds  -- how a job ends that has an opening plan, or none since its program is Large or memory ran out
 pub mod PlannedPasses  -- what a call with `plan bid FILE` wrote passes the check

@@ -9,7 +9,8 @@ use Rattle.nrm_outside.specs.declared.network_file.NoNetwork.{NoNetwork}
 use Rattle.nrm_outside.specs.declared.network_file.NoNetwork.TheVariants as none
 use Rattle.nrm_cli.specs.Ends.{Ends, Failures}
 use Rattle.nrm_cli.specs.Jobs.{Job, NamesFile}
-use Rattle.nrm_cli.specs.Inner.Parts.{PutsReason}
+use Rattle.nrm_cli.specs.Inner.Does.{Does}
+use Rattle.nrm_cli.specs.Inner.Parts.{PutsReason, TellsNoNetwork}
 use Rattle.nrm_cli.specs.Tells.{RefusesNetwork, refused, file_fault}
 use Rattle.nrm_cli.specs.declared.status.Status.{Status}
 use Rattle.nrm_cli.specs.declared.status.Status.TheVariants as status
@@ -62,3 +63,16 @@ pub opened-goes : (before after : Outside) (opened : Result NetworkValue NoNetwo
     → after.source_faults ≡ before.source_faults → before.sink_faults ≤ after.sink_faults → Goes before after
 opened-goes before after opened counts stays source later =
     record { files = stays; file_faults = opened-later before.file_faults after.file_faults opened counts; source_faults = omega (arith, source); sink_faults = later }
+
+-- so the job is done where there was no network and it was put why
+pub without-opened : (job : Job) (file : List ℕ) → NamesFile job → IsOfFile job file
+    → (before after : Outside) (opened : Result NetworkValue NoNetwork) (s : Status)
+    → OpensFile before.files file opened → CountsFetch before.file_faults after.file_faults opened → after.files ≡ before.files
+    → TellsNoNetwork opened before.held after.held before.sink_faults after.sink_faults s → LeftStream before after
+    → after.source_faults ≡ before.source_faults → before.sink_faults ≤ after.sink_faults → Does (Some job) before after s
+without-opened job file names of_file before after (Ok net) s opens counts stays told left source later = absurd told
+without-opened job file names of_file before after (Err reason) s opens counts stays told left source later = record {
+  ends = without-network job file names of_file before after reason s opens counts told left;
+  failures = without-failures before after reason s counts told source;
+  goes = opened-goes before after (Err reason) counts stays source later;
+}

@@ -1,5 +1,5 @@
 -- How a job ends that has an opening plan, or none since its program is Large or memory ran out.
-use Rattle.std.proofs.Common.{ℕ, ◌≡◌, List, Some, inl, inr, refl, subst}
+use Rattle.std.proofs.Common.{ℕ, ◌≡◌, List, Some, Result, Ok, Err, IfErr, inl, inr, refl, subst}
 use Rattle.nrm_model.specs.Inventory.{inventory_of}
 use Rattle.nrm_model.specs.Network.{NetworkValue}
 use Rattle.nrm_model.specs.declared.mode.Mode.{Mode}
@@ -12,7 +12,7 @@ use Rattle.nrm_outside.specs.Outside.{LeftStream, Outside}
 use Rattle.nrm_outside.specs.Words.{overflow_line, told_pivots}
 use Rattle.nrm_cli.specs.Ends.{Ends, Failures}
 use Rattle.nrm_cli.specs.Jobs.{Job, plan_file, mode_of_job}
-use Rattle.nrm_cli.specs.Inner.Parts.{PutsLine, PutsPlan, PutsUnplanned}
+use Rattle.nrm_cli.specs.Inner.Parts.{PutsLine, PutsPlan, PutsUnplanned, TellsUnplanned}
 use Rattle.nrm_cli.specs.Tells.{Opens, overflow, planned}
 use Rattle.nrm_cli.specs.declared.status.Status.{Status}
 use Rattle.nrm_cli.specs.declared.status.Status.TheVariants as status
@@ -44,6 +44,16 @@ pub unplanned-failures : (before after : Outside) → after.file_faults ≡ befo
 unplanned-failures before after files source fault.NoMemory s (is, kept, same) = rw is (record { files = files; source = source; sink = same })
 unplanned-failures before after files source (fault.Overflow pivots number) s (inl (is, wrote, same)) = rw is (record { files = files; source = source; sink = same })
 unplanned-failures before after files source (fault.Overflow pivots number) s (inr (is, front, rose)) = rw is (source, inl files)
+
+-- by what was planned: nothing was, and it was put why
+pub without-plan : {T : Type 0} (job : Job) (m : Mode) (net : NetworkValue) (before after : Outside) → mode_of_job job ≡ Some m
+    → Opens (Some job) job before net → LeftStream before after → after.file_faults ≡ before.file_faults → after.source_faults ≡ before.source_faults
+    → (planned : Result T SolveFault) → IfErr planned (IsStartFault net m) → (s : Status)
+    → TellsUnplanned planned before.held after.held before.sink_faults after.sink_faults s
+    → Ends (Some job) before after s × Failures s before after
+without-plan job m net before after has opens left files source (Ok made) is s told = absurd told
+without-plan job m net before after has opens left files source (Err why) is s told =
+    (unplanned-ends job m net before after has opens left why s is told, unplanned-failures before after files source why s told)
 
 -- ---- the plan's text, or none
 pub planned-ends : (m : Mode) (file : List ℕ) (net : NetworkValue) (before after : Outside)

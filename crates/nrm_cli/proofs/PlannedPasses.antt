@@ -31,22 +31,8 @@ use Rattle.nrm_cli.specs.Tells.{Tells, usage, refused, lacking, optimal, wrong, 
 use Rattle.nrm_cli.specs.Tells.{file_fault}
 use Rattle.nrm_cli.specs.declared.status.Status.{Status}
 use Rattle.nrm_cli.specs.declared.status.Status.TheVariants as status
+use Rattle.nrm_outside.proofs.Networks.{taken-network}
 use Rattle.nrm_cli.proofs.OwnPasses.{own-passes}
-
--- the network of a file that is taken is within the limits
-pub taken-network : (contents : Option (List ℕ)) (net : NetworkValue) → network_under contents ≡ Ok net → IsNetwork net
-taken-network None net gives = absurd (err-ok gives)
-  where
-    err-ok : {x : Refusal} → ◌≡◌ {A = Result NetworkValue Refusal} (Err x) (Ok net) → ⊥
-    err-ok e = cc
-taken-network (Some bytes) net gives = read-is-network bytes net (by (file_of bytes) gives)
-  where
-    by : (read : Result NetworkValue (ℕ × Why)) → network_in read ≡ Ok net → read ≡ Ok net
-    by (Ok other) e = let same : ◌≡◌ {A = Result NetworkValue Refusal} (Ok other) (Ok net) = e in cc
-    by (Err (row, cause)) e = absurd (err-ok e)
-      where
-        err-ok : {x : Refusal} → ◌≡◌ {A = Result NetworkValue Refusal} (Err x) (Ok net) → ⊥
-        err-ok e = cc
 
 -- the certificate of an opening plan under bid-price control closes the opening program
 module _ (net : NetworkValue) (plan : PlanValue) (is : IsOpeningPlan net mode.Bid plan) where

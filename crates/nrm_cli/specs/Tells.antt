@@ -37,10 +37,6 @@ GivesNetwork (run_made m number) files net = net ≡ made_network number
 GivesNetwork (cut_leg file leg groups) files net = OnFile files file (λ contents. network_under contents ≡ Ok net)
 GivesNetwork (value_leg file leg) files net = OnFile files file (λ contents. network_under contents ≡ Ok net)
 
--- what a file gives is a network within the limits, as the laws of sessions ask for
-abbrev pub FilesGiveNetworks : Type 0
-FilesGiveNetworks = (contents : Option (List ℕ)) (net : NetworkValue) → network_under contents ≡ Ok net → IsNetwork net
-
 -- the words ask for a job, and it has this network
 abbrev pub Opens : Option Job → Job → Outside → NetworkValue → Type 0
 Opens asked job before net = (asked ≡ Some job) × GivesNetwork job before.files net

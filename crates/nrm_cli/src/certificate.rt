@@ -6,7 +6,7 @@ ghost use Rattle.nrm_dlp.specs.Programs.{opening_program};
 ghost use Rattle.nrm_dual.specs.Named.{IsOfNetwork, IsOfProgram};
 ghost use Rattle.nrm_dual.specs.Refusals.{refusal_of};
 ghost use Rattle.nrm_cli.specs.Certificates.{lacking_line, refused_for, verdict_line};
-ghost use Rattle.nrm_cli.specs.Inner.Parts.{CountsCertificate, IsLackOf, OpensCertificate, lack_line, lack_status};
+ghost use Rattle.nrm_cli.specs.Inner.Parts.{CountsCertificate, IsLackOf, OpensCertificate, ReadsCertificate, lack_line, lack_status};
 
 use crate::Status;
 use nrm_dual::{CertFault, Verdict, read_certificate};
@@ -52,6 +52,23 @@ impl From<CertFault> for NoCertificate {
     }
 }
 
+// The certificate of what was fetched, for a network.
+fn certificate_in(
+    alloc: Global,
+    net: &Network,
+    fetched: Fetched,
+) -> Result<Certificate, NoCertificate>
+    ensures reads { ReadsCertificate net.now fetched result }
+    ensures shaped { IfOk result (HasShape size_limit (length net.now.products) (length net.now.legs)) }
+    ensures named { IfErr result (IsLackOf net.now) }
+{
+    match fetched {
+        Fetched::Whole(bytes) => Ok(read_certificate(alloc, net, &bytes)?),
+        Fetched::Longer => Err(NoCertificate::Unread(CertFault::Long)),
+        Fetched::Absent => Err(NoCertificate::Absent),
+    }
+}
+
 /// The certificate that the file of this name gives for a network.
 pub(crate) fn open_certificate<F: Files>(
     alloc: Global,
@@ -65,11 +82,11 @@ pub(crate) fn open_certificate<F: Files>(
     ensures counts { CountsCertificate (F.faults files.old) (F.faults files.new) result }
     ensures stays { F.contents files.new ≡ F.contents files.old }
 {
-    match files.fetch(alloc, name, MOST_CERTIFICATE_BYTES)? {
-        Fetched::Whole(bytes) => Ok(read_certificate(alloc, net, &bytes)?),
-        Fetched::Longer => Err(NoCertificate::Unread(CertFault::Long)),
-        Fetched::Absent => Err(NoCertificate::Absent),
-    }
+    certificate_in(
+        alloc,
+        net,
+        files.fetch(alloc, name, MOST_CERTIFICATE_BYTES)?,
+    )
 }
 
 // A line of this text, a name and the end of the line.

@@ -9,7 +9,7 @@ ghost use Rattle.nrm_cli.specs.Inner.Parts.{ChecksFile, PutsVerdict};
 
 use crate::Status;
 use crate::certificate::{line_of_verdict, open_certificate};
-use crate::put::{put_line, put_reason};
+use crate::put::{network_or_told, put_line};
 use nrm_dlp::opening_program;
 use nrm_dual::{Verdict, check};
 use nrm_edge::{Files, Sink};
@@ -86,8 +86,8 @@ pub(crate) fn check_file<F: Files, K: Sink>(
         DoesBeside (check_job name.now certificate.now) (at files.old sink.old) (at files.new sink.new) result }
     ensures sent { SentOn result (K.unsent sink.old) (K.unsent sink.new) }
 {
-    match open_network(alloc, files, name) {
+    match network_or_told(open_network(alloc, files, name), sink) {
         Ok(net) => check_certificate(alloc, &net, certificate, files, sink),
-        Err(reason) => put_reason(sink, reason),
+        Err(told) => told,
     }
 }

@@ -11,7 +11,7 @@ ghost use Rattle.nrm_cli.specs.Jobs.{cut_leg as cut_job};
 ghost use Rattle.nrm_cli.specs.LegThresholds.{CutsTold, IsCut, IsUnused, cuts_text, numbers_line};
 
 use crate::Status;
-use crate::put::{put_line, put_reason};
+use crate::put::{network_or_told, put_line};
 use nrm_cluster::{Cuts, best_cuts, leg_points};
 use nrm_edge::{Files, Sink};
 use nrm_model::Network;
@@ -122,8 +122,8 @@ pub(crate) fn cut_leg<F: Files, K: Sink>(
     let Some(name) = name_of(leg.as_bytes()) else {
         unreachable!();
     };
-    match open_network(alloc, files, file) {
+    match network_or_told(open_network(alloc, files, file), sink) {
         Ok(net) => put_cuts(alloc, &net, &name, groups, sink),
-        Err(reason) => put_reason(sink, reason),
+        Err(told) => told,
     }
 }

@@ -1,12 +1,13 @@
 //! A made run: the controller of the network that is made of a number answers the commands that are made of it, and one line
 //! sums its replies up.
-ghost use Rattle.std.specs.Prelude.{ℕ, Option, IfSome, ◌≡◌, ◌≤◌, ◌+◌, ◌++◌, ◌∷◌, length, decimal};
+ghost use Rattle.std.specs.Prelude.{ℕ, Option, IfSome, MatchOption, ◌≡◌, ◌≢◌, ◌≤◌, ◌+◌, ◌++◌, ◌∷◌, length, decimal};
 ghost use Rattle.std.specs.List.{join_with_byte};
 ghost use Rattle.nrm_edge.specs.Fetch.{Folder};
 ghost use Rattle.nrm_text.specs.Words.{text_line};
 ghost use Rattle.nrm_model.specs.Network.{NetworkValue};
 ghost use Rattle.nrm_control.specs.Standing.{ControlValue, IsControl};
 ghost use Rattle.nrm_session.specs.Answering.{IsTellable, reply_in};
+ghost use Rattle.nrm_session.specs.declared.reply.Reply.TheVariants as answered;
 ghost use Rattle.nrm_gen.specs.MadeCommands.{command_count, made_commands};
 ghost use Rattle.nrm_cli.specs.Ends.{SentOn};
 ghost use Rattle.nrm_cli.specs.Jobs.{run_made as made_job};
@@ -16,7 +17,7 @@ ghost use Rattle.nrm_cli.specs.Inner.Parts.{AnswersMade, HasBegun, PutsSummary, 
 
 use crate::Status;
 use crate::counts::Counts;
-use crate::put::{put_line, put_unplanned};
+use crate::put::{planned_or_told, put_line};
 use nrm_control::Controller;
 use nrm_edge::Sink;
 use nrm_gen::{Maker, made};
@@ -24,6 +25,16 @@ use nrm_model::Mode;
 use nrm_session::{Reply, carry_out};
 use nrm_text::Line;
 use std::alloc::Global;
+
+// A reply. `None` exactly for want of memory.
+fn with_memory(reply: Reply) -> Option<Reply>
+    ensures { MatchOption result (reply ≡ answered.Memory) (λ told. (told ≡ reply) × (reply ≢ answered.Memory)) }
+{
+    match reply {
+        Reply::Memory => None,
+        reply => Some(reply),
+    }
+}
 
 // The replies to all commands that are left but the last one, counted, and that to the last. `None` where a line wants for memory.
 fn answer_all(
@@ -40,10 +51,7 @@ fn answer_all(
     let mut last = Reply::Bad;
     while let Some(command) = maker.next() {
         counts.count(last);
-        last = match carry_out(alloc, controller, &command) {
-            Reply::Memory => return None,
-            reply => reply,
-        };
+        last = with_memory(carry_out(alloc, controller, &command))?;
     }
     Some((counts, last))
 }
@@ -131,12 +139,12 @@ pub(crate) fn run_made<K: Sink>(alloc: Global, mode: Mode, number: u32, sink: &m
     let Ok((net, maker)) = made(alloc, number) else {
         return Status::NoMemory;
     };
-    match Controller::start(alloc, net, mode) {
+    match planned_or_told(Controller::start(alloc, net, mode), sink) {
         Ok(controller) => {
             let mut controller = controller;
             let mut maker = maker;
             put_summary(alloc, &mut controller, &mut maker, sink)
         }
-        Err(why) => put_unplanned(sink, why),
+        Err(told) => told,
     }
 }

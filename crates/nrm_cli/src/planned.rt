@@ -11,7 +11,7 @@ ghost use Rattle.nrm_cli.specs.Inner.Does.{DoesBeside, files_and_sink};
 ghost use Rattle.nrm_cli.specs.Inner.Parts.{PutsPlan};
 
 use crate::Status;
-use crate::put::{put_reason, put_unplanned};
+use crate::put::{network_or_told, planned_or_told};
 use nrm_edge::{Failed, Files, Sink};
 use nrm_model::{Mode, Network};
 use nrm_outside::open_network;
@@ -37,12 +37,13 @@ fn put_plan<K: Sink>(alloc: Global, net: &Network, mode: Mode, sink: &mut K) -> 
     ensures later { K.faults sink.old ≤ K.faults sink.new }
     ensures sent { SentOn result (K.unsent sink.old) (K.unsent sink.new) }
 {
-    match Plan::opening(alloc, net, mode) {
-        Ok(plan) => match send_plan(net, &plan, sink) {
-            Ok(()) => Status::Done,
-            Err(_) => Status::WriteFault,
-        },
-        Err(why) => put_unplanned(sink, why),
+    let plan = match planned_or_told(Plan::opening(alloc, net, mode), sink) {
+        Ok(plan) => plan,
+        Err(told) => return told,
+    };
+    match send_plan(net, &plan, sink) {
+        Ok(()) => Status::Done,
+        Err(_) => Status::WriteFault,
     }
 }
 
@@ -58,8 +59,8 @@ pub(crate) fn plan_file<F: Files, K: Sink>(
         DoesBeside (plan_job mode name.now) (at files.old sink.old) (at files.new sink.new) result }
     ensures sent { SentOn result (K.unsent sink.old) (K.unsent sink.new) }
 {
-    match open_network(alloc, files, name) {
+    match network_or_told(open_network(alloc, files, name), sink) {
         Ok(net) => put_plan(alloc, &net, mode, sink),
-        Err(reason) => put_reason(sink, reason),
+        Err(told) => told,
     }
 }

@@ -4,7 +4,7 @@ ghost use Rattle.nrm_cli.specs.Inner.Does.{DoesBeside, files_and_sink};
 ghost use Rattle.nrm_cli.specs.Jobs.{print_file as print_job};
 
 use crate::Status;
-use crate::put::{put_line, put_reason};
+use crate::put::{network_or_told, put_line};
 use nrm_edge::{Files, Sink};
 use nrm_network::print;
 use nrm_outside::open_network;
@@ -21,9 +21,9 @@ pub(crate) fn print_file<F: Files, K: Sink>(
         DoesBeside (print_job name.now) (at files.old sink.old) (at files.new sink.new) result }
     ensures sent { SentOn result (K.unsent sink.old) (K.unsent sink.new) }
 {
-    let net = match open_network(alloc, files, name) {
+    let net = match network_or_told(open_network(alloc, files, name), sink) {
         Ok(net) => net,
-        Err(reason) => return put_reason(sink, reason),
+        Err(told) => return told,
     };
     match print(alloc, &net) {
         Ok(file) => put_line(sink, &file, Status::Done),

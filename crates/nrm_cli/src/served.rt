@@ -8,7 +8,7 @@ ghost use Rattle.nrm_cli.specs.Jobs.{run_file as run_job};
 ghost use Rattle.nrm_cli.specs.Inner.Parts.{status_at};
 
 use crate::Status;
-use crate::put::{put_reason, put_unplanned};
+use crate::put::{network_or_told, planned_or_told};
 use nrm_control::Controller;
 use nrm_edge::{Files, Sink, Source};
 use nrm_model::{MOST_STREAM_BYTES, Mode};
@@ -58,15 +58,15 @@ pub(crate) fn run_file<F: Files, S: Source, K: Sink>(
         Does (Some (run_job mode name.now)) (at files.old source.old sink.old) (at files.new source.new sink.new) result }
     ensures sent { SentOn result (K.unsent sink.old) (K.unsent sink.new) }
 {
-    let net = match open_network(alloc, files, name) {
+    let net = match network_or_told(open_network(alloc, files, name), sink) {
         Ok(net) => net,
-        Err(reason) => return put_reason(sink, reason),
+        Err(told) => return told,
     };
-    match Controller::start(alloc, net, mode) {
+    match planned_or_told(Controller::start(alloc, net, mode), sink) {
         Ok(controller) => {
             let mut controller = controller;
             status_at(answer_stream(alloc, &mut controller, source, sink))
         }
-        Err(why) => put_unplanned(sink, why),
+        Err(told) => told,
     }
 }

@@ -9,12 +9,14 @@ ghost use Rattle.nrm_session.specs.Money.{MoneyAddsUp};
 ghost use Rattle.nrm_session.specs.PhysicalSeats.{PhysicalSeatsDecideNothing};
 ghost use Rattle.nrm_cluster.specs.Laws.{NoGroupingCostsLess};
 ghost use Rattle.nrm_legdp.specs.Laws.{NoPolicyEarnsMore, ProtectionsEarnAll};
+ghost use Rattle.nrm_outside.specs.NetworkFile.{FilesGiveNetworks};
 ghost use Rattle.nrm_outside.specs.Outside.{outside};
 ghost use Rattle.nrm_cli.specs.Call.{Call};
 ghost use Rattle.nrm_cli.specs.Ends.{SentOn};
 ghost use Rattle.nrm_cli.specs.Jobs.{job_of};
+ghost use Rattle.nrm_cli.specs.LegMeans.{ValuesAreMeans};
+ghost use Rattle.nrm_cli.specs.LegTexts.{LegTextsAreDetermined};
 ghost use Rattle.nrm_cli.specs.Own.{OptimalCertificatesPass, OwnCertificatesPass};
-ghost use Rattle.nrm_cli.specs.Tells.{FilesGiveNetworks};
 ghost use Rattle.nrm_cli.specs.Inner.Does.{Does};
 ghost use Rattle.nrm_cli.specs.Inner.Parts.{IsWithin, job_in};
 
@@ -113,6 +115,8 @@ pub fn run<F: Files, S: Source, K: Sink>(
     ensures groupings { NoGroupingCostsLess }
     ensures policies { NoPolicyEarnsMore }
     ensures protections { ProtectionsEarnAll }
+    ensures legs { LegTextsAreDetermined }
+    ensures means { ValuesAreMeans }
     ensures determined { RepliesAreDetermined }
     ensures there { EachListHasARun }
     ensures states { StatesAreDetermined }

@@ -18,7 +18,7 @@ ghost use Rattle.nrm_cli.specs.LegValues.{HasNoClasses, IsValued, ValuesTold, cl
 ghost use Rattle.nrm_cli.specs.LegValues.{their_demand, values_text};
 
 use crate::Status;
-use crate::put::{put_line, put_reason};
+use crate::put::{network_or_told, put_line};
 use nrm_edge::{Files, Sink};
 use nrm_legdp::{ClassFault, Classes, LegTable, leg_classes, leg_values};
 use nrm_model::Network;
@@ -195,8 +195,8 @@ pub(crate) fn value_leg<F: Files, K: Sink>(
     let Some(name) = name_of(leg.as_bytes()) else {
         unreachable!();
     };
-    match open_network(alloc, files, file) {
+    match network_or_told(open_network(alloc, files, file), sink) {
         Ok(net) => put_values(alloc, &net, &name, sink),
-        Err(reason) => put_reason(sink, reason),
+        Err(told) => told,
     }
 }

@@ -5,6 +5,8 @@ use Rattle.std.specs.Int.{IsInRange}
 use Rattle.std.specs.Io.KnownBytes.{Appends, Keeps}
 use Rattle.nrm_edge.specs.Causes.{Rose}
 use Rattle.nrm_edge.specs.Fetch.{Folder}
+use Rattle.nrm_edge.specs.declared.files.Fetched.{Fetched}
+use Rattle.nrm_edge.specs.declared.files.Fetched.TheVariants as fetched
 use Rattle.nrm_edge.specs.Pieces.{AppendsCut}
 use Rattle.nrm_text.specs.Names.{name_in}
 use Rattle.nrm_model.specs.Network.{NetworkValue}
@@ -21,7 +23,9 @@ use Rattle.nrm_dlp.specs.Programs.{opening_program}
 use Rattle.nrm_cluster.specs.declared.limits.TheConstants.{MOST_GROUPS}
 use Rattle.nrm_dual.specs.Conditions.{verdict_on}
 use Rattle.nrm_dual.specs.Named.{IsOfNetwork}
-use Rattle.nrm_dual.specs.Refusals.{refusal_of}
+use Rattle.nrm_dual.specs.Reading.{certificate_of}
+use Rattle.nrm_dual.specs.Refusals.{IsRefusedFor, refusal_of}
+use Rattle.nrm_dual.specs.declared.fault.CertFault.TheVariants as certificate
 use Rattle.nrm_dual.specs.declared.verdict.Verdict.{Verdict}
 use Rattle.nrm_dual.specs.declared.verdict.Verdict.TheVariants as verdict
 use Rattle.nrm_outside.specs.NetworkFile.{reason_line}
@@ -96,6 +100,11 @@ status_for none.NoMemory = status.NoMemory
 abbrev pub PutsReason : NoNetwork → Option (List ℕ) → Option (List ℕ) → ℕ → ℕ → Status → Type 0
 PutsReason reason held held' before now result = PutsIfSome (reason_line reason) (status_for reason) held held' before now result
 
+-- there was no network, and what says why was put and answered
+abbrev pub TellsNoNetwork : Result NetworkValue NoNetwork → Option (List ℕ) → Option (List ℕ) → ℕ → ℕ → Status → Type 0
+TellsNoNetwork (Ok net) held held' before now result = ⊥
+TellsNoNetwork (Err reason) held held' before now result = PutsReason reason held held' before now result
+
 -- the certificate of the file of this name for a network, where the files are told, or why there is none; a fault of the files
 -- tells nothing of them, and want of memory is free
 abbrev pub OpensCertificate : NetworkValue → Option Folder → List ℕ → Result Certificate NoCertificate → Type 0
@@ -104,6 +113,19 @@ OpensCertificate net files name (Err lacking.Absent) = OnFile files name (λ fil
 OpensCertificate net files name (Err (lacking.Unread fault)) =
     OnFile files name (λ file. IfSome (refusal_of fault) (λ cause. certificate_under net file ≡ Err (refused_for cause)))
 OpensCertificate net files name (Err lacking.Fault) = ⊤
+
+-- what was fetched is read as a certificate for a network: it is too long, or isn't there, or its bytes give a certificate or are
+-- refused; want of memory is free only where there are bytes to read
+abbrev pub ReadsBytes : NetworkValue → List ℕ → Result Certificate NoCertificate → Type 0
+ReadsBytes net bytes (Ok given) = certificate_of net bytes ≡ Ok given
+ReadsBytes net bytes (Err (lacking.Unread fault)) = IsRefusedFor (refusal_of fault) (certificate_of net bytes)
+ReadsBytes net bytes (Err lacking.Absent) = ⊥
+ReadsBytes net bytes (Err lacking.Fault) = ⊥
+
+abbrev pub ReadsCertificate : NetworkValue → Fetched → Result Certificate NoCertificate → Type 0
+ReadsCertificate net (fetched.Whole bytes) result = ReadsBytes net bytes.items result
+ReadsCertificate net fetched.Longer result = result ≡ Err (lacking.Unread certificate.Long)
+ReadsCertificate net fetched.Absent result = result ≡ Err lacking.Absent
 
 -- the files' count rose with a fault of the files, and else it stays
 abbrev pub CountsCertificate : {C : Type 0} → ℕ → ℕ → Result C NoCertificate → Type 0
@@ -138,6 +160,11 @@ unplanned_line fault.NoMemory = None
 -- what is put and answered where nothing is planned
 abbrev pub PutsUnplanned : SolveFault → Option (List ℕ) → Option (List ℕ) → ℕ → ℕ → Status → Type 0
 PutsUnplanned why held held' before now result = PutsIfSome (unplanned_line why) status.Overflow held held' before now result
+
+-- nothing was planned, and what says why was put and answered
+abbrev pub TellsUnplanned : {T : Type 0} → Result T SolveFault → Option (List ℕ) → Option (List ℕ) → ℕ → ℕ → Status → Type 0
+TellsUnplanned (Ok made) held held' before now result = ⊥
+TellsUnplanned (Err why) held held' before now result = PutsUnplanned why held held' before now result
 
 -- the text of the opening plan of a network in a mode is put, or it is told why there is none
 abbrev pub PutsPlan : NetworkValue → Mode → Option (List ℕ) → Option (List ℕ) → ℕ → ℕ → Status → Type 0

@@ -8,7 +8,7 @@ use Rattle.nrm_cli.specs.declared.certificate.NoCertificate.TheVariants as lacks
 use Rattle.nrm_cli.specs.declared.status.Status.{Status}
 use Rattle.nrm_cli.specs.Jobs.{check_file as check_job}
 use Rattle.nrm_cli.proofs.CheckEnds.{checked-ends, checked-failures}
-use Rattle.nrm_cli.proofs.NoNetworkEnds.{opened-goes, without-failures, without-network}
+use Rattle.nrm_cli.proofs.NoNetworkEnds.{without-opened}
 use Rattle.nrm_cli.proofs.checked.check_file.Goals as goal
 
 -- the certificate was opened over the same files, whose count had not risen
@@ -31,16 +31,19 @@ checked-later net files name held held' before now sunk s checks = by checks.ope
 
 pub returns-in-Ok-clause-does : goal.returns-in-Ok-clause-does
 returns-in-Ok-clause-does g c coming faults =
-    let checks = from-the-start c.in-Ok.net _ _ c.args.certificate.now _ _ _ _ _ _ _ c.check_certificate.result c.in-Ok.ensures.stays c.in-Ok.ensures.counts c.check_certificate.ensures.checks in
+    let (is, same) = c.in-Ok.ensures.network in
+    let opens = rw is at c.open_network.ensures.opens in
+    let counts = rw is at c.open_network.ensures.counts in
+    let checked = rw same at c.check_certificate.ensures.checks in
+    let checks = from-the-start c.in-Ok.net _ _ c.args.certificate.now _ _ _ _ _ _ _ c.check_certificate.result c.open_network.ensures.stays counts checked in
     record {
-      ends = checked-ends c.args.name.now c.args.certificate.now _ _ c.in-Ok.net (refl, c.in-Ok.ensures.opens) refl c.check_certificate.result checks;
+      ends = checked-ends c.args.name.now c.args.certificate.now _ _ c.in-Ok.net (refl, opens) refl c.check_certificate.result checks;
       failures = checked-failures _ _ c.in-Ok.net refl c.args.certificate.now c.check_certificate.result checks;
-      goes = record { files = c.check_certificate.ensures.files ∙ c.in-Ok.ensures.stays; file_faults = checked-later _ _ _ _ _ _ _ _ c.check_certificate.result checks; source_faults = omega arith; sink_faults = c.check_certificate.ensures.later };
+      goes = record { files = c.check_certificate.ensures.files ∙ c.open_network.ensures.stays; file_faults = checked-later _ _ _ _ _ _ _ _ c.check_certificate.result checks; source_faults = omega arith; sink_faults = rw same at c.check_certificate.ensures.later };
     }
 
 pub returns-in-Err-clause-does : goal.returns-in-Err-clause-does
-returns-in-Err-clause-does g c coming faults = record {
-  ends = without-network (check_job c.args.name.now c.args.certificate.now) c.args.name.now tt (λ files refusal on. on) _ _ c.in-Err.reason c.put_reason.result c.in-Err.ensures.opens c.in-Err.ensures.counts c.put_reason.ensures.puts refl;
-  failures = without-failures _ _ c.in-Err.reason c.put_reason.result c.in-Err.ensures.counts c.put_reason.ensures.puts refl;
-  goes = opened-goes _ _ (Err c.in-Err.reason) c.in-Err.ensures.counts c.in-Err.ensures.stays refl c.put_reason.ensures.later;
-}
+returns-in-Err-clause-does g c coming faults =
+    let opened = c.open_network.ensures in
+    without-opened (check_job c.args.name.now c.args.certificate.now) c.args.name.now tt (λ files refusal on. on) _ _ c.open_network.result c.in-Err.told
+    opened.opens opened.counts opened.stays c.in-Err.ensures.told refl refl c.network_or_told.ensures.later

@@ -11,9 +11,12 @@ use Rattle.nrm_session.proofs.PrintedPlans.{printed-optimal}
 use Rattle.nrm_session.proofs.Runs.{runs}
 use Rattle.nrm_session.proofs.Seats.{kept}
 use Rattle.nrm_session.proofs.Verdicts.{requests-answered}
+use Rattle.nrm_cli.proofs.LegMeans.{values-are-means}
+use Rattle.nrm_cli.proofs.OneLegText.{leg-texts-determined}
 use Rattle.nrm_cli.proofs.OwnPasses.{optimal-pass, own-passes}
 use Rattle.nrm_cli.proofs.CompleteJobs.{completes, same-job-ends}
-use Rattle.nrm_cli.proofs.PlannedPasses.{planned-passes, taken-network}
+use Rattle.nrm_outside.proofs.Networks.{taken-network}
+use Rattle.nrm_cli.proofs.PlannedPasses.{planned-passes}
 use Rattle.nrm_cli.proofs.top.run.Goals as goal
 
 pub returns-clause-seats : goal.returns-clause-seats
@@ -30,6 +33,12 @@ returns-clause-money g c = adds-up
 
 pub returns-clause-physical : goal.returns-clause-physical
 returns-clause-physical g c = decide-nothing
+
+pub returns-clause-legs : goal.returns-clause-legs
+returns-clause-legs g c = leg-texts-determined
+
+pub returns-clause-means : goal.returns-clause-means
+returns-clause-means g c = values-are-means
 
 pub returns-clause-groupings : goal.returns-clause-groupings
 returns-clause-groupings g c = no-grouping-costs-less
