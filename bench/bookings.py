@@ -15,9 +15,7 @@ import tempfile
 import time
 
 import networks
-
-sys.path.insert(0, os.path.join(os.path.dirname(os.path.dirname(os.path.abspath(__file__))), "tools"))
-from nrm_tools import built, end, parser
+from running import built, end, parser
 
 RUNS = 9
 STANDING = [100, 10_000, 60_000]

@@ -1,10 +1,10 @@
 #!/usr/bin/env python3
-"""How many lines a second go through tools/desks.py, and how long one takes, beside a bare echo.
+"""How many lines a second go through `nrm-tools desks`, and how long one takes, beside a bare echo.
 
     bench/desks.py [PROGRAM] [--disk FOLDER] [--memory FOLDER] [--rounds N]
 
 Clients ask one line each and wait for its reply before they ask the next: 1, 10 and 1,000 of them, and 1 that sends 100 lines ahead. The
-lines book and cancel on a network of 20 legs and 120 products, in mode `bid`; each reply is one line. They go through desks.py without a
+lines book and cancel on a network of 20 legs and 120 products, in mode `bid`; each reply is one line. They go through it without a
 journal, with one on a disk, in FOLDER of --disk, by default the current one, and with one on a RAM disk, in FOLDER of --memory, by
 default /dev/shm; and, in turn with these, to an echo of asyncio that sends back each piece as it came, and does nothing else. Of each
 the most lines a second of N rounds is told, by default 3, and how many times as long as the echo it takes. Then 10,000 lines a second
@@ -23,10 +23,10 @@ import time
 from pathlib import Path
 
 import networks
+from nrm import Stop
+from running import built, end, parser
 
-HERE = Path(__file__).resolve().parent
-sys.path.insert(0, str(HERE.parent / "tools"))
-from nrm_tools import Stop, built, end, parser
+TOP = Path(__file__).resolve().parent.parent
 
 SECONDS = 60
 CROWDS = [(1, 1, 5_000), (10, 1, 20_000), (1000, 1, 40_000), (1, 100, 100_000)]  # the clients, lines ahead of replies, lines
@@ -157,7 +157,7 @@ def served(words, folder):
 
 
 def servers(program, network, disk, memory):
-    desks = [sys.executable, str(HERE.parent / "tools" / "desks.py"), "--socket", "SOCKET"]
+    desks = [sys.executable, str(TOP / "python" / "src"), "desks", "--socket", "SOCKET"]
     run = ["--", program, "run", "bid", network]
     return {
         "echo": [sys.executable, __file__, "--echo", "SOCKET"],

@@ -20,14 +20,12 @@ import tempfile
 import time
 
 import networks
-
-sys.path.insert(0, os.path.join(os.path.dirname(os.path.dirname(os.path.abspath(__file__))), "tools"))
-from nrm_tools import TOP, Stop, built, end, parser
+from nrm import Stop
+from running import built, end, parser
 
 RUNS, LINES, STANDING, TRACED = 3, 2_000, 100, 400
 LEGS, PRODUCTS = 64, 256
 MEMORY = "/dev/shm"
-KEPT = TOP / "crates" / "nrm_kept" / "out" / "nrm_kept"
 TABLE = "CREATE TABLE kept (number INTEGER PRIMARY KEY, product TEXT NOT NULL, party INTEGER NOT NULL) STRICT"
 
 
@@ -57,8 +55,9 @@ def awaited(words, count):
     with subprocess.Popen(words, stdin=subprocess.PIPE, stdout=subprocess.PIPE, bufsize=0) as process:
         begun = time.perf_counter()
         for line in lines(count):
-            process.stdin.write(line.encode())
-            if (reply := os.read(process.stdout.fileno(), 100)).split()[0] not in (b"ok", b"cancelled"):
+            with contextlib.suppress(BrokenPipeError):  # the program has ended: then there is no reply either
+                process.stdin.write(line.encode())
+            if not (reply := os.read(process.stdout.fileno(), 100)).startswith((b"ok ", b"cancelled ")):
                 raise Stop(f"`{' '.join(words)}` didn't keep {line!r}: {reply!r}")
         return time.perf_counter() - begun
 
@@ -131,7 +130,7 @@ def main():
     words.add_argument("--folder")
     words.add_argument("--lines", type=int, default=LINES)
     given = words.parse_args()
-    program = built(given.program or KEPT)
+    program = built(given.program, "nrm_kept")
     legs = [(f"L{n:02}", 999) for n in range(LEGS)]
     products = [(f"P{j:03}", 100 + j, [f"L{j % LEGS:02}"]) for j in range(PRODUCTS)]
     with tempfile.TemporaryDirectory() as folder:

@@ -17,9 +17,8 @@ import tempfile
 
 import mixed
 import networks
-
-sys.path.insert(0, os.path.join(os.path.dirname(os.path.dirname(os.path.abspath(__file__))), "tools"))
-from nrm_tools import Stop, built, end, parser
+from nrm import Stop
+from running import built, end, parser
 
 LINES = 20_000
 MIXED_LINES = 40_000

@@ -21,10 +21,10 @@ import time
 from fractions import Fraction
 
 import networks
+from nrm import Stop
+from running import built, end, parser
 
 TOP = os.path.dirname(os.path.dirname(os.path.abspath(__file__)))
-sys.path.insert(0, os.path.join(TOP, "tools"))
-from nrm_tools import Stop, built, end, parser
 
 RUNS = 9
 SOLVERS = {"glpsol --exact": ["glpsol", "--exact", "--lp", "PROGRAM"], "glpsol": ["glpsol", "--lp", "PROGRAM"],
@@ -52,7 +52,7 @@ def pivots_of(path, rules):
 def write_program(folder):
     """Writes the linear program of the network file, by the writer that the auditor has."""
     with open(os.path.join(folder, "PROGRAM"), "wb") as file:
-        subprocess.run([sys.executable, os.path.join(TOP, "tools", "lp.py"), "NETWORK"], cwd=folder, stdout=file, check=True)
+        subprocess.run([sys.executable, os.path.join(TOP, "python", "src"), "lp", "NETWORK"], cwd=folder, stdout=file, check=True)
 
 
 def timed(words, folder):

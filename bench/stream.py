@@ -24,9 +24,8 @@ import threading
 import time
 
 import networks
-
-sys.path.insert(0, os.path.join(os.path.dirname(os.path.dirname(os.path.abspath(__file__))), "tools"))
-from nrm_tools import Stop, built, end, parser
+from nrm import Stop
+from running import built, end, parser
 
 RUNS = 5
 LINES, FEWER_LINES = 1_000_000, 20_000

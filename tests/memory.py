@@ -35,7 +35,6 @@ import time
 
 HERE = os.path.dirname(os.path.realpath(__file__))
 TOP = os.path.dirname(HERE)
-sys.path.insert(0, HERE)
 sys.dont_write_bytecode = True
 import checks
 import preload

@@ -8,7 +8,7 @@ the documents or from tests/reference.py, never from the program. The pipes keep
 the terminal, the key for the end of the input is pressed where a piece ends inside a line. Nothing waits for a time to pass; where
 the program is silent, a talk fails after some seconds.
 
-The last talks cut a session in each way that it can be cut, go on with tools/resume.py, and want the replies of the whole stream.
+The last talks cut a session in each way that it can be cut, go on with `nrm-tools resume`, and want the replies of the whole stream.
 
 PATTERN picks the talks that have it in their name. With no --program it is the script `nrm` at the top of the repository. Each talk
 that fails is told; the last line is `N passed, M failed`.
@@ -27,14 +27,13 @@ import time
 
 HERE = os.path.dirname(os.path.realpath(__file__))
 TOP = os.path.dirname(HERE)
-sys.path.insert(0, HERE)
 sys.dont_write_bytecode = True
 import checks
 import reference
 from checks import Wrong
 
 HUB = os.path.join(TOP, "examples", "hub", "network.csv")
-RESUME = [sys.executable, os.path.join(TOP, "tools", "resume.py")]
+RESUME = [sys.executable, os.path.join(TOP, "python", "src"), "resume"]
 MODES = ["first", "bid", "davn"]
 SECONDS = 10
 END_KEY = b"\x04"
@@ -385,7 +384,7 @@ class Cut:
         return Talk([*self.program, "run", self.mode, HUB], ends())
 
     def words(self, kept, *more):
-        """Those of tools/resume.py."""
+        """Those of `nrm-tools resume`."""
         files = self.file("stream", joined(self.lines)), self.file("replies", kept)
         return [*RESUME, HUB, self.mode, *files, *more, "--program", *self.program]
 
@@ -488,8 +487,8 @@ def goes_on_after_a_cut_inside_memory(cut):
 
 def goes_on_after_too_long_a_stream(cut):
     """With a lower limit, which the reference can have: what went beyond it was a bad line, and isn't given again."""
-    code = f"import sys; sys.path.insert(0, {HERE!r}); import reference; reference.LONGEST_STREAM = 1000; reference.main()"
-    cut.program = [sys.executable, cut.file("limited.py", code.encode())]
+    code = "import reference; reference.LONGEST_STREAM = 1000; reference.main()"
+    cut.program = ["env", f"PYTHONPATH={HERE}", sys.executable, cut.file("limited.py", code.encode())]
     cut.lines[10:10] = [b"x" * 800]
     cut.replies[10:10] = [b"bad\n"]
     with cut.talk(pipes) as talk:
@@ -504,7 +503,7 @@ def replies_that_are_no_front_are_told(cut):
     for at, other in [(2, b"ok 4\n"), (8, b"unknown\n"), (11, b"memo"), (len(cut.replies), b"ok 99\n")]:
         kept = b"".join(cut.replies[:at] + [other] + cut.replies[at + 1:])
         done = subprocess.run(cut.words(kept), capture_output=True, timeout=SECONDS)
-        if done.returncode != 1 or done.stdout or not done.stderr.startswith(b"resume.py: line %d: " % (at + 1)):
+        if done.returncode != 1 or done.stdout or not done.stderr.startswith(b"nrm-tools resume: line %d: " % (at + 1)):
             raise Wrong(f"line {at + 1} told, and not status {done.returncode}, {done.stdout!r} and {done.stderr[-300:]!r}")
 
 

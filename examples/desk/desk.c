@@ -1,4 +1,4 @@
-/* A desk in C: asks the controller of tools/desks.py the lines of standard input, and writes its replies.
+/* A desk in C: asks the controller of `nrm-tools desks` the lines of standard input, and writes its replies.
 
        cc -o desk desk.c && ./desk /run/nrm/desks < lines
 

@@ -1,0 +1,35 @@
+"""The tools beside `nrm`: network files read, explained and cut, seasons played and shown, many desks at one controller.
+
+Holds the version, `Stop`, the one error of a user's mistake, and how a file is read and a folder made so that a fault is one.
+May use: nothing.
+"""
+from __future__ import annotations
+
+import os
+
+__version__ = "v2.1.0"
+
+
+class Stop(Exception):
+    """Why a command ends before it is done, in a sentence, and with which status."""
+
+    def __init__(self, why: str, status: int = 1) -> None:
+        super().__init__(why)
+        self.status = status
+
+
+def bytes_in(path: str, most: int = -1) -> bytes:
+    """The bytes of the file at a path, or the first of them."""
+    try:
+        with open(path, "rb") as file:
+            return file.read(most)
+    except OSError as fault:
+        raise Stop(f"{path}: {fault.strerror}")
+
+
+def make_folder(path: str) -> None:
+    """Makes the folder at a path if it isn't there."""
+    try:
+        os.makedirs(path, exist_ok=True)
+    except FileExistsError:
+        raise Stop(f"{path} is a file, and a folder is wanted")

@@ -1,0 +1,23 @@
+"""The commands: a file each, whose head is its manual, and whose `run` takes the words behind the name and gives the status.
+
+Words in, calls out, and nothing else: what a command does stands in the other rooms, and no room uses a command. In `files` are those
+that run no program, in `studies` those that ask it about the past, and in `live` those beside a running session. May use: all but
+audit, which stands alone and is begun by its own module.
+"""
+from __future__ import annotations
+
+NAMED = {
+    "audit": "nrm.audit",
+    "explain": "nrm.commands.files.explain",
+    "log": "nrm.commands.files.log",
+    "lp": "nrm.commands.files.lp",
+    "split": "nrm.commands.files.split",
+    "optimum": "nrm.commands.studies.optimum",
+    "replay": "nrm.commands.studies.replay",
+    "season": "nrm.commands.studies.season",
+    "simulate": "nrm.commands.studies.simulate",
+    "thresholds": "nrm.commands.studies.thresholds",
+    "desks": "nrm.commands.live.desks",
+    "resume": "nrm.commands.live.resume",
+}
+ALONE = ("audit",)  # these begin and end by themselves

@@ -1,0 +1,1 @@
+"""Commands that read and write files, and run no program."""

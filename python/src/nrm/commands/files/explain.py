@@ -1,0 +1,67 @@
+"""Every row of a network file that is refused, and how to mend it; of a certificate file, every line.
+
+    nrm-tools explain NETWORK [CERTIFICATE]
+
+`nrm print NETWORK` tells the first row that it refuses, and `nrm check NETWORK CERTIFICATE` the first line. This tells all: of
+each row what the program says of it, and below that, for each field that is at fault, the line of the file as an editor counts
+it, the field and what stands in it, and how to mend it. The first that is told is the program's. A row that is refused still
+makes its name known, so no row is told for the fault of another. Which version a file is of, its row of periods says: with `,2` at
+its end it is of version 2, with authorised seats behind the seats of each leg and with rows of refunds.
+
+The status is 3 where something is refused, 9 where a file can't be read, and else 0. A certificate that is read may still be
+wrong: `nrm check` and `nrm-tools audit` say so.
+"""
+from __future__ import annotations
+
+from typing import Sequence
+
+from nrm import Stop
+from nrm.commands.running import parser
+from nrm.files.certificates import faults_of_certificate
+from nrm.files.explained import refusals_of
+from nrm.limits import MOST_NETWORK_BYTES
+from nrm.network import Network, rows_of
+
+REFUSED, UNREADABLE = 3, 9
+
+
+def run(given: Sequence[str]) -> int:
+    """Tells what is wrong with the files that the words name."""
+    words = parser("explain", __doc__)
+    words.add_argument("network")
+    words.add_argument("certificate", nargs="?")
+    asked = words.parse_args(given)
+    return explain(asked.network, asked.certificate)
+
+
+def explain(path: str, certificate: str | None = None) -> int:
+    """Tells what is wrong with the files at two paths, and gives the status."""
+    data = bytes_of(path, "refused no file")
+    refusals = refusals_of(data)
+    for refusal in refusals:
+        print(*refusal.lines(), sep="\n")
+    if refusals:
+        print(f"{path}: rows refused {len(refusals)}{'; the certificate was not read' if certificate else ''}")
+        return REFUSED
+    network = Network.of(rows_of(data))
+    faults = [] if certificate is None else list(faults_of_certificate(bytes_of(certificate, "refused certificate no file"), network))
+    for words, advice in faults:
+        print(f"{words}\n    {advice}")
+    print(f"{path}: no row is refused; legs {len(network.legs)}, products {len(network.products)}, histories {network.histories}, "
+          f"periods {network.periods}")
+    if certificate is not None:
+        print(f"{certificate}: {f'faults {len(faults)}' if faults else 'no line is refused'}")
+    return REFUSED if faults else 0
+
+
+def bytes_of(path: str, missing: str) -> bytes:
+    """The bytes of a file, as far as shows that it is too long; where it isn't there, what the program says of that is told."""
+    try:
+        with open(path, "rb") as file:
+            return file.read(MOST_NETWORK_BYTES + 1)
+    except FileNotFoundError:
+        print(missing)
+        raise Stop(f"there is no file {path}", REFUSED)
+    except OSError as fault:
+        print("file fault")
+        raise Stop(f"{path} can't be read: {fault.strerror}", UNREADABLE)

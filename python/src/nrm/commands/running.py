@@ -1,0 +1,77 @@
+"""How a command begins and ends: its words, and its status. A user's mistake, a closed pipe and Ctrl-C are told in a line, or not at all.
+
+May use: nrm.
+"""
+from __future__ import annotations
+
+import argparse
+import os
+import signal
+import subprocess
+import sys
+from typing import Callable, Sequence
+
+from nrm import Stop
+
+TOOLS = "nrm-tools"
+Run = Callable[[Sequence[str]], int]
+
+
+def title(name: str) -> str:
+    """How a command is called: `nrm-tools` and its name; a script beside the package by its path, as bench/plan.py."""
+    return name if "/" in name else f"{TOOLS} {name}"
+
+
+def parser(name: str, manual: str) -> argparse.ArgumentParser:
+    """A reader of the words of a command. The manual is the head of its file: a sentence, the usage, and the rest."""
+    summary, usage, rest = manual.split("\n\n", 2)
+    return argparse.ArgumentParser(prog=title(name), usage=usage.strip(), description=f"{summary}\n\n{rest}",
+                                   formatter_class=argparse.RawDescriptionHelpFormatter)
+
+
+def add_program(words: argparse.ArgumentParser) -> None:
+    """The option for which program is run, among the words of a command."""
+    words.add_argument("--program", nargs="+", metavar="WORD", help="what runs `nrm`, where it isn't the one that is found")
+
+
+def status_of(name: str, run: Run, words: Sequence[str]) -> int:
+    """Runs a command, and gives its status."""
+    status = 1
+    try:
+        tell_what_cant_be_shown()
+        status = run(words)
+        if sys.stdout:
+            sys.stdout.flush()
+    except Stop as stop:
+        tell(name, str(stop))
+        status = stop.status
+    except KeyboardInterrupt:
+        forget_output()
+        signal.signal(signal.SIGINT, signal.SIG_DFL)
+        os.kill(os.getpid(), signal.SIGINT)  # so that a loop in a shell ends too
+    except BrokenPipeError:
+        forget_output()
+        status = 128 + signal.SIGPIPE
+    except subprocess.CalledProcessError as fault:
+        tell(name, f"`{' '.join(map(str, fault.cmd))}` ended with status {fault.returncode}")
+    except OSError as fault:
+        tell(name, f"{f'{fault.filename}: ' if fault.filename else ''}{fault.strerror or fault}")
+        forget_output()
+    return status
+
+
+def tell(name: str, text: str) -> None:
+    """Tells something on standard error, in the name of a command."""
+    print(f"{title(name)}: {text}", file=sys.stderr)
+
+
+def tell_what_cant_be_shown() -> None:
+    """Has letters that the terminal can't show written out, since a name or a field of a file may hold any."""
+    reconfigure = getattr(sys.stdout, "reconfigure", None)
+    if reconfigure:
+        reconfigure(errors="backslashreplace")
+
+
+def forget_output() -> None:
+    """Nothing more is written: what is left would be told as a fault once again."""
+    os.dup2(os.open(os.devnull, os.O_WRONLY), 1)

@@ -1,0 +1,1 @@
+"""Commands that ask the program about the past: thresholds, a leg by itself, seasons."""

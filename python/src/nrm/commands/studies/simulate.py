@@ -1,0 +1,212 @@
+"""Many seasons in the three modes on the same requests: what each earns, by how much they differ, and how sure that is.
+
+    nrm-tools simulate NETWORK... --seasons N [--seed S] [--out FOLDER] [--modes MODE...] [--demand HOW] [--order HOW]
+                       [--parties SIZE:WEIGHT,...] [--cancel P] [--show P --denied-cost C] [--leave-out]
+                       [--workers N | --cluster ADDRESS [--tls CA CERTIFICATE KEY]] [--patience SECONDS] [--program WORD...]
+
+For each NETWORK and season requests are drawn, with a line `reoptimise` at the start of each period but the first, and `nrm`
+answers them in each mode. It prints the revenue of each mode with its standard error and its share of the bound of hindsight;
+the difference of each two modes on the same requests, with its 95 per cent interval; the load of each leg; and the share of the
+requests for each product that was refused. If the networks differ in the authorised seats of one leg alone, what is earned is
+told by these.
+
+HOW A SEASON IS DRAWN. --demand histories: the requests of a history, each as likely (the default); independent: those of a
+history for each product, drawn apart; poisson: numbers about the mean of the histories, for each product and period apart.
+--order: within a period mixed (the default), or low-first, by fare. --parties 1:80,2:15,4:5: of 100 requests 80 are for a seat,
+15 for two and 5 for four; the seats that are asked for stay the same, so the last party of a product in a period may be
+smaller. --cancel 0.1: each booking is cancelled with this probability, at a line drawn from those after it. --show 0.9: each
+seat booked at the end is taken with this probability; those taken beyond the physical seats of a leg are denied boardings, at
+--denied-cost each. --leave-out: plans are made without the history that is played. The same --seed gives the same seasons, and
+they are the same on networks that differ in the seats and thresholds of legs alone.
+
+WHERE IT RUNS. It needs Dask (Debian's python3-distributed, which is for /usr/bin/python3: if the Python that was asked has no
+Dask and that one has, a checkout's command goes on under that one). It starts as many processes as there are processors, or
+--workers, on this machine. They talk by TLS, with keys that are made for the run and are in memory alone (it takes Debian's
+python3-cryptography), so no other account of the machine can use them. With --cluster it uses the workers of the Dask scheduler
+at ADDRESS, each of which must be able to run the words of --program. A scheduler without TLS runs anything for anybody who
+reaches it, and on the machine of each who asks it: so let it be tls://ADDRESS, and give with --tls the files of the certificate
+that signs for it, of your certificate and of your key, all as PEM. The workers are sent these tools. One whose program or whose
+tools aren't those of this machine, byte for byte, is refused with both checksums. If no seasons come back, since a worker was
+stopped or is lost, that is told after 30 seconds, and ends the run after --patience, by default 300. The results don't depend
+on where it runs.
+
+WHAT IS WRITTEN. The summary comes on standard output, progress on standard error. With --out FOLDER there are also summary.txt,
+simulate.html with the tables and pictures, each picture as SVG, and for each network NAME-seasons.csv with a row for each
+season and mode. The pictures need matplotlib (Debian's python3-matplotlib), the page jinja2 (python3-jinja2); what isn't there
+is told, and the rest comes in any case. A run that was cut, by Ctrl-C too, has kept the seasons that were done, and the same
+line goes on from there; so does one with more seasons. Without --out nothing is kept. With no --program it is the built `nrm`
+of this folder, or the one on the path.
+"""
+from __future__ import annotations
+
+import argparse
+import functools
+import importlib.util
+import os
+import re
+import sys
+import tempfile
+from pathlib import Path
+from typing import Callable, Iterator, Sequence
+
+from nrm import Stop, make_folder
+from nrm.commands.running import add_program, parser, tell
+from nrm.network import number
+from nrm.program import TOP, Program
+from nrm.replies import MODES
+from nrm.seasons.drawing import DEMANDS, LARGEST_PARTY, ORDERS, Settings
+from nrm.seasons.pages import Picture, about, page, pictures
+from nrm.seasons.results import Results, Study
+from nrm.seasons.rows import Seasons, check_same
+from nrm.telling.libraries import DEBIANS_PYTHON, is_there, missing
+from nrm.telling.page import write
+
+DEBIANS_DASK = "/usr/lib/python3/dist-packages/distributed"
+SOURCES = TOP / "python" / "src"
+MOST_SEASONS = 10_000_000
+PATIENCE, MOST_PATIENCE = 300, 1_000_000  # seconds
+
+
+def run(given: Sequence[str]) -> int:
+    """Plays the seasons that aren't there yet, and tells what all of them say."""
+    asked = words_of(given)
+    see_dask(given)
+    settings = settings_of(asked)
+    with tempfile.TemporaryDirectory() as spare:
+        folder = asked.out or spare
+        make_folder(folder)
+        named = zip(names_of(asked.networks), asked.networks)
+        studies = [Seasons(name, path, settings, asked.seasons, folder) for name, path in named]
+        program = Program.found(asked.program)
+        for path in asked.networks:
+            program.lines("print", path)  # it takes the network, and is there
+        check_same(folder, settings, studies)
+        for it in studies:
+            it.go_on()
+        if any(len(it.rows) < asked.seasons for it in studies):
+            play(asked, studies, settings, asked.program or program.words)
+        show(asked, settings, studies)
+    return 0
+
+
+# What is asked for
+
+
+def read_parties(text: str) -> tuple[tuple[int, float], ...]:
+    """Sizes of parties and their weights."""
+    pairs = tuple((number(size), number(weight)) for size, weight in (it.split(":") for it in text.split(",")))
+    if not all(1 <= size <= LARGEST_PARTY and weight >= 0 for size, weight in pairs) or not any(weight for _, weight in pairs):
+        raise ValueError
+    return pairs
+
+
+def probability(text: str) -> float:
+    """A number from 0 to 1."""
+    if not 0 <= float(text) <= 1:
+        raise ValueError
+    return float(text)
+
+
+def at_least(least: int, most: int = MOST_SEASONS) -> Callable[[str], int]:
+    """A reader of whole numbers within two limits."""
+    def whole_number(text: str) -> int:
+        if not least <= number(text) <= most:
+            raise ValueError
+        return number(text)
+    return whole_number
+
+
+def words_of(given: Sequence[str]) -> argparse.Namespace:
+    """What the words ask for."""
+    words = parser("simulate", __doc__)
+    words.add_argument("networks", nargs="+", metavar="NETWORK")
+    words.add_argument("--seasons", type=at_least(1), required=True, metavar="N")
+    words.add_argument("--seed", type=at_least(0, 2 ** 63), default=1)
+    words.add_argument("--out", metavar="FOLDER")
+    words.add_argument("--modes", nargs="+", choices=MODES, default=MODES)
+    words.add_argument("--demand", choices=DEMANDS, default=DEMANDS[0])
+    words.add_argument("--order", choices=ORDERS, default=ORDERS[0])
+    words.add_argument("--parties", type=read_parties, default=((1, 1),), metavar="SIZE:WEIGHT,...")
+    words.add_argument("--cancel", type=probability, default=0.0, metavar="P")
+    words.add_argument("--show", type=probability, metavar="P")
+    words.add_argument("--denied-cost", type=at_least(0, 2 ** 31), metavar="C")
+    words.add_argument("--leave-out", action="store_true")
+    where = words.add_mutually_exclusive_group()
+    where.add_argument("--workers", type=at_least(1, 1024), metavar="N")
+    where.add_argument("--cluster", metavar="ADDRESS")
+    words.add_argument("--tls", nargs=3, metavar=("CA", "CERTIFICATE", "KEY"))
+    words.add_argument("--patience", type=at_least(1, MOST_PATIENCE), default=PATIENCE, metavar="SECONDS")
+    add_program(words)
+    asked = words.parse_args(given)
+    if asked.tls and not (asked.cluster or "").startswith("tls://"):
+        words.error("--tls goes with --cluster tls://ADDRESS")
+    if (asked.show is None) != (asked.denied_cost is None):
+        words.error("--show and --denied-cost go together")
+    if asked.leave_out and asked.demand != "histories":
+        words.error("--leave-out goes with --demand histories alone: with the others no one history is played")
+    return asked
+
+
+def settings_of(asked: argparse.Namespace) -> Settings:
+    """The settings that are asked for; modes in their usual order."""
+    return Settings(seed=asked.seed, modes=tuple(it for it in MODES if it in asked.modes), demand=asked.demand, order=asked.order,
+                    parties=asked.parties, cancel=asked.cancel, show=asked.show, denied_cost=asked.denied_cost or 0,
+                    leave_out=asked.leave_out)
+
+
+def names_of(paths: Sequence[str]) -> list[str]:
+    """A name for each path: that of the file without its ending, or the whole path if two files have one name."""
+    stems = [Path(it).stem for it in paths]
+    names = [stem if stems.count(stem) == 1 else re.sub(r"[^\w.-]+", "-", str(Path(path).with_suffix(""))).strip("-.")
+             for stem, path in zip(stems, paths)]
+    if len(set(names)) < len(names):
+        raise Stop(f"a network is named twice: {max(names, key=names.count)}")
+    return names
+
+
+# How it is played and told
+
+
+def see_dask(given: Sequence[str]) -> None:
+    """Sees that there is Dask, or goes on under Debian's Python if that one has it."""
+    if importlib.util.find_spec("distributed"):
+        return
+    if os.path.realpath(sys.executable) == os.path.realpath(DEBIANS_PYTHON):
+        raise Stop(f"{sys.executable} has no Dask; `apt-get install python3-distributed` installs it")
+    if os.path.isdir(DEBIANS_DASK) and os.access(DEBIANS_PYTHON, os.X_OK) and (SOURCES / "__main__.py").is_file():
+        os.execv(DEBIANS_PYTHON, [DEBIANS_PYTHON, str(SOURCES), "simulate", *given])
+    raise Stop(f"{sys.executable}, the Python that was asked, has no Dask; Debian's package python3-distributed has it for "
+               f"{DEBIANS_PYTHON}: NRM_PYTHON={DEBIANS_PYTHON} nrm-tools ..")
+
+
+def play(asked: argparse.Namespace, studies: Sequence[Seasons], settings: Settings, words: Sequence[str]) -> None:
+    """Has the workers that are asked for play."""
+    from nrm.seasons.cluster import Workers, simulate  # here, since Dask takes a second
+    on_the_way = functools.partial(tell, "simulate")
+    simulate(studies, settings, words, Workers(asked.workers, asked.cluster, asked.tls, asked.patience, on_the_way))
+
+
+def show(asked: argparse.Namespace, settings: Settings, studies: Sequence[Seasons]) -> None:
+    """Tells the summary, and writes the page and the pictures."""
+    results = {it.name: Results.read(it.whole) for it in studies}
+    study = Study({it.name: it.network for it in studies}, settings, results)
+    sentences, tables = list(about(asked.seasons, settings, results)), list(study.tables())
+    summary = "\n".join([*sentences, "", *(it.text() for it in tables)])
+    print(summary, end="")
+    if not asked.out:
+        return
+    print("\n" + write(os.path.join(asked.out, "summary.txt"), summary))
+    lacking = [it for it in ("matplotlib", "jinja2") if not is_there(it)]
+    if lacking:
+        tell("simulate", missing(lacking))
+    shown = list(pictures(study)) if "matplotlib" not in lacking else []
+    paths = {Path(it).stem: it for it in drawn(shown, asked.out)} if shown else {}
+    if "jinja2" not in lacking:
+        print(write(os.path.join(asked.out, "simulate.html"), page(sentences, tables, shown, paths)))
+    print(*paths.values(), *(it.whole for it in studies), sep="\n")
+
+
+def drawn(shown: Sequence[Picture], folder: str) -> Iterator[str]:
+    """Draws pictures, and gives the paths of their files."""
+    from nrm.telling.figures import written
+    yield from written([(it.name, it.draw) for it in shown], folder, kinds=["svg"])

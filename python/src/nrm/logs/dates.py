@@ -1,0 +1,94 @@
+"""The dates of a log, in whichever form they are written, and spans of days.
+
+May use: nrm.
+"""
+from __future__ import annotations
+
+import datetime
+import re
+from typing import Iterable, Sequence
+
+from nrm import Stop
+
+WEEKDAYS = ["mon", "tue", "wed", "thu", "fri", "sat", "sun"]
+MONTHS = ["JAN", "FEB", "MAR", "APR", "MAY", "JUN", "JUL", "AUG", "SEP", "OCT", "NOV", "DEC"]
+TIME = re.compile(r"(?:(?:T|,? +)\d{1,2}(?::\d{2}.*|h\d{2}|\.\d{2}(?:\.\d{2})?)|-\d{2}\.\d{2}\.\d{2}(?:\.\d+)?)$")
+WEEKDAY = re.compile(r"[^\W\d_]{2,10}[.,]* +(?=\d)")  # in any language, before the date
+YEAR_FIRST = re.compile(r"(\d{4})([-/.]) ?(\d{1,2})\2 ?(\d{1,2})\.?")
+DIGITS = re.compile(r"(\d{4})(\d{2})(\d{2})(?:\d{4}(?:\d{2})?)?")  # and the time
+WITH_POINTS = re.compile(r"(\d{1,2})\. ?(\d{1,2})\. ?(\d{4})")
+WITH_MONTH = re.compile(r"(\d{1,2})[- .]*([A-Za-z]{3})[a-z]*[- .,]*(\d{4}|\d{2})")
+MONTH_FIRST = re.compile(r"([A-Za-z]{3})[a-z]*[ .]+(\d{1,2}),? +(\d{4})")
+EITHER_WAY = re.compile(r"(\d{1,2})([/-])(\d{1,2})\2(\d{4})")
+SHORT_YEAR = re.compile(r"\d{1,2}([./-]) ?\d{1,2}\1 ?\d{2}")
+
+
+def without_time(text: str) -> str:
+    """A date without the weekday before it and the time behind it."""
+    text = TIME.sub("", text)
+    weekday = WEEKDAY.match(text)
+    return text[weekday.end():] if weekday else text
+
+
+def has_short_year(text: str) -> bool:
+    """Whether a date has a year of two digits, so that it can't be told which of them is the year."""
+    return SHORT_YEAR.fullmatch(without_time(text)) is not None
+
+
+class Dates:
+    """Reads the dates of a log, of which those that can be read two ways are all read the same way."""
+
+    def __init__(self, texts: Iterable[str], order: str | None = None) -> None:
+        twofold = [found for found in (EITHER_WAY.fullmatch(without_time(it)) for it in texts) if found]
+        self.order = order or (order_shown_by(twofold) if twofold else None)
+
+    def day(self, text: str) -> datetime.date:
+        """The day that a text says; a ValueError where it says none."""
+        if (found := MONTH_FIRST.fullmatch(TIME.sub("", text))) and found[1].upper() in MONTHS:
+            return datetime.date(int(found[3]), MONTHS.index(found[1].upper()) + 1, int(found[2]))
+        text = without_time(text)
+        if found := YEAR_FIRST.fullmatch(text):
+            return datetime.date(int(found[1]), int(found[3]), int(found[4]))
+        if found := DIGITS.fullmatch(text):
+            return datetime.date(*map(int, found.groups()))
+        if found := WITH_POINTS.fullmatch(text):
+            return datetime.date(int(found[3]), int(found[2]), int(found[1]))
+        if (found := WITH_MONTH.fullmatch(text)) and found[2].upper() in MONTHS:
+            return datetime.date(int(found[3]) + (2000 if len(found[3]) == 2 else 0), MONTHS.index(found[2].upper()) + 1, int(found[1]))
+        if found := EITHER_WAY.fullmatch(text):
+            day, month = (found[1], found[3]) if self.order == "dmy" else (found[3], found[1])
+            return datetime.date(int(found[4]), int(month), int(day))
+        raise ValueError(text)
+
+
+def order_shown_by(twofold: Sequence[re.Match[str]]) -> str:
+    """The order of day and month that dates show, of which either can be first."""
+    day_first, month_first = (next((it[0] for it in twofold if int(it[at]) > 12), None) for at in (1, 3))
+    if bool(day_first) != bool(month_first):
+        return "dmy" if day_first else "mdy"
+    why = (f"{day_first} has the day first, and {month_first} the month" if day_first
+           else f"{twofold[0][0]} can be read with the day or the month first")
+    raise Stop(f"of the dates, {why}; say --dates dmy or --dates mdy, or write them as 2025-03-07")
+
+
+def spans_of(days: Iterable[datetime.date]) -> list[str]:
+    """Days in texts, those that follow one another as one."""
+    spans: list[list[datetime.date]] = []
+    for day in days:
+        if spans and day - spans[-1][1] == datetime.timedelta(1):
+            spans[-1][1] = day
+        else:
+            spans.append([day, day])
+    return [str(first) if first == last else f"{first} to {last}" for first, last in spans]
+
+
+def departures_told(days: Sequence[datetime.date], most: int) -> str:
+    """How many days of departure there are, the first and the last, and which days between them have none, of which so many are told."""
+    known, departing = set(days), {it.weekday() for it in days}
+    between = [days[0] + datetime.timedelta(it) for it in range(1, (days[-1] - days[0]).days)]
+    spans = spans_of(it for it in between if it not in known and it.weekday() in departing)
+    more = [f"and {len(spans) - most} more times"] if len(spans) > most else []
+    never = [WEEKDAYS[it] for it in sorted({it.weekday() for it in between} - departing)]
+    without = [", ".join([*spans[:most], *more]), f"each {', '.join(never)}" if never else ""]
+    return (f"departures on {len(days)} days, from {days[0]} to {days[-1]}; days between without one: "
+            f"{'; '.join(filter(None, without)) or 'none'}")

@@ -1,0 +1,142 @@
+"""The rows of a log: its text, the row of headings, and below it what stands in the columns that are asked for. None is lost in silence.
+
+May use: nrm.
+"""
+from __future__ import annotations
+
+import csv
+import io
+import itertools
+from dataclasses import dataclass
+from typing import Iterator, Sequence
+
+from nrm import Stop, bytes_in
+
+SEPARATORS = [",", ";", "\t", "|"]
+MOST_ABOVE = 100  # rows above the headings
+MOST_TEXT = 60  # that is shown of a line
+OF_A_SPREADSHEET = (b"PK\x03\x04", b"\xd0\xcf\x11\xe0")  # how .xlsx and .ods begin, and .xls
+
+
+def text_in(path: str) -> str:
+    """The text of the log, or of the list of names, at a path."""
+    csv.field_size_limit(2**31 - 1)
+    data = bytes_in(path)
+    if data.startswith(OF_A_SPREADSHEET):
+        raise Stop(f"{path} is a spreadsheet's own file: save it as CSV, or `soffice --headless --convert-to csv {path}`")
+    if data.startswith((b"\xff\xfe", b"\xfe\xff")):
+        return data.decode("utf-16", "replace")
+    try:
+        return data.decode("utf-8-sig")
+    except UnicodeDecodeError:
+        return data.decode("cp1252", "replace")
+
+
+def cut_short(text: str) -> str:
+    """A text as it is told, and of a long one the beginning."""
+    return text if len(text) <= MOST_TEXT else text[:MOST_TEXT] + ".."
+
+
+@dataclass(frozen=True)
+class LogRow:
+    """A row of a log: the line of the file in which it begins, and what stands in the columns that are asked for."""
+    line: int
+    fields: list[str]
+
+
+class Log:
+    """The rows of a log.
+
+    above, empty, within  the lines that are no row: the headings and those above, the empty ones, and those with which a row goes on
+    """
+
+    def __init__(self, path: str, columns: Sequence[str], is_multiline: bool = False) -> None:
+        text = text_in(path)
+        self.path, self.is_multiline, self.lines = path, is_multiline, list(io.StringIO(text, newline=""))
+        try:
+            separator, places = next(((it, found) for it in SEPARATORS if (found := self.headings(it, columns))), ("", []))
+        except csv.Error as fault:
+            raise Stop(f"{path} can't be read as fields with separators between them: {fault}")
+        if not places:
+            raise Stop(f"{path} {what_is_there(text, columns)}")
+        self.rows: list[LogRow] = []
+        self.empty = self.within = 0
+        for line, ends, fields in self.records(separator):
+            self.within += ends - line
+            if any(map(str.strip, fields)):
+                self.rows.append(LogRow(line, [fields[at].strip() if at < len(fields) else "" for at in places]))
+            else:
+                self.empty += 1
+
+    def headings(self, separator: str, columns: Sequence[str]) -> list[int]:
+        """Where the columns stand, by the first row that has all of them as headings; nowhere if there is none."""
+        reader, before = csv.reader(self.lines, delimiter=separator), 0
+        for fields in itertools.islice(reader, MOST_ABOVE):
+            if places := places_of(columns, fields):
+                self.above = before
+                self.above = next(self.records(separator))[1]
+                return places
+            before = reader.line_num
+        return []
+
+    def records(self, separator: str) -> Iterator[tuple[int, int, list[str]]]:
+        """The records below some lines, each with the lines in which it begins and ends; a Stop where one doesn't end as it should."""
+        reader, begins = csv.reader(self.lines[self.above:], delimiter=separator, strict=True), self.above + 1
+        while True:
+            try:
+                fields = next(reader, None)
+            except csv.Error as fault:
+                raise self.no_record(begins, self.above + reader.line_num, "end of data" in str(fault))
+            ends = self.above + reader.line_num
+            if fields is None:
+                return
+            if ends > begins and not self.is_multiline:
+                raise self.no_record(begins, ends)
+            yield begins, ends, fields
+            begins = ends + 1
+
+    def no_record(self, begins: int, ends: int, is_open: bool = False) -> Stop:
+        """A Stop for a record that begins in a line and doesn't end as it should, which shows in another or in the same; a quote may
+        be open at the end of the file."""
+        if (ends > begins or is_open) and not self.is_multiline:
+            why = "a quote is opened in it and isn't closed in it, which would take the lines below with it: close it or take it out"
+            why += "; --multiline takes fields with line feeds"
+        elif is_open:
+            why = "a quote is opened in it that is closed nowhere: close it or take it out"
+        else:
+            why = f"a quote is opened and closed in it{f', in line {ends},' if ends > begins else ''} and more text stands behind it: close it"
+            why += " at the end of its field, or write a quote within a field twice"
+        line = self.lines[begins - 1].rstrip("\r\n")
+        return Stop(f"{self.path}: line {begins} can't be read: {why}\n    {cut_short(line)}")
+
+    def told(self) -> str:
+        """How many rows were read of how many lines, and what the other lines were."""
+        more = f", lines within fields {self.within}" if self.within else ""
+        return f"rows read {len(self.rows)} of {len(self.lines)} lines; down to the headings {self.above}, empty {self.empty}{more}"
+
+
+def what_is_there(text: str, columns: Sequence[str]) -> str:
+    """What is said of a log without a row that has all columns: the row that has most of them, and which it lacks."""
+    rows = (row for it in SEPARATORS for row in itertools.islice(csv.reader(text.splitlines(), delimiter=it), MOST_ABOVE))
+    none: list[str] = []
+    headings = max(rows, key=lambda row: -len(lacking(columns, row)), default=none)
+    lacks = lacking(columns, headings)
+    if len(lacks) == len(columns):
+        return f"has no row of headings with {', '.join(columns)}; it begins {text.lstrip()[:100]!r}"
+    return f"has no column {', '.join(lacks)}; its headings are {', '.join(it.strip() for it in headings if it.strip())}"
+
+
+def lacking(columns: Sequence[str], fields: Sequence[str]) -> list[str]:
+    """The columns that a row of headings lacks."""
+    return [it for it in columns if it.strip().lower() not in (field.strip().lower() for field in fields)]
+
+
+def places_of(columns: Sequence[str], fields: Sequence[str]) -> list[int]:
+    """Where the columns stand in a row of headings; nowhere where it has not all of them."""
+    if lacking(columns, fields):
+        return []
+    headings, wanted = ([it.strip().lower() for it in some] for some in (fields, columns))
+    for it in wanted:
+        if headings.count(it) > 1:
+            raise Stop(f"the log has two columns {it}: give one of them another heading")
+    return [headings.index(it) for it in wanted]

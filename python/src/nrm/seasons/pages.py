@@ -1,0 +1,115 @@
+"""What is told of many seasons in words and pictures, and the page with all of it.
+
+The pictures are drawn when they are asked for, since that takes matplotlib.
+May use: nrm.seasons.drawing, nrm.seasons.results, nrm.telling.charts, nrm.telling.page, nrm.telling.tables.
+"""
+from __future__ import annotations
+
+from dataclasses import dataclass
+from pathlib import Path
+from typing import Any, Callable, Iterator, Mapping, Sequence
+
+from nrm.seasons.drawing import Settings
+from nrm.seasons.results import Results, Study
+from nrm.telling.page import Page
+from nrm.telling.tables import Table
+
+MOST_SPANS, MOST_MEANS, MOST_HISTOGRAMS = 60, 12, 12
+DEMAND_IN_WORDS = {"histories": "the requests of a history, each as likely",
+                   "independent": "for each product the requests of a history, drawn apart",
+                   "poisson": "numbers of Poisson about the mean of the histories, for each product and period apart"}
+
+
+@dataclass(frozen=True)
+class Picture:
+    """A picture: the name of its file, its title, what it shows in words, and what draws it."""
+    name: str
+    title: str
+    about: str
+    draw: Callable[[], Any]
+
+
+# Words
+
+
+def about(seasons: int, settings: Settings, results: Mapping[str, Results]) -> Iterator[str]:
+    """What was done, in sentences."""
+    parties = [f"{size} with weight {weight}" if len(settings.parties) > 1 else str(size) for size, weight in settings.parties]
+    yield (f"{seasons:,} seasons, drawn by seed {settings.seed}. Demand: {DEMAND_IN_WORDS[settings.demand]}. "
+           f"Order in a period: {settings.order}. Parties: {', '.join(parties)}.")
+    if settings.cancel:
+        yield (f"Each booking was cancelled with probability {settings.cancel:g}. The bound counts all requests, cancelled ones "
+               "too, and bounds the revenue of the bookings that stand; what is withheld is beside it.")
+    if settings.show is not None:
+        yield (f"Each seat booked at the end was taken with probability {settings.show:g}. Denied are seats taken beyond the "
+               f"physical seats of their leg, at {settings.denied_cost:,} each; empty are physical seats that nobody took. The "
+               "bound knows of neither.")
+    if settings.leave_out:
+        yield "Plans were made without the history that was played."
+    yield f"Seasons whose revenue is above the bound: {sum(it.above_bound for it in results.values())}."
+
+
+# Pictures
+
+
+def pictures(study: Study) -> Iterator[Picture]:
+    """The pictures of a study."""
+    found = study.authorised()
+    if found:
+        yield of_authorised(study, *found)
+    spans = [(study.named(name, mode), mode, it.shares(mode)) for name, it in study.results.items() for mode in it.modes]
+    if all(values for _, _, values in spans) and len(spans) <= MOST_SPANS:
+        yield of_shares(spans)
+    if not found and len(study.results) <= MOST_HISTOGRAMS:
+        for at, (name, it) in enumerate(study.results.items()):
+            number = f"-{at + 1}" if len(study.results) > 1 else ""
+            for mode, other in it.pairs():
+                title = f"{study.of(name)}{mode} less {other}, season by season"
+                yield of_differences(f"differences-{mode}-{other}{number}", title, mode, it.differences(mode, other))
+
+
+def of_shares(spans: Sequence[tuple[str, str, list[float]]]) -> Picture:
+    """The share of the bound in the seasons of each mode."""
+    from nrm.telling import charts
+    means = "; ".join(f"{name} {sum(values) / len(values):.1f}" for name, _, values in spans[:MOST_MEANS])
+    words = ("From the 5th to the 95th of a hundred seasons thin, from the 25th to the 75th thick, the mark at the mean, in per "
+             f"cent: {means}")
+    return Picture("shares", "Share of the bound by mode", words, lambda: charts.spans(spans, "share of the bound, %"))
+
+
+def of_differences(name: str, title: str, mode: str, values: Sequence[int]) -> Picture:
+    """By how much a mode is ahead of another, season by season."""
+    from nrm.telling import charts
+    words = (f"Differences from {min(values):,} to {max(values):,}, on the mean {sum(values) / len(values):,.1f}, which the "
+             f"broken line shows; {mode} is ahead in {sum(v > 0 for v in values):,} of {len(values):,} seasons, which are blue")
+    return Picture(name, title, words, lambda: charts.histogram(values, "currency units", "seasons"))
+
+
+def of_authorised(study: Study, leg: str, names: Mapping[int, str]) -> Picture:
+    """What each mode earns less than with the authorised seats that are its best."""
+    from nrm.telling import charts
+    less = {mode: study.less_than_most(mode, names) for mode in study.settings.modes}
+    courses = [(mode, [(float(seats), -it.mean if it else 0.0, it.half() if it else 0.0) for seats, it in by_seats.items()])
+               for mode, by_seats in less.items()]
+    tops = "; ".join(f"under {mode} at {seats}" for mode, by_seats in less.items() for seats, it in by_seats.items() if not it)
+    words = ("What a season brings beside the authorised seats that earn most in each mode, with its 95 per cent interval. "
+             f"Most is earned {tops}")
+    return Picture("authorised", f"What is earned by the authorised seats of {leg}", words,
+                   lambda: charts.courses(courses, f"authorised seats of {leg}", "beside the most, currency units"))
+
+
+# The page
+
+
+def page(sentences: Sequence[str], tables: Sequence[Table], shown: Sequence[Picture], paths: Mapping[str, str]) -> str:
+    """The page of a run: its pictures are those whose SVG files are at these paths, by their names."""
+    made = Page("Simulated seasons")
+    made.text(" ".join(sentences))
+    made.heading("Tables")
+    for table in tables:
+        made.table(table)
+    if paths:
+        made.heading("Pictures")
+    for it in shown:
+        made.picture(Path(paths[it.name]).read_text(encoding="utf-8"), it.title, it.about)
+    return made.html()

@@ -1,0 +1,135 @@
+"""The classes of one leg by itself: what is kept from each by the optimum and by EMSR-b, and what each earns.
+
+The optimum is that of `nrm dp`; EMSR-b's protections are those of `nrm plan davn` on a network of the leg and its classes alone.
+May use: nrm, nrm.limits, nrm.network, nrm.program, nrm.replies, nrm.telling.tables.
+"""
+from __future__ import annotations
+
+import os
+import tempfile
+from collections import Counter
+from dataclasses import dataclass
+from fractions import Fraction
+from typing import Sequence
+
+from nrm import Stop
+from nrm.limits import MOST_CLASSES
+from nrm.network import Network, fields_in, text_of, with_thresholds
+from nrm.program import Program, no_answer
+from nrm.replies import NoAnswer, leg_value_of, plan_of
+from nrm.telling.tables import Cell, Table
+
+
+@dataclass(frozen=True)
+class FareClass:
+    """A class of a leg: a product on it alone, its fare, and the seats that were asked for in each history."""
+    name: str
+    fare: int
+    demand: tuple[int, ...]
+
+    def mean_demand(self) -> float:
+        """The seats that were asked for in a history, on the mean."""
+        return sum(self.demand) / len(self.demand)
+
+
+class Policy:
+    """How many seats are kept from each class, the highest fare first, and what is earned so, from each number of seats."""
+
+    def __init__(self, kept: Sequence[int], classes: Sequence[FareClass], seats: int) -> None:
+        self.kept, self.values = list(kept), values(kept, classes, seats)
+
+
+def values(kept: Sequence[int], classes: Sequence[FareClass], seats: int) -> list[Fraction]:
+    """The mean revenue of a history from 0, 1, 2 seats and so on, if from each class so many are kept.
+
+    It is kept over one denominator, the histories of all classes that were gone through, the highest fare first.
+    """
+    earned, ways = [0] * (seats + 1), 1
+    for keep, it in zip(kept, classes):
+        often = Counter(it.demand)
+        sold = [{asked: min(asked, max(0, left - keep)) for asked in often} for left in range(seats + 1)]
+        earned = [sum(times * (ways * it.fare * sold[left][asked] + earned[left - sold[left][asked]]) for asked, times in often.items())
+                  for left in range(seats + 1)]
+        ways *= len(it.demand)
+    return [Fraction(it, ways) for it in earned]
+
+
+class LegAlone:
+    """A leg of a network by itself: its rows and those of the products on it alone, the seats, the classes and the optimum."""
+
+    def __init__(self, path: str, leg: str, program: Program) -> None:
+        network, rows = Network.read(path), fields_in(path)
+        if leg not in network.legs:
+            raise Stop(f"there is no leg {leg}")
+        on_leg = network.products_on(leg)
+        alone = {it.name for it in on_leg if it.legs == (leg,)}
+        if not 1 <= len(alone) <= MOST_CLASSES:
+            raise Stop(f"the products whose only leg is {leg} are {len(alone)}, and it takes 1 to {MOST_CLASSES}")
+        self.name, self.program, self.others = leg, program, len(on_leg) - len(alone)
+        self.rows = [row for row in rows if row[0] == "periods" or row[:2] == ["leg", leg]
+                     or row[0] in ("product", "demand") and row[1] in alone]
+        self.seats = network.legs[leg].authorised
+        self.classes, self.optimal = self.optimum(network, path)
+
+    def optimum(self, network: Network, path: str) -> tuple[list[FareClass], Policy]:
+        """The classes and the protections of `nrm dp`, whose value must be what the protections earn."""
+        words = ["dp", path, self.name]
+        try:
+            told = leg_value_of(self.name, self.program.lines(*words))
+        except NoAnswer:
+            raise no_answer(*words)
+        if any(name not in network.products or network.products[name].fare != fare for name, fare in told.classes):
+            raise no_answer(*words)
+        histories = range(1, network.histories + 1)
+        classes = [FareClass(name, fare, tuple(map(network.products[name].demand_in, histories))) for name, fare in told.classes]
+        policy = Policy([0, *told.protections], classes, self.seats)
+        if policy.values[-1] != told.value:
+            raise no_answer(*words)
+        return classes, policy
+
+    def value(self) -> Fraction:
+        """The mean revenue of a history by the optimum."""
+        return self.optimal.values[-1]
+
+    def file(self) -> str:
+        """The text of a network file of this leg and its classes alone, with a threshold at each fare but the lowest."""
+        fares = sorted({it.fare for it in self.classes}, reverse=True)
+        return text_of(with_thresholds(self.rows, {self.name: fares[:-1]}))
+
+    def emsr(self) -> Policy:
+        """What EMSR-b keeps from each class: the level above the bucket that its fare falls into."""
+        with tempfile.TemporaryDirectory() as folder:
+            path = os.path.join(folder, f"{self.name} alone.csv")
+            with open(path, "w", encoding="ascii") as file:
+                file.write(self.file())
+            words = ["plan", "davn", path]
+            lines = self.program.lines(*words)
+        try:
+            plan = plan_of(lines)
+            return Policy([plan.kept_from(self.name, it.name) for it in self.classes], self.classes, self.seats)
+        except (ValueError, LookupError):
+            raise no_answer(*words)
+
+
+def tables(leg: LegAlone, emsr: Policy) -> list[Table]:
+    """The tables of the classes and of the revenue."""
+    kept: list[list[Cell]] = [[it.name, it.fare, f"{it.mean_demand():.2f}", best, by_emsr]
+                              for it, best, by_emsr in zip(leg.classes, leg.optimal.kept, emsr.kept)]
+    value, earned = leg.value(), emsr.values[-1]
+    share = f"{100 * float(earned / value):.3f} %" if value else ""
+    return [Table(f"Seats of {leg.name} that are kept from each class, of {leg.seats}",
+                  ["class", "fare", "mean demand", "optimum", "EMSR-b"], kept),
+            Table("Mean revenue of a history, in currency units", ["", "revenue", "share"],
+                  [["optimum", f"{float(value):,.2f}", ""], ["EMSR-b", f"{float(earned):,.2f}", share]])]
+
+
+def remarks(leg: LegAlone, emsr: Policy) -> list[str]:
+    """What is to be known beside the tables."""
+    found = []
+    if leg.others:
+        found.append(f"products that use {leg.name} and other legs, which have no part in this: {leg.others}")
+    lowest = leg.classes[-1].fare
+    if emsr.kept[-1] and not any(any(it.demand) for it in leg.classes if it.fare == lowest):
+        found.append(f"nobody asked at {lowest}, the lowest fare: so `nrm` takes the last bucket's fare as 0, and EMSR-b keeps the more "
+                     "from it")
+    return found

@@ -1,0 +1,231 @@
+"""The course of one season in the three modes: a stream with looks put in, what each mode answers, and the tables and the page of it.
+
+HOW REPLIES ARE TOLD APART. Before the first line, behind each line `reoptimise K` of a period that the network has, and behind the last
+line, the lines `plan`, `leg LEG` for each leg, and `hindsight` are put into the stream. None of them changes what any other line is
+answered. Each line has one reply, so the replies are dealt out to the lines in order, and those to the lines put in are taken away.
+May use: nrm, nrm.network, nrm.program, nrm.replies, nrm.telling.page, nrm.telling.tables.
+"""
+from __future__ import annotations
+
+import re
+from dataclasses import dataclass, field
+from fractions import Fraction
+from pathlib import Path
+from typing import Iterator, Sequence
+
+from nrm import Stop, bytes_in
+from nrm.network import Network, whole
+from nrm.program import Program
+from nrm.replies import MODES, Cancelled, Hindsight, Leg, NoAnswer, NoFare, NoLeg, Plan, Sold, answer_of
+from nrm.telling.page import Page
+from nrm.telling.tables import Cell, Table
+
+UNFIT = "the replies don't fit the lines"
+
+
+@dataclass(frozen=True)
+class Asked:
+    """A line that is given to the program, the number of the stream's line that it is or follows, and whether it was put in."""
+    number: int
+    line: str
+    is_put_in: bool
+
+
+class LookedAt:
+    """The lines of a stream, and the lines with what is put in."""
+
+    def __init__(self, data: bytes, network: Network) -> None:
+        lines = data.split(b"\n")
+        self.lines = [it.removesuffix(b"\r").decode("latin-1") for it in (lines if lines[-1] else lines[:-1])]
+        looks = ["plan", *[f"leg {leg}" for leg in network.legs], "hindsight"]
+        self.points, self.asked = [(0, "opening")], [Asked(0, look, True) for look in looks]
+        for number, line in enumerate(self.lines, 1):
+            self.asked.append(Asked(number, line, False))
+            found = re.fullmatch(r"reoptimise ([1-9][0-9]?)", line)
+            if found and int(found[1]) <= network.periods or number == len(self.lines):
+                self.points.append((number, f"period {found[1]}" if found else "end"))
+                self.asked += [Asked(number, look, True) for look in looks]
+
+    def data(self) -> bytes:
+        """The stream with the lines put in."""
+        return b"".join(it.line.encode("latin-1") + b"\n" for it in self.asked)
+
+    def names(self) -> list[str]:
+        """The names of the points."""
+        return [name for _, name in self.points]
+
+
+@dataclass
+class Point:
+    """What is told at one place of a season, behind a line of the stream: the plan in force, the seats sold, and the bound with the
+    revenue and what was withheld, if there is one."""
+    number: int
+    plan: Plan
+    sold: dict[str, int] = field(default_factory=dict)
+    hindsight: Hindsight | None = None
+
+    def bound(self) -> Fraction | None:
+        """The bound of hindsight; None if its program is too large."""
+        return self.hindsight.bound if self.hindsight else None
+
+    def revenue(self) -> int | None:
+        """The revenue of the bookings that stand; None where there is no bound."""
+        return self.hindsight.revenue if self.hindsight else None
+
+    def withheld(self) -> int | None:
+        """What was withheld of those that were cancelled; None where there is no bound."""
+        return self.hindsight.withheld if self.hindsight else None
+
+
+class Course:
+    """What one mode answers: the points, the seats sold on one leg behind each line, and what was asked and refused."""
+
+    def __init__(self, mode: str, network: Network, stream: LookedAt, leg: str, told: Sequence[bytes]) -> None:
+        self.mode, self.network, self.leg = mode, network, leg
+        self.points: list[Point] = []
+        self.bookings: dict[int, tuple[str, int]] = {}
+        self.asked, self.refused = dict.fromkeys(network.products, 0), dict.fromkeys(network.products, 0)
+        self.sold, self.course = dict.fromkeys(network.legs, 0), [0]
+        if len(told) != len(stream.asked):
+            raise Stop(f"there are {len(told)} replies to {len(stream.asked)} lines")
+        try:
+            for asked, reply in zip(stream.asked, told):
+                (self.look if asked.is_put_in else self.follow)(asked, reply)
+        except (LookupError, ValueError):
+            raise Stop(UNFIT)
+
+    def look(self, asked: Asked, reply: bytes) -> None:
+        """Takes the reply to a line that was put in."""
+        answer = answer_of(reply)
+        if asked.line == "plan" and isinstance(answer, Plan):
+            self.points.append(Point(asked.number, answer))
+        elif asked.line == "hindsight":
+            self.points[-1].hindsight = answer if isinstance(answer, Hindsight) else None
+            if self.points[-1].sold != self.sold:
+                raise NoAnswer(UNFIT)
+        elif isinstance(answer, Leg):
+            self.points[-1].sold[answer.name] = answer.sold
+        else:
+            raise NoAnswer(UNFIT)
+
+    def follow(self, asked: Asked, reply: bytes) -> None:
+        """Counts a line of the stream and its reply."""
+        verb, *words = asked.line.split(" ")
+        if verb in ("book", "cancel") and reply not in (b"bad\n", b"bad"):
+            self.count(words, answer_of(reply))
+        self.course.append(self.sold[self.leg])
+
+    def count(self, words: Sequence[str], answer: object) -> None:
+        """Counts the answer to a request or a cancellation."""
+        if isinstance(answer, (Sold, NoLeg, NoFare)):
+            self.asked[words[0]] += 1
+            self.refused[words[0]] += not isinstance(answer, Sold)
+        if isinstance(answer, Sold):
+            self.bookings[answer.number] = words[0], whole(words[1])
+            self.sell(words[0], whole(words[1]))
+        elif isinstance(answer, Cancelled):
+            product, party = self.bookings.pop(answer.number)
+            self.sell(product, -party)
+
+    def sell(self, product: str, party: int) -> None:
+        """Counts seats of a product on its legs."""
+        for leg in self.network.products[product].legs:
+            self.sold[leg] += party
+
+
+@dataclass(frozen=True)
+class Season:
+    """A season of a network: its stream, the leg whose seats are looked at, and its course in each mode."""
+    network: Network
+    stream: LookedAt
+    leg: str
+    courses: list[Course]
+
+    @classmethod
+    def played(cls, path: str, stream_path: str, leg: str | None, program: Program) -> Season:
+        """The season of a network file and a stream at two paths, on one leg, or on the one of which most seats were asked for."""
+        network = Network.read(path)
+        stream = LookedAt(bytes_in(stream_path), network)
+        leg = leg or leg_most_asked_for(network, stream)
+        if leg not in network.legs:
+            raise Stop(f"there is no leg {leg}")
+        data = stream.data()
+        return cls(network, stream, leg, [Course(mode, network, stream, leg, program.replies(mode, path, data)) for mode in MODES])
+
+
+def leg_most_asked_for(network: Network, stream: LookedAt) -> str:
+    """The leg of which most seats were asked for, sold or not."""
+    seats = dict.fromkeys(network.legs, 0)
+    for line in stream.lines:
+        found = re.fullmatch(r"book (\S+) ([1-9][0-9]{0,2})", line)
+        product = network.products.get(found[1]) if found else None
+        for leg in product.legs if product else ():
+            seats[leg] += int(found[2]) if found else 0
+    return max(seats, key=lambda it: seats[it])
+
+
+# Tables
+
+
+def tables(season: Season, decimal: bool = False) -> Iterator[Table]:
+    """The tables of a season."""
+    courses, names, network = season.courses, season.stream.names(), season.network
+    revenues: list[list[Cell]] = [[name, *[it.points[at].revenue() for it in courses], courses[0].points[at].bound()]
+                                  for at, name in enumerate(names)]
+    yield Table("Revenue of the bookings that stand, and the bound of hindsight, in currency units", ["", *MODES, "bound"], revenues,
+                decimal)
+    if min(it.refund for it in network.products.values()) < 100:
+        withheld: list[list[Cell]] = [[name, *[it.points[at].withheld() for it in courses]] for at, name in enumerate(names)]
+        yield Table("Withheld of the bookings that were cancelled, in currency units", ["", *MODES], withheld, decimal)
+    for it in courses[1:]:
+        prices: list[list[Cell]] = [[leg, *[point.plan.prices[leg] for point in it.points]] for leg in network.legs]
+        yield Table(f"Bid prices under {it.mode}, in currency units", ["leg", *names], prices, decimal)
+    for it in courses:
+        yield seats_table(season, it, decimal)
+    requests: list[list[Cell]] = [[name, asked, *[it.refused[name] for it in courses]]
+                                  for name, asked in courses[0].asked.items() if asked]
+    yield Table("Requests for each product, and how many of them were refused", ["product", "requests", *MODES], requests, decimal)
+
+
+def seats_table(season: Season, course: Course, decimal: bool) -> Table:
+    """The seats of the leg that are sold, left and protected in a mode."""
+    leg = season.network.legs[season.leg]
+    authorised = "" if leg.authorised == leg.seats else f", {leg.seats_in_words()},"
+    rows: list[list[Cell]] = [
+        [name, point.sold[leg.name], leg.authorised - point.sold[leg.name], *point.plan.protections.get(leg.name, ())]
+        for name, point in zip(season.stream.names(), course.points)]
+    levels = [f"for 1 to {b}" if b > 1 else "for 1" for b in range(1, len(rows[0]) - 2)]
+    return Table(f"Seats of {leg.name}{authorised} under {course.mode}: sold, left{', and protected for buckets' if levels else ''}",
+                 ["", "sold", "left", *levels], rows, decimal)
+
+
+# The page
+
+
+def abouts(season: Season) -> dict[str, tuple[str, str]]:
+    """What each picture shows, in words, for those who can't see it."""
+    courses, leg = season.courses, season.leg
+    last = ", ".join(f"{it.mode} {it.points[-1].revenue():,}" for it in courses if it.points[-1].revenue() is not None)
+    refused = ", ".join(f"{it.mode} {sum(it.refused.values()):,}" for it in courses)
+    return {"bid-prices": ("Bid prices", "The bid price of each leg over the season, under bid and under davn; the tables have each "
+                           "number."),
+            "seats": (f"The seats of {leg}", "In each mode the seats sold, those left, and those protected by bucket, behind each line. "
+                      f"Sold at the end: {', '.join(f'{it.mode} {it.course[-1]}' for it in courses)}."),
+            "revenue": ("Revenue", f"The revenue of each mode beside the bound of hindsight. At the end: {last}."),
+            "refused": ("Refusals", f"Of each product the share of its requests that was refused. In all were refused: {refused}, "
+                        f"of {sum(courses[0].asked.values()):,}.")}
+
+
+def page(season: Season, told: Sequence[Table], pictures: Sequence[str]) -> str:
+    """The page of a season, with its tables, and its pictures if there are some, the paths of SVG files."""
+    made = Page("A season in three modes")
+    made.heading("Tables")
+    made.text("Each point of the season is behind a line of the stream: "
+              + ", ".join(f"{name} {number}" for number, name in season.stream.points) + ".")
+    for table in told:
+        made.table(table)
+    if pictures:
+        made.heading("Pictures")
+    for path in pictures:
+        made.picture(Path(path).read_text(encoding="utf-8"), *abouts(season)[Path(path).stem], is_large=True)
+    return made.html()

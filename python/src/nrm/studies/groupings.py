@@ -1,0 +1,72 @@
+"""How the fares on each leg are divided into groups, by `nrm cuts`, and the tables of that.
+
+May use: nrm.network, nrm.program, nrm.replies, nrm.telling.tables.
+"""
+from __future__ import annotations
+
+from dataclasses import dataclass
+from typing import Iterator, Sequence
+
+from nrm.network import Network
+from nrm.program import Program, no_answer
+from nrm.replies import Cuts, NoAnswer, cuts_of
+from nrm.telling.tables import Cell, Table
+
+
+@dataclass(frozen=True)
+class Grouping:
+    """How the fares of a leg are divided: each fare with the seats that were asked for at it, falling, and the cuts."""
+    leg: str
+    asked: dict[int, int]
+    cuts: Cuts
+
+    def seats(self) -> int:
+        """How many seats were asked for on the leg."""
+        return sum(self.asked.values())
+
+    def group(self, fare: int) -> int:
+        """The number of the group that a fare is in, from 1."""
+        return 1 + sum(cut > fare for cut in self.cuts.thresholds)
+
+    def table(self) -> Table:
+        """The fares with their groups, the seats that were asked for at each, and the centres."""
+        rows = [[self.group(fare), fare, seats, self.cuts.centres[self.group(fare) - 1]] for fare, seats in self.asked.items()]
+        return Table(f"The fares on {self.leg}", ["group", "fare", "seats", "centre"], rows)
+
+
+def asked_on(network: Network, leg: str) -> dict[int, int]:
+    """The fares of the products on a leg, falling, each with the seats that were asked for at it."""
+    asked: dict[int, int] = {}
+    for product in network.products_on(leg):
+        asked[product.fare] = asked.get(product.fare, 0) + product.demand_in_all()
+    return dict(sorted(asked.items(), reverse=True))
+
+
+def groupings(path: str, network: Network, groups: int, program: Program) -> Iterator[Grouping]:
+    """The grouping of each leg that a product uses, by `nrm cuts` on the network file at a path."""
+    for leg in network.legs:
+        if asked := asked_on(network, leg):
+            words = ["cuts", path, leg, str(groups)]
+            try:
+                cuts = cuts_of(leg, program.lines(*words))
+            except NoAnswer:
+                raise no_answer(*words)
+            if not {*cuts.thresholds, *cuts.centres} <= asked.keys():
+                raise no_answer(*words)
+            yield Grouping(leg, asked, cuts)
+
+
+def table_of(found: Sequence[Grouping], groups: int) -> Table:
+    """The cuts, the centres, the cost and the cost for a seat of each leg, and of all legs together."""
+    rows: list[list[Cell]] = []
+    for it in found:
+        thresholds, centres = (" ".join(map(str, numbers)) for numbers in (it.cuts.thresholds, it.cuts.centres))
+        rows.append([it.leg, thresholds, centres, *costs(it.cuts.cost, it.seats())])
+    if len(found) > 1:
+        rows.append(["all", "", "", *costs(sum(it.cuts.cost for it in found), sum(it.seats() for it in found))])
+    return Table(f"The fares on each leg in {groups} groups at most", ["leg", "cuts", "centres", "cost", "for a seat"], rows)
+
+
+def costs(cost: int, seats: int) -> list[Cell]:
+    """The texts of a cost, and of the cost for a seat."""
+    return [f"{cost:,}", f"{cost / seats:.1f}" if seats else ""]

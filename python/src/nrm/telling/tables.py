@@ -1,0 +1,41 @@
+"""Tables as text. May use: nothing."""
+from __future__ import annotations
+
+from dataclasses import dataclass
+from fractions import Fraction
+from typing import Iterable, Sequence, Union
+
+Cell = Union[str, int, Fraction, None]
+
+
+def text_of_cell(value: Cell, decimal: bool) -> str:
+    """The text of a number, a name or of nothing."""
+    if decimal and isinstance(value, Fraction):
+        return f"{float(value):.2f}"
+    return "" if value is None else str(value)
+
+
+@dataclass(frozen=True)
+class Table:
+    """A table: its title, the heads of its columns, and rows of numbers, names or nothing. The first column names the rows."""
+    title: str
+    heads: Sequence[str]
+    rows: Sequence[Sequence[Cell]]
+    decimal: bool = False
+
+    def cells(self) -> list[list[str]]:
+        """The texts of the rows."""
+        return [[text_of_cell(it, self.decimal) for it in row] for row in self.rows]
+
+    def text(self) -> str:
+        """The table as lines of text, its columns to the right but for the first."""
+        rows = [list(self.heads), *self.cells()]
+        widths = [max(map(len, column)) for column in zip(*rows)]
+        lines = ("  ".join([f"  {row[0]:<{widths[0]}}", *[f"{it:>{width}}" for it, width in zip(row[1:], widths[1:])]]).rstrip()
+                 for row in rows)
+        return "\n".join([self.title, "", *lines, ""])
+
+
+def print_table(title: str, heads: Sequence[str], rows: Iterable[Sequence[Cell]]) -> None:
+    """Prints a table of text behind an empty line."""
+    print("\n" + Table(title, heads, list(rows)).text(), end="")

@@ -1,0 +1,113 @@
+"""One harness for all tests: a place with files, in which commands are run, and the program that they run.
+
+The program is named by NRM_PROGRAM, whose words may be those of the script `nrm` at the top or of `tests/reference.py`; else it is
+the one that the commands find. Where there is none, the tests that come to need it are skipped, as the last line of the run tells.
+"""
+from __future__ import annotations
+
+import functools
+import os
+import shlex
+import subprocess
+import sys
+import tempfile
+import unittest
+from pathlib import Path
+from typing import NamedTuple
+
+from nrm import Stop
+from nrm.program import Program
+
+TOP = Path(__file__).resolve().parents[2]
+EXAMPLES, SOURCES = TOP / "examples", TOP / "python" / "src"
+SECONDS = 60
+MOST_SHOWN = 600
+BLINDED = ("matplotlib", "jinja2")
+
+
+@functools.lru_cache(None)
+def program() -> Program:
+    """The program that is tested with; no test may pass without one that is named."""
+    given = shlex.split(os.environ.get("NRM_PROGRAM", ""))
+    try:
+        return Program.found([os.path.abspath(TOP / it) if (TOP / it).exists() else it for it in given])
+    except Stop as why:
+        if given:
+            raise
+        raise unittest.SkipTest(str(why))
+
+
+class Done(NamedTuple):
+    """How a command ended: what it wrote, what it told on standard error, and its status."""
+    out: str
+    err: str
+    status: int
+
+
+class PlaceTest(unittest.TestCase):
+    """A test in a folder of its own."""
+    maxDiff = 2000
+
+    def setUp(self) -> None:
+        folder = tempfile.TemporaryDirectory()
+        self.addCleanup(folder.cleanup)
+        self.folder = Path(folder.name)
+
+    def file(self, name: str, content: str | bytes) -> str:
+        """Writes a file, and gives its path."""
+        path = self.folder / name
+        path.write_bytes(content if isinstance(content, bytes) else content.encode())
+        return str(path)
+
+    def blind(self, *libraries: str) -> dict[str, str]:
+        """An environment without some libraries, or with neither matplotlib nor jinja2: so nothing is drawn, which takes long."""
+        blinded = self.folder / "-".join(["blind", *libraries])
+        blinded.mkdir(exist_ok=True)
+        for name in libraries or BLINDED:
+            (blinded / f"{name}.py").write_text("raise ImportError")
+        return {**os.environ, "PYTHONPATH": str(blinded)}
+
+    def want_in(self, text: str, wanted: str) -> None:
+        """Sees that a text is in another, of which the end is told where it isn't."""
+        if wanted not in text:
+            self.fail(f"wanted {wanted!r} in {text[-MOST_SHOWN:]!r}")
+
+    def process(self, name: str, *words: object, **more: object) -> subprocess.Popen[bytes]:
+        """A command as a process."""
+        return subprocess.Popen([sys.executable, SOURCES, name, *map(str, words)], **{"cwd": self.folder, "env": self.blind(), **more})
+
+    def ran(self, name: str, *words: object, **more: object) -> Done:
+        """A command that was run in the folder."""
+        done = subprocess.run([sys.executable, SOURCES, name, *map(str, words)], capture_output=True,
+                              **{"cwd": self.folder, "timeout": SECONDS, "env": self.blind(), **more})
+        return Done(done.stdout.decode(), done.stderr.decode(), done.returncode)
+
+    def told(self, name: str, *words: object, **more: object) -> str:
+        """The output of a command that ends with status 0."""
+        done = self.ran(name, *words, **more)
+        self.assertEqual(done.status, 0, f"{name}: {done.err or done.out}")
+        return done.out
+
+    def stopped(self, name: str, *words: object, status: int = 1, **more: object) -> str:
+        """What a command tells on standard error that must end with a status, and name itself."""
+        done = self.ran(name, *words, **more)
+        names_itself = done.err.startswith((f"nrm-tools {name}: ", f"usage: nrm-tools {name}"))
+        self.assertEqual((done.status, names_itself, "Traceback" in done.err), (status, True, False), f"{name} {done.err!r}")
+        return done.err
+
+
+    # What needs the program: a test that comes to it is skipped where there is none
+
+    @property
+    def program(self) -> Program:
+        return program()
+
+    @property
+    def with_program(self) -> list[str]:
+        return ["--program", *self.program.words]
+
+    def nrm(self, *words: object, given: bytes = b"", status: int = 0) -> str:
+        """What a run of the program writes, which must end with a status."""
+        done = subprocess.run([*self.program.words, *map(str, words)], cwd=self.folder, input=given, stdout=subprocess.PIPE, timeout=SECONDS)
+        self.assertEqual(done.returncode, status, f"nrm {words}")
+        return done.stdout.decode()

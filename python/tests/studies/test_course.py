@@ -1,0 +1,78 @@
+"""The course of a season: what is told of it is what the documents show, and replies are dealt to their lines."""
+from __future__ import annotations
+
+import os
+import sys
+import unittest
+
+from harness import EXAMPLES, PlaceTest
+from made import OF_REFUNDS, SECOND, reference_replies
+from nrm.telling.libraries import is_there
+
+
+class Courses(PlaceTest):
+    def words(self, example: str, *more: object) -> list[object]:
+        return [EXAMPLES / example / "network.csv", EXAMPLES / example / "commands.txt", "--out", "pictures", *more, *self.with_program]
+
+    def test_tells_what_the_documents_show(self) -> None:
+        out = self.told("season", *self.words("log"))
+        self.want_in(out, "  period 2   1080   630   300   1080\n  period 3   1240  1270   620   1530\n  end        1240  2110  2840   2920\n")
+        self.want_in(out, "  ZRH-VIE      110       320       320  320\n")
+        decimal = self.told("season", *self.words("log", "--decimal"))
+        self.want_in(decimal, "  end        1240  2110  2840  2920.00\n")
+        self.assertNotIn("/", decimal, "fractions in decimals")
+
+    @unittest.skipUnless(is_there("jinja2"), "there is no jinja2 (Debian's package is python3-jinja2)")
+    def test_a_page_has_the_tables_and_the_pictures_that_there_are(self) -> None:
+        path = self.folder / "pictures" / "season.html"
+        out = self.told("season", *self.words("log"), env=os.environ)
+        self.want_in(out, "pictures/season.html\n")
+        page, drawn = path.read_text(), 4 if is_there("matplotlib") else 0
+        self.assertEqual(sorted(it.name for it in path.parent.glob("*.svg")),
+                         ["bid-prices.svg", "refused.svg", "revenue.svg", "seats.svg"][:drawn])
+        self.assertEqual((page.count("<svg "), page.count("<desc "), "<script" in page), (drawn, drawn, False))
+        self.told("season", *self.words("log", "--decimal"), env=self.blind("matplotlib"))
+        page = path.read_text()
+        self.want_in(page, '<tr><th scope="row">end</th><td>1240</td><td>2110</td><td>2840</td><td>2920.00</td></tr>')
+        self.assertEqual(page.count("<svg "), 0)
+
+    @unittest.skipUnless(is_there("matplotlib"), "there is no matplotlib (Debian's package is python3-matplotlib)")
+    def test_pictures_are_the_same_bytes_again(self) -> None:
+        found = []
+        for _ in range(2):
+            self.told("season", *self.words("log"), env=self.blind("jinja2"))
+            paths = sorted((self.folder / "pictures").iterdir())
+            found.append({it.name: it.read_bytes() for it in paths})
+        self.assertEqual(len(found[0]), 8)
+        self.assertTrue(found[0] == found[1])
+
+    def test_tells_what_was_withheld(self) -> None:
+        """And counts the seats that are left by the authorised ones. 33 in 100 of 800 are 264, and AC gives back nothing."""
+        network, stream = self.file("second.csv", SECOND), self.file("stream", "".join(f"{it}\n" for it in OF_REFUNDS))
+        out = self.told("season", network, stream, "--out", "pictures", "--leg", "AB", *self.with_program)
+        withheld = out.partition("Withheld of the bookings that were cancelled, in currency units\n\n")[2].partition("\n\n")[0]
+        last = reference_replies("first", SECOND, [*OF_REFUNDS, "hindsight"])[-1].split()
+        self.assertEqual([it.split() for it in withheld.splitlines()][1], ["opening", "0", "0", "0"])
+        self.assertEqual([it.split()[:3] for it in withheld.splitlines()][2:], [["period", "2", "536"], ["end", last[5], withheld.split()[-2]]])
+        self.want_in(out, "Seats of AB, 3 seats, 5 authorised, under first: sold, left\n")
+        self.want_in(out, "\n  opening      0     5\n")
+        plain, season = (self.told("season", *self.words(it)) for it in ("log", "season"))
+        self.assertEqual(("Withheld" in plain, "authorised" in plain), (False, False))
+        self.want_in(season, "  period 4    736   736   736\n  end        1149  1149  1149\n")  # of 1530 that were paid for seven bookings
+        self.want_in(season, "Seats of VIE-LHR-2, 48 seats, 50 authorised, under davn: sold, left, and protected for buckets\n")
+
+    def test_deals_replies_to_their_lines(self) -> None:
+        """A stream that asks for plans and legs itself, and has lines that are bad."""
+        lines = (EXAMPLES / "log" / "commands.txt").read_text().splitlines()
+        mixed = [it for line in lines for it in (line, "plan", "leg ZRH-VIE", "hindsight", "x", "leg NONE")]
+        words = ["--out", "pictures", *self.with_program]
+        plain, more = (self.told("season", EXAMPLES / "log" / "network.csv", self.file("stream", "\n".join(it) + "\n"), *words)
+                       for it in (lines, mixed))
+        self.assertEqual(plain.partition("Revenue")[2], more.partition("Revenue")[2])
+
+    def test_says_what_isnt_made_and_which_python_may_have_it(self) -> None:
+        for libraries, wanted in ((["matplotlib"], "no pictures, since "), (["matplotlib", "jinja2"], "no pictures and no page, since ")):
+            err = self.ran("season", *self.words("log"), env=self.blind(*libraries)).err
+            self.want_in(err, f"nrm-tools season: {wanted}{sys.executable}, the Python that was asked, has no {' and no '.join(libraries)}; ")
+            for library in libraries:
+                self.want_in(err, f"python3-{library}")

@@ -1,0 +1,58 @@
+"""Thresholds from the fares are told, drawn and written."""
+from __future__ import annotations
+
+import os
+import unittest
+
+from harness import EXAMPLES, PlaceTest
+from nrm.telling.libraries import is_there
+
+FARES_OF_LEGS = """periods,2,2,2
+leg,AB,9,8,700,1
+leg,IDLE,5,5,300,100
+leg,BC,7,9
+product,P,500,AB
+refund,P,50
+product,Q,150,AB
+product,R,400,AB,BC
+demand,P,2,1,3
+demand,Q,1,5,5
+product,S,400,AB
+demand,R,1,2,0
+demand,S,1,0,4
+"""
+
+
+class Groupings(PlaceTest):
+    def test_are_told_and_written(self) -> None:
+        network, program = EXAMPLES / "certificate" / "network.csv", self.with_program
+        out = self.told("thresholds", network, 2, "--out", "made.csv", *program)
+        self.assertEqual(out.splitlines()[3:], ["  leg  cuts  centres   cost  for a seat",
+                                                "  AB    400  500 150  1,200        21.4",
+                                                "  BC    500   500 80      0         0.0", "  all                 1,200        11.5", "", "made.csv"])
+        wanted = network.read_text().replace("AB,10,300,100", "AB,10,400").replace("BC,10,300,100", "BC,10,500")
+        self.assertEqual((self.folder / "made.csv").read_text(), wanted)
+        self.want_in(self.nrm("plan", "davn", "made.csv"), "nest AB ABL 150/1 2\n")
+
+    def test_leave_all_else_as_it_stands(self) -> None:
+        """In version 2 too, and a leg that no product uses keeps its own; and the file may be written over."""
+        path, program = self.file("network.csv", FARES_OF_LEGS), self.with_program
+        for groups, cuts in ((1, ""), (2, ",400"), (3, ",500,400"), (10, ",500,400")):
+            out = self.told("thresholds", path, groups, "--out", path, *program)
+            self.assertEqual((self.folder / "network.csv").read_text(), FARES_OF_LEGS.replace("AB,9,8,700,1", f"AB,9,8{cuts}"))
+            self.want_in(out, "\nno product uses IDLE\n")
+        self.want_in(self.nrm("print", path), "leg,AB,9,8,500,400\n")
+
+    def test_are_told_in_a_table_where_nothing_is_drawn(self) -> None:
+        words = [self.file("network.csv", FARES_OF_LEGS), 2, "--pictures", "pictures", *self.with_program]
+        out, err, status = self.ran("thresholds", *words)
+        self.assertEqual((err.startswith("nrm-tools thresholds: no pictures, since "), status), (True, 0), err)
+        self.assertEqual(out.partition("The fares on AB\n")[2].splitlines()[1:6],
+                         ["  group  fare  seats  centre", "  1       500      4     400", "  1       400      6     400",
+                          "  2       150     10     150", ""])
+
+    @unittest.skipUnless(is_there("matplotlib"), "there is no matplotlib (Debian's package is python3-matplotlib)")
+    def test_are_drawn(self) -> None:
+        words = [self.file("network.csv", FARES_OF_LEGS), 2, "--pictures", "pictures", *self.with_program]
+        self.want_in(self.told("thresholds", *words, env=os.environ), "\npictures/thresholds.png\npictures/thresholds.svg\n")
+        self.assertEqual(sorted(it.name for it in (self.folder / "pictures").iterdir()), ["thresholds.png", "thresholds.svg"])

@@ -1,0 +1,160 @@
+"""The blocks of commands of a page, run in its order in one shell, and what the page shows of what they print.
+
+A block is what is indented by four blanks or more behind an empty line. A part of it that begins with the name of a command is run; any
+other shows something. What is shown behind commands must have been printed by those above it under the same heading, or written by
+them into files of the folder `mine`, which the pages write to.
+"""
+import os
+import re
+import shutil
+import subprocess
+import tempfile
+from dataclasses import dataclass, field
+from pathlib import Path
+
+SECONDS = 300  # that the commands of a page may take in all
+COMMANDS = """nrm nrm-tools nrm_kept ./nrm ./nrm_kept ./nrm-tools .ci/run tools/release.sh awk cat cc cmp coproc echo esolver for git glpsol grep
+    head install mkdir openssl printf python3 /usr/bin/python3 rm sed sender sqlite3 tail {""".split()
+ASSIGNED = re.compile(r"[a-z]+=")
+TOLD = re.compile(r"nrm-tools [a-z]+: ")  # what a command tells on standard error
+ELIDED = re.compile(r"\s*\.\.+\s*")  # a line that stands for several
+MARK = "blocks.py"
+
+
+@dataclass
+class Part:
+    """A part of a block: its page, the line where it begins, its lines, and, if it shows something, the commands of which one prints it."""
+    page: str
+    line: int
+    lines: list
+    shows: list = field(default_factory=list, repr=False)
+    out: str = field(default="", repr=False)
+    status: "int | None" = None
+
+    def name(self):
+        return f"{self.page}:{self.line}: {self.lines[0].strip()}"
+
+    def text(self):
+        """Its lines, moved to the left."""
+        blanks = min(len(it) - len(it.lstrip()) for it in self.lines)
+        return "\n".join(it[blanks:].rstrip() for it in self.lines) + "\n"
+
+    def is_run(self):
+        """Whether it is commands."""
+        first = self.lines[0].split()[0]
+        if TOLD.match(self.lines[0].strip()):
+            return False
+        return first in COMMANDS or ASSIGNED.match(first) is not None
+
+
+def parts_of(path):
+    """The parts of a page, in their order."""
+    found, above, lines, is_block, part = [], [], [*path.read_text().splitlines(), ""], False, None
+    for at, line in enumerate(lines, 1):
+        is_indented = line.startswith("    ")
+        if is_indented and (is_block or not lines[at - 2].strip()):
+            is_block = True
+            if part is None:
+                part = Part(path.name, at, [])
+                found.append(part)
+            part.lines.append(line)
+            continue
+        part, is_block = None, is_block and not line.strip()
+        if line.startswith("#"):
+            found.append(None)  # a heading: what is shown below it isn't of the commands above
+    for part in found:
+        if part is None:
+            above = []
+        elif part.is_run():
+            above = [*above, part]
+        else:
+            part.shows = above
+    return [it for it in found if it]
+
+
+def is_shown_in(shown, printed):
+    """Whether lines are in a text, one below the other, but for what they leave out."""
+    wanted, lines = shown.splitlines(), [it.rstrip() for it in printed.splitlines()]
+    pieces, at = [[]], 0
+    for line in wanted:
+        if ELIDED.fullmatch(line):
+            pieces.append([])
+        else:
+            pieces[-1].append(line.strip())
+    bare = [it.strip() for it in lines]
+    for piece in filter(None, pieces):
+        at = next((it + len(piece) for it in range(at, len(bare) - len(piece) + 1) if bare[it:it + len(piece)] == piece), None)
+        if at is None:
+            return False
+    return True
+
+
+def run(parts, top, path):
+    """Runs the commands of a page at the top of a folder, with a path of programs: each gets what it printed, and its status. A part that
+    isn't reached keeps the status None."""
+    with tempfile.TemporaryDirectory() as folder:
+        script = ["exec </dev/null"]
+        for number, part in enumerate(parts):
+            Path(folder, f"{number}.sh").write_text(part.text())
+            script.append(f". '{folder}/{number}.sh' >'{folder}/{number}.out' 2>&1; echo $? >'{folder}/{number}.status'")
+            script.append(f"mkdir -p '{folder}/{number}.mine'; cp -r --preserve=timestamps mine/. '{folder}/{number}.mine' 2>/dev/null")
+        process = subprocess.Popen(["bash", "-c", "\n".join(script), MARK], cwd=top, start_new_session=True, stdout=subprocess.DEVNULL,
+                                   stderr=subprocess.DEVNULL, env={**os.environ, "PATH": path, "LC_ALL": "C.UTF-8", "NRM_PROGRAM": ""})
+        try:
+            process.wait(SECONDS)
+        except subprocess.TimeoutExpired:
+            os.killpg(process.pid, 9)
+            process.wait()
+        for number, part in enumerate(parts):
+            read_back(part, Path(folder, str(number)), Path(folder, str(number - 1)))
+
+
+def read_back(part, place, before):
+    """Takes what a part printed and wrote into files that weren't so before, and its status."""
+    status = place.with_suffix(".status")
+    if status.exists() and status.read_text():
+        part.status = int(status.read_text())
+    out = place.with_suffix(".out")
+    part.out = out.read_text(errors="replace") if out.exists() else ""
+    for path in sorted(place.with_suffix(".mine").rglob("*")):
+        old = before.with_suffix(".mine") / path.relative_to(place.with_suffix(".mine"))
+        if path.is_file() and not (old.is_file() and old.read_bytes() == path.read_bytes()):
+            part.out += "\n" + path.read_text(errors="replace")
+
+
+@dataclass(frozen=True)
+class Lists:
+    """What isn't run, how commands end, and what isn't compared, each by how a line of it begins."""
+    not_run: dict
+    ends: dict
+    not_shown: dict
+
+    @staticmethod
+    def found(texts, part):
+        """The texts of a list with which a line of a part begins."""
+        return [it for it in texts if any(line.strip().startswith(it) for line in part.lines)]
+
+
+def missing(needs):
+    """Those commands of a list that aren't installed: a part that runs one isn't run."""
+    return {command: "it isn't installed" for command in needs if not shutil.which(command)}
+
+
+def faults_of(page, top, path, lists):
+    """Runs a page in a folder, and tells what is wrong, how many parts were run and compared, and what was met of the lists."""
+    parts = parts_of(page)
+    met = {found for some in (lists.not_run, lists.ends, lists.not_shown) for it in parts for found in lists.found(some, it)}
+    chosen = [it for it in parts if it.is_run() and not lists.found(lists.not_run, it)]
+    if chosen:
+        run(chosen, top, path)
+    faults = []
+    for it in chosen:
+        wanted = next((lists.ends[found] for found in lists.found(lists.ends, it)), 0)
+        if it.status != wanted:
+            how = "was not reached" if it.status is None else f"ended with status {it.status}"
+            faults.append(f"{it.name()}: {how}, and {wanted} is wanted: {it.out[-300:]}")
+    compared = [it for it in parts if it.shows and it.shows[-1] in chosen and not lists.found(lists.not_shown, it)]
+    for it in compared:
+        if not any(is_shown_in(it.text(), above.out) for above in it.shows):
+            faults.append(f"{it.name()}: this wasn't printed by {it.shows[-1].name()}\n{it.shows[-1].out[-600:]}")
+    return faults, len(chosen), len(compared), met

@@ -1,0 +1,114 @@
+#!/usr/bin/env python3
+"""The pages: their links lead somewhere, and their commands print what the pages show.
+
+    tests/pages.py [PATTERN] [--program WORD...]
+
+The pages are README.md and those of docs/, of which PATTERN picks those with it in their name. The commands of each run in a copy of what
+is committed or added, in their order, with the program that is tested in the place of the built one. What isn't run or compared is
+listed below, each with the reason. With no --program it is the script `nrm` at the top of the repository; the script `nrm_kept` is
+always that at the top. What fails is told; the last line is `N passed, M failed`.
+"""
+import concurrent.futures
+import os
+import re
+import shlex
+import shutil
+import subprocess
+import sys
+import tempfile
+from pathlib import Path
+
+import blocks
+import checks
+
+TOP = Path(__file__).resolve().parent.parent
+PAGES = [TOP / "README.md", *sorted((TOP / "docs").glob("*.md"))]
+USERS_OWN = "it is of files that the user has"
+SERVERS = "it is of a server, whose tests run it"
+MINUTES = "it needs Dask, and may take a minute and more"
+NOT_RUN = {  # by the beginning of the commands; the reason
+    ".ci/run": "it is this gate",
+    "nrm plan bid network.csv > plan.new": USERS_OWN, "nrm print network.csv > canonical.new": USERS_OWN,
+    "nrm print old.csv > new.part": USERS_OWN, "sender |": USERS_OWN, "head -c 123 replies": USERS_OWN,
+    "nrm-tools resume network.csv": USERS_OWN, "awk '/^ok /": USERS_OWN,
+    "/usr/bin/python3 -m distributed": SERVERS, "openssl req": SERVERS,
+    "nrm-tools simulate": MINUTES,
+    "git clone": "it proves all crates again", "install -m 755": "it installs into the system",
+    "sqlite3 mine/bookings.db 'SELECT * FROM kept WHERE number = N'": "N stands for a number that was told",
+    "nrm-tools desks": SERVERS, "cc -o mine/desk": SERVERS, r"printf 'book HJ-Q 2\nbook HN-Y 1\ncancel 1": SERVERS,
+}
+NEEDS = ("glpsol", "esolver", "sqlite3")  # commands of Debian's packages glpk-utils, qsopt-ex and sqlite3: not run where one isn't there
+ENDS = {  # by the beginning of the commands that end with another status than 0 on purpose: the status
+    "sed 's/AB 120/AB 119/'": 1, "nrm-tools explain mine/train.csv": 3, 'cp "$store-wal" mine/backup': 1}
+NOT_SHOWN = {}  # by the beginning of what isn't compared: the reason
+
+
+def headings_of(path):
+    """The anchors of a page's headings."""
+    return {re.sub(r"[^\w -]", "", it.lower()).replace(" ", "-") for it in re.findall(r"^#+ (.*)", path.read_text(), re.M)}
+
+
+def faulty_links(pages):
+    """The links of some pages that lead nowhere, and how many links there are."""
+    faults, links = [], 0
+    for path in pages:
+        for link in re.findall(r"\]\(([^)#:]*(?:#[^)]*)?)\)", path.read_text()):
+            file, _, heading = link.partition("#")
+            linked = path.parent / file if file else path
+            if not linked.exists() or heading and heading not in headings_of(linked):
+                faults.append(f"{path.name}: there is no {link}")
+            links += 1
+    return faults, links
+
+
+def copied(top, program):
+    """Copies what git knows of to a folder, but for the crates, with the program in the place of the built one."""
+    names = subprocess.run(["git", "ls-files", "-z", ":!crates"], cwd=TOP, stdout=subprocess.PIPE, check=True).stdout.split(b"\0")
+    for name in map(os.fsdecode, filter(None, names)):
+        if (TOP / name).exists():
+            (top / name).parent.mkdir(parents=True, exist_ok=True)
+            shutil.copy2(TOP / name, top / name, follow_symlinks=False)
+    for name, words in (("nrm", program), ("nrm_kept", [str(TOP / "nrm_kept")])):
+        built = top / "crates" / name / "out" / name
+        built.parent.mkdir(parents=True, exist_ok=True)
+        built.write_text(f'#!/bin/sh\nexec {shlex.join(words)} "$@"\n')
+        built.chmod(0o755)
+
+
+def page_tried(path, program):
+    """What is wrong with a page, how many parts of it were run, and how many compared, and what of the lists was met."""
+    with tempfile.TemporaryDirectory() as folder:
+        top = Path(folder) / "copy"
+        if any(it.is_run() for it in blocks.parts_of(path)):
+            copied(top, program)
+        lists = blocks.Lists({**NOT_RUN, **blocks.missing(NEEDS)}, ENDS, NOT_SHOWN)
+        return blocks.faults_of(path, top, f"{top}:{os.environ['PATH']}", lists)
+
+
+def main():
+    given = checks.words_of(__doc__)
+    pages = [it for it in PAGES if given.pattern in it.name]
+    if not checks.is_built(given.program):
+        checks.ended(0, len(pages))
+        return checks.NOT_BUILT
+    faults, links = faulty_links([*TOP.glob("*.md"), *pages])
+    if links < 100 and not given.pattern:
+        faults.append(f"there are {links} links alone")
+    failed, met = bool(faults), set()
+    with concurrent.futures.ThreadPoolExecutor(4) as pool:
+        for path, (wrong, ran, compared, found) in zip(pages, pool.map(lambda it: page_tried(it, given.program), pages)):
+            print(f"{path.name}: commands run {ran}, compared with what is shown {compared}", flush=True)
+            faults += wrong
+            met |= found
+            failed += bool(wrong)
+    if not given.pattern:
+        unmet = [f"no page has `{it}`, which is listed" for it in [*NOT_RUN, *ENDS, *NOT_SHOWN] if it not in met]
+        faults += unmet
+        failed += bool(unmet)
+    for it in faults:
+        print(it)
+    return checks.ended(len(pages) + 2 - failed, failed)
+
+
+if __name__ == "__main__":
+    sys.exit(main())
