@@ -7,9 +7,6 @@
 
 A public contract is a clause of a function, method or trait that leaves its crate, or a member of an `impl` of such a
 type. A clause reaches the files that its names come from, and each of those the files that it uses in its turn.
-
-The view and the invariant of a type (`ghost view`, `ghost invariant`) are no clauses of a function: they say how the type keeps
-what callers see. A file that they alone reach may stand on either side; the list has it, marked so.
 """
 import os
 import re
@@ -100,13 +97,8 @@ def blocks(text):
             item = []
 
 
-def without_representation(item):
-    """An item without the views and invariants in it, each of which ends in `};`, and without what it imports for them."""
-    return re.sub(r"^ *ghost (?:use [^;]*;|(?:view|invariant) = \{.*?\};)$", "", item, flags=re.M | re.S)
-
-
-def public_text(crate, change=lambda item: item):
-    """For each source file, its imports for clauses and the text of its public clauses, each item changed so."""
+def public_text(crate):
+    """For each source file, its imports for clauses and the text of its public clauses."""
     leaves = exported(crate)
     base = os.path.join(CRATES, crate, "src")
     for folder, _, names in os.walk(base):
@@ -128,7 +120,7 @@ def public_text(crate, change=lambda item: item):
                     if of not in leaves:
                         continue
                     if for_type:
-                        public += change(item)
+                        public += item
                     else:
                         for part in re.split(r"\n(?=    (?:///|//|#\[|pub|fn|const|ghost))", item):
                             if re.search(r"^\s*(?:#\[.*\]\s*)*(?:///.*\s*)*pub (?:const )?fn", part):
@@ -140,11 +132,14 @@ def public_text(crate, change=lambda item: item):
             yield uses, re.sub(r"//.*", "", public)
 
 
-def reached_by(files, order, below, change=lambda item: item):
-    """The files that public contracts reach."""
+def main():
+    files, order = OrderedDict(), crate_order()
+    for crate in order:
+        files.update(spec_files(crate))
+    below = {module: {m for m, _ in imports(read(path), "use") if m in files} for module, path in files.items()}
     reached = set()
     for crate in order:
-        for uses, public in public_text(crate, change):
+        for uses, public in public_text(crate):
             for module, names in uses:
                 if module in files and any(re.search(r"(?<![\w.])" + re.escape(n) + r"(?!\w)", public) for n in names if n):
                     reached.add(module)
@@ -153,27 +148,16 @@ def reached_by(files, order, below, change=lambda item: item):
         for module in below[queue.pop()] - reached:
             reached.add(module)
             queue.append(module)
-    return reached
-
-
-def main():
-    files, order = OrderedDict(), crate_order()
-    for crate in order:
-        files.update(spec_files(crate))
-    below = {module: {m for m, _ in imports(read(path), "use") if m in files} for module, path in files.items()}
-    reached = reached_by(files, order, below)
-    by_clauses = reached_by(files, order, below, without_representation)
     if "--list" in sys.argv[1:]:
         for module in files:
             if module in reached:
                 first = read(files[module]).split("\n", 1)[0].lstrip("- ")
-                kept = "" if module in by_clauses else " (how a type keeps what callers see)"
-                print(f"{os.path.relpath(files[module], TOP)}: {first}{kept}")
+                print(f"{os.path.relpath(files[module], TOP)}: {first}")
         return 0
     faults = 0
     for module, path in files.items():
         inner = ".Inner." in module
-        if inner and module in by_clauses or not inner and module not in reached:
+        if inner == (module in reached):
             faults += 1
             why = "a public contract reaches it" if inner else "no public contract reaches it"
             print(f"{os.path.relpath(path, TOP)}: {why}")

@@ -9,7 +9,7 @@ use Rattle.nrm_model.specs.Inventory.{Inventory, authorised_of, legs_of, uses_le
 use Rattle.nrm_book.specs.declared.booking.Booking.{Booking}
 use Rattle.nrm_book.specs.Bookings.{sold_of, sold_on}
 use Rattle.nrm_book.specs.Book.{BookValue, IsBook, IsInventory}
-use Rattle.nrm_book.specs.Inner.Seats.{SeatsValue, CanFall, CanRise, changed, seats_sold}
+use Rattle.nrm_book.specs.Seats.{SeatsValue, CanFall, CanRise, changed, seats_sold}
 use Rattle.nrm_book.proofs.CountChanges.{all-legs, one-product}
 use Rattle.nrm_book.proofs.Revenues.{sold-within}
 use Rattle.std.proofs.lemmas.Bool.{ne_eqb}

@@ -10,7 +10,7 @@ use Rattle.std.proofs.lemmas.List.Sums.{fold_more}
 use Rattle.nrm_model.specs.Inventory.{Inventory, legs_of, uses_leg}
 use Rattle.nrm_book.specs.declared.booking.Booking.{Booking}
 use Rattle.nrm_book.specs.Bookings.{sold_of, sold_on}
-use Rattle.nrm_book.specs.Inner.Seats.{CanFall, CanRise, changed_all, changed_at}
+use Rattle.nrm_book.specs.Seats.{CanFall, CanRise, changed_all, changed_at}
 
 -- ---- count by count
 pub rise-apart : (party : ℕ) (counts : List ℕ) (i other : ℕ) → other ≢ i → CanRise counts other party → CanRise (changed_at (λ sold. sold + party) counts i) other party

@@ -10,7 +10,7 @@ use Rattle.nrm_model.specs.Limits.{IsNetwork}
 use Rattle.nrm_model.specs.Inventory.{Inventory, inventory_of}
 use Rattle.nrm_book.specs.declared.booking.Booking.{Booking}
 use Rattle.nrm_book.specs.Book.{BookValue, IsBook, IsInventory}
-use Rattle.nrm_book.specs.Inner.Seats.{SeatsValue, seats_sold}
+use Rattle.nrm_book.specs.Seats.{SeatsValue, seats_sold}
 use Rattle.nrm_book.proofs.Sold.{sold_on-by_booking}
 
 -- the inventory of a network is within its limits

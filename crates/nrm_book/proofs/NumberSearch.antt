@@ -13,7 +13,7 @@ use Rattle.std.proofs.lemmas.List.Quantifiers.{position-Some}
 use Rattle.std.proofs.lemmas.List.Sums.{fails_before_first}
 use borrow.Author.Tests.{tests}
 use Rattle.nrm_book.specs.declared.slot.Slot.{Slot}
-use Rattle.nrm_book.specs.Inner.Standing.{SlotsRise}
+use Rattle.nrm_book.specs.Standing.{SlotsRise}
 use Rattle.nrm_book.proofs.Rows.{no_slot}
 use Rattle.nrm_book.proofs.Kept.{none-past}
 

@@ -13,7 +13,7 @@ use Rattle.nrm_book.specs.declared.slot.Sale.{Sale}
 use Rattle.nrm_book.specs.declared.slot.Slot.{Slot}
 use Rattle.nrm_book.specs.Bookings.{booking_numbered, without}
 use Rattle.nrm_book.proofs.Kept.{none-past}
-use Rattle.nrm_book.specs.Inner.Standing.{IsRow, SlotsRise, booking_of, emptied, is_taken, standing, standing_in}
+use Rattle.nrm_book.specs.Standing.{IsRow, SlotsRise, booking_of, emptied, is_taken, standing, standing_in}
 
 -- what stands past the end of a row
 abbrev pub no_slot : Slot

@@ -1,3 +1,5 @@
 pub mod Book
 pub mod Bookings
-pub mod Inner
+pub mod Seats
+pub mod Standing
+pub mod Stored

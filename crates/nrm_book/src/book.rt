@@ -30,7 +30,7 @@ pub struct Book {
 impl Model for Book {
     ghost use Rattle.std.specs.Prelude.{map};
     ghost use Rattle.nrm_book.specs.Book.{BookValue};
-    ghost use Rattle.nrm_book.specs.Inner.Stored.{IsStored};
+    ghost use Rattle.nrm_book.specs.Stored.{IsStored};
 
     ghost Value = { BookValue };
 

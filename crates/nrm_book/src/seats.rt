@@ -2,7 +2,7 @@
 //! sale and a cancellation take no memory. They change the count of the product, and those of its own legs.
 ghost use Rattle.std.specs.Prelude.{◌≡◌, ◌≢◌, ◌+◌, ◌-◌, ◌<◌, [], All, AllPairs, IfOk, length, slice_index};
 ghost use Rattle.nrm_model.specs.Inventory.{inventory_of};
-ghost use Rattle.nrm_book.specs.Inner.Seats.{CanFall, CanRise, changed, changed_all, seats_sold};
+ghost use Rattle.nrm_book.specs.Seats.{CanFall, CanRise, changed, changed_all, seats_sold};
 
 use nrm_model::Network;
 use std::alloc::{AllocError, Global};
@@ -16,7 +16,7 @@ pub(crate) struct SeatsSold {
 }
 
 impl Model for SeatsSold {
-    ghost use Rattle.nrm_book.specs.Inner.Seats.{SeatsValue};
+    ghost use Rattle.nrm_book.specs.Seats.{SeatsValue};
 
     ghost Value = { SeatsValue };
 

@@ -5,7 +5,7 @@ ghost use Rattle.std.specs.Prelude.{ℕ, ◌≡◌, ◌+◌, ◌*◌, ◌<◌, �
 ghost use Rattle.std.specs.Prelude.{slice_index_or, vec_capacity};
 ghost use Rattle.nrm_model.specs.declared.limits.TheConstants.{BOOKING_LIMIT};
 ghost use Rattle.nrm_book.specs.Bookings.{booking_numbered, without};
-ghost use Rattle.nrm_book.specs.Inner.Standing.{IsRow, SlotsRise, emptied, is_taken, standing};
+ghost use Rattle.nrm_book.specs.Standing.{IsRow, SlotsRise, emptied, is_taken, standing};
 ghost use Rattle.nrm_book.specs.declared.slot.Slot.{Slot as SlotValue};
 
 use crate::Booking;
@@ -22,7 +22,7 @@ pub(crate) struct Standing {
 
 impl Model for Standing {
     ghost use Rattle.std.specs.Prelude.{vec_capacity};
-    ghost use Rattle.nrm_book.specs.Inner.Standing.{IsRow, StandingValue, standing};
+    ghost use Rattle.nrm_book.specs.Standing.{IsRow, StandingValue, standing};
 
     ghost Value = { StandingValue };
 
@@ -106,7 +106,7 @@ pub struct Bookings<'a> {
 impl<'a> Model for Bookings<'a> {
     ghost use Rattle.std.specs.Prelude.{List};
     ghost use Rattle.nrm_book.specs.declared.booking.Booking.{Booking as Own};
-    ghost use Rattle.nrm_book.specs.Inner.Standing.{standing};
+    ghost use Rattle.nrm_book.specs.Standing.{standing};
 
     ghost Value = { List Own };
 

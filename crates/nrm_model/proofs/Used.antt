@@ -9,7 +9,7 @@ use Rattle.std.proofs.lemmas.Option.{unwrap_or-slice_get}
 use Rattle.nrm_number.proofs.Ranges.{range-more}
 use Rattle.nrm_model.specs.declared.product.Product.{Product}
 use Rattle.nrm_model.specs.Inventory.{legs_of, uses_leg}
-use Rattle.nrm_model.specs.Inner.Kept.{legs_alone}
+use Rattle.nrm_model.specs.Stored.{legs_alone}
 
 -- a product that was read uses the legs that it has
 pub uses-read : (products : List Product) (n leg : ℕ) (product : Product) → n < length products → product ≡ get_or products n product → list_any (λ own. own == leg) product.legs ≡ uses_leg (legs_alone products) leg n

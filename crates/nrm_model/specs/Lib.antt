@@ -1,6 +1,6 @@
 pub mod Demand
-pub mod Inner
 pub mod Inventory
 pub mod Limits
 pub mod Network
+pub mod Stored
 pub mod Tables

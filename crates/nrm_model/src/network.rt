@@ -5,7 +5,7 @@ ghost use Rattle.std.specs.Prelude.{◌≡◌, ◌≢◌, ◌+◌, ◌<◌, ◌�
 ghost use Rattle.std.specs.Int.{IsInRange};
 ghost use Rattle.std.specs.List.{range_with_len};
 ghost use Rattle.nrm_model.specs.declared.limits.TheConstants.{MOST_DEMAND, MOST_LEGS, MOST_PRODUCTS, MOST_SEATS, MOST_TOTAL_DEMAND};
-ghost use Rattle.nrm_model.specs.Inner.Kept.{numbers_using};
+ghost use Rattle.nrm_model.specs.Stored.{numbers_using};
 
 use crate::{Leg, NameTable, Product};
 use nrm_text::Name;
@@ -29,7 +29,7 @@ pub struct Network {
 impl Model for Network {
     ghost use Rattle.std.specs.Prelude.{map};
     ghost use Rattle.nrm_model.specs.Network.{NetworkValue};
-    ghost use Rattle.nrm_model.specs.Inner.Kept.{IsKept};
+    ghost use Rattle.nrm_model.specs.Stored.{IsKept};
 
     ghost Value = { NetworkValue };
 

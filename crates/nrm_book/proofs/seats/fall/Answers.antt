@@ -1,5 +1,5 @@
 use Rattle.std.proofs.Common.{◌-◌, refl}
-use Rattle.nrm_book.specs.Inner.Seats.{CanFall}
+use Rattle.nrm_book.specs.Seats.{CanFall}
 use Rattle.nrm_book.proofs.CountChanges.{all-done, none-yet, one_more, fall-apart}
 use Rattle.nrm_book.proofs.seats.fall.Goals as goal
 

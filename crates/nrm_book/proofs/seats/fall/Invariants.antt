@@ -1,5 +1,5 @@
 use Rattle.std.proofs.Common.{◌-◌}
-use Rattle.nrm_book.specs.Inner.Seats.{CanFall}
+use Rattle.nrm_book.specs.Seats.{CanFall}
 use Rattle.nrm_book.proofs.CountChanges.{Changes, fall-apart}
 use Rattle.nrm_book.proofs.seats.fall.Given as goal
 

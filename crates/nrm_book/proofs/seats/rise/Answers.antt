@@ -1,5 +1,5 @@
 use Rattle.std.proofs.Common.{◌+◌, refl}
-use Rattle.nrm_book.specs.Inner.Seats.{CanRise}
+use Rattle.nrm_book.specs.Seats.{CanRise}
 use Rattle.nrm_book.proofs.CountChanges.{all-done, none-yet, one_more, rise-apart}
 use Rattle.nrm_book.proofs.seats.rise.Goals as goal
 

@@ -1,5 +1,5 @@
 use Rattle.std.proofs.Common.{◌+◌}
-use Rattle.nrm_book.specs.Inner.Seats.{CanRise}
+use Rattle.nrm_book.specs.Seats.{CanRise}
 use Rattle.nrm_book.proofs.CountChanges.{Changes, rise-apart}
 use Rattle.nrm_book.proofs.seats.rise.Given as goal
 

@@ -1,5 +1,5 @@
 use Rattle.std.proofs.Common.{◌≡◌, drop}
-use Rattle.nrm_book.specs.Inner.Standing.{standing}
+use Rattle.nrm_book.specs.Standing.{standing}
 use Rattle.nrm_book.proofs.standing.first_standing.Given as goal
 
 -- none stands in the slots so far

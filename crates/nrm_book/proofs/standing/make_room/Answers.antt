@@ -1,5 +1,5 @@
 use Rattle.std.proofs.Common.{◌≡◌, ap, length, arith, sym, subst}
-use Rattle.nrm_book.specs.Inner.Standing.{IsRow, standing}
+use Rattle.nrm_book.specs.Standing.{IsRow, standing}
 use Rattle.nrm_book.proofs.Rows.{IsRow-taken, taken-alone}
 use Rattle.nrm_book.proofs.standing.make_room.Goals as goal
 

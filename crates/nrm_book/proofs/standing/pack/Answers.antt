@@ -1,6 +1,6 @@
 use Rattle.std.proofs.Common.{rules}
 use Rattle.std.proofs.lemmas.List.Elements.{filter_from_retain}
-use Rattle.nrm_book.specs.Inner.Standing.{is_taken}
+use Rattle.nrm_book.specs.Standing.{is_taken}
 use Rattle.nrm_book.proofs.standing.pack.Goals as goal
 
 pub returns-clause-items : goal.returns-clause-items

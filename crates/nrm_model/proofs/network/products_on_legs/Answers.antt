@@ -1,7 +1,7 @@
 use Rattle.std.proofs.Common.{ℕ, ◌∙◌, [], ◌∷◌, map, ap, Vec}
 use Rattle.std.specs.declared.alloc.Global.{Global}
 use Rattle.std.proofs.lemmas.List.{map-append}
-use Rattle.nrm_model.specs.Inner.Kept.{numbers_using}
+use Rattle.nrm_model.specs.Stored.{numbers_using}
 use Rattle.nrm_model.proofs.Lists.{map-number-more}
 use Rattle.nrm_model.proofs.network.products_on_legs.Goals as goal
 

@@ -1,6 +1,6 @@
 use Rattle.std.proofs.Common.{◌≡◌, ◌∙◌, sym, ap}
 use Rattle.nrm_model.specs.Inventory.{uses_leg}
-use Rattle.nrm_model.specs.Inner.Kept.{legs_alone}
+use Rattle.nrm_model.specs.Stored.{legs_alone}
 use Rattle.nrm_model.proofs.Used.{left-out, taken-in, uses-read}
 use Rattle.nrm_model.proofs.network.products_using.Goals as goal
 use Rattle.nrm_model.proofs.network.products_using.Goals.{then-contains+in_ok-push, else-contains}

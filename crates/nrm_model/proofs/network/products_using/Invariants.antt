@@ -1,7 +1,7 @@
 use Rattle.std.proofs.Common.{◌≡◌, filter}
 use Rattle.std.specs.List.{range_with_len}
 use Rattle.nrm_model.specs.Inventory.{uses_leg}
-use Rattle.nrm_model.specs.Inner.Kept.{legs_alone}
+use Rattle.nrm_model.specs.Stored.{legs_alone}
 use Rattle.nrm_model.proofs.network.products_using.Given as goal
 
 -- those among the products so far

@@ -1,6 +1,6 @@
 use Rattle.std.proofs.Common.{◌≡◌, ap, subst, arith}
 use Rattle.nrm_book.specs.Book.{BookValue, IsBook}
-use Rattle.nrm_book.specs.Inner.Seats.{seats_sold}
+use Rattle.nrm_book.specs.Seats.{seats_sold}
 use Rattle.nrm_book.proofs.BookedCounts.{counted-on}
 use Rattle.nrm_book.proofs.Revenues.{number-read}
 use Rattle.nrm_book.proofs.book.Book.left.Goals as goal

@@ -4,8 +4,8 @@ use Rattle.std.proofs.lemmas.List.{length-map}
 use Rattle.nrm_book.specs.contracts.book.Book.{the_view}
 use Rattle.nrm_book.specs.Bookings.{booking_numbered, without}
 use Rattle.nrm_book.specs.Book.{BookValue, IsBook}
-use Rattle.nrm_book.specs.Inner.Standing.{StandingValue}
-use Rattle.nrm_book.specs.Inner.Stored.{IsStored}
+use Rattle.nrm_book.specs.Standing.{StandingValue}
+use Rattle.nrm_book.specs.Stored.{IsStored}
 use Rattle.nrm_book.proofs.Kept.{IsBook-removed, live-place, sold-short}
 use Rattle.nrm_book.proofs.BookedCounts.{can-give_back, given_back-next, legs-read}
 use Rattle.nrm_book.proofs.Revenues.{revenue-less}

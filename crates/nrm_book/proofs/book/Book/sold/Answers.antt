@@ -1,6 +1,6 @@
 use Rattle.std.proofs.Common.{◌≡◌, ◌∙◌, subst}
 use Rattle.nrm_book.specs.Book.{BookValue}
-use Rattle.nrm_book.specs.Inner.Seats.{seats_sold}
+use Rattle.nrm_book.specs.Seats.{seats_sold}
 use Rattle.nrm_book.proofs.BookedCounts.{counted-of}
 use Rattle.nrm_book.proofs.book.Book.sold.Goals as goal
 

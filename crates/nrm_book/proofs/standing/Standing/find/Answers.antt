@@ -1,5 +1,5 @@
 use Rattle.std.proofs.Common.{◌∙◌, ap}
-use Rattle.nrm_book.specs.Inner.Standing.{StandingValue}
+use Rattle.nrm_book.specs.Standing.{StandingValue}
 use Rattle.nrm_book.proofs.Rows.{row-absent, row-found}
 use Rattle.nrm_book.proofs.standing.Standing.find.Goals as goal
 

@@ -1,6 +1,6 @@
 use Rattle.std.proofs.Common.{◌≡◌, ◌∙◌, ◌++◌, ◌∷◌, [], List, length, ap, arith}
 use Rattle.nrm_book.specs.declared.booking.Booking.{Booking}
-use Rattle.nrm_book.specs.Inner.Standing.{StandingValue, standing}
+use Rattle.nrm_book.specs.Standing.{StandingValue, standing}
 use Rattle.nrm_book.proofs.Rows.{IsRow-more, one-stands}
 use Rattle.nrm_book.proofs.standing.Standing.push.Goals as goal
 

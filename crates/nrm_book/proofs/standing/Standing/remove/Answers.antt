@@ -1,5 +1,5 @@
 use Rattle.std.proofs.Common.{◌≡◌, ◌∙◌, Some, sym, ap}
-use Rattle.nrm_book.specs.Inner.Standing.{IsRow, StandingValue, standing}
+use Rattle.nrm_book.specs.Standing.{IsRow, StandingValue, standing}
 use Rattle.nrm_book.proofs.Rows.{IsRow-emptied, dead-stay, row-absent, row-emptied, row-found, row-short}
 use Rattle.nrm_book.proofs.standing.Standing.remove.Goals as goal
 

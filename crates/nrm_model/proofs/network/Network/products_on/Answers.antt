@@ -1,7 +1,7 @@
 -- The list that is kept of a leg's products.
 use Rattle.std.proofs.Common.{◌∙◌, length, ap, arith}
 use Rattle.nrm_model.specs.Network.{NetworkValue}
-use Rattle.nrm_model.specs.Inner.Kept.{numbers_using}
+use Rattle.nrm_model.specs.Stored.{numbers_using}
 use Rattle.nrm_model.proofs.Used.{list-at, lists-count}
 use Rattle.nrm_model.proofs.network.Network.products_on.Goals as goal
 

@@ -2,8 +2,8 @@
 use Rattle.std.specs.Prelude.{ℕ, ◌≡◌, ◌≢◌, ◌≤◌, List, All, AllPairs, sum}
 use Rattle.nrm_book.specs.Book.{BookValue, IsBook}
 use Rattle.nrm_book.specs.Bookings.{revenue_of}
-use Rattle.nrm_book.specs.Inner.Seats.{SeatsValue, seats_sold}
-use Rattle.nrm_book.specs.Inner.Standing.{StandingValue}
+use Rattle.nrm_book.specs.Seats.{SeatsValue, seats_sold}
+use Rattle.nrm_book.specs.Standing.{StandingValue}
 
 -- no product has a leg twice, the list has room for as many bookings as there are authorised seats in all, and the counters are what the
 -- list sums to

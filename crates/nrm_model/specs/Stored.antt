@@ -1,4 +1,4 @@
--- What a network keeps beside its parts.
+-- How a network is stored: what it keeps beside its parts.
 use Rattle.std.specs.Prelude.{ℕ, ◌≡◌, List, [], length, map}
 use Rattle.std.specs.List.{range_with_len}
 use Rattle.nrm_model.specs.declared.leg.Leg.{Leg}

@@ -1,2 +1,0 @@
--- What private functions serve.
-pub mod Kept
