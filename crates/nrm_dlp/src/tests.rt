@@ -8,8 +8,10 @@ use crate::{
     hindsight, hindsight_program, mean_value, opening_program, prices, program_at, program_of,
 };
 use nrm_lp::{Certificate, Numbers, Program};
-use nrm_samples::{two_legs, two_legs_authorised, two_legs_last_first};
-use nrm_simplex::SolveFault;
+use nrm_samples::{
+    two_legs, two_legs_authorised, two_legs_five_products_program, two_legs_last_first,
+};
+use nrm_simplex::{SolveFault, solve};
 use std::alloc::{AllocError, Global};
 use std::process::Abort;
 use std::test::Fail;
@@ -85,6 +87,19 @@ fn optimises_by_hand(rt: HostRuntime) -> Result<(), Fail> {
         assert_eq!(rt; certificate.value, 2400);
         assert_eq!(rt; mean, (1200, 1));
     }
+    Ok(())
+}
+
+// The opening program of two legs and five products, which another program solved in exact fractions.
+#[test]
+fn solves_five_products(rt: HostRuntime) -> Result<(), Fail> {
+    let program = two_legs_five_products_program(rt.alloc())?;
+    let certificate = solve(rt.alloc(), &program).ok().expect(&rt, "two legs");
+    assert_eq!(rt; certificate.q, 1);
+    assert_eq!(rt; certificate.x.as_slice(), [12, 12, 16, 24, 0].as_slice());
+    assert_eq!(rt; certificate.den, 1);
+    assert_eq!(rt; certificate.p.as_slice(), [150, 80].as_slice());
+    assert_eq!(rt; certificate.value, 16520);
     Ok(())
 }
 

@@ -4,7 +4,6 @@ ghost use Rattle.std.specs.List.{range_with_len};
 
 use crate::{SolveFault, solve};
 use nrm_lp::Program;
-use nrm_samples::two_legs_five_products_program;
 use std::alloc::{AllocError, Global};
 use std::test::Fail;
 
@@ -63,18 +62,6 @@ fn dear_singles(alloc: Global) -> Result<Program, AllocError> {
     let fares = vec![in alloc; 99_999_999u32; 61]?;
     let legs = legs_of_singles(alloc)?;
     Ok(Program::new(caps, bounds, fares, legs))
-}
-
-#[test]
-fn solves_two_legs(rt: HostRuntime) -> Result<(), Fail> {
-    let program = two_legs_five_products_program(rt.alloc())?;
-    let certificate = solve(rt.alloc(), &program).ok().expect(&rt, "two legs");
-    assert_eq!(rt; certificate.q, 1);
-    assert_eq!(rt; certificate.x.as_slice(), [12, 12, 16, 24, 0].as_slice());
-    assert_eq!(rt; certificate.den, 1);
-    assert_eq!(rt; certificate.p.as_slice(), [150, 80].as_slice());
-    assert_eq!(rt; certificate.value, 16520);
-    Ok(())
 }
 
 // Half a seat of each product; the prices of the legs are 3/2, 1/2 and 3/2.
