@@ -22,7 +22,9 @@ from checks import Wrong, want, want_in
 RT = r'''#!/usr/bin/env bash
 echo "$*" >>"$CALLS"
 case "$1 $2" in
-  "all check") echo "== nrm" ;;
+  "all check")
+    echo "$PWD" >>"$CALLS.folders"
+    echo "== nrm" ;;
   "run --")
     mkdir -p out
     printf '#!/usr/bin/env bash\necho "program $*"\ncat\n' >out/nrm
@@ -35,6 +37,7 @@ case "$1 $2" in
     esac ;;
 esac
 '''
+CRATES = "nrm_low:\nnrm_beside: nrm_low\nnrm_cli: nrm_low\nnrm: nrm_cli\n"
 test = checks.Tests()
 
 
@@ -44,10 +47,11 @@ class Door:
     def __init__(self, folder):
         self.folder = folder
         self.calls = os.path.join(folder, "CALLS")
-        os.makedirs(os.path.join(folder, "crates", "nrm"))
+        for crate in "nrm", "nrm_cli", "nrm_low", "nrm_beside":
+            os.makedirs(os.path.join(folder, "crates", crate))
         os.mkdir(os.path.join(folder, "bin"))
         shutil.copy(os.path.join(checks.TOP, "nrm"), folder)
-        for name, text, rights in ("bin/rt", RT, 0o755), ("crates.txt", "nrm: nrm_cli\n", 0o644), ("net.csv", "periods,1,1\n", 0o644):
+        for name, text, rights in ("bin/rt", RT, 0o755), ("crates.txt", CRATES, 0o644), ("net.csv", "periods,1,1\n", 0o644):
             with open(os.path.join(folder, name), "w") as file:
                 file.write(text)
             os.chmod(file.name, rights)
@@ -87,6 +91,12 @@ class Door:
     def build(self):
         self.run("--build")
         os.remove(self.calls)
+
+    def source(self, crate):
+        """A source file of a crate, newer than each program that is there."""
+        path = os.path.join(self.folder, "crates", crate, "lib.rt")
+        with open(path, "w"):
+            os.utime(path, (time.time() + 60, time.time() + 60))
 
 
 @test
@@ -177,6 +187,29 @@ def a_program_older_than_its_sources_is_built_again(door):
     os.utime(os.path.join(door.folder, "crates", "nrm", "out", "nrm"), (1, 1))
     want(door.run("print", "net.csv")[1], "program print net.csv\n")
     want([call[0] for call in door.called()], ["all", "run"])
+
+
+@test
+def a_source_that_the_program_stands_on_makes_it_old(door):
+    door.build()
+    door.source("nrm_low")
+    want(door.run("print", "net.csv")[1], "program print net.csv\n")
+    want([call[0] for call in door.called()], ["all", "run"])
+
+
+@test
+def a_source_of_another_program_does_not(door):
+    door.build()
+    door.source("nrm_beside")
+    want(door.run("print", "net.csv"), (0, "program print net.csv\n", ""))
+    want(door.called(), [])
+
+
+@test
+def what_is_proved_is_what_the_program_stands_on(door):
+    want_in(door.run("--build")[2], "proving and building 3 crates")
+    with open(door.calls + ".folders") as file:
+        want(file.read(), os.path.realpath(os.path.join(door.folder, "crates", "nrm")) + "\n")
 
 
 @test
