@@ -1,17 +1,23 @@
 #!/usr/bin/env python3
-"""Whether what docs/proofs.md and docs/claims.md name is there.
+"""Whether what docs/proofs.md, docs/claims.md, docs/map.md and CONTRIBUTING.md name is there, and all links of the pages.
 
     tests/named.py
 
-Of both it checks each file of definitions or proofs (`nrm_lp/specs/Ends`, or in a list `nrm_lp/specs`: `Ends`, `Laws`), each
-public function (`nrm_lp::weakly_dual`), and each clause that is named with a function (`nrm_cli::run`, clause `ends`, or clause
-`ends` of `run`). Of the table in docs/proofs.md it checks too that a file has the names that stand behind it. Each that isn't
-there is printed; the last line is `N names, M not there`.
+Of proofs.md and claims.md it checks each file of definitions or proofs (`nrm_lp/specs/Ends`, or in a list `nrm_lp/specs`: `Ends`,
+`Laws`), each public function (`nrm_lp::weakly_dual`), and each clause that is named with a function (`nrm_cli::run`, clause `ends`, or
+clause `ends` of `run`). Of the table in proofs.md it checks too that a file has the names that stand behind it. The table and the
+drawing of map.md are compared with crates.txt. Of CONTRIBUTING.md each path must be there (`nrm_stream/src/command.rt`,
+`docs/commands.md`). Each link of a page must lead to a file and to a heading in it. What isn't so is printed; the last line is
+`N names, M not there`.
 """
+import functools
 import glob
 import os
 import re
 import sys
+from pathlib import Path
+
+import pages
 
 TOP = os.path.dirname(os.path.dirname(os.path.realpath(__file__)))
 FILE = r"nrm\w*/(?:specs|proofs)(?:/\w+)+"
@@ -112,11 +118,62 @@ def look_in_table(document, names):
         names.items(document, path, ticked(listed))
 
 
+def listed_crates():
+    """What each crate of crates.txt stands on, in its order."""
+    lines = [line.partition(":") for line in read("crates.txt").splitlines() if line.strip()]
+    return {name.strip(): rest.split() for name, _, rest in lines}
+
+
+def drawn_layers(text):
+    """The layer of each crate in the drawing, of which a line begins with a number or belongs to the one above."""
+    drawn, layer = {}, ""
+    for number, line in re.findall(r"^     ([ \d]{2})  (nrm.*)$", text, re.M):
+        layer = number.strip() or layer
+        drawn.update((crate, int(layer)) for crate in re.findall(r"\bnrm\w*", line))
+    return drawn
+
+
+def look_in_map(document, names):
+    """The table and the drawing of the crates, each against crates.txt."""
+    text, crates = read(document), listed_crates()
+
+    @functools.lru_cache(None)
+    def layer(crate):
+        return 1 + max((layer(it) for it in crates[crate] if it in crates), default=0)
+
+    rows = re.findall(r"^\| `(nrm\w*)` \|.*\|(.*)\|$", text, re.M)
+    names.look(document, "a row for each line of crates.txt, in its order", [crate for crate, _ in rows] == list(crates))
+    for crate, stands_on in rows:
+        names.look(document, f"what {crate} stands on: {crates.get(crate)}", ticked(stands_on) == crates.get(crate))
+    drawn = drawn_layers(text)
+    for crate in sorted(drawn.keys() | crates.keys()):
+        found = layer(crate) if crate in crates else None
+        names.look(document, f"in the drawing {crate} in layer {found}", drawn.get(crate) == found)
+
+
+def look_for_paths(document, names):
+    """The paths that a document names: from the top, or of a file of a crate from crates/."""
+    for path in re.findall(r"`((?:nrm\w*|crates|docs|tests|tools|python|bench|\.ci)/[\w./-]+)`", read(document)):
+        if not re.search(r"NAME|FOLDER", path):
+            names.look(document, path, any((Path(TOP) / below / path).exists() for below in ("", "crates")))
+
+
+def look_at_links(names):
+    """The links of all pages."""
+    linked = [Path(TOP, "CONTRIBUTING.md"), Path(TOP, "CHANGELOG.md"), *pages.PAGES]
+    faults, links = pages.faulty_links(linked)
+    names.count += links
+    names.missing += faults
+
+
 def main():
     names = Names()
     for document in ("docs/proofs.md", "docs/claims.md"):
         look_everywhere(document, names)
     look_in_table("docs/proofs.md", names)
+    look_in_map("docs/map.md", names)
+    look_for_paths("CONTRIBUTING.md", names)
+    look_at_links(names)
     print(*names.missing, sep="\n", end="\n" if names.missing else "")
     print(f"{names.count} names, {len(names.missing)} not there")
     return 0 if names.count and not names.missing else 1
