@@ -5,15 +5,16 @@
 
 Of proofs.md and claims.md it checks each file of definitions or proofs (`nrm_lp/specs/Ends`, or in a list `nrm_lp/specs`: `Ends`,
 `Laws`), each public function (`nrm_lp::weakly_dual`), and each clause that is named with a function (`nrm_cli::run`, clause `ends`, or
-clause `ends` of `run`). Of the table in proofs.md it checks too that a file has the names that stand behind it. The table and the
-drawing of map.md are compared with crates.txt. Of CONTRIBUTING.md each path must be there (`nrm_stream/src/command.rt`,
-`docs/commands.md`). Each link of a page must lead to a file and to a heading in it. What isn't so is printed; the last line is
-`N names, M not there`.
+clause `ends` of `run`). claims.md must name each file of definitions that a public contract reaches. Of the table in proofs.md it checks
+too that a file has the names that stand behind it. The table and the drawing of map.md are compared with crates.txt. Of CONTRIBUTING.md
+each path must be there (`nrm_stream/src/command.rt`, `docs/commands.md`). Each link of a page must lead to a file and to a heading in it.
+What isn't so is printed; the last line is `N names, M not there`.
 """
 import functools
 import glob
 import os
 import re
+import subprocess
 import sys
 from pathlib import Path
 
@@ -112,6 +113,17 @@ def look_everywhere(document, names):
         names.laws(document, [law for law in ticked(laws) if "::" not in law])
 
 
+def look_for_definitions(document, names):
+    """Whether a document names each file of definitions that a public contract reaches."""
+    text = read(document)
+    named = {f"{folder}/{file}" for folder, files in re.findall(rf"`(nrm\w*/specs)`(?::|\s\(){LIST}", text) for file in ticked(files)}
+    named |= {f"{crate}/specs/Laws" for crates in re.findall(rf"`Laws` of{LIST}", text) for crate in ticked(crates)}
+    program = [sys.executable, os.path.join(TOP, "tests", "definitions.py"), "--list"]
+    reached = subprocess.run(program, stdout=subprocess.PIPE, text=True, check=True).stdout
+    for file in re.findall(r"^crates/(.*)\.antt:", reached, re.M):
+        names.look(document, f"among the definitions to believe {file}", file in named)
+
+
 def look_in_table(document, names):
     """The names behind each file of the table."""
     for path, listed in re.findall(rf"`({FILE})`: {LIST}", read(document)):
@@ -170,6 +182,7 @@ def main():
     names = Names()
     for document in ("docs/proofs.md", "docs/claims.md"):
         look_everywhere(document, names)
+    look_for_definitions("docs/claims.md", names)
     look_in_table("docs/proofs.md", names)
     look_in_map("docs/map.md", names)
     look_for_paths("CONTRIBUTING.md", names)
