@@ -1,7 +1,8 @@
 #!/usr/bin/env python3
 """Whether what docs/proofs.md, docs/claims.md, docs/map.md and CONTRIBUTING.md name is there, and all links of the pages.
 
-    tests/named.py
+    tests/named.py           checks
+    tests/named.py --map     writes the drawing and the table of docs/map.md as crates.txt has them, and leaves what a crate holds
 
 Of proofs.md and claims.md it checks each file of definitions or proofs (`nrm_lp/specs/Ends`, or in a list `nrm_lp/specs`: `Ends`,
 `Laws`), each public function (`nrm_lp::weakly_dual`), and each clause that is named with a function (`nrm_cli::run`, clause `ends`, or
@@ -136,31 +137,36 @@ def listed_crates():
     return {name.strip(): rest.split() for name, _, rest in lines}
 
 
-def drawn_layers(text):
-    """The layer of each crate in the drawing, of which a line begins with a number or belongs to the one above."""
-    drawn, layer = {}, ""
-    for number, line in re.findall(r"^     ([ \d]{2})  (nrm.*)$", text, re.M):
-        layer = number.strip() or layer
-        drawn.update((crate, int(layer)) for crate in re.findall(r"\bnrm\w*", line))
-    return drawn
-
-
-def look_in_map(document, names):
-    """The table and the drawing of the crates, each against crates.txt."""
-    text, crates = read(document), listed_crates()
-
+def drawing_of(crates):
+    """The layers of the crates, a line each: a crate is one above the highest that it depends on."""
     @functools.lru_cache(None)
     def layer(crate):
         return 1 + max((layer(it) for it in crates[crate] if it in crates), default=0)
 
-    rows = re.findall(r"^\| `(nrm\w*)` \|.*\|(.*)\|$", text, re.M)
-    names.look(document, "a row for each line of crates.txt, in its order", [crate for crate, _ in rows] == list(crates))
-    for crate, stands_on in rows:
-        names.look(document, f"what {crate} stands on: {crates.get(crate)}", ticked(stands_on) == crates.get(crate))
-    drawn = drawn_layers(text)
-    for crate in sorted(drawn.keys() | crates.keys()):
-        found = layer(crate) if crate in crates else None
-        names.look(document, f"in the drawing {crate} in layer {found}", drawn.get(crate) == found)
+    numbers = sorted({layer(it) for it in crates}, reverse=True)
+    return [f"     {number:2}  {'  '.join(it for it in crates if layer(it) == number)}" for number in numbers]
+
+
+def mapped(text, crates):
+    """The map with its drawing and its table as crates.txt has them; what a crate holds is what the map says of it."""
+    drawn = r"(?:^     [ \d]\d  nrm.*\n)+"
+    rows = r"(?:^\| `nrm.*\n)+"
+    holds = dict(re.findall(r"^\| `(nrm\w*)` \| (.*?) \|", text, re.M))
+    table = [f"| `{crate}` | {holds.get(crate, '')} |{''.join(f' `{it}`' for it in below)} |" for crate, below in crates.items()]
+    for pattern, lines in ((drawn, drawing_of(crates)), (rows, table)):
+        text = re.sub(pattern, lambda _: "\n".join(lines) + "\n", text, count=1, flags=re.M)
+    return text
+
+
+def look_in_map(document, names):
+    """The drawing and the table of the crates, each against crates.txt, line by line."""
+    text, crates = read(document), listed_crates()
+    should = mapped(text, crates)
+    for line in should.splitlines():
+        if re.match(r"     [ \d]\d  nrm|\| `nrm", line):
+            names.look(document, f"this line, which crates.txt wants: {line}", line in text.splitlines())
+    names.look(document, "the lines in the order of crates.txt, and no others", should == text)
+    names.look(document, "a row and a place in the drawing for each crate", should.count("\n| `nrm") == len(crates))
 
 
 def look_for_paths(document, names):
@@ -179,6 +185,9 @@ def look_at_links(names):
 
 
 def main():
+    if sys.argv[1:] == ["--map"]:
+        Path(TOP, "docs", "map.md").write_text(mapped(read("docs/map.md"), listed_crates()), encoding="utf-8")
+        return 0
     names = Names()
     for document in ("docs/proofs.md", "docs/claims.md"):
         look_everywhere(document, names)
