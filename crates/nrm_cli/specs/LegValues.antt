@@ -40,12 +40,16 @@ their_demand net classes = demand_of net.histories classes.fares classes.demands
 abbrev pub class_count : NetworkValue → List ℕ → ℕ
 class_count net leg = option_map_or (λ i. length (only_on net i)) (leg_named net leg) 0
 
+-- there are classes, and not too many
+abbrev pub HasClasses : NetworkValue → List ℕ → Type 0
+HasClasses net leg = IsInRange 1 MOST_CLASSES (class_count net leg)
+
 -- a leg of this name has classes, and not too many, and the text tells the value of its authorised seats
 pub record IsValued (net : NetworkValue) (leg : List ℕ) (text : List ℕ) : Type 0 where
   pub number : ℕ
   pub classes : ClassesValue
   pub named : leg_named net leg ≡ Some number
-  pub count : IsInRange 1 MOST_CLASSES (class_count net leg)
+  pub count : HasClasses net leg
   pub classes_of_leg : AreClassesOf net number classes
   pub told : text ≡ values_text net leg (leg_of net number).authorised classes.products (their_demand net classes)
 

@@ -1,11 +1,12 @@
 //! Checks the certificate of one file against the network of another.
-ghost use Rattle.std.specs.Prelude.{◌≡◌, ◌≤◌, length};
+ghost use Rattle.std.specs.Prelude.{◌≡◌, ◌≤◌, IfOk, length};
 ghost use Rattle.nrm_fraction.specs.Large.{size_limit};
 ghost use Rattle.nrm_lp.specs.Shape.{HasShape};
+ghost use Rattle.nrm_dlp.specs.Programs.{opening_program};
 ghost use Rattle.nrm_cli.specs.Ends.{SentOn, status_of};
 ghost use Rattle.nrm_cli.specs.Inner.Does.{DoesBeside, files_and_sink};
 ghost use Rattle.nrm_cli.specs.Jobs.{check_file as check_job};
-ghost use Rattle.nrm_cli.specs.Inner.Parts.{ChecksFile, PutsVerdict};
+ghost use Rattle.nrm_cli.specs.Inner.Parts.{ChecksFile, PutsCompared, PutsVerdict};
 
 use crate::Status;
 use crate::certificate::{line_of_verdict, open_certificate};
@@ -13,10 +14,10 @@ use crate::put::{network_or_told, put_line};
 use nrm_dlp::opening_program;
 use nrm_dual::{Verdict, check};
 use nrm_edge::{Files, Sink};
-use nrm_lp::Certificate;
+use nrm_lp::{Certificate, Program};
 use nrm_model::Network;
 use nrm_outside::open_network;
-use std::alloc::Global;
+use std::alloc::{AllocError, Global};
 
 // The status that goes with a verdict.
 fn status_with(verdict: Verdict) -> Status
@@ -28,6 +29,30 @@ fn status_with(verdict: Verdict) -> Status
         | Verdict::WrongProduct(_)
         | Verdict::WrongLeg(_)
         | Verdict::WrongValue => Status::Wrong,
+    }
+}
+
+// Puts the verdict on a certificate, by the program that was to be had for it; if memory ran out on the program there is none.
+fn put_compared<K: Sink>(
+    net: &Network,
+    program: Result<Program, AllocError>,
+    certificate: &Certificate,
+    sink: &mut K,
+) -> Status
+    requires shape { HasShape size_limit (length net.now.products) (length net.now.legs) certificate.now }
+    requires program { IfOk program (λ program. program ≡ opening_program net.now) }
+    ensures puts { PutsCompared net.now certificate.now program
+        (K.held sink.old) (K.held sink.new) (K.faults sink.old) (K.faults sink.new) result }
+    ensures later { K.faults sink.old ≤ K.faults sink.new }
+    ensures sent { SentOn result (K.unsent sink.old) (K.unsent sink.new) }
+{
+    match program {
+        Ok(program) => {
+            let verdict = check(&program, certificate);
+            let line = line_of_verdict(net, verdict);
+            put_line(sink, line.bytes(), status_with(verdict))
+        }
+        Err(_) => Status::NoMemory,
     }
 }
 
@@ -43,12 +68,7 @@ fn put_checked<K: Sink>(
     ensures later { K.faults sink.old ≤ K.faults sink.new }
     ensures sent { SentOn result (K.unsent sink.old) (K.unsent sink.new) }
 {
-    let Ok(program) = opening_program(alloc, net) else {
-        return Status::NoMemory;
-    };
-    let verdict = check(&program, certificate);
-    let line = line_of_verdict(net, verdict);
-    put_line(sink, line.bytes(), status_with(verdict))
+    put_compared(net, opening_program(alloc, net), certificate, sink)
 }
 
 // Opens the certificate for a network and checks it.

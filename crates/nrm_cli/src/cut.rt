@@ -1,7 +1,6 @@
 //! The thresholds that group the fares on a leg at the least cost, as they are written.
 ghost use Rattle.std.specs.Prelude.{◌≡◌, ◌≤◌, ◌+◌, ◌*◌, ◌++◌, ◌∷◌, [], IfOk, MatchOption, Some, codes, decimal, flat_map, length};
 ghost use Rattle.std.specs.Int.{IsInRange};
-ghost use Rattle.nrm_text.specs.Names.{name_in};
 ghost use Rattle.nrm_text.specs.Words.{spaced};
 ghost use Rattle.nrm_cluster.specs.declared.limits.TheConstants.{MOST_GROUPS};
 ghost use Rattle.nrm_cli.specs.Ends.{SentOn};
@@ -16,7 +15,7 @@ use nrm_cluster::{Cuts, best_cuts, leg_points};
 use nrm_edge::{Files, Sink};
 use nrm_model::Network;
 use nrm_outside::open_network;
-use nrm_text::{Line, Name, name_of};
+use nrm_text::{Line, Name};
 use std::alloc::{AllocError, Global};
 
 // Appends numbers, each behind a space.
@@ -108,22 +107,18 @@ fn put_cuts<K: Sink>(alloc: Global, net: &Network, name: &Name, groups: u8, sink
 pub(crate) fn cut_leg<F: Files, K: Sink>(
     alloc: Global,
     file: &str,
-    leg: &str,
+    leg: &Name,
     groups: u8,
     files: &mut F,
     sink: &mut K,
 ) -> Status
-    requires leg { name_in leg.now ≡ Some leg.now }
-    requires groups { IsInRange 1 MOST_GROUPS groups }
+    requires { IsInRange 1 MOST_GROUPS groups }
     ensures does { let at = files_and_sink F.contents F.faults K.held K.faults in
         DoesBeside (cut_job file.now leg.now groups) (at files.old sink.old) (at files.new sink.new) result }
     ensures sent { SentOn result (K.unsent sink.old) (K.unsent sink.new) }
 {
-    let Some(name) = name_of(leg.as_bytes()) else {
-        unreachable!();
-    };
     match network_or_told(open_network(alloc, files, file), sink) {
-        Ok(net) => put_cuts(alloc, &net, &name, groups, sink),
+        Ok(net) => put_cuts(alloc, &net, leg, groups, sink),
         Err(told) => told,
     }
 }

@@ -40,25 +40,25 @@ const USAGE: &[u8] =
 // Does what the words ask for.
 fn run_asked<F: Files, S: Source, K: Sink>(
     alloc: Global,
-    asked: Option<Asked<'_>>,
+    asked: &Option<Asked<'_>>,
     files: &mut F,
     source: &mut S,
     sink: &mut K,
 ) -> Status
-    requires { IfSome asked IsWithin }
+    requires { IfSome asked.now IsWithin }
     ensures does { let at = outside F.contents F.faults S.coming S.faults K.held K.faults in
-        Does (option_map job_in asked.entry) (at files.old source.old sink.old) (at files.new source.new sink.new) result }
+        Does (option_map job_in asked.now) (at files.old source.old sink.old) (at files.new source.new sink.new) result }
     ensures sent { SentOn result (K.unsent sink.old) (K.unsent sink.new) }
 {
     match asked {
-        Some(Asked::Run(mode, name)) => run_file(alloc, mode, name, files, source, sink),
-        Some(Asked::Plan(mode, name)) => plan_file(alloc, mode, name, files, sink),
+        Some(Asked::Run(mode, name)) => run_file(alloc, *mode, name, files, source, sink),
+        Some(Asked::Plan(mode, name)) => plan_file(alloc, *mode, name, files, sink),
         Some(Asked::Check(name, certificate)) => {
             check_file(alloc, name, certificate, files, sink)
         }
         Some(Asked::Print(name)) => print_file(alloc, name, files, sink),
-        Some(Asked::Made(mode, number)) => run_made(alloc, mode, number, sink),
-        Some(Asked::Cuts(name, leg, groups)) => cut_leg(alloc, name, leg, groups, files, sink),
+        Some(Asked::Made(mode, number)) => run_made(alloc, *mode, *number, sink),
+        Some(Asked::Cuts(name, leg, groups)) => cut_leg(alloc, name, leg, *groups, files, sink),
         Some(Asked::Values(name, leg)) => value_leg(alloc, name, leg, files, sink),
         None => put_line(sink, USAGE, Status::Usage),
     }
@@ -126,5 +126,5 @@ pub fn run<F: Files, S: Source, K: Sink>(
     ensures own { OwnCertificatesPass }
     ensures others { OptimalCertificatesPass }
 {
-    run_asked(alloc, asked_in(words), files, source, sink)
+    run_asked(alloc, &asked_in(words), files, source, sink)
 }

@@ -1,10 +1,9 @@
 //! The classes of a leg, the value of its authorised seats and its protections, as they are written.
-ghost use Rattle.std.specs.Prelude.{◌≡◌, ◌≤◌, ◌<◌, ◌+◌, ◌*◌, ◌^◌, ◌++◌, ◌∷◌, [], All, IfErr, IfOk, IfSome, Some, codes, decimal, drop};
+ghost use Rattle.std.specs.Prelude.{◌≡◌, ◌≤◌, ◌<◌, ◌+◌, ◌*◌, ◌^◌, ◌++◌, ◌∷◌, [], All, IfErr, IfOk, IfSome, None, Some, codes, decimal, drop};
 ghost use Rattle.std.specs.Prelude.{flat_map, length, map, pos};
 ghost use Rattle.std.specs.Int.{IsInRange};
 ghost use Rattle.nrm_fraction.specs.Fraction.{◌over◌};
 ghost use Rattle.nrm_text.specs.Fractions.{fraction_text};
-ghost use Rattle.nrm_text.specs.Names.{name_in};
 ghost use Rattle.nrm_text.specs.Words.{spaced, text_line};
 ghost use Rattle.nrm_model.specs.declared.limits.TheConstants.{MOST_HISTORIES};
 ghost use Rattle.nrm_legdp.specs.declared.limits.TheConstants.{MOST_CLASSES};
@@ -14,8 +13,9 @@ ghost use Rattle.nrm_cli.specs.Ends.{SentOn};
 ghost use Rattle.nrm_cli.specs.Inner.Does.{DoesBeside, files_and_sink};
 ghost use Rattle.nrm_cli.specs.Inner.Parts.{PutsTold};
 ghost use Rattle.nrm_cli.specs.Jobs.{value_leg as value_job};
-ghost use Rattle.nrm_cli.specs.LegValues.{HasNoClasses, IsValued, ValuesTold, class_count, class_line, no_classes_line};
+ghost use Rattle.nrm_cli.specs.LegValues.{HasClasses, HasNoClasses, IsValued, ValuesTold, class_count, class_line, no_classes_line};
 ghost use Rattle.nrm_cli.specs.LegValues.{their_demand, values_text};
+ghost use Rattle.nrm_cli.specs.declared.status.Status.TheVariants as status;
 
 use crate::Status;
 use crate::put::{network_or_told, put_line};
@@ -23,7 +23,7 @@ use nrm_edge::{Files, Sink};
 use nrm_legdp::{ClassFault, Classes, LegTable, leg_classes, leg_values};
 use nrm_model::Network;
 use nrm_outside::open_network;
-use nrm_text::{Line, Name, Text, name_of};
+use nrm_text::{Line, Name, Text};
 use std::alloc::Global;
 
 // The most bytes of the text of ten classes.
@@ -142,6 +142,7 @@ fn values_on(alloc: Global, net: &Network, name: &Name) -> Result<Text<ROOM>, Cl
     ensures valued { IfOk result (IsValued net.now name.now) }
     ensures refused { IfErr result (λ fault. IfSome (count_told fault) (λ count.
         HasNoClasses net.now name.now × (count ≡ class_count net.now name.now))) }
+    ensures memory { IfErr result (λ fault. count_told fault ≡ None → HasClasses net.now name.now) }
 {
     let Some(leg) = net.find_leg(name) else {
         return Err(ClassFault::Count(0));
@@ -166,6 +167,7 @@ fn line_of_no_classes(count: u16) -> Line
 fn put_values<K: Sink>(alloc: Global, net: &Network, name: &Name, sink: &mut K) -> Status
     ensures puts { PutsTold (ValuesTold net.now name.now)
         (K.held sink.old) (K.held sink.new) (K.faults sink.old) (K.faults sink.new) result }
+    ensures memory { result ≡ status.NoMemory → HasClasses net.now name.now }
     ensures later { K.faults sink.old ≤ K.faults sink.new }
     ensures sent { SentOn result (K.unsent sink.old) (K.unsent sink.new) }
 {
@@ -183,20 +185,16 @@ fn put_values<K: Sink>(alloc: Global, net: &Network, name: &Name, sink: &mut K) 
 pub(crate) fn value_leg<F: Files, K: Sink>(
     alloc: Global,
     file: &str,
-    leg: &str,
+    leg: &Name,
     files: &mut F,
     sink: &mut K,
 ) -> Status
-    requires { name_in leg.now ≡ Some leg.now }
     ensures does { let at = files_and_sink F.contents F.faults K.held K.faults in
         DoesBeside (value_job file.now leg.now) (at files.old sink.old) (at files.new sink.new) result }
     ensures sent { SentOn result (K.unsent sink.old) (K.unsent sink.new) }
 {
-    let Some(name) = name_of(leg.as_bytes()) else {
-        unreachable!();
-    };
     match network_or_told(open_network(alloc, files, file), sink) {
-        Ok(net) => put_values(alloc, &net, &name, sink),
+        Ok(net) => put_values(alloc, &net, leg, sink),
         Err(told) => told,
     }
 }

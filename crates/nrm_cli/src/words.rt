@@ -10,7 +10,7 @@ ghost use Rattle.nrm_outside.specs.Words.{mode_of};
 use nrm_cluster::MOST_GROUPS;
 use nrm_model::Mode;
 use nrm_outside::mode_in;
-use nrm_text::{is_word, name_of, read_whole};
+use nrm_text::{Name, is_word, name_of, read_whole};
 
 // The last number that a network and its commands are made of.
 const LAST_MADE: u32 = u32::MAX;
@@ -23,8 +23,8 @@ pub(crate) enum Asked<'a> {
     Check(&'a str, &'a str),
     Print(&'a str),
     Made(Mode, u32),
-    Cuts(&'a str, &'a str, u8),
-    Values(&'a str, &'a str),
+    Cuts(&'a str, Name, u8),
+    Values(&'a str, Name),
 }
 
 // The made run of a mode and a number.
@@ -41,25 +41,25 @@ fn made_run_in(mode: &String, number: &String) -> Option<Asked<'static>>
 }
 
 // The thresholds of a leg of a file, in so many groups.
-fn cuts_in<'a>(file: &'a String, leg: &'a String, groups: &String) -> Option<Asked<'a>>
+fn cuts_in<'a>(file: &'a String, leg: &String, groups: &String) -> Option<Asked<'a>>
     ensures job { option_map job_in result
         ≡ cut_of (string_bytes file.now) (name_in (string_bytes leg.now)) (whole_between 1 MOST_GROUPS (string_bytes groups.now)) }
     ensures within { IfSome result IsWithin }
 {
-    name_of(leg.as_bytes())?;
+    let leg = name_of(leg.as_bytes())?;
     match read_whole(groups.as_bytes(), u64::from(MOST_GROUPS)) {
         Ok(0) | Err(_) => None,
-        Ok(groups) => Some(Asked::Cuts(file.as_str(), leg.as_str(), groups as u8)),
+        Ok(groups) => Some(Asked::Cuts(file.as_str(), leg, groups as u8)),
     }
 }
 
 // The values of a leg of a file.
-fn values_in<'a>(file: &'a String, leg: &'a String) -> Option<Asked<'a>>
+fn values_in<'a>(file: &'a String, leg: &String) -> Option<Asked<'a>>
     ensures job { option_map job_in result ≡ valuing_of (string_bytes file.now) (name_in (string_bytes leg.now)) }
     ensures within { IfSome result IsWithin }
 {
-    name_of(leg.as_bytes())?;
-    Some(Asked::Values(file.as_str(), leg.as_str()))
+    let leg = name_of(leg.as_bytes())?;
+    Some(Asked::Values(file.as_str(), leg))
 }
 
 /// Whether the words (without the program's own name) ask for a job; all others get the usage line. It takes no memory.

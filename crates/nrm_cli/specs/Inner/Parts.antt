@@ -8,7 +8,6 @@ use Rattle.nrm_edge.specs.Fetch.{Folder}
 use Rattle.nrm_edge.specs.declared.files.Fetched.{Fetched}
 use Rattle.nrm_edge.specs.declared.files.Fetched.TheVariants as fetched
 use Rattle.nrm_edge.specs.Pieces.{AppendsCut}
-use Rattle.nrm_text.specs.Names.{name_in}
 use Rattle.nrm_model.specs.Network.{NetworkValue}
 use Rattle.nrm_model.specs.Inventory.{inventory_of}
 use Rattle.nrm_model.specs.declared.mode.Mode.{Mode}
@@ -65,18 +64,18 @@ job_in (asked.Plan mode file) = plan_file mode file.now
 job_in (asked.Check file certificate) = check_file file.now certificate.now
 job_in (asked.Print file) = print_file file.now
 job_in (asked.Made mode number) = run_made mode number
-job_in (asked.Cuts file leg groups) = cut_leg file.now leg.now groups
-job_in (asked.Values file leg) = value_leg file.now leg.now
+job_in (asked.Cuts file leg groups) = cut_leg file.now leg groups
+job_in (asked.Values file leg) = value_leg file.now leg
 
--- the name of a leg is one, and a number of groups lies within its limits
+-- a number of groups lies within its limits
 abbrev pub IsWithin : Asked → Type 0
 IsWithin (asked.Run mode file) = ⊤
 IsWithin (asked.Plan mode file) = ⊤
 IsWithin (asked.Check file certificate) = ⊤
 IsWithin (asked.Print file) = ⊤
 IsWithin (asked.Made mode number) = ⊤
-IsWithin (asked.Cuts file leg groups) = (name_in leg.now ≡ Some leg.now) × IsInRange 1 MOST_GROUPS groups
-IsWithin (asked.Values file leg) = name_in leg.now ≡ Some leg.now
+IsWithin (asked.Cuts file leg groups) = IsInRange 1 MOST_GROUPS groups
+IsWithin (asked.Values file leg) = ⊤
 
 -- a line was put and its status answered, or the line was cut
 abbrev pub PutsLine : List ℕ → Status → Option (List ℕ) → Option (List ℕ) → ℕ → ℕ → Status → Type 0
@@ -173,7 +172,7 @@ PutsPlan net m held held' before now result =
     ⊎ ((why : SolveFault) × IsPlanFault net m (inventory_of net).authorised 1 why × PutsUnplanned why held held' before now result)
 
 -- what is put and answered where there is a certificate: the verdict on it, which is optimal only where the certificate shows that it
--- is, and is never that it has another shape; or memory ran out
+-- is, and is never that it has another shape
 pub record PutsFound (net : NetworkValue) (given : Certificate) (held held' : Option (List ℕ))
     (before now : ℕ) (result : Status) : Type 0 where
   pub found : Verdict
@@ -181,6 +180,12 @@ pub record PutsFound (net : NetworkValue) (given : Certificate) (held held' : Op
   pub shaped : found ≢ verdict.WrongShape
   pub optimal : found ≡ verdict.Optimal → Certifies size_limit (opening_program net) given
   pub puts : PutsLine (verdict_line net found) (status_of found) held held' before now result
+
+-- it is put by the program that was to be had; if memory ran out on that, nothing is
+abbrev pub PutsCompared : {P E : Type 0} → NetworkValue → Certificate → Result P E
+    → Option (List ℕ) → Option (List ℕ) → ℕ → ℕ → Status → Type 0
+PutsCompared net given (Ok program) held held' before now result = PutsFound net given held held' before now result
+PutsCompared net given (Err fault) held held' before now result = (result ≡ status.NoMemory) × Keeps held held' × (now ≡ before)
 
 abbrev pub PutsVerdict : NetworkValue → Certificate → Option (List ℕ) → Option (List ℕ) → ℕ → ℕ → Status → Type 0
 PutsVerdict net given held held' before now result =

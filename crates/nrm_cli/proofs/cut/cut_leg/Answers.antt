@@ -1,7 +1,4 @@
-use Rattle.std.proofs.Common.{◌≡◌, ◌∙◌, ℕ, List, Ok, Err, ap, refl, subst}
-use Rattle.std.proofs.lemmas.Option.{same_Some}
-use Rattle.nrm_text.specs.Names.{name_in}
-use Rattle.nrm_cli.specs.Inner.Parts.{PutsTold}
+use Rattle.std.proofs.Common.{refl}
 use Rattle.nrm_cli.specs.Jobs.{cut_leg as cut_job}
 use Rattle.nrm_cli.specs.LegThresholds.{CutsTold}
 use Rattle.nrm_cli.specs.Tells.{cuts_told}
@@ -15,14 +12,10 @@ returns-in-Ok-clause-does g c coming faults =
     let leg = c.args.leg.now in
     let groups = c.args.groups in
     let net = c.in-Ok.net in
-    let named : c.in-Some.name ≡ leg = same_Some c.in-Some.name leg (c.in-Some.ensures ∙ ap name_in c.as_bytes.ensures.value ∙ c.requires.leg) in
-    let held = g.K.Sink.held in
-    let count = g.K.Sink.faults in
     let (is, same) = c.in-Ok.ensures.network in
     let opens = rw is at c.open_network.ensures.opens in
     let counts = rw is at c.open_network.ensures.counts in
-    let its = rw same at c.put_cuts.ensures.puts in
-    let puts = subst (λ (name : List ℕ). PutsTold (CutsTold net name groups) (held c.args.sink.now) (held c.put_cuts.new.sink) (count c.args.sink.now) (count c.put_cuts.new.sink) c.put_cuts.result) named its in
+    let puts = rw same at c.put_cuts.ensures.puts in
     record {
       ends = leg-ends (cut_job file leg groups) _ _ (CutsTold net leg groups) (λ goes text is. cuts_told file leg groups net (refl, opens) is) refl c.put_cuts.result puts;
       failures = leg-failures (cut_job file leg groups) _ _ (CutsTold net leg groups) (cuts-quiet _ _ net leg groups) counts refl c.put_cuts.result puts;

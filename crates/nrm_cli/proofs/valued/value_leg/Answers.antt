@@ -1,7 +1,4 @@
-use Rattle.std.proofs.Common.{◌≡◌, ◌∙◌, ℕ, List, Ok, Err, ap, refl, subst}
-use Rattle.std.proofs.lemmas.Option.{same_Some}
-use Rattle.nrm_text.specs.Names.{name_in}
-use Rattle.nrm_cli.specs.Inner.Parts.{PutsTold}
+use Rattle.std.proofs.Common.{refl}
 use Rattle.nrm_cli.specs.Jobs.{value_leg as value_job}
 use Rattle.nrm_cli.specs.LegValues.{ValuesTold}
 use Rattle.nrm_cli.specs.Tells.{values_told}
@@ -14,14 +11,10 @@ returns-in-Ok-clause-does g c coming faults =
     let file = c.args.file.now in
     let leg = c.args.leg.now in
     let net = c.in-Ok.net in
-    let named : c.in-Some.name ≡ leg = same_Some c.in-Some.name leg (c.in-Some.ensures ∙ ap name_in c.as_bytes.ensures.value ∙ c.requires) in
-    let held = g.K.Sink.held in
-    let count = g.K.Sink.faults in
     let (is, same) = c.in-Ok.ensures.network in
     let opens = rw is at c.open_network.ensures.opens in
     let counts = rw is at c.open_network.ensures.counts in
-    let its = rw same at c.put_values.ensures.puts in
-    let puts = subst (λ (name : List ℕ). PutsTold (ValuesTold net name) (held c.args.sink.now) (held c.put_values.new.sink) (count c.args.sink.now) (count c.put_values.new.sink) c.put_values.result) named its in
+    let puts = rw same at c.put_values.ensures.puts in
     record {
       ends = leg-ends (value_job file leg) _ _ (ValuesTold net leg) (λ goes text is. values_told file leg net (refl, opens) is) refl c.put_values.result puts;
       failures = leg-failures (value_job file leg) _ _ (ValuesTold net leg) (values-quiet _ _ net leg) counts refl c.put_values.result puts;
