@@ -1,20 +1,11 @@
 -- What the code's numbers are at 64 and at 128 bits.
-use Rattle.std.proofs.Common.{sym, to_z-of_z, ◌≡◌, ℕ, zero, suc, ◌^◌, ◌<◌, ℤ, pos, negsuc, ◌-ℤ◌, ◌*ℤ◌, subst, ◌<ℤ◌, nat_abs, arith, ap, ◌∙◌, List, length, get_or, All}
-use Rattle.std.proofs.lemmas.List.{get_or_default}
+use Rattle.std.proofs.Common.{sym, to_z-of_z, ◌≡◌, ℕ, ◌^◌, ◌<◌, ℤ, pos, negsuc, ◌-ℤ◌, ◌*ℤ◌, subst, ◌<ℤ◌, nat_abs, arith, ap, ◌∙◌}
 use Rattle.std.proofs.lemmas.Int.{ints, to_z_pos, unsigned_abs-mul}
 use Rattle.std.proofs.lemmas.Nat.{mul-lt}
 use mir.Syntax.{w64, w128}
 use mir.Val.{to_z, of_z, SFits}
 use Rattle.nrm_fraction.specs.Large.{size_limit, IsSmall}
 use Rattle.nrm_fraction.proofs.Sizes.{small_same}
-
--- a number read at a column, as the code has it
-pub read_at : (ns : List ℤ) (i col : ℕ) (n : ℤ) → All IsSmall ns → col < length ns → i ≡ col → n ≡ get_or ns i n → to_z w64 (of_z w64 n) ≡ get_or ns col (pos 0)
-read_at ns i col n smalls h e r =
-    ap (λ z. to_z w64 (of_z w64 z)) read ∙ small_same (get_or ns col (pos 0)) (smalls col (pos 0) h)
-  where
-    read : n ≡ get_or ns col (pos 0)
-    read = r ∙ ap (λ j. get_or ns j n) e ∙ get_or_default ns col n (pos 0) h
 
 -- a difference of two products, as the code has it at 128 bits
 pub difference_is : (p q : ℤ) → nat_abs p < 2 ^ 96 → nat_abs q < 2 ^ 96 → to_z w128 (of_z w128 (to_z w128 (of_z w128 p) -ℤ to_z w128 (of_z w128 q))) ≡ p -ℤ q
@@ -39,11 +30,6 @@ product_small x y h k =
   where
     number : (n : ℤ) → IsSmall n → to_z w128 (of_z w128 (to_z w64 (of_z w64 n))) ≡ n
     number n l = ap (λ z. to_z w128 (of_z w128 z)) (small_same n l) ∙ wide_same n (omega arith)
-
-pub short_positive_bits : (g : ℤ) → pos 0 <ℤ g → 0 < of_z w64 g
-short_positive_bits (pos zero) h = absurd (omega (arith, ints))
-short_positive_bits (pos (suc n)) h = omega arith
-short_positive_bits (negsuc n) h = absurd (omega (arith, ints))
 
 pub one_from_bits : (g : ℤ) → pos 0 <ℤ g → of_z w64 g ≡ 1 → nat_abs g ≡ 1
 one_from_bits (pos n) h e = e

@@ -7,34 +7,41 @@ use mir.Syntax.{w64, w128}
 use mir.Val.{to_z, of_z, SFits}
 use native.Mathlib.Nat.{mul-pos}
 use Rattle.nrm_number.specs.Gcd.{gcd, shrink}
-use Rattle.nrm_number.proofs.GcdLaws.{gcd-dvd_left, gcd-dvd_right, gcd_pos, reduced_pos}
+use Rattle.nrm_number.proofs.GcdLaws.{gcd-dvd_left, gcd-dvd_right, nat_abs-shrink, reduced_lowest, reduced_pos}
 use Rattle.nrm_number.proofs.Integers.{ring_ℤ}
 use Rattle.nrm_number.proofs.Ring.{solve, ◌⊖◌, v0, v1, v2, v3, v4, v5}
 use Rattle.nrm_number.proofs.Ring.Expr.{◌⊕◌, ◌⊗◌, minus, e0}
-use Rattle.nrm_fraction.specs.Fraction.{◌over◌, ◌*ᶠ◌, ◌-ᶠ◌, negative, whole}
-use Rattle.nrm_fraction.specs.Large.{fractions, gcd_all, first_reaching, size_limit}
+use Rattle.nrm_fraction.specs.Fraction.{Fraction, ◌over◌, ◌*ᶠ◌, ◌-ᶠ◌, negative, whole}
+use Rattle.nrm_fraction.specs.Large.{fractions, gcd_all, first_reaching, size_limit, IsSmall}
 use Rattle.nrm_fraction.specs.Rows.{minus_times, combine}
 use Rattle.nrm_fraction.proofs.Values.{IsValue_over, IsValue_sum, IsValue_product, IsValue_negative, same_value}
+use Rattle.nrm_row.specs.Numbers.{IsRow}
 use Rattle.nrm_row.specs.Inner.Crossed.{crossed, shrunk}
+use Rattle.nrm_row.proofs.LowestTerms.{row_length}
 use Rattle.nrm_row.proofs.Divisors.{divisor_done, shrink_back}
 use Rattle.nrm_fraction.proofs.CommonDivisors.{gcd_all-dvd}
 use Rattle.nrm_fraction.proofs.Reaching.{reaching_yes, reaching_no}
-use Rattle.nrm_fraction.proofs.Sizes.{positive_abs}
+use Rattle.nrm_fraction.proofs.Sizes.{positive_abs, small_same}
 
--- a common factor h of the entry a h over d and the denominator e h goes out
-one_entry : (x a u : ℤ) (d e h : ℕ) → 0 < d → 0 < e → 0 < h → (x *ℤ pos e -ℤ a *ℤ u) over (d * e) ≡ x over d -ᶠ (a *ℤ pos h) over d *ᶠ u over (e * h)
-one_entry x a u d e h hd he hh =
-    same_value ((x *ℤ pos e -ℤ a *ℤ u) over (d * e)) (x over d -ᶠ (a *ℤ pos h) over d *ᶠ u over (e * h)) _ _ _ _
+-- two rows are as long as their numbers
+pub same_lengths : (d ue : ℤ) (us xs : List ℤ) (unit row : List Fraction) → fractions (nat_abs d) xs ≡ row → fractions (nat_abs ue) us ≡ unit → length unit ≡ length row → length us ≡ length xs
+same_lengths d ue us xs unit row rx ru l = omega (arith, row_length d xs row rx, row_length ue us unit ru)
+
+-- a / e is the entry's number n over the unit row's denominator f
+one_entry : (x n a u : ℤ) (d f e : ℕ) → 0 < d → 0 < f → 0 < e → a *ℤ pos f ≡ n *ℤ pos e → (x *ℤ pos e -ℤ a *ℤ u) over (d * e) ≡ x over d -ᶠ n over d *ᶠ u over f
+one_entry x n a u d f e hd hf he same =
+    same_value ((x *ℤ pos e -ℤ a *ℤ u) over (d * e)) (x over d -ᶠ n over d *ᶠ u over f) _ _ _ _
     (IsValue_over (x *ℤ pos e -ℤ a *ℤ u) (d * e) (mul-pos hd he))
-    (IsValue_sum (x over d) (negative ((a *ℤ pos h) over d *ᶠ u over (e * h))) _ _ _ _ (IsValue_over x d hd)
-    (IsValue_negative ((a *ℤ pos h) over d *ᶠ u over (e * h)) _ _ (IsValue_product ((a *ℤ pos h) over d) (u over (e * h)) _ _ _ _ (IsValue_over (a *ℤ pos h) d hd) (IsValue_over u (e * h) (mul-pos he hh)))))
-    (solve ring_ℤ (x ∷ a ∷ u ∷ pos d ∷ pos e ∷ pos h ∷ []) ((v0 ⊗ v4 ⊖ v1 ⊗ v2) ⊗ (v3 ⊗ (v3 ⊗ (v4 ⊗ v5)))) ((v0 ⊗ (v3 ⊗ (v4 ⊗ v5)) ⊕ minus (v1 ⊗ v5 ⊗ v2) ⊗ v3) ⊗ (v3 ⊗ v4)) refl)
+    (IsValue_sum (x over d) (negative (n over d *ᶠ u over f)) _ _ _ _ (IsValue_over x d hd) (IsValue_negative (n over d *ᶠ u over f) _ _ (IsValue_product (n over d) (u over f) _ _ _ _ (IsValue_over n d hd) (IsValue_over u f hf))))
+    (solve ring_ℤ (x ∷ a ∷ u ∷ pos d ∷ pos e ∷ pos f ∷ []) ((v0 ⊗ v4 ⊖ v1 ⊗ v2) ⊗ (v3 ⊗ (v3 ⊗ v5))) ((v0 ⊗ v4 ⊗ v5 ⊖ v1 ⊗ v5 ⊗ v2) ⊗ (v3 ⊗ v3)) refl
+    ∙ ap (λ t. (x *ℤ pos e *ℤ pos f -ℤ t *ℤ u) *ℤ (pos d *ℤ pos d)) same
+    ∙ solve ring_ℤ (x ∷ n ∷ u ∷ pos d ∷ pos e ∷ pos f ∷ []) ((v0 ⊗ v4 ⊗ v5 ⊖ v1 ⊗ v4 ⊗ v2) ⊗ (v3 ⊗ v3)) ((v0 ⊗ (v3 ⊗ v5) ⊕ minus (v1 ⊗ v2) ⊗ v3) ⊗ (v3 ⊗ v4)) refl)
 
-crossed_are : (a : ℤ) (d e h : ℕ) (us xs : List ℤ) → 0 < d → 0 < e → 0 < h → length us ≡ length xs → fractions (d * e) (crossed a (pos e) us xs) ≡ minus_times ((a *ℤ pos h) over d) (fractions (e * h) us) (fractions d xs)
-crossed_are a d e h [] [] hd he hh l = refl
-crossed_are a d e h [] (x ∷ xs) hd he hh l = absurd (omega arith)
-crossed_are a d e h (u ∷ us) [] hd he hh l = absurd (omega arith)
-crossed_are a d e h (u ∷ us) (x ∷ xs) hd he hh l = ap₂ (λ s t. s ∷ t) (one_entry x a u d e h hd he hh) (crossed_are a d e h us xs hd he hh (omega arith))
+crossed_are : (n a : ℤ) (d f e : ℕ) (us xs : List ℤ) → 0 < d → 0 < f → 0 < e → a *ℤ pos f ≡ n *ℤ pos e → length us ≡ length xs → fractions (d * e) (crossed a (pos e) us xs) ≡ minus_times (n over d) (fractions f us) (fractions d xs)
+crossed_are n a d f e [] [] hd hf he same l = refl
+crossed_are n a d f e [] (x ∷ xs) hd hf he same l = absurd (omega arith)
+crossed_are n a d f e (u ∷ us) [] hd hf he same l = absurd (omega arith)
+crossed_are n a d f e (u ∷ us) (x ∷ xs) hd hf he same l = ap₂ (λ s t. s ∷ t) (one_entry x n a u d f e hd hf he same) (crossed_are n a d f e us xs hd hf he same (omega arith))
 
 -- what is left of a positive denominator is positive
 pub reduced_positive : (n ue : ℤ) → pos 0 <ℤ ue → pos 0 <ℤ shrink ue (gcd (nat_abs n) (nat_abs ue))
@@ -45,24 +52,27 @@ reduced_positive n (negsuc u) h = absurd (omega (arith, ints))
 pub shared_le : (n ue : ℤ) → pos 0 <ℤ ue → gcd (nat_abs n) (nat_abs ue) ≤ nat_abs ue
 shared_le n ue h = le_of_dvd (positive_abs ue h).1 (gcd-dvd_right (nat_abs n) (nat_abs ue))
 
--- the combined row: from the entry and the unit row's denominator what they have in common is taken out
-combined_from : (d e a : ℤ) (h : ℕ) (us xs : List ℤ) (col : ℕ) → pos 0 <ℤ d → pos 0 <ℤ e → 0 < h → get_or xs col (pos 0) ≡ a *ℤ pos h → length us ≡ length xs → col < length xs → combine col (fractions (nat_abs (e *ℤ pos h)) us) (fractions (nat_abs d) xs) ≡ fractions (nat_abs (d *ℤ e)) (crossed a e us xs)
-combined_from (pos zero) e a h us xs col hd he hh p l w = absurd (omega (arith, ints))
-combined_from (pos (suc d)) (pos zero) a h us xs col hd he hh p l w = absurd (omega (arith, ints))
-combined_from (pos (suc d)) (negsuc e) a h us xs col hd he hh p l w = absurd (omega (arith, ints))
-combined_from (negsuc d) e a h us xs col hd he hh p l w = absurd (omega (arith, ints))
-combined_from (pos (suc d)) (pos (suc e)) a h us xs col hd he hh p l w =
-    ap (λ x. minus_times x (fractions (suc e * h) us) (fractions (suc d) xs)) (get_or-map (λ n. n over suc d) xs col (pos 0) (whole (pos 0)) w ∙ ap (λ n. n over suc d) p)
-    ∙ sym (crossed_are a (suc d) (suc e) h us xs (omega arith) (omega arith) hh l)
-
-pub combined_is : (d ue : ℤ) (us xs : List ℤ) (col : ℕ) → pos 0 <ℤ d → pos 0 <ℤ ue → length us ≡ length xs → col < length xs → combine col (fractions (nat_abs ue) us) (fractions (nat_abs d) xs) ≡ fractions (nat_abs (d *ℤ shrink ue (gcd (nat_abs (get_or xs col (pos 0))) (nat_abs ue)))) (crossed (shrink (get_or xs col (pos 0)) (gcd (nat_abs (get_or xs col (pos 0))) (nat_abs ue))) (shrink ue (gcd (nat_abs (get_or xs col (pos 0))) (nat_abs ue))) us xs)
-combined_is d ue us xs col hd hu l w =
-    ap (λ z. combine col (fractions (nat_abs z) us) (fractions (nat_abs d) xs)) (sym (shrink_back ue g (gcd-dvd_right (nat_abs (get_or xs col (pos 0))) (nat_abs ue))))
-    ∙ combined_from d (shrink ue g) (shrink (get_or xs col (pos 0)) g) g us xs col hd (reduced_positive (get_or xs col (pos 0)) ue hu) (gcd_pos (nat_abs (get_or xs col (pos 0))) (nat_abs ue) (positive_abs ue hu).1)
-    (sym (shrink_back (get_or xs col (pos 0)) g (gcd-dvd_left (nat_abs (get_or xs col (pos 0))) (nat_abs ue)))) l w
+-- a number and a denominator without what they have in common
+pub reduced_same : (n ue : ℤ) → shrink n (gcd (nat_abs n) (nat_abs ue)) *ℤ ue ≡ n *ℤ shrink ue (gcd (nat_abs n) (nat_abs ue))
+reduced_same n ue =
+    ap (λ z. shrink n g *ℤ z) (sym (shrink_back ue g (gcd-dvd_right (nat_abs n) (nat_abs ue))))
+    ∙ solve ring_ℤ (shrink n g ∷ shrink ue g ∷ pos g ∷ []) (v0 ⊗ (v1 ⊗ v2)) (v0 ⊗ v2 ⊗ v1) refl
+    ∙ ap (λ z. z *ℤ shrink ue g) (shrink_back n g (gcd-dvd_left (nat_abs n) (nat_abs ue)))
   where
     g : ℕ
-    g = gcd (nat_abs (get_or xs col (pos 0))) (nat_abs ue)
+    g = gcd (nat_abs n) (nat_abs ue)
+
+pub reduced_ones : (n ue : ℤ) → pos 0 <ℤ ue → gcd (nat_abs (shrink n (gcd (nat_abs n) (nat_abs ue)))) (nat_abs (shrink ue (gcd (nat_abs n) (nat_abs ue)))) ≡ 1
+reduced_ones n ue h = ap₂ gcd (nat_abs-shrink n _) (nat_abs-shrink ue _) ∙ reduced_lowest (nat_abs n) (nat_abs ue) (positive_abs ue h).1
+
+-- the combined row, where a / e is the entry's number over the unit row's denominator
+pub combined_is : (d ue a e : ℤ) (us xs : List ℤ) (unit row : List Fraction) (col : ℕ) → IsRow d xs → IsRow ue us → fractions (nat_abs d) xs ≡ row → fractions (nat_abs ue) us ≡ unit → length unit ≡ length row → col < length row → pos 0 <ℤ e → a *ℤ ue ≡ get_or xs col (pos 0) *ℤ e → combine col unit row ≡ fractions (nat_abs (d *ℤ e)) (crossed a e us xs)
+combined_is d ue a e us xs unit row col x u rx ru l w h same =
+    ap₂ (combine col) (sym ru) (sym rx)
+    ∙ ap (λ t. minus_times t (fractions (nat_abs ue) us) (fractions (nat_abs d) xs)) (get_or-map (λ n. n over nat_abs d) xs col (pos 0) (whole (pos 0)) (omega (arith, row_length d xs row rx)))
+    ∙ sym (crossed_are (get_or xs col (pos 0)) a (nat_abs d) (nat_abs ue) (nat_abs e) us xs (positive_abs d x.positive).1 (positive_abs ue u.positive).1 (positive_abs e h).1
+    (ap (λ z. a *ℤ z) (sym (positive_abs ue u.positive).0) ∙ same ∙ ap (λ z. get_or xs col (pos 0) *ℤ z) (positive_abs e h).0) (same_lengths d ue us xs unit row rx ru l))
+    ∙ ap₂ (λ s t. fractions (nat_abs (s *ℤ t)) (crossed a t us xs)) (sym (positive_abs d x.positive).0) (sym (positive_abs e h).0)
 
 -- an entry of 0 takes nothing away
 nothing_taken : (d e : ℕ) (us xs : List ℤ) → 0 < d → 0 < e → length us ≡ length xs → minus_times (pos 0 over d) (fractions e us) (fractions d xs) ≡ fractions d xs
@@ -79,10 +89,12 @@ nothing_taken d e (u ∷ us) (x ∷ xs) hd he l = ap₂ (λ s t. s ∷ t) one (n
         (IsValue_over x d hd)
         (solve ring_ℤ (x ∷ u ∷ pos d ∷ pos e ∷ []) ((v0 ⊗ (v2 ⊗ v3) ⊕ minus (e0 ⊗ v1) ⊗ v2) ⊗ v2) (v0 ⊗ (v2 ⊗ (v2 ⊗ v3))) refl)
 
-pub uncombined_is : (d ue : ℤ) (us xs : List ℤ) (col : ℕ) → pos 0 <ℤ d → pos 0 <ℤ ue → length us ≡ length xs → col < length xs → get_or xs col (pos 0) ≡ pos 0 → combine col (fractions (nat_abs ue) us) (fractions (nat_abs d) xs) ≡ fractions (nat_abs d) xs
-uncombined_is d ue us xs col hd hu l w z =
-    ap (λ x. minus_times x (fractions (nat_abs ue) us) (fractions (nat_abs d) xs)) (get_or-map (λ n. n over nat_abs d) xs col (pos 0) (whole (pos 0)) w ∙ ap (λ n. n over nat_abs d) z)
-    ∙ nothing_taken (nat_abs d) (nat_abs ue) us xs (positive_abs d hd).1 (positive_abs ue hu).1 l
+pub uncombined_is : (d ue : ℤ) (us xs : List ℤ) (unit row : List Fraction) (col : ℕ) → IsRow d xs → IsRow ue us → fractions (nat_abs d) xs ≡ row → fractions (nat_abs ue) us ≡ unit → length unit ≡ length row → col < length row → get_or xs col (pos 0) ≡ pos 0 → row ≡ combine col unit row
+uncombined_is d ue us xs unit row col x u rx ru l w z =
+    sym rx
+    ∙ sym (nothing_taken (nat_abs d) (nat_abs ue) us xs (positive_abs d x.positive).1 (positive_abs ue u.positive).1 (same_lengths d ue us xs unit row rx ru l))
+    ∙ ap (λ t. minus_times t (fractions (nat_abs ue) us) (fractions (nat_abs d) xs)) (sym (get_or-map (λ n. n over nat_abs d) xs col (pos 0) (whole (pos 0)) (omega (arith, row_length d xs row rx)) ∙ ap (λ n. n over nat_abs d) z))
+    ∙ ap₂ (combine col) ru rx
 
 -- ---- the common divisor of the denominator and the numbers x e - a u
 pub product_positive : (d e : ℤ) → pos 0 <ℤ d → pos 0 <ℤ e → 0 < nat_abs (d *ℤ e)
@@ -190,11 +202,5 @@ pub wide_read : (d e g p w : ℤ) (G : ℕ) → SFits w64 d → SFits w64 e → 
 wide_read d e g p w G fd fe fp fw c q r =
     to_z-of_z fw ∙ r ∙ ap₂ (λ t z. shrink t (nat_abs z)) (to_z-of_z fp ∙ q ∙ ap₂ (λ x y. x *ℤ y) (to_z-of_z fd) (to_z-of_z fe)) c
 
-pub shared_read : (n ue s : ℤ) → SFits w64 n → SFits w64 ue → SFits w64 s → s ≡ pos (gcd (nat_abs (to_z w64 (of_z w64 n))) (nat_abs (to_z w64 (of_z w64 ue)))) → to_z w64 (of_z w64 s) ≡ pos (gcd (nat_abs n) (nat_abs ue))
-shared_read n ue s fn fu fs r = to_z-of_z fs ∙ r ∙ ap₂ (λ x y. pos (gcd (nat_abs x) (nat_abs y))) (to_z-of_z fn) (to_z-of_z fu)
-
-pub shared_positive : (n ue : ℤ) → pos 0 <ℤ ue → pos 0 <ℤ pos (gcd (nat_abs n) (nat_abs ue))
-shared_positive n ue h = omega (arith, ints, gcd_pos (nat_abs n) (nat_abs ue) (positive_abs ue h).1)
-
-pub quotient_read : (n s q : ℤ) (g : ℕ) → SFits w64 n → SFits w64 q → to_z w64 (of_z w64 s) ≡ pos g → q ≡ shrink (to_z w64 (of_z w64 n)) (nat_abs (to_z w64 (of_z w64 s))) → to_z w64 (of_z w64 q) ≡ shrink n g
-quotient_read n s q g fn fq c r = to_z-of_z fq ∙ r ∙ ap₂ (λ x z. shrink x (nat_abs z)) (to_z-of_z fn) c
+pub crossed_read : (d a e : ℤ) (us xs vs ys : List ℤ) → IsSmall d → IsSmall a → IsSmall e → vs ≡ us → ys ≡ xs → fractions (nat_abs (to_z w64 (of_z w64 d) *ℤ to_z w64 (of_z w64 e))) (crossed (to_z w64 (of_z w64 a)) (to_z w64 (of_z w64 e)) vs ys) ≡ fractions (nat_abs (d *ℤ e)) (crossed a e us xs)
+crossed_read d a e us xs vs ys hd ha he v y = (λ i. fractions (nat_abs (small_same d hd i *ℤ small_same e he i)) (crossed (small_same a ha i) (small_same e he i) (v i) (y i)))

@@ -1,7 +1,7 @@
 -- Numbers from which multiples are taken away at some columns, one after another, and what the list of these columns is.
 use Rattle.nrm_row.specs.declared.limits.TheConstants.{MOST_COLUMNS}
-use Rattle.std.proofs.Common.{◌≡◌, ℕ, zero, suc, ◌+◌, ◌*◌, ◌<◌, ◌≤◌, ◌⊎◌, inl, inr, ℤ, pos, ◌-ℤ◌, ◌*ℤ◌, nat_abs, arith, refl, sym, ap, ap₂, ◌∙◌, subst, subst₂, ◌<ℤ◌, List, [], ◌∷◌, ◌++◌, length, get_or, set, take, drop, map, cond, None, ne_eqb, All, get_or-set_same, get_or-set_other, length-take-le, to_z, of_z, w64, FitsSigned}
-use Rattle.std.proofs.lemmas.List.{get_or_default, take_more, take_all, drop_more, get_or_at, get_or-take, length-set, length-map}
+use Rattle.std.proofs.Common.{◌≡◌, ℕ, zero, suc, ◌+◌, ◌*◌, ◌<◌, ◌≤◌, ◌⊎◌, inl, inr, ℤ, pos, ◌-ℤ◌, ◌*ℤ◌, nat_abs, arith, refl, sym, ap, ap₂, ◌∙◌, subst, subst₂, ◌<ℤ◌, List, [], ◌∷◌, ◌++◌, length, get_or, set, take, drop, map, cond, ne_eqb, All, get_or-set_same, get_or-set_other, length-take-le, to_z, of_z, w64, FitsSigned}
+use Rattle.std.proofs.lemmas.List.{get_or_default, take_more, drop_more, get_or_at, get_or-take, length-set, length-map}
 use Rattle.std.specs.List.{AllPairs}
 use Rattle.std.proofs.lemmas.Int.{ints, unsigned_abs-mul}
 use Rattle.std.proofs.Math.Nat.{mul-le-mul}
@@ -9,24 +9,12 @@ use Rattle.nrm_number.proofs.Integers.{ring_ℤ, positive_product}
 use Rattle.nrm_row.proofs.Combining.{length-crossed}
 use Rattle.nrm_number.proofs.Ring.{solve, ◌⊖◌, v0, v1}
 use Rattle.nrm_number.proofs.Ring.Expr.{◌⊗◌, e0, e1}
-use Rattle.nrm_number.specs.Gcd.{shrink}
-use Rattle.nrm_fraction.specs.Large.{fractions, gcd_all, large_number, size_limit, IsSmall}
+use Rattle.nrm_fraction.specs.Large.{size_limit, IsSmall}
 use Rattle.nrm_fraction.specs.Rows.{number_at}
-use Rattle.nrm_row.specs.Numbers.{IsRow, IsBounded, IsBoundedRow, Lists}
+use Rattle.nrm_row.specs.Numbers.{IsBounded, IsBoundedRow, Lists}
 use Rattle.std.specs.Int.{IsInRange}
-use Rattle.nrm_row.specs.Inner.Crossed.{crossed, shrunk}
-use Rattle.nrm_row.proofs.LowestTerms.{IsLowest, lowest_same, small_is_row, row_not_large}
+use Rattle.nrm_row.specs.Inner.Crossed.{crossed}
 use Rattle.nrm_row.proofs.Filled.{at_last, past_last, same_or_not}
-
--- a row in lowest terms is a row
-pub loosened : (d : ℤ) (ns : List ℤ) → IsLowest d ns → IsRow d ns
-loosened d ns r = record { positive = r.positive; small = r.small; smalls = r.smalls; width = r.width }
-
--- a row is never Large, in lowest terms or not
-pub small_not_large : (d : ℤ) (ns : List ℤ) → IsRow d ns → large_number size_limit (fractions (nat_abs d) ns) ≡ None
-small_not_large d ns r =
-    ap (large_number size_limit) (sym (lowest_same d ns r.positive))
-    ∙ row_not_large (shrink d (gcd_all (nat_abs d) ns)) (shrunk (gcd_all (nat_abs d) ns) ns) (small_is_row d ns r.positive r.small r.smalls r.width)
 
 -- no entry stands at a column
 pub absent : (es : List (ℕ × ℤ)) (c : ℕ) → ((k : ℕ) → k < length es → ¬ ((get_or es k (0, pos 0)).0 ≡ c)) → number_at es c ≡ pos 0
@@ -47,9 +35,6 @@ pub record IsTakenTo (old xs : List ℤ) (a : ℤ) (es : List (ℕ × ℤ)) (i :
 
 nothing : (x a : ℤ) → x ≡ x -ℤ a *ℤ pos 0
 nothing x a = sym (solve ring_ℤ (x ∷ a ∷ []) (v0 ⊖ v1 ⊗ e0) v0 refl)
-
-pub taken_first : (old : List ℤ) (a : ℤ) (es : List (ℕ × ℤ)) → IsTakenTo old old a es 0
-taken_first old a es = record { long = refl; so_far = λ c l. nothing (get_or old c (pos 0)) a }
 
 -- the next column still has its old number
 pub next_old : (old xs : List ℤ) (a : ℤ) (es : List (ℕ × ℤ)) (i : ℕ) → AllPairs (λ (s t : ℕ × ℤ). s.0 < t.0) es → All (λ (s : ℕ × ℤ). s.0 < length old) es → i < length es → IsTakenTo old xs a es i → get_or xs (get_or es i (0, pos 0)).0 (pos 0) ≡ get_or old (get_or es i (0, pos 0)).0 (pos 0)
@@ -109,14 +94,6 @@ pub record IsListedTo (ns : List ℤ) (es : List (ℕ × ℤ)) (i : ℕ) : Type 
   pub same : (c : ℕ) → number_at es c ≡ get_or (take i ns) c (pos 0)
   pub each : All (λ (e : ℕ × ℤ). e.1 ≡ get_or ns e.0 (pos 0)) es
 
-pub listed_first : (ns : List ℤ) → IsListedTo ns [] 0
-listed_first ns = record {
-  rising = λ i j d h l. absurd (omega arith);
-  below = λ k d h. absurd (omega arith);
-  same = λ c. refl;
-  each = λ k d h. absurd (omega arith);
-}
-
 snoc_all : (P : ℕ × ℤ → Type 0) (es : List (ℕ × ℤ)) (e : ℕ × ℤ) → All P es → P e → All P (es ++ e ∷ [])
 snoc_all P [] e a p zero d h = p
 snoc_all P [] e a p (suc k) d h = absurd (omega arith)
@@ -172,14 +149,6 @@ listed_skip ns es i h z p = record {
     go c (inl s) = p.same c ∙ past_end (take i ns) c (omega (arith, length-take-le i ns (omega arith))) ∙ sym z ∙ sym (get_or-take (i + 1) ns i (pos 0) (omega arith)) ∙ ap (λ t. get_or (take (i + 1) ns) t (pos 0)) (sym s)
     go c (inr d) = p.same c ∙ sym (taken_place ns i c h d)
 
-pub listed_all : (ns : List ℤ) (es : List (ℕ × ℤ)) (i : ℕ) → i ≡ length ns → IsListedTo ns es i → Lists ns es
-listed_all ns es i e p = record {
-  rising = p.rising;
-  within = λ k d l. omega (arith, p.below k d l);
-  same = λ c. p.same c ∙ ap (λ t. get_or t c (pos 0)) (take_all i ns (omega arith));
-  each = p.each;
-}
-
 -- a multiplied number stays within the bound
 pub scaled_at_most : (xs : List ℤ) (e : ℤ) (most : ℕ) → IsBounded most xs → IsBounded (most * nat_abs e) (map (λ x. x *ℤ e) xs)
 scaled_at_most [] e most b k d h = absurd (omega arith)
@@ -205,23 +174,6 @@ difference_fits x t m n h k l = omega (arith, ints)
 
 pub difference_is : (x t : ℤ) (m n : ℕ) → nat_abs x ≤ m → nat_abs t ≤ n → m + n < size_limit → to_z w64 (of_z w64 (to_z w64 (of_z w64 x) -ℤ to_z w64 (of_z w64 t))) ≡ x -ℤ t
 difference_is x t m n h k l = omega (arith, ints)
-
-pub within_same : (x : ℤ) (m : ℕ) → nat_abs x ≤ m → m < size_limit → to_z w64 (of_z w64 x) ≡ x
-within_same x m h l = omega (arith, ints)
-
--- the numbers in lowest terms, with a bound, are a row
-pub lowest_bounded : (d : ℤ) (ns made : List ℤ) (den : ℤ) (most : ℕ) → pos 0 <ℤ d → IsSmall d → All IsSmall ns → IsInRange 1 MOST_COLUMNS (length ns) → den ≡ shrink d (gcd_all (nat_abs d) ns) → made ≡ shrunk (gcd_all (nat_abs d) ns) ns → IsBounded most made → most < size_limit → IsBoundedRow den most made
-lowest_bounded d ns made den most h small smalls w e m b l = record {
-  row = subst₂ (λ z xs. IsRow z xs) (sym e) (sym m) (loosened (shrink d (gcd_all (nat_abs d) ns)) (shrunk (gcd_all (nat_abs d) ns) ns) (small_is_row d ns h small smalls w));
-  bounded = b;
-  room = l;
-}
-
-pub lowest_smalls : (d : ℤ) (ns made : List ℤ) → pos 0 <ℤ d → IsSmall d → All IsSmall ns → IsInRange 1 MOST_COLUMNS (length ns) → made ≡ shrunk (gcd_all (nat_abs d) ns) ns → All IsSmall made
-lowest_smalls d ns made h small smalls w m = subst (All IsSmall) (sym m) (small_is_row d ns h small smalls w).smalls
-
-pub lowest_long : (ns made : List ℤ) (g : ℕ) → made ≡ shrunk g ns → length made ≡ length ns
-lowest_long ns made g m = ap length m ∙ length-map ns (λ n. shrink n g)
 
 -- what a unit row lists, for a row as long
 pub listed_within : (us : List ℤ) (es : List (ℕ × ℤ)) (n : ℕ) → length us ≡ n → Lists us es → All (λ (e : ℕ × ℤ). e.0 < n) es

@@ -13,6 +13,7 @@ use Rattle.nrm_number.proofs.GcdLaws.{nat_abs-shrink}
 use Rattle.nrm_fraction.specs.Fraction.{Fraction, ◌over◌}
 use Rattle.nrm_fraction.specs.Large.{fractions, gcd_all, first_reaching, common, numerators, large_number, size_limit, IsSmall}
 use Rattle.nrm_fraction.proofs.Lowest.{common_is, numerators_are}
+use Rattle.nrm_row.specs.Numbers.{IsRow}
 use Rattle.nrm_row.specs.Inner.Crossed.{shrunk}
 use Rattle.nrm_row.proofs.Divisors.{shrunk_same, shrunk_lowest, reduced_below}
 use Rattle.nrm_fraction.proofs.CommonDivisors.{gcd_all_pos, gcd_all-dvd, gcd_all-divides}
@@ -54,9 +55,6 @@ lowest_parts (pos zero) ns h = absurd (omega (arith, ints))
 lowest_parts (pos (suc d)) ns h = (refl, reduced_below (suc d) (gcd_all (suc d) ns) (omega arith) (div-mul_cancel (gcd_all (suc d) ns) (gcd_all-dvd (suc d) ns)))
 lowest_parts (negsuc d) ns h = absurd (omega (arith, ints))
 
-pub divisor_positive : (d : ℤ) (ns : List ℤ) → pos 0 <ℤ d → pos 0 <ℤ pos (gcd_all (nat_abs d) ns)
-divisor_positive d ns h = omega (arith, ints, gcd_all_pos (nat_abs d) ns (positive_abs d h).1)
-
 -- numbers over a denominator, divided by what they have in common, are a row if they are small
 pub lowest_is_row : (d : ℤ) (ns : List ℤ) → pos 0 <ℤ d → IsSmall (shrink d (gcd_all (nat_abs d) ns)) → All IsSmall (shrunk (gcd_all (nat_abs d) ns) ns) → IsInRange 1 MOST_COLUMNS (length ns) → IsLowest (shrink d (gcd_all (nat_abs d) ns)) (shrunk (gcd_all (nat_abs d) ns) ns)
 lowest_is_row d ns h small smalls w = record {
@@ -71,10 +69,10 @@ pub shrink_small : (g : ℕ) (n : ℤ) → IsSmall n → IsSmall (shrink n g)
 shrink_small g n h = omega (arith, nat_abs-shrink n g, div-le_self (nat_abs n) g)
 
 -- numbers below the limit stay below it
-pub small_is_row : (d : ℤ) (ns : List ℤ) → pos 0 <ℤ d → IsSmall d → All IsSmall ns → IsInRange 1 MOST_COLUMNS (length ns) → IsLowest (shrink d (gcd_all (nat_abs d) ns)) (shrunk (gcd_all (nat_abs d) ns) ns)
-small_is_row d ns h small smalls w =
-    lowest_is_row d ns h (shrink_small (gcd_all (nat_abs d) ns) d small)
-    (All-map IsSmall (λ n. shrink n (gcd_all (nat_abs d) ns)) ns (All-weaker IsSmall (λ n. IsSmall (shrink n (gcd_all (nat_abs d) ns))) (shrink_small (gcd_all (nat_abs d) ns)) ns smalls)) w
+pub small_is_row : (d : ℤ) (ns : List ℤ) → IsRow d ns → IsLowest (shrink d (gcd_all (nat_abs d) ns)) (shrunk (gcd_all (nat_abs d) ns) ns)
+small_is_row d ns r =
+    lowest_is_row d ns r.positive (shrink_small (gcd_all (nat_abs d) ns) d r.small)
+    (All-map IsSmall (λ n. shrink n (gcd_all (nat_abs d) ns)) ns (All-weaker IsSmall (λ n. IsSmall (shrink n (gcd_all (nat_abs d) ns))) (shrink_small (gcd_all (nat_abs d) ns)) ns r.smalls)) r.width
 
 -- and stand for the same fractions
 pub lowest_same : (d : ℤ) (ns : List ℤ) → pos 0 <ℤ d → fractions (nat_abs (shrink d (gcd_all (nat_abs d) ns))) (shrunk (gcd_all (nat_abs d) ns) ns) ≡ fractions (nat_abs d) ns
@@ -87,7 +85,7 @@ pub made_is_row : (d : ℤ) (ns : List ℤ) → pos 0 <ℤ d → leb size_limit 
 made_is_row d ns h small none w = lowest_is_row d ns h (leb-false size_limit (nat_abs (shrink d (gcd_all (nat_abs d) ns))) small) (small_from_none (shrunk (gcd_all (nat_abs d) ns) ns) none) w
 
 -- the first number of the exact row that reaches a limit
-pub large_is : (limit : ℕ) (d : ℤ) (ns : List ℤ) → pos 0 <ℤ d → large_number limit (fractions (nat_abs d) ns) ≡ first_reaching limit (shrink d (gcd_all (nat_abs d) ns) ∷ shrunk (gcd_all (nat_abs d) ns) ns)
+large_is : (limit : ℕ) (d : ℤ) (ns : List ℤ) → pos 0 <ℤ d → large_number limit (fractions (nat_abs d) ns) ≡ first_reaching limit (shrink d (gcd_all (nat_abs d) ns) ∷ shrunk (gcd_all (nat_abs d) ns) ns)
 large_is limit d ns h =
     ap (large_number limit) (sym (lowest_same d ns h) ∙ ap (λ z. fractions (nat_abs z) N) (lowest_parts d ns h).0)
     ∙ ap₂ (λ m ms. first_reaching limit (pos m ∷ ms)) common_here (ap (λ m. numerators m (fractions M N)) common_here ∙ numerators_are M N (lowest_parts d ns h).1)
@@ -102,6 +100,13 @@ large_is limit d ns h =
     common_here : common (fractions M N) ≡ M
     common_here = common_is M N (lowest_parts d ns h).1 (shrunk_lowest (nat_abs d) ns (positive_abs d h).1)
 
+-- it is the denominator, or one of the numbers
+pub large_den : (limit : ℕ) (d : ℤ) (ns : List ℤ) → pos 0 <ℤ d → leb limit (nat_abs (shrink d (gcd_all (nat_abs d) ns))) ≡ true → large_number limit (fractions (nat_abs d) ns) ≡ Some (shrink d (gcd_all (nat_abs d) ns))
+large_den limit d ns h large = large_is limit d ns h ∙ ap (λ b. cond b (Some (shrink d (gcd_all (nat_abs d) ns))) (first_reaching limit (shrunk (gcd_all (nat_abs d) ns) ns))) large
+
+pub large_of_numbers : (limit : ℕ) (d : ℤ) (ns : List ℤ) → pos 0 <ℤ d → leb limit (nat_abs (shrink d (gcd_all (nat_abs d) ns))) ≡ false → large_number limit (fractions (nat_abs d) ns) ≡ first_reaching limit (shrunk (gcd_all (nat_abs d) ns) ns)
+large_of_numbers limit d ns h small = large_is limit d ns h ∙ ap (λ b. cond b (Some (shrink d (gcd_all (nat_abs d) ns))) (first_reaching limit (shrunk (gcd_all (nat_abs d) ns) ns))) small
+
 -- a row isn't Large
 pub row_not_large : (d : ℤ) (ns : List ℤ) → IsLowest d ns → large_number size_limit (fractions (nat_abs d) ns) ≡ None
 row_not_large d ns r =
@@ -111,16 +116,24 @@ row_not_large d ns r =
     common_here : common (fractions (nat_abs d) ns) ≡ nat_abs d
     common_here = common_is (nat_abs d) ns (positive_abs d r.positive).1 r.lowest
 
--- ---- what a row's parts are of its fractions
-pub row_den : (d : ℤ) (ns : List ℤ) (row : List Fraction) → IsLowest d ns → fractions (nat_abs d) ns ≡ row → d ≡ pos (common row)
-row_den d ns row r e =
-    (positive_abs d r.positive).0 ∙ ap pos (sym (common_is (nat_abs d) ns (positive_abs d r.positive).1 r.lowest)) ∙ ap (λ t. pos (common t)) e
+-- a row in lowest terms is a row
+pub loosened : (d : ℤ) (ns : List ℤ) → IsLowest d ns → IsRow d ns
+loosened d ns r = record { positive = r.positive; small = r.small; smalls = r.smalls; width = r.width }
 
-pub row_nums : (d : ℤ) (ns : List ℤ) (row : List Fraction) → IsLowest d ns → fractions (nat_abs d) ns ≡ row → numerators (common row) row ≡ ns
+-- a row is never Large, in lowest terms or not
+pub small_not_large : (d : ℤ) (ns : List ℤ) → IsRow d ns → large_number size_limit (fractions (nat_abs d) ns) ≡ None
+small_not_large d ns r = ap (large_number size_limit) (sym (lowest_same d ns r.positive)) ∙ row_not_large _ _ (small_is_row d ns r)
+
+-- ---- what a row's parts are of its fractions
+pub row_den : (d : ℤ) (ns : List ℤ) (row : List Fraction) → IsRow d ns → fractions (nat_abs d) ns ≡ row → shrink d (gcd_all (nat_abs d) ns) ≡ pos (common row)
+row_den d ns row r e =
+    (positive_abs _ (small_is_row d ns r).positive).0 ∙ ap pos (sym (common_is _ _ (positive_abs _ (small_is_row d ns r).positive).1 (small_is_row d ns r).lowest)) ∙ ap (λ t. pos (common t)) (lowest_same d ns r.positive ∙ e)
+
+pub row_nums : (d : ℤ) (ns : List ℤ) (row : List Fraction) → IsRow d ns → fractions (nat_abs d) ns ≡ row → numerators (common row) row ≡ shrunk (gcd_all (nat_abs d) ns) ns
 row_nums d ns row r e =
-    sym (ap (λ t. numerators (common t) t) e)
-    ∙ ap (λ m. numerators m (fractions (nat_abs d) ns)) (common_is (nat_abs d) ns (positive_abs d r.positive).1 r.lowest)
-    ∙ numerators_are (nat_abs d) ns (positive_abs d r.positive).1
+    sym (ap (λ t. numerators (common t) t) (lowest_same d ns r.positive ∙ e))
+    ∙ ap (λ m. numerators m (fractions (nat_abs (shrink d (gcd_all (nat_abs d) ns))) (shrunk (gcd_all (nat_abs d) ns) ns))) (common_is _ _ (positive_abs _ (small_is_row d ns r).positive).1 (small_is_row d ns r).lowest)
+    ∙ numerators_are _ _ (positive_abs _ (small_is_row d ns r).positive).1
 
 pub row_length : (d : ℤ) (ns : List ℤ) (row : List Fraction) → fractions (nat_abs d) ns ≡ row → length row ≡ length ns
 row_length d ns row e = sym (ap length e) ∙ length-map ns (λ n. n over nat_abs d)

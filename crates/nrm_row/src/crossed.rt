@@ -2,8 +2,9 @@
 //! their common divisor, as far as it isn't 1, and once to be put into their places.
 #![tactic(auto)]
 
-ghost use Rattle.std.specs.Prelude.{◌≡◌, ◌^◌, pos, ◌*ℤ◌, ◌<ℤ◌, unsigned_abs, length, All, IfNone, MatchResult, None};
-ghost use Rattle.nrm_fraction.specs.Large.{gcd_all, first_reaching, size_limit, IsSmall};
+ghost use Rattle.std.specs.Prelude.{◌≡◌, ◌^◌, pos, ◌*ℤ◌, ◌<ℤ◌, unsigned_abs, length, All, IfNone, IfOk, MatchResult, None};
+ghost use Rattle.nrm_fraction.specs.Large.{fractions, gcd_all, first_reaching, large_number, size_limit, IsSmall};
+ghost use Rattle.nrm_row.specs.Numbers.{IsRow};
 ghost use Rattle.nrm_row.specs.Inner.Crossed.{crossed, shrunk};
 ghost use Rattle.nrm_fraction.specs.Fault.{IsFault};
 
@@ -34,7 +35,7 @@ fn divisor(d: u128, a: i64, e: i64, us: &[i64], xs: &[i64]) -> u128
 }
 
 // The greatest common divisor of the denominator den e and all the numbers x e - a u.
-pub(crate) fn crossed_divisor(den: i64, a: i64, e: i64, us: &[i64], xs: &[i64]) -> i128
+fn crossed_divisor(den: i64, a: i64, e: i64, us: &[i64], xs: &[i64]) -> i128
     requires den_positive { pos 0 <ℤ den }
     requires e_positive { pos 0 <ℤ e }
     requires den_small { IsSmall den }
@@ -43,7 +44,8 @@ pub(crate) fn crossed_divisor(den: i64, a: i64, e: i64, us: &[i64], xs: &[i64]) 
     requires lengths { length us.now ≡ length xs.now }
     requires us_small { All IsSmall us.now }
     requires xs_small { All IsSmall xs.now }
-    ensures { result ≡ pos (gcd_all (unsigned_abs (den *ℤ e)) (crossed a e us.now xs.now)) }
+    ensures value { result ≡ pos (gcd_all (unsigned_abs (den *ℤ e)) (crossed a e us.now xs.now)) }
+    ensures positive { pos 0 <ℤ result }
 {
     divisor(product(den, e).unsigned_abs(), a, e, us, xs) as i128
 }
@@ -71,7 +73,7 @@ fn put_crossed(xs: &mut [i64], us: &[i64], a: i64, e: i64, g: i128) -> Option<i1
 }
 
 // The numbers x e - a u, each divided by g, or the first that reaches the limit.
-pub(crate) fn crossed_numbers(
+fn crossed_numbers(
     alloc: Global,
     xs: &[i64],
     us: &[i64],
@@ -95,4 +97,34 @@ pub(crate) fn crossed_numbers(
         Some(number) => Err(RowFault::Large { number }),
         None => Ok(made),
     }
+}
+
+// The numbers x e - a u over the denominator den e, in lowest terms.
+pub(crate) fn crossed_row(
+    alloc: Global,
+    den: i64,
+    xs: &[i64],
+    a: i64,
+    e: i64,
+    us: &[i64],
+) -> Result<(i64, Vec<i64>), RowFault>
+    requires row { IsRow den xs.now }
+    requires positive { pos 0 <ℤ e }
+    requires e_small { IsSmall e }
+    requires a_small { IsSmall a }
+    requires us_small { All IsSmall us.now }
+    requires lengths { length us.now ≡ length xs.now }
+    ensures row { IfOk result (λ made. IsRow made.0 made.1.items) }
+    ensures exact { let exact = fractions (unsigned_abs (den *ℤ e)) (crossed a e us.now xs.now) in
+        MatchResult result
+        (λ made. (fractions (unsigned_abs made.0) made.1.items ≡ exact) × (large_number size_limit exact ≡ None))
+        (λ f. IsFault f (large_number size_limit exact)) }
+{
+    let common = crossed_divisor(den, a, e, us, xs);
+    let wide = wide_quotient(product(den, e), common);
+    if is_large(wide) {
+        return Err(RowFault::Large { number: wide });
+    }
+    let made = crossed_numbers(alloc, xs, us, a, e, common)?;
+    Ok((wide as i64, made))
 }

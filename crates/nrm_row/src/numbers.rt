@@ -2,12 +2,22 @@
 //! divided again.
 #![tactic(auto)]
 
-ghost use Rattle.std.specs.Prelude.{◌≡◌, ◌+◌, ◌*◌, ◌<◌, ◌^◌, pos, ◌-ℤ◌, ◌*ℤ◌, ◌<ℤ◌, unsigned_abs, leb, IfSome};
+ghost use Rattle.std.specs.Prelude.{◌≡◌, ◌+◌, ◌*◌, ◌<◌, ◌^◌, pos, ◌-ℤ◌, ◌*ℤ◌, ◌<ℤ◌, unsigned_abs, length, get_or, leb, All, IfSome};
 ghost use Rattle.nrm_number.specs.Gcd.{gcd as gcd_of, shrink};
 ghost use Rattle.nrm_fraction.specs.Large.{size_limit, IsSmall};
 
 use nrm_fraction::SIZE_LIMIT;
 use nrm_number::short_gcd;
+
+// The number at a column.
+pub(crate) fn number(nums: &[i64], col: u16) -> i64
+    requires smalls { All IsSmall nums.now }
+    requires within { col < length nums.now }
+    ensures value { result ≡ get_or nums.now col (pos 0) }
+    ensures small { IsSmall result }
+{
+    nums[usize::from(col)]
+}
 
 pub(crate) fn product(x: i64, y: i64) -> i128
     requires x_small { IsSmall x }
@@ -88,12 +98,28 @@ pub(crate) fn is_large(n: i128) -> bool
 }
 
 // What a number and a denominator have in common.
-pub(crate) fn shared_divisor(n: i64, den: i64) -> i64
+fn shared_divisor(n: i64, den: i64) -> i64
     requires positive { pos 0 <ℤ den }
     requires small { IsSmall den }
-    ensures { result ≡ pos (gcd_of (unsigned_abs n) (unsigned_abs den)) }
+    ensures value { result ≡ pos (gcd_of (unsigned_abs n) (unsigned_abs den)) }
+    ensures positive { pos 0 <ℤ result }
 {
     short_gcd(n.unsigned_abs(), den.unsigned_abs()) as i64
+}
+
+// A number and a denominator, both divided by what they have in common.
+pub(crate) fn reduced(n: i64, den: i64) -> (i64, i64)
+    requires positive { pos 0 <ℤ den }
+    requires number_small { IsSmall n }
+    requires small { IsSmall den }
+    ensures same { result.0 *ℤ den ≡ n *ℤ result.1 }
+    ensures lowest { gcd_of (unsigned_abs result.0) (unsigned_abs result.1) ≡ 1 }
+    ensures positive { pos 0 <ℤ result.1 }
+    ensures number_small { IsSmall result.0 }
+    ensures small { IsSmall result.1 }
+{
+    let shared = shared_divisor(n, den);
+    (quotient(n, shared), quotient(den, shared))
 }
 
 // n divided by g, which is meant to divide it. Unsigned sizes are divided, which takes far less time, and 0 is not.

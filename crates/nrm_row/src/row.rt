@@ -11,13 +11,12 @@ ghost use Rattle.nrm_fraction.specs.Large.{fractions, common, numerators, large_
 ghost use Rattle.nrm_fraction.specs.Lex.{lex_below};
 ghost use Rattle.nrm_fraction.specs.Rows.{at, number_at, row_of, unit_row, combine as combined, ratio_columns, ratios};
 ghost use Rattle.nrm_row.specs.Numbers.{AreEntries, IsRow, IsBoundedRow, IsUnit};
-ghost use Rattle.nrm_row.specs.Inner.Crossed.{crossed};
 ghost use Rattle.nrm_fraction.specs.Fault.{IsFault};
 
-use crate::crossed::{crossed_divisor, crossed_numbers};
+use crate::crossed::crossed_row;
 use crate::in_place::{cross_in_place, greatest, greatest_listed, listed};
-use crate::lowest::{divided, divisor};
-use crate::numbers::{bounds, is_large, product, quotient, shared_divisor, wide_quotient};
+use crate::lowest::{divisor, lowest};
+use crate::numbers::{bounds, number, quotient, reduced};
 use crate::ratios::ratios_below;
 use nrm_fraction::RowFault;
 use std::alloc::{AllocError, Global};
@@ -35,71 +34,29 @@ fn filled(alloc: Global, width: u16, entries: &[(u16, i64)]) -> Result<Vec<i64>,
     Ok(made)
 }
 
-// The numbers over a denominator, as a row in lowest terms.
-fn lowest_row(alloc: Global, den: i64, nums: &[i64]) -> Result<Row, AllocError>
-    requires positive { pos 0 <ℤ den }
-    requires small { IsSmall den }
-    requires smalls { All IsSmall nums.now }
-    requires width { IsInRange 1 MOST_COLUMNS (length nums.now) }
-    ensures { IfOk result (λ row. row ≡ fractions (unsigned_abs den) nums.now) }
+// The row of the numbers over a denominator.
+fn row_over(den: i64, nums: Vec<i64>) -> Row
+    requires { IsRow den nums.items }
+    ensures { result ≡ fractions (unsigned_abs den) nums.items }
 {
-    let common = divisor(den, nums);
-    let lowest = quotient(den, common);
-    let made = divided(alloc, nums, common)?;
-    Ok(Row {
-        den: lowest,
-        most: greatest(&made),
-        nums: made,
-    })
-}
-
-// The row of the numbers x e - a u over den e, in lowest terms.
-fn crossed_row(
-    alloc: Global,
-    den: i64,
-    xs: &[i64],
-    a: i64,
-    e: i64,
-    us: &[i64],
-) -> Result<Row, RowFault>
-    requires row { IsRow den xs.now }
-    requires positive { pos 0 <ℤ e }
-    requires e_small { IsSmall e }
-    requires a_small { IsSmall a }
-    requires us_small { All IsSmall us.now }
-    requires lengths { length us.now ≡ length xs.now }
-    ensures { let exact = fractions (unsigned_abs (den *ℤ e)) (crossed a e us.now xs.now) in
-        MatchResult result (λ r. (r ≡ exact) × (large_number size_limit exact ≡ None)) (λ f. IsFault f (large_number size_limit exact)) }
-{
-    let common = crossed_divisor(den, a, e, us, xs);
-    let wide = wide_quotient(product(den, e), common);
-    if is_large(wide) {
-        return Err(RowFault::Large { number: wide });
+    Row {
+        den,
+        most: greatest(&nums),
+        nums,
     }
-    let made = crossed_numbers(alloc, xs, us, a, e, common)?;
-    Ok(Row {
-        den: wide as i64,
-        most: greatest(&made),
-        nums: made,
-    })
 }
 
-// The numbers over one of them, as a unit row in lowest terms.
+// The unit row of the numbers over one of them.
 fn unit_of(alloc: Global, den: i64, nums: &[i64]) -> Result<Unit, AllocError>
-    requires positive { pos 0 <ℤ den }
-    requires small { IsSmall den }
-    requires smalls { All IsSmall nums.now }
-    requires width { IsInRange 1 MOST_COLUMNS (length nums.now) }
-    ensures { IfOk result (λ row. row ≡ fractions (unsigned_abs den) nums.now) }
+    requires { IsRow den nums.now }
+    ensures { IfOk result (λ unit. unit ≡ fractions (unsigned_abs den) nums.now) }
 {
-    let common = divisor(den, nums);
-    let lowest = quotient(den, common);
-    let made = divided(alloc, nums, common)?;
-    let entries = listed(alloc, &made)?;
+    let (den, nums) = lowest(alloc, den, nums)?;
+    let entries = listed(alloc, &nums)?;
     Ok(Unit {
-        den: lowest,
+        den,
         most: greatest_listed(&entries),
-        nums: made,
+        nums,
         entries,
     })
 }
@@ -195,7 +152,7 @@ impl Row {
         ensures num { result ≡ get_or (numerators (common self.now) self.now) col (pos 0) }
         ensures small { IsSmall result }
     {
-        quotient(self.nums[usize::from(col)], divisor(self.den, &self.nums))
+        quotient(number(&self.nums, col), divisor(self.den, &self.nums))
     }
 
     /// How many columns the row has, the right side counted: 1 to `MOST_COLUMNS`.
@@ -211,7 +168,7 @@ impl Row {
         requires { col < length self.now }
         ensures { result ≡ less (at self.now col) (whole (pos 0)) }
     {
-        self.nums[usize::from(col)] < 0
+        number(&self.nums, col) < 0
     }
 
     /// Whether the entry at a column is positive.
@@ -219,7 +176,7 @@ impl Row {
         requires { col < length self.now }
         ensures { result ≡ less (whole (pos 0)) (at self.now col) }
     {
-        self.nums[usize::from(col)] > 0
+        number(&self.nums, col) > 0
     }
 
     /// Whether the entry at a column is 0.
@@ -227,7 +184,7 @@ impl Row {
         requires { col < length self.now }
         ensures { IsTrue result ↔ (at self.now col ≡ whole (pos 0)) }
     {
-        self.nums[usize::from(col)] == 0
+        number(&self.nums, col) == 0
     }
 
     /// This row divided by its entry at `col`. It is never Large.
@@ -237,7 +194,7 @@ impl Row {
         ensures row { IfOk result (λ row. row ≡ unit_row col self.now) }
         ensures small { large_number size_limit (unit_row col self.now) ≡ None }
     {
-        unit_of(alloc, self.nums[usize::from(col)], &self.nums)
+        unit_of(alloc, number(&self.nums, col), &self.nums)
     }
 
     /// The columns from `from` on, so many of them, as a row over their own least common denominator. It is never Large.
@@ -248,7 +205,8 @@ impl Row {
     {
         let start = usize::from(from);
         let end = start + usize::from(width);
-        lowest_row(alloc, self.den, &self.nums[start..end])
+        let (den, nums) = lowest(alloc, self.den, &self.nums[start..end])?;
+        Ok(row_over(den, nums))
     }
 
     /// Whether this row's list (the last column, then the columns from `from` to the one before it), divided by its
@@ -277,13 +235,11 @@ impl Row {
     {
         // For the unit row's invariant alone.
         let _ = &unit.den;
-        let entry = self.nums[usize::from(col)];
+        let entry = number(&self.nums, col);
         if entry == 0 {
             return Ok(());
         }
-        let shared = shared_divisor(entry, unit.den);
-        let a = quotient(entry, shared);
-        let e = quotient(unit.den, shared);
+        let (a, e) = reduced(entry, unit.den);
         match bounds(self.den, self.most, a, e, unit.most) {
             Some((den, most)) => {
                 cross_in_place(&mut self.nums, self.most, a, e, &unit.entries, unit.most);
@@ -291,8 +247,8 @@ impl Row {
                 self.most = most;
             }
             None => {
-                let row = crossed_row(alloc, self.den, &self.nums, a, e, &unit.nums)?;
-                *self = row;
+                let (den, nums) = crossed_row(alloc, self.den, &self.nums, a, e, &unit.nums)?;
+                *self = row_over(den, nums);
             }
         }
         Ok(())

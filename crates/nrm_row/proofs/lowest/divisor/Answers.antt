@@ -7,7 +7,7 @@ use Rattle.nrm_row.proofs.Bits.{zero_from_bits}
 use Rattle.nrm_row.proofs.Divisors.{divisor_done, nought_more}
 use Rattle.nrm_row.proofs.lowest.divisor.Goals as goal
 use Rattle.nrm_row.proofs.lowest.divisor.Goals.{then-loop-i-test+else-common-ne1, else-loop-i-test}
-use Rattle.nrm_fraction.proofs.CommonDivisors.{gcd_all_le}
+use Rattle.nrm_fraction.proofs.CommonDivisors.{gcd_all_le, gcd_all_pos}
 use Rattle.nrm_fraction.proofs.Sizes.{positive_abs}
 
 done : (c : goal.Left-loop-i) → c.loop-i.common ≡ gcd_all (unsigned_abs c.args.den) c.args.nums.now
@@ -23,8 +23,14 @@ small c = omega (arith, done c, gcd_all_le (unsigned_abs c.args.den) c.args.nums
 pub overflow_cast-result : goal.overflow_cast-result
 overflow_cast-result c = let l : c.loop-i.common < size_limit = small c in omega (arith, ints)
 
-pub returns : goal.returns
-returns c = let l : c.loop-i.common < size_limit = small c in let same : to_z w64 c.loop-i.common ≡ pos c.loop-i.common = omega (arith, ints) in same ∙ ap pos (done c)
+same : (c : goal.Left-loop-i) → to_z w64 c.loop-i.common ≡ pos c.loop-i.common
+same c = let l : c.loop-i.common < size_limit = small c in omega (arith, ints)
+
+pub returns-clause-value : goal.returns-clause-value
+returns-clause-value c = same c ∙ ap pos (done c)
+
+pub returns-clause-positive : goal.returns-clause-positive
+returns-clause-positive c = omega (arith, ints, same c, done c, gcd_all_pos (unsigned_abs c.args.den) c.args.nums.now (positive_abs c.args.den c.requires.positive).1)
 
 pub loop-i-preserved : goal.loop-i-preserved
 loop-i-preserved c =

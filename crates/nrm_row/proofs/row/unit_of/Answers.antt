@@ -1,62 +1,35 @@
--- The numbers divided by their common divisor are a unit row, with its list and its bound.
-use Rattle.std.proofs.Common.{rules, arith, ◌≡◌, ◌≤◌, ℕ, ℤ, ap, ap₂, sym, subst, ◌∙◌, pos, ◌<ℤ◌, unsigned_abs, length, to_z, of_z, to_z-of_z, w64, All}
-use mir.Val.{SFits}
-use Rattle.nrm_number.specs.Gcd.{shrink}
-use Rattle.nrm_fraction.specs.Large.{gcd_all, fractions, IsSmall}
+-- The numbers in lowest terms are a unit row, with its list and its bound.
+use Rattle.std.proofs.Common.{◌≤◌, ℕ, ℤ, ap, sym, subst, ◌∙◌, unsigned_abs, All}
+use Rattle.nrm_fraction.specs.Large.{fractions, IsSmall}
 use Rattle.nrm_fraction.specs.Rows.{number_at}
-use Rattle.nrm_row.specs.Numbers.{Lists}
-use Rattle.nrm_row.specs.Inner.Crossed.{shrunk}
-use Rattle.nrm_row.proofs.LowestTerms.{divisor_positive, lowest_same}
-use Rattle.nrm_row.proofs.InPlace.{lowest_bounded, lowest_smalls, lowest_long, listed_bounded, listed_smalls}
+use Rattle.nrm_fraction.proofs.Sizes.{small_same}
+use Rattle.nrm_row.specs.Numbers.{IsRow, Lists}
+use Rattle.nrm_row.proofs.InPlace.{listed_bounded, listed_smalls}
 use Rattle.nrm_row.proofs.row.unit_of.Goals as goal
+use Rattle.nrm_row.proofs.row.unit_of.Goals.{In_ok-entries}
 
-pub quotient-lowest-requires : goal.quotient-lowest-requires
-quotient-lowest-requires c =
-    let f : SFits w64 c.divisor-common.result = search rules in
-    let divisor : to_z w64 (of_z w64 c.divisor-common.result) ≡ pos (gcd_all (unsigned_abs c.args.den) c.args.nums.now) = to_z-of_z f ∙ c.divisor-common.ensures ∙ ap (λ d. pos (gcd_all (unsigned_abs d) c.args.nums.now)) (to_z-of_z c.ranges.den) in
-    subst (λ z. pos 0 <ℤ z) (sym divisor) (divisor_positive c.args.den c.args.nums.now c.requires.positive)
-
-pub divided-requires : goal.divided-requires
-divided-requires c =
-    let f : SFits w64 c.divisor-common.result = search rules in
-    let divisor : to_z w64 (of_z w64 c.divisor-common.result) ≡ pos (gcd_all (unsigned_abs c.args.den) c.args.nums.now) = to_z-of_z f ∙ c.divisor-common.ensures ∙ ap (λ d. pos (gcd_all (unsigned_abs d) c.args.nums.now)) (to_z-of_z c.ranges.den) in
-    subst (λ z. pos 0 <ℤ z) (sym divisor) (divisor_positive c.args.den c.args.nums.now c.requires.positive)
-
-pub listed-requires : goal.listed-requires
-listed-requires c =
-    let f : SFits w64 c.divisor-common.result = search rules in
-    let divisor : to_z w64 (of_z w64 c.divisor-common.result) ≡ pos (gcd_all (unsigned_abs c.args.den) c.args.nums.now) = to_z-of_z f ∙ c.divisor-common.ensures ∙ ap (λ d. pos (gcd_all (unsigned_abs d) c.args.nums.now)) (to_z-of_z c.ranges.den) in
-    let made : c.in_ok-made.made.items ≡ shrunk (gcd_all (unsigned_abs c.args.den) c.args.nums.now) c.args.nums.now = c.in_ok-made.ensures ∙ ap (λ g. shrunk (unsigned_abs g) c.args.nums.now) divisor in
-    omega (arith, ap length c.deref.ensures.value, lowest_long c.args.nums.now c.in_ok-made.made.items _ made, c.requires.width.1)
+lists : (c : In_ok-entries) → Lists c.in_ok-den.nums.items c.in_ok-entries.entries.items
+lists c = subst (λ ns. Lists ns c.in_ok-entries.entries.items) c.deref.ensures.value c.in_ok-entries.ensures
 
 pub greatest_listed-requires : goal.greatest_listed-requires
 greatest_listed-requires c =
-    let f : SFits w64 c.divisor-common.result = search rules in
-    let divisor : to_z w64 (of_z w64 c.divisor-common.result) ≡ pos (gcd_all (unsigned_abs c.args.den) c.args.nums.now) = to_z-of_z f ∙ c.divisor-common.ensures ∙ ap (λ d. pos (gcd_all (unsigned_abs d) c.args.nums.now)) (to_z-of_z c.ranges.den) in
-    let made : c.in_ok-made.made.items ≡ shrunk (gcd_all (unsigned_abs c.args.den) c.args.nums.now) c.args.nums.now = c.in_ok-made.ensures ∙ ap (λ g. shrunk (unsigned_abs g) c.args.nums.now) divisor in
-    let smalls = lowest_smalls c.args.den c.args.nums.now c.in_ok-made.made.items c.requires.positive c.requires.small c.requires.smalls c.requires.width made in
-    let lists = subst (λ ns. Lists ns c.in_ok-entries.entries.items) c.deref.ensures.value c.in_ok-entries.ensures in
-    subst (All (λ (e : ℕ × ℤ). IsSmall e.1)) (sym c.deref-2.ensures.value) (listed_smalls c.in_ok-made.made.items c.in_ok-entries.entries.items smalls lists)
+    subst (All (λ (e : ℕ × ℤ). IsSmall e.1)) (sym c.deref-2.ensures.value)
+    (listed_smalls c.in_ok-den.nums.items c.in_ok-entries.entries.items c.in_ok-den.ensures.row.smalls (lists (goal.at.greatest_listed-requires c).In_ok-entries))
 
 pub invariant_of-result : goal.invariant_of-result
 invariant_of-result c =
-    let f : SFits w64 c.divisor-common.result = search rules in
-    let divisor : to_z w64 (of_z w64 c.divisor-common.result) ≡ pos (gcd_all (unsigned_abs c.args.den) c.args.nums.now) = to_z-of_z f ∙ c.divisor-common.ensures ∙ ap (λ d. pos (gcd_all (unsigned_abs d) c.args.nums.now)) (to_z-of_z c.ranges.den) in
-    let fq : SFits w64 c.quotient-lowest.result = search rules in
-    let den : to_z w64 (of_z w64 c.quotient-lowest.result) ≡ shrink c.args.den (gcd_all (unsigned_abs c.args.den) c.args.nums.now) = to_z-of_z fq ∙ c.quotient-lowest.ensures ∙ ap₂ (λ d g. shrink d (unsigned_abs g)) (to_z-of_z c.ranges.den) divisor in
-    let made : c.in_ok-made.made.items ≡ shrunk (gcd_all (unsigned_abs c.args.den) c.args.nums.now) c.args.nums.now = c.in_ok-made.ensures ∙ ap (λ g. shrunk (unsigned_abs g) c.args.nums.now) divisor in
-    let lists = subst (λ ns. Lists ns c.in_ok-entries.entries.items) c.deref.ensures.value c.in_ok-entries.ensures in
+    let list = lists (goal.at.invariant_of-result c).In_ok-entries in
     let bound = subst (λ es. (col : ℕ) → unsigned_abs (number_at es col) ≤ c.greatest_listed.result) c.deref-2.ensures.value c.greatest_listed.ensures.bound in
     record {
-      kept = lowest_bounded c.args.den c.args.nums.now c.in_ok-made.made.items _ c.greatest_listed.result c.requires.positive c.requires.small c.requires.smalls c.requires.width den made (listed_bounded c.in_ok-made.made.items c.in_ok-entries.entries.items c.greatest_listed.result lists bound) c.greatest_listed.ensures.small;
-      lists = lists;
+      kept = record {
+        row = subst (λ d. IsRow d c.in_ok-den.nums.items) (sym (small_same c.in_ok-den.den c.in_ok-den.ensures.row.small)) c.in_ok-den.ensures.row;
+        bounded = listed_bounded c.in_ok-den.nums.items c.in_ok-entries.entries.items c.greatest_listed.result list bound;
+        room = c.greatest_listed.ensures.small;
+      };
+      lists = list;
     }
 
 pub returns : goal.returns
 returns c =
-    let f : SFits w64 c.divisor-common.result = search rules in
-    let divisor : to_z w64 (of_z w64 c.divisor-common.result) ≡ pos (gcd_all (unsigned_abs c.args.den) c.args.nums.now) = to_z-of_z f ∙ c.divisor-common.ensures ∙ ap (λ d. pos (gcd_all (unsigned_abs d) c.args.nums.now)) (to_z-of_z c.ranges.den) in
-    let fq : SFits w64 c.quotient-lowest.result = search rules in
-    let den : to_z w64 (of_z w64 c.quotient-lowest.result) ≡ shrink c.args.den (gcd_all (unsigned_abs c.args.den) c.args.nums.now) = to_z-of_z fq ∙ c.quotient-lowest.ensures ∙ ap₂ (λ d g. shrink d (unsigned_abs g)) (to_z-of_z c.ranges.den) divisor in
-    let made : c.in_ok-made.made.items ≡ shrunk (gcd_all (unsigned_abs c.args.den) c.args.nums.now) c.args.nums.now = c.in_ok-made.ensures ∙ ap (λ g. shrunk (unsigned_abs g) c.args.nums.now) divisor in
-    ap₂ (λ d ns. fractions (unsigned_abs d) ns) den made ∙ lowest_same c.args.den c.args.nums.now c.requires.positive
+    ap (λ d. fractions (unsigned_abs d) c.in_ok-den.nums.items) (small_same c.in_ok-den.den c.in_ok-den.ensures.row.small)
+    ∙ c.in_ok-den.ensures.same ∙ ap (λ d. fractions (unsigned_abs d) c.args.nums.now) (small_same c.args.den c.requires.small)

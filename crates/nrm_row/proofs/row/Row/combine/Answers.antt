@@ -1,263 +1,99 @@
 -- In its place below the bound, or made anew, the row becomes the one minus the multiple of the unit row.
-use Rattle.std.proofs.Common.{rules, arith, ◌≡◌, ◌+◌, ◌*◌, ◌<◌, ◌≤◌, ap, ap₂, sym, subst, ◌∙◌, pos, ℕ, ℤ, ◌*ℤ◌, ◌-ℤ◌, ◌<ℤ◌, unsigned_abs, length, get_or, to_z, of_z, to_z-of_z, w64, None, All}
+use Rattle.std.proofs.Common.{rules, arith, ◌≡◌, ◌+◌, ◌*◌, ap, ap₂, sym, subst, ◌∙◌, pos, ◌*ℤ◌, ◌-ℤ◌, unsigned_abs, ◌++◌, take, drop, length, get_or, to_z, of_z, w64, None}
 use Rattle.std.proofs.lemmas.Result.{err_from_is_err_and}
 use mir.Val.{SFits}
-use Rattle.nrm_number.specs.Gcd.{gcd, shrink}
 use Rattle.nrm_fraction.specs.Large.{fractions, large_number, size_limit, IsSmall}
 use Rattle.nrm_fraction.specs.Rows.{number_at}
 use Rattle.nrm_fraction.specs.Rows.{combine as combined}
 use Rattle.nrm_fraction.specs.Fault.{IsFault}
 use Rattle.nrm_fraction.proofs.Sizes.{small_same}
-use Rattle.nrm_row.specs.Numbers.{IsBounded, IsBoundedRow}
+use Rattle.nrm_row.specs.Numbers.{IsBoundedRow}
 use Rattle.nrm_row.specs.Inner.Crossed.{crossed}
-use Rattle.nrm_row.proofs.Bits.{read_at}
-use Rattle.nrm_row.proofs.LowestTerms.{row_length, shrink_small}
-use Rattle.nrm_row.proofs.Combining.{combined_is, uncombined_is, reduced_positive, shared_positive, written_over}
-use Rattle.nrm_row.proofs.InPlace.{small_not_large, listed_within, listed_sizes, made_crossed, crossed_bounded}
+use Rattle.nrm_row.proofs.Bits.{zero_from_bits}
+use Rattle.nrm_row.proofs.LowestTerms.{small_not_large}
+use Rattle.nrm_row.proofs.Combining.{combined_is, crossed_read, same_lengths, uncombined_is, written_over}
+use Rattle.nrm_row.proofs.InPlace.{listed_within, listed_sizes, made_crossed, crossed_bounded}
 use Rattle.nrm_row.proofs.row.Row.combine.Goals as goal
-
-pub quotient-a-requires : goal.quotient-a-requires
-quotient-a-requires c =
-    let ns = c.self.inside.nums.items in
-    let d = c.self.inside.den in
-    let us = c.unit.inside.nums.items in
-    let ud = c.unit.inside.den in
-    let row = c.self.invariant.row in
-    let unit = c.unit.invariant.kept.row in
-    let within : c.args.col < length ns = omega (arith, c.requires.within, row_length d ns c.args.self.now c.self.view_is) in
-    let lengths : length us ≡ length ns = omega (arith, c.requires.widths, row_length d ns c.args.self.now c.self.view_is, row_length ud us c.args.unit.now c.unit.view_is) in
-    let n : ℤ = get_or ns c.args.col (pos 0) in
-    let g : ℕ = gcd (unsigned_abs n) (unsigned_abs ud) in
-    let here : to_z w64 (of_z w64 c.index-entry.result.now) ≡ n = read_at ns c.from.result c.args.col c.index-entry.result.now row.smalls within c.from.ensures c.index-entry.ensures in
-    let fs : SFits w64 c.shared_divisor-shared.result = search rules in
-    let shared : to_z w64 (of_z w64 c.shared_divisor-shared.result) ≡ pos g = to_z-of_z fs ∙ c.shared_divisor-shared.ensures ∙ ap₂ (λ x y. pos (gcd (unsigned_abs x) (unsigned_abs y))) here (small_same ud unit.small) in
-    subst (λ z. pos 0 <ℤ z) (sym shared) (shared_positive n ud unit.positive)
-
-pub quotient-e-requires : goal.quotient-e-requires
-quotient-e-requires c =
-    let ns = c.self.inside.nums.items in
-    let d = c.self.inside.den in
-    let us = c.unit.inside.nums.items in
-    let ud = c.unit.inside.den in
-    let row = c.self.invariant.row in
-    let unit = c.unit.invariant.kept.row in
-    let within : c.args.col < length ns = omega (arith, c.requires.within, row_length d ns c.args.self.now c.self.view_is) in
-    let lengths : length us ≡ length ns = omega (arith, c.requires.widths, row_length d ns c.args.self.now c.self.view_is, row_length ud us c.args.unit.now c.unit.view_is) in
-    let n : ℤ = get_or ns c.args.col (pos 0) in
-    let g : ℕ = gcd (unsigned_abs n) (unsigned_abs ud) in
-    let here : to_z w64 (of_z w64 c.index-entry.result.now) ≡ n = read_at ns c.from.result c.args.col c.index-entry.result.now row.smalls within c.from.ensures c.index-entry.ensures in
-    let fs : SFits w64 c.shared_divisor-shared.result = search rules in
-    let shared : to_z w64 (of_z w64 c.shared_divisor-shared.result) ≡ pos g = to_z-of_z fs ∙ c.shared_divisor-shared.ensures ∙ ap₂ (λ x y. pos (gcd (unsigned_abs x) (unsigned_abs y))) here (small_same ud unit.small) in
-    subst (λ z. pos 0 <ℤ z) (sym shared) (shared_positive n ud unit.positive)
-
-pub bounds-requires-clause-a_small : goal.bounds-requires-clause-a_small
-bounds-requires-clause-a_small c =
-    let ns = c.self.inside.nums.items in
-    let d = c.self.inside.den in
-    let us = c.unit.inside.nums.items in
-    let ud = c.unit.inside.den in
-    let row = c.self.invariant.row in
-    let unit = c.unit.invariant.kept.row in
-    let within : c.args.col < length ns = omega (arith, c.requires.within, row_length d ns c.args.self.now c.self.view_is) in
-    let lengths : length us ≡ length ns = omega (arith, c.requires.widths, row_length d ns c.args.self.now c.self.view_is, row_length ud us c.args.unit.now c.unit.view_is) in
-    let n : ℤ = get_or ns c.args.col (pos 0) in
-    let g : ℕ = gcd (unsigned_abs n) (unsigned_abs ud) in
-    let here : to_z w64 (of_z w64 c.index-entry.result.now) ≡ n = read_at ns c.from.result c.args.col c.index-entry.result.now row.smalls within c.from.ensures c.index-entry.ensures in
-    let fs : SFits w64 c.shared_divisor-shared.result = search rules in
-    let shared : to_z w64 (of_z w64 c.shared_divisor-shared.result) ≡ pos g = to_z-of_z fs ∙ c.shared_divisor-shared.ensures ∙ ap₂ (λ x y. pos (gcd (unsigned_abs x) (unsigned_abs y))) here (small_same ud unit.small) in
-    let fa : SFits w64 c.quotient-a.result = search rules in
-    let a : to_z w64 (of_z w64 c.quotient-a.result) ≡ shrink n g = to_z-of_z fa ∙ c.quotient-a.ensures ∙ ap₂ (λ x z. shrink x (unsigned_abs z)) here shared in
-    subst IsSmall (sym a) (shrink_small g n (row.smalls c.args.col (pos 0) within))
-
-pub cross_in_place-requires-clause-rising : goal.cross_in_place-requires-clause-rising
-cross_in_place-requires-clause-rising c =
-    subst (λ es. (i : ℕ) → (j : ℕ) → (d : ℕ × ℤ) → i < j → j < length es → (get_or es i d).0 < (get_or es j d).0) (sym c.deref.ensures.value) c.unit.invariant.lists.rising
-
-pub cross_in_place-requires-clause-bounded : goal.cross_in_place-requires-clause-bounded
-cross_in_place-requires-clause-bounded c =
-    subst (IsBounded c.self.inside.most) (sym c.deref_mut.ensures.value) c.self.invariant.bounded
-
-pub cross_in_place-requires-clause-sizes : goal.cross_in_place-requires-clause-sizes
-cross_in_place-requires-clause-sizes c =
-    subst (λ es. All (λ (e : ℕ × ℤ). unsigned_abs e.1 ≤ c.unit.inside.most) es) (sym c.deref.ensures.value) (listed_sizes c.unit.inside.nums.items c.unit.inside.entries.items c.unit.inside.most c.unit.invariant.kept.bounded c.unit.invariant.lists)
-
-pub cross_in_place-requires-clause-within : goal.cross_in_place-requires-clause-within
-cross_in_place-requires-clause-within c =
-    let ns = c.self.inside.nums.items in
-    let us = c.unit.inside.nums.items in
-    let lengths : length us ≡ length ns = omega (arith, c.requires.widths, row_length c.self.inside.den ns c.args.self.now c.self.view_is, row_length c.unit.inside.den us c.args.unit.now c.unit.view_is) in
-    subst (λ es. All (λ (e : ℕ × ℤ). e.0 < length c.deref_mut.result.now) es) (sym c.deref.ensures.value) (listed_within us c.unit.inside.entries.items (length c.deref_mut.result.now) (lengths ∙ sym (ap length c.deref_mut.ensures.value)) c.unit.invariant.lists)
-
-pub crossed_row-requires-clause-positive : goal.crossed_row-requires-clause-positive
-crossed_row-requires-clause-positive c =
-    let ns = c.self.inside.nums.items in
-    let d = c.self.inside.den in
-    let us = c.unit.inside.nums.items in
-    let ud = c.unit.inside.den in
-    let row = c.self.invariant.row in
-    let unit = c.unit.invariant.kept.row in
-    let within : c.args.col < length ns = omega (arith, c.requires.within, row_length d ns c.args.self.now c.self.view_is) in
-    let lengths : length us ≡ length ns = omega (arith, c.requires.widths, row_length d ns c.args.self.now c.self.view_is, row_length ud us c.args.unit.now c.unit.view_is) in
-    let n : ℤ = get_or ns c.args.col (pos 0) in
-    let g : ℕ = gcd (unsigned_abs n) (unsigned_abs ud) in
-    let here : to_z w64 (of_z w64 c.index-entry.result.now) ≡ n = read_at ns c.from.result c.args.col c.index-entry.result.now row.smalls within c.from.ensures c.index-entry.ensures in
-    let fs : SFits w64 c.shared_divisor-shared.result = search rules in
-    let shared : to_z w64 (of_z w64 c.shared_divisor-shared.result) ≡ pos g = to_z-of_z fs ∙ c.shared_divisor-shared.ensures ∙ ap₂ (λ x y. pos (gcd (unsigned_abs x) (unsigned_abs y))) here (small_same ud unit.small) in
-    let fe : SFits w64 c.quotient-e.result = search rules in
-    let e : to_z w64 (of_z w64 c.quotient-e.result) ≡ shrink ud g = to_z-of_z fe ∙ c.quotient-e.ensures ∙ ap₂ (λ x z. shrink x (unsigned_abs z)) (small_same ud unit.small) shared in
-    let positive : pos 0 <ℤ shrink ud g = reduced_positive n ud unit.positive in
-    subst (λ z. pos 0 <ℤ z) (sym e) positive
-
-pub crossed_row-requires-clause-a_small : goal.crossed_row-requires-clause-a_small
-crossed_row-requires-clause-a_small c =
-    let ns = c.self.inside.nums.items in
-    let d = c.self.inside.den in
-    let us = c.unit.inside.nums.items in
-    let ud = c.unit.inside.den in
-    let row = c.self.invariant.row in
-    let unit = c.unit.invariant.kept.row in
-    let within : c.args.col < length ns = omega (arith, c.requires.within, row_length d ns c.args.self.now c.self.view_is) in
-    let lengths : length us ≡ length ns = omega (arith, c.requires.widths, row_length d ns c.args.self.now c.self.view_is, row_length ud us c.args.unit.now c.unit.view_is) in
-    let n : ℤ = get_or ns c.args.col (pos 0) in
-    let g : ℕ = gcd (unsigned_abs n) (unsigned_abs ud) in
-    let here : to_z w64 (of_z w64 c.index-entry.result.now) ≡ n = read_at ns c.from.result c.args.col c.index-entry.result.now row.smalls within c.from.ensures c.index-entry.ensures in
-    let fs : SFits w64 c.shared_divisor-shared.result = search rules in
-    let shared : to_z w64 (of_z w64 c.shared_divisor-shared.result) ≡ pos g = to_z-of_z fs ∙ c.shared_divisor-shared.ensures ∙ ap₂ (λ x y. pos (gcd (unsigned_abs x) (unsigned_abs y))) here (small_same ud unit.small) in
-    let fa : SFits w64 c.quotient-a.result = search rules in
-    let a : to_z w64 (of_z w64 c.quotient-a.result) ≡ shrink n g = to_z-of_z fa ∙ c.quotient-a.ensures ∙ ap₂ (λ x z. shrink x (unsigned_abs z)) here shared in
-    subst IsSmall (sym a) (shrink_small g n (row.smalls c.args.col (pos 0) within))
+use Rattle.nrm_row.proofs.row.Row.combine.Goals.{After-reduced-a, After-cross_in_place, After-crossed_row}
 
 pub returns-then-entry-eq0-clause-row : goal.returns-then-entry-eq0-clause-row
 returns-then-entry-eq0-clause-row c =
-    let ns = c.self.inside.nums.items in
-    let d = c.self.inside.den in
-    let us = c.unit.inside.nums.items in
-    let ud = c.unit.inside.den in
-    let row = c.self.invariant.row in
-    let unit = c.unit.invariant.kept.row in
-    let within : c.args.col < length ns = omega (arith, c.requires.within, row_length d ns c.args.self.now c.self.view_is) in
-    let lengths : length us ≡ length ns = omega (arith, c.requires.widths, row_length d ns c.args.self.now c.self.view_is, row_length ud us c.args.unit.now c.unit.view_is) in
-    let n : ℤ = get_or ns c.args.col (pos 0) in
-    let here : to_z w64 (of_z w64 c.index-entry.result.now) ≡ n = read_at ns c.from.result c.args.col c.index-entry.result.now row.smalls within c.from.ensures c.index-entry.ensures in
-    let nought : n ≡ pos 0 = sym here ∙ ap (to_z w64) c.if-entry-eq0.true in
-    let same = uncombined_is d ud us ns c.args.col row.positive unit.positive lengths within nought in
-    let exact : c.args.self.now ≡ combined c.args.col c.args.unit.now c.args.self.now = sym c.self.view_is ∙ sym same ∙ ap₂ (λ t s. combined c.args.col t s) c.unit.view_is c.self.view_is in (
-      exact,
-      ap (large_number size_limit) (sym exact ∙ sym c.self.view_is) ∙ small_not_large d ns row,
+    let fits : SFits w64 c.number-entry.result = search rules in
+    let nought = ap (λ ns. get_or ns c.args.col (pos 0)) (sym c.deref.ensures.value) ∙ sym c.number-entry.ensures.value ∙ zero_from_bits c.number-entry.result fits c.if-entry-eq0.true in
+    let same : c.args.self.now ≡ combined c.args.col c.args.unit.now c.args.self.now = uncombined_is c.self.inside.den c.unit.inside.den c.unit.inside.nums.items c.self.inside.nums.items c.args.unit.now c.args.self.now c.args.col c.self.invariant.row c.unit.invariant.kept.row c.self.view_is c.unit.view_is c.requires.widths c.requires.within nought in (
+      same,
+      ap (large_number size_limit) (sym same ∙ sym c.self.view_is) ∙ small_not_large c.self.inside.den c.self.inside.nums.items c.self.invariant.row,
     )
+
+lengths : (c : After-reduced-a) → length c.unit.inside.nums.items ≡ length c.self.inside.nums.items
+lengths c = same_lengths c.self.inside.den c.unit.inside.den c.unit.inside.nums.items c.self.inside.nums.items c.args.unit.now c.args.self.now c.self.view_is c.unit.view_is c.requires.widths
+
+exact : (c : After-reduced-a) → combined c.args.col c.args.unit.now c.args.self.now ≡ fractions (unsigned_abs (c.self.inside.den *ℤ c.reduced-a.result.1)) (crossed c.reduced-a.result.0 c.reduced-a.result.1 c.unit.inside.nums.items c.self.inside.nums.items)
+exact c =
+    let entry : to_z w64 (of_z w64 c.number-entry.result) ≡ get_or c.self.inside.nums.items c.args.col (pos 0) = small_same c.number-entry.result c.number-entry.ensures.small ∙ c.number-entry.ensures.value ∙ ap (λ ns. get_or ns c.args.col (pos 0)) c.deref.ensures.value in
+    let same = ap (λ z. c.reduced-a.result.0 *ℤ z) (sym (small_same c.unit.inside.den c.unit.invariant.kept.row.small)) ∙ c.reduced-a.ensures.same ∙ ap (λ z. z *ℤ c.reduced-a.result.1) entry in
+    combined_is c.self.inside.den c.unit.inside.den c.reduced-a.result.0 c.reduced-a.result.1 c.unit.inside.nums.items c.self.inside.nums.items c.args.unit.now c.args.self.now c.args.col c.self.invariant.row c.unit.invariant.kept.row c.self.view_is c.unit.view_is c.requires.widths c.requires.within c.reduced-a.ensures.positive same
+
+pub cross_in_place-requires-clause-rising : goal.cross_in_place-requires-clause-rising
+cross_in_place-requires-clause-rising c = rw c.deref-in-Some.ensures.value c.unit.invariant.lists.rising
+
+pub cross_in_place-requires-clause-bounded : goal.cross_in_place-requires-clause-bounded
+cross_in_place-requires-clause-bounded c = rw c.deref_mut.ensures.value c.self.invariant.bounded
+
+pub cross_in_place-requires-clause-sizes : goal.cross_in_place-requires-clause-sizes
+cross_in_place-requires-clause-sizes c = rw c.deref-in-Some.ensures.value (listed_sizes c.unit.inside.nums.items c.unit.inside.entries.items c.unit.inside.most c.unit.invariant.kept.bounded c.unit.invariant.lists)
+
+pub cross_in_place-requires-clause-within : goal.cross_in_place-requires-clause-within
+cross_in_place-requires-clause-within c =
+    let l = lengths (goal.at.cross_in_place-requires-clause-within c).After-reduced-a in
+    rw (c.deref-in-Some.ensures.value, c.deref_mut.ensures.value) (listed_within c.unit.inside.nums.items c.unit.inside.entries.items (length c.self.inside.nums.items) l c.unit.invariant.lists)
+
+made : (c : After-cross_in_place) → length c.unit.inside.nums.items ≡ length c.self.inside.nums.items → c.cross_in_place.new.xs ≡ crossed c.reduced-a.result.0 c.reduced-a.result.1 c.unit.inside.nums.items c.self.inside.nums.items
+made c l =
+    made_crossed c.reduced-a.result.0 c.reduced-a.result.1 c.unit.inside.nums.items c.self.inside.nums.items c.cross_in_place.new.xs c.unit.inside.entries.items l c.unit.invariant.lists
+    (c.cross_in_place.ensures.length ∙ ap length c.deref_mut.ensures.value)
+    (λ k h. c.cross_in_place.ensures.numbers k (omega (arith, ap length c.deref_mut.ensures.value, h))
+    ∙ (λ i. get_or (c.deref_mut.ensures.value i) k (pos 0) *ℤ small_same c.reduced-a.result.1 c.reduced-a.ensures.small i -ℤ small_same c.reduced-a.result.0 c.reduced-a.ensures.number_small i *ℤ number_at (c.deref-in-Some.ensures.value i) k))
+
+den : (c : After-cross_in_place) → to_z w64 (of_z w64 c.in-Some.den) ≡ c.self.inside.den *ℤ c.reduced-a.result.1
+den c = small_same c.in-Some.den c.in-Some.ensures.den.1 ∙ c.in-Some.ensures.den.0 ∙ ap₂ (λ x y. x *ℤ y) (small_same c.self.inside.den c.self.invariant.row.small) (small_same c.reduced-a.result.1 c.reduced-a.ensures.small)
+
+kept : (c : After-cross_in_place) → length c.unit.inside.nums.items ≡ length c.self.inside.nums.items → IsBoundedRow (to_z w64 (of_z w64 c.in-Some.den)) c.in-Some.most c.cross_in_place.new.xs
+kept c l =
+    let most : c.in-Some.most ≡ c.self.inside.most * unsigned_abs c.reduced-a.result.1 + unsigned_abs c.reduced-a.result.0 * c.unit.inside.most = c.in-Some.ensures.most.0 ∙ ap₂ (λ x y. c.self.inside.most * unsigned_abs x + unsigned_abs y * c.unit.inside.most) (small_same c.reduced-a.result.1 c.reduced-a.ensures.small) (small_same c.reduced-a.result.0 c.reduced-a.ensures.number_small) in
+    crossed_bounded c.self.inside.den c.reduced-a.result.0 c.reduced-a.result.1 (to_z w64 (of_z w64 c.in-Some.den)) c.unit.inside.nums.items c.self.inside.nums.items c.cross_in_place.new.xs c.self.inside.most c.unit.inside.most c.in-Some.most c.self.invariant c.unit.invariant.kept.bounded c.reduced-a.ensures.positive l (made c l) (den c)
+    (subst IsSmall (sym (small_same c.in-Some.den c.in-Some.ensures.den.1)) c.in-Some.ensures.den.1) most c.in-Some.ensures.most.1
+
+written : (c : After-cross_in_place) → take c.self.inside.nums.len (c.cross_in_place.new.xs ++ drop (length c.cross_in_place.new.xs) c.self.inside.nums.items) ≡ c.cross_in_place.new.xs
+written c = written_over c.cross_in_place.new.xs c.self.inside.nums.items c.self.inside.nums.len (c.cross_in_place.ensures.length ∙ ap length c.deref_mut.ensures.value) (sym c.deref_mut.ensures.len ∙ ap length c.deref_mut.ensures.value)
 
 pub invariant_of-self : goal.invariant_of-self
 invariant_of-self c =
-    let ns = c.self.inside.nums.items in
-    let d = c.self.inside.den in
-    let us = c.unit.inside.nums.items in
-    let ud = c.unit.inside.den in
-    let row = c.self.invariant.row in
-    let unit = c.unit.invariant.kept.row in
-    let within : c.args.col < length ns = omega (arith, c.requires.within, row_length d ns c.args.self.now c.self.view_is) in
-    let lengths : length us ≡ length ns = omega (arith, c.requires.widths, row_length d ns c.args.self.now c.self.view_is, row_length ud us c.args.unit.now c.unit.view_is) in
-    let n : ℤ = get_or ns c.args.col (pos 0) in
-    let g : ℕ = gcd (unsigned_abs n) (unsigned_abs ud) in
-    let here : to_z w64 (of_z w64 c.index-entry.result.now) ≡ n = read_at ns c.from.result c.args.col c.index-entry.result.now row.smalls within c.from.ensures c.index-entry.ensures in
-    let fs : SFits w64 c.shared_divisor-shared.result = search rules in
-    let shared : to_z w64 (of_z w64 c.shared_divisor-shared.result) ≡ pos g = to_z-of_z fs ∙ c.shared_divisor-shared.ensures ∙ ap₂ (λ x y. pos (gcd (unsigned_abs x) (unsigned_abs y))) here (small_same ud unit.small) in
-    let fa : SFits w64 c.quotient-a.result = search rules in
-    let a : to_z w64 (of_z w64 c.quotient-a.result) ≡ shrink n g = to_z-of_z fa ∙ c.quotient-a.ensures ∙ ap₂ (λ x z. shrink x (unsigned_abs z)) here shared in
-    let fe : SFits w64 c.quotient-e.result = search rules in
-    let e : to_z w64 (of_z w64 c.quotient-e.result) ≡ shrink ud g = to_z-of_z fe ∙ c.quotient-e.ensures ∙ ap₂ (λ x z. shrink x (unsigned_abs z)) (small_same ud unit.small) shared in
-    let positive : pos 0 <ℤ shrink ud g = reduced_positive n ud unit.positive in
-    let made : c.cross_in_place.new.xs ≡ crossed (shrink n g) (shrink ud g) us ns =
-    made_crossed (to_z w64 (of_z w64 c.quotient-a.result)) (to_z w64 (of_z w64 c.quotient-e.result)) us ns c.cross_in_place.new.xs c.unit.inside.entries.items lengths c.unit.invariant.lists
-    (c.cross_in_place.ensures.length ∙ ap length c.deref_mut.ensures.value)
-    (λ k l. c.cross_in_place.ensures.numbers k (omega (arith, ap length c.deref_mut.ensures.value, l)) ∙ ap₂ (λ xs es. get_or xs k (pos 0) *ℤ to_z w64 (of_z w64 c.quotient-e.result) -ℤ to_z w64 (of_z w64 c.quotient-a.result) *ℤ number_at es k) c.deref_mut.ensures.value c.deref.ensures.value)
-    ∙ ap₂ (λ s t. crossed s t us ns) a e in
-    let fd : SFits w64 c.in-Some.den = search rules in
-    let den : to_z w64 (of_z w64 c.in-Some.den) ≡ d *ℤ shrink ud g = to_z-of_z fd ∙ c.in-Some.ensures.den.0 ∙ ap₂ (λ x y. x *ℤ y) (small_same d row.small) e in
-    let most : c.in-Some.most ≡ c.self.inside.most * unsigned_abs (shrink ud g) + unsigned_abs (shrink n g) * c.unit.inside.most = c.in-Some.ensures.most.0 ∙ ap₂ (λ x y. c.self.inside.most * unsigned_abs x + unsigned_abs y * c.unit.inside.most) e a in
-    let kept : IsBoundedRow (to_z w64 (of_z w64 c.in-Some.den)) c.in-Some.most c.cross_in_place.new.xs = crossed_bounded d (shrink n g) (shrink ud g) (to_z w64 (of_z w64 c.in-Some.den)) us ns c.cross_in_place.new.xs c.self.inside.most c.unit.inside.most c.in-Some.most c.self.invariant c.unit.invariant.kept.bounded positive lengths made den (subst IsSmall (sym (to_z-of_z fd)) c.in-Some.ensures.den.1) most c.in-Some.ensures.most.1 in
-    subst (IsBoundedRow (to_z w64 (of_z w64 c.in-Some.den)) c.in-Some.most) (sym (written_over c.cross_in_place.new.xs ns c.self.inside.nums.len (c.cross_in_place.ensures.length ∙ ap length c.deref_mut.ensures.value) (sym c.deref_mut.ensures.len ∙ ap length c.deref_mut.ensures.value))) kept
+    let l = lengths (goal.at.invariant_of-self c).After-reduced-a in
+    let p = (goal.at.invariant_of-self c).After-cross_in_place in
+    subst (IsBoundedRow (to_z w64 (of_z w64 c.in-Some.den)) c.in-Some.most) (sym (written p)) (kept p l)
 
 pub returns-in-Some-clause-row : goal.returns-in-Some-clause-row
 returns-in-Some-clause-row c =
-    let ns = c.self.inside.nums.items in
-    let d = c.self.inside.den in
-    let us = c.unit.inside.nums.items in
-    let ud = c.unit.inside.den in
-    let row = c.self.invariant.row in
-    let unit = c.unit.invariant.kept.row in
-    let within : c.args.col < length ns = omega (arith, c.requires.within, row_length d ns c.args.self.now c.self.view_is) in
-    let lengths : length us ≡ length ns = omega (arith, c.requires.widths, row_length d ns c.args.self.now c.self.view_is, row_length ud us c.args.unit.now c.unit.view_is) in
-    let n : ℤ = get_or ns c.args.col (pos 0) in
-    let g : ℕ = gcd (unsigned_abs n) (unsigned_abs ud) in
-    let here : to_z w64 (of_z w64 c.index-entry.result.now) ≡ n = read_at ns c.from.result c.args.col c.index-entry.result.now row.smalls within c.from.ensures c.index-entry.ensures in
-    let fs : SFits w64 c.shared_divisor-shared.result = search rules in
-    let shared : to_z w64 (of_z w64 c.shared_divisor-shared.result) ≡ pos g = to_z-of_z fs ∙ c.shared_divisor-shared.ensures ∙ ap₂ (λ x y. pos (gcd (unsigned_abs x) (unsigned_abs y))) here (small_same ud unit.small) in
-    let fa : SFits w64 c.quotient-a.result = search rules in
-    let a : to_z w64 (of_z w64 c.quotient-a.result) ≡ shrink n g = to_z-of_z fa ∙ c.quotient-a.ensures ∙ ap₂ (λ x z. shrink x (unsigned_abs z)) here shared in
-    let fe : SFits w64 c.quotient-e.result = search rules in
-    let e : to_z w64 (of_z w64 c.quotient-e.result) ≡ shrink ud g = to_z-of_z fe ∙ c.quotient-e.ensures ∙ ap₂ (λ x z. shrink x (unsigned_abs z)) (small_same ud unit.small) shared in
-    let positive : pos 0 <ℤ shrink ud g = reduced_positive n ud unit.positive in
-    let exact : combined c.args.col c.args.unit.now c.args.self.now ≡ fractions (unsigned_abs (d *ℤ shrink ud g)) (crossed (shrink n g) (shrink ud g) us ns) = ap₂ (λ t s. combined c.args.col t s) (sym c.unit.view_is) (sym c.self.view_is) ∙ combined_is d ud us ns c.args.col row.positive unit.positive lengths within in
-    let made : c.cross_in_place.new.xs ≡ crossed (shrink n g) (shrink ud g) us ns =
-    made_crossed (to_z w64 (of_z w64 c.quotient-a.result)) (to_z w64 (of_z w64 c.quotient-e.result)) us ns c.cross_in_place.new.xs c.unit.inside.entries.items lengths c.unit.invariant.lists
-    (c.cross_in_place.ensures.length ∙ ap length c.deref_mut.ensures.value)
-    (λ k l. c.cross_in_place.ensures.numbers k (omega (arith, ap length c.deref_mut.ensures.value, l)) ∙ ap₂ (λ xs es. get_or xs k (pos 0) *ℤ to_z w64 (of_z w64 c.quotient-e.result) -ℤ to_z w64 (of_z w64 c.quotient-a.result) *ℤ number_at es k) c.deref_mut.ensures.value c.deref.ensures.value)
-    ∙ ap₂ (λ s t. crossed s t us ns) a e in
-    let fd : SFits w64 c.in-Some.den = search rules in
-    let den : to_z w64 (of_z w64 c.in-Some.den) ≡ d *ℤ shrink ud g = to_z-of_z fd ∙ c.in-Some.ensures.den.0 ∙ ap₂ (λ x y. x *ℤ y) (small_same d row.small) e in
-    let most : c.in-Some.most ≡ c.self.inside.most * unsigned_abs (shrink ud g) + unsigned_abs (shrink n g) * c.unit.inside.most = c.in-Some.ensures.most.0 ∙ ap₂ (λ x y. c.self.inside.most * unsigned_abs x + unsigned_abs y * c.unit.inside.most) e a in
-    let kept : IsBoundedRow (to_z w64 (of_z w64 c.in-Some.den)) c.in-Some.most c.cross_in_place.new.xs = crossed_bounded d (shrink n g) (shrink ud g) (to_z w64 (of_z w64 c.in-Some.den)) us ns c.cross_in_place.new.xs c.self.inside.most c.unit.inside.most c.in-Some.most c.self.invariant c.unit.invariant.kept.bounded positive lengths made den (subst IsSmall (sym (to_z-of_z fd)) c.in-Some.ensures.den.1) most c.in-Some.ensures.most.1 in (
-      ap₂ (λ e xs. fractions (unsigned_abs e) xs) den (written_over c.cross_in_place.new.xs ns c.self.inside.nums.len (c.cross_in_place.ensures.length ∙ ap length c.deref_mut.ensures.value) (sym c.deref_mut.ensures.len ∙ ap length c.deref_mut.ensures.value) ∙ made) ∙ sym exact,
-      ap (large_number size_limit) (exact ∙ sym (ap₂ (λ e xs. fractions (unsigned_abs e) xs) den made)) ∙ small_not_large (to_z w64 (of_z w64 c.in-Some.den)) c.cross_in_place.new.xs kept.row,
+    let q = (goal.at.returns-in-Some-clause-row c).After-reduced-a in
+    let p = (goal.at.returns-in-Some-clause-row c).After-cross_in_place in (
+      ap₂ (λ e xs. fractions (unsigned_abs e) xs) (den p) (written p ∙ made p (lengths q)) ∙ sym (exact q),
+      ap (large_number size_limit) (exact q ∙ sym (ap₂ (λ e xs. fractions (unsigned_abs e) xs) (den p) (made p (lengths q)))) ∙ small_not_large (to_z w64 (of_z w64 c.in-Some.den)) c.cross_in_place.new.xs (kept p (lengths q)).row,
     )
 
-pub returns-in_ok-row-in-None-clause-row : goal.returns-in_ok-row-in-None-clause-row
-returns-in_ok-row-in-None-clause-row c =
-    let ns = c.self.inside.nums.items in
-    let d = c.self.inside.den in
-    let us = c.unit.inside.nums.items in
-    let ud = c.unit.inside.den in
-    let row = c.self.invariant.row in
-    let unit = c.unit.invariant.kept.row in
-    let within : c.args.col < length ns = omega (arith, c.requires.within, row_length d ns c.args.self.now c.self.view_is) in
-    let lengths : length us ≡ length ns = omega (arith, c.requires.widths, row_length d ns c.args.self.now c.self.view_is, row_length ud us c.args.unit.now c.unit.view_is) in
-    let n : ℤ = get_or ns c.args.col (pos 0) in
-    let g : ℕ = gcd (unsigned_abs n) (unsigned_abs ud) in
-    let here : to_z w64 (of_z w64 c.index-entry.result.now) ≡ n = read_at ns c.from.result c.args.col c.index-entry.result.now row.smalls within c.from.ensures c.index-entry.ensures in
-    let fs : SFits w64 c.shared_divisor-shared.result = search rules in
-    let shared : to_z w64 (of_z w64 c.shared_divisor-shared.result) ≡ pos g = to_z-of_z fs ∙ c.shared_divisor-shared.ensures ∙ ap₂ (λ x y. pos (gcd (unsigned_abs x) (unsigned_abs y))) here (small_same ud unit.small) in
-    let fa : SFits w64 c.quotient-a.result = search rules in
-    let a : to_z w64 (of_z w64 c.quotient-a.result) ≡ shrink n g = to_z-of_z fa ∙ c.quotient-a.ensures ∙ ap₂ (λ x z. shrink x (unsigned_abs z)) here shared in
-    let fe : SFits w64 c.quotient-e.result = search rules in
-    let e : to_z w64 (of_z w64 c.quotient-e.result) ≡ shrink ud g = to_z-of_z fe ∙ c.quotient-e.ensures ∙ ap₂ (λ x z. shrink x (unsigned_abs z)) (small_same ud unit.small) shared in
-    let exact : combined c.args.col c.args.unit.now c.args.self.now ≡ fractions (unsigned_abs (d *ℤ shrink ud g)) (crossed (shrink n g) (shrink ud g) us ns) = ap₂ (λ t s. combined c.args.col t s) (sym c.unit.view_is) (sym c.self.view_is) ∙ combined_is d ud us ns c.args.col row.positive unit.positive lengths within in
-    let told : fractions (unsigned_abs (to_z w64 (of_z w64 d) *ℤ to_z w64 (of_z w64 c.quotient-e.result))) (crossed (to_z w64 (of_z w64 c.quotient-a.result)) (to_z w64 (of_z w64 c.quotient-e.result)) c.deref-in-None-2.result.now c.deref-in-None.result.now) ≡ combined c.args.col c.args.unit.now c.args.self.now =
-    (λ i. fractions (unsigned_abs (small_same d row.small i *ℤ e i)) (crossed (a i) (e i) (c.deref-in-None-2.ensures.value i) (c.deref-in-None.ensures.value i))) ∙ sym exact in
-    let p = subst (λ target. (c.in_ok-row-in-None.row ≡ target) × (large_number size_limit target ≡ None)) told c.in_ok-row-in-None.ensures in
-    (c.drop.view_is ∙ p.0, p.1)
+told : (c : After-crossed_row) → fractions (unsigned_abs (to_z w64 (of_z w64 c.self.inside.den) *ℤ to_z w64 (of_z w64 c.reduced-a.result.1))) (crossed (to_z w64 (of_z w64 c.reduced-a.result.0)) (to_z w64 (of_z w64 c.reduced-a.result.1)) c.deref-in-None-2.result.now c.deref-in-None.result.now) ≡ fractions (unsigned_abs (c.self.inside.den *ℤ c.reduced-a.result.1)) (crossed c.reduced-a.result.0 c.reduced-a.result.1 c.unit.inside.nums.items c.self.inside.nums.items)
+told c = crossed_read c.self.inside.den c.reduced-a.result.0 c.reduced-a.result.1 c.unit.inside.nums.items c.self.inside.nums.items c.deref-in-None-2.result.now c.deref-in-None.result.now c.self.invariant.row.small c.reduced-a.ensures.number_small c.reduced-a.ensures.small c.deref-in-None-2.ensures.value c.deref-in-None.ensures.value
 
-pub returns-in_err-row-in-None-clause-row : goal.returns-in_err-row-in-None-clause-row
-returns-in_err-row-in-None-clause-row c =
-    let ns = c.self.inside.nums.items in
-    let d = c.self.inside.den in
-    let us = c.unit.inside.nums.items in
-    let ud = c.unit.inside.den in
-    let row = c.self.invariant.row in
-    let unit = c.unit.invariant.kept.row in
-    let within : c.args.col < length ns = omega (arith, c.requires.within, row_length d ns c.args.self.now c.self.view_is) in
-    let lengths : length us ≡ length ns = omega (arith, c.requires.widths, row_length d ns c.args.self.now c.self.view_is, row_length ud us c.args.unit.now c.unit.view_is) in
-    let n : ℤ = get_or ns c.args.col (pos 0) in
-    let g : ℕ = gcd (unsigned_abs n) (unsigned_abs ud) in
-    let here : to_z w64 (of_z w64 c.index-entry.result.now) ≡ n = read_at ns c.from.result c.args.col c.index-entry.result.now row.smalls within c.from.ensures c.index-entry.ensures in
-    let fs : SFits w64 c.shared_divisor-shared.result = search rules in
-    let shared : to_z w64 (of_z w64 c.shared_divisor-shared.result) ≡ pos g = to_z-of_z fs ∙ c.shared_divisor-shared.ensures ∙ ap₂ (λ x y. pos (gcd (unsigned_abs x) (unsigned_abs y))) here (small_same ud unit.small) in
-    let fa : SFits w64 c.quotient-a.result = search rules in
-    let a : to_z w64 (of_z w64 c.quotient-a.result) ≡ shrink n g = to_z-of_z fa ∙ c.quotient-a.ensures ∙ ap₂ (λ x z. shrink x (unsigned_abs z)) here shared in
-    let fe : SFits w64 c.quotient-e.result = search rules in
-    let e : to_z w64 (of_z w64 c.quotient-e.result) ≡ shrink ud g = to_z-of_z fe ∙ c.quotient-e.ensures ∙ ap₂ (λ x z. shrink x (unsigned_abs z)) (small_same ud unit.small) shared in
-    let exact : combined c.args.col c.args.unit.now c.args.self.now ≡ fractions (unsigned_abs (d *ℤ shrink ud g)) (crossed (shrink n g) (shrink ud g) us ns) = ap₂ (λ t s. combined c.args.col t s) (sym c.unit.view_is) (sym c.self.view_is) ∙ combined_is d ud us ns c.args.col row.positive unit.positive lengths within in
-    let told : fractions (unsigned_abs (to_z w64 (of_z w64 d) *ℤ to_z w64 (of_z w64 c.quotient-e.result))) (crossed (to_z w64 (of_z w64 c.quotient-a.result)) (to_z w64 (of_z w64 c.quotient-e.result)) c.deref-in-None-2.result.now c.deref-in-None.result.now) ≡ combined c.args.col c.args.unit.now c.args.self.now =
-    (λ i. fractions (unsigned_abs (small_same d row.small i *ℤ e i)) (crossed (a i) (e i) (c.deref-in-None-2.ensures.value i) (c.deref-in-None.ensures.value i))) ∙ sym exact in
-    let p = err_from_is_err_and c.from_residual.result c.from_residual.ensures.1 in
-    rw (p.1, p.2)
-    (subst (λ target. IsFault c.in_err-row-in-None.field-0.0 (large_number size_limit target)) told c.in_err-row-in-None.ensures)
+pub returns-in_ok-den-in-None-clause-row : goal.returns-in_ok-den-in-None-clause-row
+returns-in_ok-den-in-None-clause-row c =
+    let p = goal.at.returns-in_ok-den-in-None-clause-row c in
+    let same = told p.After-crossed_row ∙ sym (exact p.After-reduced-a) in
+    let found = subst (λ target. (fractions (unsigned_abs c.in_ok-den-in-None.den) c.in_ok-den-in-None.nums.items ≡ target) × (large_number size_limit target ≡ None)) same c.in_ok-den-in-None.ensures.exact in
+    (c.drop.view_is ∙ c.row_over.ensures ∙ ap (λ d. fractions (unsigned_abs d) c.in_ok-den-in-None.nums.items) (small_same c.in_ok-den-in-None.den c.in_ok-den-in-None.ensures.row.small) ∙ found.0, found.1)
+
+pub returns-in_err-den-in-None-clause-row : goal.returns-in_err-den-in-None-clause-row
+returns-in_err-den-in-None-clause-row c =
+    let p = goal.at.returns-in_err-den-in-None-clause-row c in
+    let q = err_from_is_err_and c.from_residual.result c.from_residual.ensures.1 in
+    rw (q.1, q.2)
+    (subst (λ target. IsFault c.in_err-den-in-None.field-0.0 (large_number size_limit target)) (told p.After-crossed_row ∙ sym (exact p.After-reduced-a)) c.in_err-den-in-None.ensures.exact)

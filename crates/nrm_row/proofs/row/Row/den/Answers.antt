@@ -1,48 +1,17 @@
 -- The denominator divided by the common divisor is the least common denominator.
-use Rattle.std.proofs.Common.{rules, ◌≡◌, ap₂, sym, subst, ◌∙◌, pos, ◌<ℤ◌, unsigned_abs, to_z, of_z, to_z-of_z, w64}
+use Rattle.std.proofs.Common.{rules, ◌≡◌, ap₂, ◌∙◌, pos, unsigned_abs, to_z, of_z, to_z-of_z, w64}
 use mir.Val.{SFits}
 use Rattle.nrm_number.specs.Gcd.{shrink}
-use Rattle.nrm_fraction.specs.Large.{gcd_all, IsSmall}
+use Rattle.nrm_fraction.specs.Large.{gcd_all}
 use Rattle.nrm_fraction.proofs.Sizes.{small_same}
-use Rattle.nrm_row.specs.Inner.Crossed.{shrunk}
-use Rattle.nrm_row.proofs.LowestTerms.{divisor_positive, row_den, small_is_row, lowest_same, shrink_small}
+use Rattle.nrm_row.proofs.LowestTerms.{row_den}
 use Rattle.nrm_row.proofs.row.Row.den.Goals as goal
-
-pub divisor-requires-clause-positive : goal.divisor-requires-clause-positive
-divisor-requires-clause-positive c = subst (λ z. pos 0 <ℤ z) (sym (small_same c.self.inside.den c.self.invariant.row.small)) c.self.invariant.row.positive
-
-pub divisor-requires-clause-small : goal.divisor-requires-clause-small
-divisor-requires-clause-small c = subst IsSmall (sym (small_same c.self.inside.den c.self.invariant.row.small)) c.self.invariant.row.small
-
-pub quotient-requires : goal.quotient-requires
-quotient-requires c =
-    let ns = c.self.inside.nums.items in
-    let d = c.self.inside.den in
-    let row = c.self.invariant.row in
-    let f : SFits w64 c.divisor.result = search rules in
-    let nums : c.deref.result.now ≡ ns = c.deref.ensures.value in
-    let common : to_z w64 (of_z w64 c.divisor.result) ≡ pos (gcd_all (unsigned_abs d) ns) = to_z-of_z f ∙ c.divisor.ensures ∙ ap₂ (λ e ms. pos (gcd_all (unsigned_abs e) ms)) (small_same d row.small) nums in
-    subst (λ z. pos 0 <ℤ z) (sym common) (divisor_positive d ns row.positive)
 
 pub returns-clause-den : goal.returns-clause-den
 returns-clause-den c =
-    let ns = c.self.inside.nums.items in
     let d = c.self.inside.den in
     let row = c.self.invariant.row in
     let f : SFits w64 c.divisor.result = search rules in
-    let nums : c.deref.result.now ≡ ns = c.deref.ensures.value in
-    let common : to_z w64 (of_z w64 c.divisor.result) ≡ pos (gcd_all (unsigned_abs d) ns) = to_z-of_z f ∙ c.divisor.ensures ∙ ap₂ (λ e ms. pos (gcd_all (unsigned_abs e) ms)) (small_same d row.small) nums in
     let fq : SFits w64 c.quotient.result = search rules in
-    to_z-of_z fq ∙ c.quotient.ensures ∙ ap₂ (λ e g. shrink e (unsigned_abs g)) (small_same d row.small) common
-    ∙ row_den (shrink d (gcd_all (unsigned_abs d) ns)) (shrunk (gcd_all (unsigned_abs d) ns) ns) c.args.self.now (small_is_row d ns row.positive row.small row.smalls row.width) (lowest_same d ns row.positive ∙ c.self.view_is)
-
-pub returns-clause-small : goal.returns-clause-small
-returns-clause-small c =
-    let ns = c.self.inside.nums.items in
-    let d = c.self.inside.den in
-    let row = c.self.invariant.row in
-    let f : SFits w64 c.divisor.result = search rules in
-    let nums : c.deref.result.now ≡ ns = c.deref.ensures.value in
-    let common : to_z w64 (of_z w64 c.divisor.result) ≡ pos (gcd_all (unsigned_abs d) ns) = to_z-of_z f ∙ c.divisor.ensures ∙ ap₂ (λ e ms. pos (gcd_all (unsigned_abs e) ms)) (small_same d row.small) nums in
-    let fq : SFits w64 c.quotient.result = search rules in
-    subst IsSmall (sym (to_z-of_z fq ∙ c.quotient.ensures ∙ ap₂ (λ e g. shrink e (unsigned_abs g)) (small_same d row.small) common)) (shrink_small (gcd_all (unsigned_abs d) ns) d row.small)
+    let common : to_z w64 (of_z w64 c.divisor.result) ≡ pos (gcd_all (unsigned_abs d) c.self.inside.nums.items) = to_z-of_z f ∙ c.divisor.ensures.value ∙ ap₂ (λ e ms. pos (gcd_all (unsigned_abs e) ms)) (small_same d row.small) c.deref.ensures.value in
+    to_z-of_z fq ∙ c.quotient.ensures ∙ ap₂ (λ e g. shrink e (unsigned_abs g)) (small_same d row.small) common ∙ row_den d c.self.inside.nums.items c.args.self.now row c.self.view_is

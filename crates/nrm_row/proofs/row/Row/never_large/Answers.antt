@@ -1,7 +1,7 @@
 -- What a row keeps is below the limit, and so it is in lowest terms.
 use Rattle.std.proofs.Common.{◌≡◌, subst, None}
 use Rattle.nrm_fraction.specs.Large.{large_number, size_limit}
-use Rattle.nrm_row.proofs.InPlace.{small_not_large}
+use Rattle.nrm_row.proofs.LowestTerms.{small_not_large}
 use Rattle.nrm_row.proofs.row.Row.never_large.Goals as goal
 
 pub returns : goal.returns

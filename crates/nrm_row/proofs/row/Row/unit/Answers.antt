@@ -1,47 +1,26 @@
 -- The numbers over the one at the column are the row divided by its entry.
-use Rattle.std.proofs.Common.{arith, ◌≡◌, ◌<◌, length, get_or, pos, ◌<ℤ◌, unsigned_abs, ap, sym, subst, ◌∙◌, IfOk, to_z, of_z, w64}
-use Rattle.nrm_fraction.specs.Large.{fractions, IsSmall}
-use Rattle.nrm_row.proofs.Bits.{read_at}
-use Rattle.nrm_row.proofs.LowestTerms.{row_length}
-use Rattle.nrm_row.proofs.Entries.{positive_number, unit_row_is, unit_small}
+use Rattle.std.proofs.Common.{◌≡◌, get_or, pos, unsigned_abs, ap, ap₂, sym, subst, subst₂, ◌∙◌, IfOk, to_z, of_z, w64}
+use Rattle.nrm_fraction.specs.Large.{fractions}
+use Rattle.nrm_fraction.proofs.Sizes.{small_same}
+use Rattle.nrm_row.specs.Numbers.{IsRow}
+use Rattle.nrm_row.proofs.Entries.{unit_is_row, unit_row_is, unit_small}
 use Rattle.nrm_row.proofs.row.Row.unit.Goals as goal
+use Rattle.nrm_row.proofs.row.Row.unit.Goals.{After-number}
 
-pub unit_of-requires-clause-positive : goal.unit_of-requires-clause-positive
-unit_of-requires-clause-positive c =
-    let ns = c.self.inside.nums.items in
-    let d = c.self.inside.den in
-    let row = c.self.invariant.row in
-    let within : c.args.col < length ns = omega (arith, c.requires.within, row_length d ns c.args.self.now c.self.view_is) in
-    let here : to_z w64 (of_z w64 c.index.result.now) ≡ get_or ns c.args.col (pos 0) = read_at ns c.from.result c.args.col c.index.result.now row.smalls within c.from.ensures c.index.ensures in
-    subst (λ z. pos 0 <ℤ z) (sym here) (positive_number d ns c.args.self.now c.args.col row.positive c.self.view_is within c.requires.positive)
+number : (c : After-number) → to_z w64 (of_z w64 c.number.result) ≡ get_or c.self.inside.nums.items c.args.col (pos 0)
+number c = small_same c.number.result c.number.ensures.small ∙ c.number.ensures.value ∙ ap (λ ns. get_or ns c.args.col (pos 0)) c.deref.ensures.value
 
-pub unit_of-requires-clause-small : goal.unit_of-requires-clause-small
-unit_of-requires-clause-small c =
-    let ns = c.self.inside.nums.items in
-    let d = c.self.inside.den in
-    let row = c.self.invariant.row in
-    let within : c.args.col < length ns = omega (arith, c.requires.within, row_length d ns c.args.self.now c.self.view_is) in
-    let here : to_z w64 (of_z w64 c.index.result.now) ≡ get_or ns c.args.col (pos 0) = read_at ns c.from.result c.args.col c.index.result.now row.smalls within c.from.ensures c.index.ensures in
-    subst IsSmall (sym here) (row.smalls c.args.col (pos 0) within)
+pub unit_of-requires : goal.unit_of-requires
+unit_of-requires c =
+    subst₂ (λ d ns. IsRow d ns) (sym (number (goal.at.unit_of-requires c).After-number)) (sym c.deref-2.ensures.value)
+    (unit_is_row c.self.inside.den c.self.inside.nums.items c.args.self.now c.args.col c.self.invariant.row c.self.view_is c.requires.within c.requires.positive)
 
 pub returns-clause-row : goal.returns-clause-row
 returns-clause-row c =
-    let ns = c.self.inside.nums.items in
-    let d = c.self.inside.den in
-    let row = c.self.invariant.row in
-    let within : c.args.col < length ns = omega (arith, c.requires.within, row_length d ns c.args.self.now c.self.view_is) in
-    let here : to_z w64 (of_z w64 c.index.result.now) ≡ get_or ns c.args.col (pos 0) = read_at ns c.from.result c.args.col c.index.result.now row.smalls within c.from.ensures c.index.ensures in
-    let positive : pos 0 <ℤ to_z w64 (of_z w64 c.index.result.now) = subst (λ z. pos 0 <ℤ z) (sym here) (positive_number d ns c.args.self.now c.args.col row.positive c.self.view_is within c.requires.positive) in
     subst (λ target. IfOk c.unit_of.result (λ row. row ≡ target))
-    (ap (fractions (unsigned_abs (to_z w64 (of_z w64 c.index.result.now)))) c.deref.ensures.value
-    ∙ unit_row_is d ns c.args.self.now c.args.col (to_z w64 (of_z w64 c.index.result.now)) row.positive c.self.view_is within here positive)
+    (ap₂ (λ d ns. fractions (unsigned_abs d) ns) (number (goal.at.returns-clause-row c).After-number) c.deref-2.ensures.value
+    ∙ unit_row_is c.self.inside.den c.self.inside.nums.items c.args.self.now c.args.col c.self.invariant.row c.self.view_is c.requires.within c.requires.positive)
     c.unit_of.ensures
 
 pub returns-clause-small : goal.returns-clause-small
-returns-clause-small c =
-    let ns = c.self.inside.nums.items in
-    let d = c.self.inside.den in
-    let row = c.self.invariant.row in
-    let within : c.args.col < length ns = omega (arith, c.requires.within, row_length d ns c.args.self.now c.self.view_is) in
-    unit_small d ns c.args.self.now c.args.col row c.self.view_is within
-    (positive_number d ns c.args.self.now c.args.col row.positive c.self.view_is within c.requires.positive)
+returns-clause-small c = unit_small c.self.inside.den c.self.inside.nums.items c.args.self.now c.args.col c.self.invariant.row c.self.view_is c.requires.within c.requires.positive
