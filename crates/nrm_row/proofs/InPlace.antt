@@ -1,6 +1,6 @@
 -- Numbers from which multiples are taken away at some columns, one after another, and what the list of these columns is.
 use Rattle.nrm_row.specs.declared.limits.TheConstants.{MOST_COLUMNS}
-use Rattle.std.proofs.Common.{◌≡◌, ℕ, zero, suc, ◌+◌, ◌*◌, ◌<◌, ◌≤◌, ◌⊎◌, inl, inr, ℤ, pos, ◌-ℤ◌, ◌*ℤ◌, nat_abs, arith, refl, sym, ap, ap₂, ◌∙◌, subst, subst₂, ◌<ℤ◌, List, [], ◌∷◌, ◌++◌, length, get_or, set, take, drop, map, cond, ne_eqb, All, get_or-set_same, get_or-set_other, length-take-le, to_z, of_z, w64, FitsSigned}
+use Rattle.std.proofs.Common.{◌≡◌, ℕ, zero, suc, ◌+◌, ◌-◌, ◌*◌, ◌<◌, ◌≤◌, ◌⊎◌, inl, inr, ℤ, pos, ◌-ℤ◌, ◌*ℤ◌, nat_abs, arith, refl, sym, ap, ap₂, ◌∙◌, subst, subst₂, ◌<ℤ◌, List, [], ◌∷◌, ◌++◌, length, get_or, set, take, drop, map, cond, ne_eqb, All, get_or-set_same, get_or-set_other, length-take-le, to_z, of_z, w64, FitsSigned}
 use Rattle.std.proofs.lemmas.List.{get_or_default, take_more, drop_more, get_or_at, get_or-take, length-set, length-map}
 use Rattle.std.specs.List.{AllPairs}
 use Rattle.std.proofs.lemmas.Int.{ints, unsigned_abs-mul}
@@ -11,7 +11,7 @@ use Rattle.nrm_number.proofs.Ring.{solve, ◌⊖◌, v0, v1}
 use Rattle.nrm_number.proofs.Ring.Expr.{◌⊗◌, e0, e1}
 use Rattle.nrm_fraction.specs.Large.{size_limit, IsSmall}
 use Rattle.nrm_fraction.specs.Rows.{number_at}
-use Rattle.nrm_row.specs.Numbers.{IsBounded, IsBoundedRow, Lists}
+use Rattle.nrm_row.specs.Numbers.{AreNoughts, IsBounded, IsBoundedRow, Lists}
 use Rattle.std.specs.Int.{IsInRange}
 use Rattle.nrm_row.specs.Inner.Crossed.{crossed}
 use Rattle.nrm_row.proofs.Filled.{at_last, past_last, same_or_not}
@@ -148,6 +148,22 @@ listed_skip ns es i h z p = record {
     go : (c : ℕ) → (c ≡ i) ⊎ ¬ (c ≡ i) → number_at es c ≡ get_or (take (i + 1) ns) c (pos 0)
     go c (inl s) = p.same c ∙ past_end (take i ns) c (omega (arith, length-take-le i ns (omega arith))) ∙ sym z ∙ sym (get_or-take (i + 1) ns i (pos 0) (omega arith)) ∙ ap (λ t. get_or (take (i + 1) ns) t (pos 0)) (sym s)
     go c (inr d) = p.same c ∙ sym (taken_place ns i c h d)
+
+pub listed_past : (ns : List ℤ) (es : List (ℕ × ℤ)) (i n : ℕ) → i + n ≤ length ns → ((c : ℕ) → i ≤ c → c < i + n → get_or ns c (pos 0) ≡ pos 0) → IsListedTo ns es i → IsListedTo ns es (i + n)
+listed_past ns es i zero h z p = subst (IsListedTo ns es) here p
+  where
+    here : i ≡ i + 0
+    here = omega arith
+listed_past ns es i (suc n) h z p = subst (IsListedTo ns es) next_place (listed_skip ns es (i + n) (omega arith) (z (i + n) (omega arith) (omega arith)) (listed_past ns es i n (omega arith) (λ c l m. z c l (omega arith)) p))
+  where
+    next_place : i + n + 1 ≡ i + suc n
+    next_place = omega arith
+
+pub listed_to : (ns : List ℤ) (es : List (ℕ × ℤ)) (i j : ℕ) → AreNoughts ns i j → IsListedTo ns es i → IsListedTo ns es j
+listed_to ns es i j z p = subst (IsListedTo ns es) here (listed_past ns es i (j - i) (omega (arith, z.within, z.rising)) (λ c l m. z.noughts c l (omega (arith, z.rising))) p)
+  where
+    here : i + (j - i) ≡ j
+    here = omega (arith, z.rising)
 
 -- a multiplied number stays within the bound
 pub scaled_at_most : (xs : List ℤ) (e : ℤ) (most : ℕ) → IsBounded most xs → IsBounded (most * nat_abs e) (map (λ x. x *ℤ e) xs)

@@ -22,6 +22,12 @@ pub record IsRow (den : ℤ) (nums : List ℤ) : Type 0 where
 abbrev pub IsBounded : ℕ → List ℤ → Type 0
 IsBounded most nums = All (λ n. unsigned_abs n ≤ most) nums
 
+-- from one place up to another all numbers are 0
+pub record AreNoughts (nums : List ℤ) (from to : ℕ) : Type 0 where
+  pub rising : from ≤ to
+  pub within : to ≤ length nums
+  pub noughts : (c : ℕ) → from ≤ c → c < to → get_or nums c (pos 0) ≡ pos 0
+
 -- a row with a bound on its numbers
 pub record IsBoundedRow (den : ℤ) (most : ℕ) (nums : List ℤ) : Type 0 where
   pub row : IsRow den nums

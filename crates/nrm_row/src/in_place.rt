@@ -3,10 +3,10 @@
 #![tactic(auto)]
 
 ghost use Rattle.nrm_row.specs.declared.limits.TheConstants.{MOST_COLUMNS};
-ghost use Rattle.std.specs.Prelude.{◌≡◌, ◌<◌, ◌≤◌, ◌+◌, ◌*◌, ℕ, ℤ, pos, ◌-ℤ◌, ◌*ℤ◌, unsigned_abs, length, map, get_or, All, AllPairs, IfOk};
+ghost use Rattle.std.specs.Prelude.{◌≡◌, ◌≢◌, ◌<◌, ◌≤◌, ◌+◌, ◌*◌, ℕ, ℤ, pos, ◌-ℤ◌, ◌*ℤ◌, unsigned_abs, length, map, get_or, All, AllPairs, IfOk, IsTrue};
 ghost use Rattle.nrm_fraction.specs.Large.{size_limit, IsSmall};
 ghost use Rattle.nrm_fraction.specs.Rows.{number_at};
-ghost use Rattle.nrm_row.specs.Numbers.{IsBounded, Lists};
+ghost use Rattle.nrm_row.specs.Numbers.{AreNoughts, IsBounded, Lists};
 
 use std::alloc::{AllocError, Global};
 
@@ -45,16 +45,49 @@ pub(crate) fn greatest_listed(entries: &[(u16, i64)]) -> u64
     most
 }
 
+// Whether the four numbers from a place on are 0. No branch depends on one of them.
+fn are_noughts(nums: &[i64], from: usize) -> bool
+    requires { from + 4 ≤ length nums.now }
+    ensures { IsTrue result → AreNoughts nums.now from (from + 4) }
+{
+    (nums[from] == 0) & (nums[from + 1] == 0) & (nums[from + 2] == 0) & (nums[from + 3] == 0)
+}
+
+// A place up to which, from a place on, all numbers are 0: four at a time are passed over.
+fn past_noughts(nums: &[i64], from: usize) -> usize
+    requires { from ≤ length nums.now }
+    ensures { AreNoughts nums.now from result }
+{
+    let mut place = from;
+    while nums.len() - place >= 4 && are_noughts(nums, place) {
+        place += 4;
+    }
+    place
+}
+
+// The first place from a place on whose number isn't 0, or the end.
+fn next_number(nums: &[i64], from: usize) -> usize
+    requires { from ≤ length nums.now }
+    ensures noughts { AreNoughts nums.now from result }
+    ensures number { result < length nums.now → get_or nums.now result (pos 0) ≢ pos 0 }
+{
+    let mut place = past_noughts(nums, from);
+    while place < nums.len() && nums[place] == 0 {
+        place += 1;
+    }
+    place
+}
+
 // The columns whose number isn't 0, with their numbers.
 pub(crate) fn listed(alloc: Global, nums: &[i64]) -> Result<Vec<(u16, i64)>, AllocError>
     requires { length nums.now ≤ MOST_COLUMNS }
     ensures { IfOk result (λ made. Lists nums.now made.items) }
 {
     let mut made = Vec::with_capacity(alloc, nums.len())?;
-    for i in 0..nums.len() {
-        if nums[i] != 0 {
-            made.push((i as u16, nums[i]))?;
-        }
+    let mut col = next_number(nums, 0);
+    while col < nums.len() {
+        made.push((col as u16, nums[col]))?;
+        col = next_number(nums, col + 1);
     }
     Ok(made)
 }

@@ -127,14 +127,14 @@ pub(crate) fn quotient(n: i64, g: i64) -> i64
     requires { pos 0 <ℤ g }
     ensures { result ≡ shrink n (unsigned_abs g) }
 {
-    if n == i64::MIN {
+    if n == 0 {
+        0
+    } else if n == i64::MIN {
         n / g
     } else if n < 0 {
         -((n.unsigned_abs() / g.unsigned_abs()) as i64)
-    } else if n > 0 {
-        (n.unsigned_abs() / g.unsigned_abs()) as i64
     } else {
-        0
+        (n.unsigned_abs() / g.unsigned_abs()) as i64
     }
 }
 
