@@ -1,5 +1,5 @@
 -- The steps of the walks that find the entering column and the leaving row.
-use Rattle.std.proofs.Common.{◌≡◌, ℕ, zero, suc, ◌+◌, ◌-◌, ◌<◌, ◌≤◌, pos, arith, sym, ap, ◌∙◌, subst, List, [], ◌∷◌, drop, length, get_or, Bool, true, false, cond, Option, Some, None, inl, inr}
+use Rattle.std.proofs.Common.{◌≡◌, ℕ, zero, suc, ◌+◌, ◌-◌, ◌<◌, ◌≤◌, pos, arith, refl, sym, ap, ◌∙◌, subst, List, [], ◌∷◌, drop, length, get_or, Bool, true, false, cond, Option, Some, None, inl, inr}
 use Rattle.std.specs.List.{range_with_len}
 use Rattle.std.specs.Option.{option_map}
 use Rattle.std.proofs.lemmas.Bool.{cases_lt}
@@ -37,6 +37,17 @@ enter_here c xs b l e t h = sym (enter_more c xs l ∙ ap (λ b. cond b (Some c)
 
 pub enter_later : (c : ℕ) (xs : List Fraction) (b : Bool) → c + 1 < length xs → b ≡ less (at xs c) (whole (pos 0)) → b ≡ false → entering_from c (drop c xs) ≡ entering_from 0 xs → entering_from (c + 1) (drop (c + 1) xs) ≡ entering_from 0 xs
 enter_later c xs b l e t h = sym (enter_more c xs l ∙ ap (λ b. cond b (Some c) (entering_from (c + 1) (drop (c + 1) xs))) (sym e ∙ t)) ∙ h
+
+-- nor do some others
+pub enter_past : (c n : ℕ) (xs : List Fraction) → c + n < length xs → ((k : ℕ) → c ≤ k → k < c + n → less (at xs k) (whole (pos 0)) ≡ false) → entering_from c (drop c xs) ≡ entering_from 0 xs → entering_from (c + n) (drop (c + n) xs) ≡ entering_from 0 xs
+enter_past c zero xs l z h = subst (λ m. entering_from m (drop m xs) ≡ entering_from 0 xs) here h
+  where
+    here : c ≡ c + 0
+    here = omega arith
+enter_past c (suc n) xs l z h = subst (λ m. entering_from m (drop m xs) ≡ entering_from 0 xs) here (enter_later (c + n) xs (less (at xs (c + n)) (whole (pos 0))) (omega arith) refl (z (c + n) (omega arith) (omega arith)) (enter_past c n xs (omega arith) (λ k m o. z k m (omega arith)) h))
+  where
+    here : c + n + 1 ≡ c + suc n
+    here = omega arith
 
 -- ---- the leaving row
 pub columns_are : (a : ProgramValue) (w : ℕ) → w ≡ suc (right_side a) → ratio_columns (product_count a) w ≡ key_columns a

@@ -1,7 +1,7 @@
 //! The lexicographic rule: which column enters, and which row leaves.
 #![tactic(auto)]
 
-ghost use Rattle.std.specs.Prelude.{◌≡◌, ◌<◌, ◌≤◌, suc, pos, [], get_or, length, All, if◌then◌else◌};
+ghost use Rattle.std.specs.Prelude.{◌≡◌, ◌<◌, ◌≤◌, ◌+◌, ◌^◌, ℕ, suc, pos, [], get_or, length, drop, false, All, IsTrue, if◌then◌else◌};
 ghost use Rattle.std.specs.Option.{option_map};
 ghost use Rattle.nrm_fraction.specs.Fraction.{◌<ᶠ◌, less, whole};
 ghost use Rattle.nrm_fraction.specs.Rows.{at, ratios};
@@ -18,12 +18,38 @@ use nrm_row::Row;
 pub(crate) fn entering_column(value: &Row) -> Option<u16>
     ensures { result ≡ entering_from 0 value.now }
 {
-    for col in 0..value.width() - 1 {
+    let end = value.width() - 1;
+    for col in past_columns(value, end)..end {
         if value.is_negative(col) {
             return Some(col);
         }
     }
     None
+}
+
+// A column up to which no entry is negative: four columns at a time are passed over.
+fn past_columns(value: &Row, end: u16) -> u16
+    requires { end < length value.now }
+    ensures within { result ≤ end }
+    ensures rest { entering_from result (drop result value.now) ≡ entering_from 0 value.now }
+{
+    let mut col = 0;
+    while end - col >= 4 && none_is_negative(value, col) {
+        col += 4;
+    }
+    col
+}
+
+// Whether none of the four entries from a column on is negative. No branch depends on one of them.
+fn none_is_negative(value: &Row, col: u16) -> bool
+    requires few { col + 4 < 2 ^ 16 }
+    requires within { col + 4 ≤ length value.now }
+    ensures { IsTrue result → (k : ℕ) → col ≤ k → k < col + 4 → less (at value.now k) (whole (pos 0)) ≡ false }
+{
+    !(value.is_negative(col)
+        | value.is_negative(col + 1)
+        | value.is_negative(col + 2)
+        | value.is_negative(col + 3))
 }
 
 /// The row that leaves for the column, if some row has a positive entry in it; `touched` has the rows to be looked at. The walk
