@@ -53,11 +53,11 @@ pub(crate) fn nested_on(
     ensures few { IfOk result (λ nest. length nest.items ≤ MOST_PRODUCTS) }
     ensures known { IfOk result (λ nest. All (IsOf (length net.now.products)) nest.items) }
 {
+    // For its clauses alone: a network is within its limits.
+    let _ = net.product_count();
     let mut nest = Vec::new(alloc);
-    for product in 0..net.product_count() as u16 {
-        if net.uses_leg(product, leg) {
-            nest.push(nested_at(net, cert, table, leg, period, product))?;
-        }
+    for product in net.products_on(leg) {
+        nest.push(nested_at(net, cert, table, leg, period, *product))?;
     }
     Ok(nest)
 }

@@ -1,3 +1,4 @@
 pub mod Adjusted
 pub mod Buckets
 pub mod Table
+pub mod Inner

@@ -1,5 +1,5 @@
 -- The table of the buckets of a network.
-use Rattle.std.specs.Prelude.{ℕ, ◌≡◌, List, length, map, nat_eq, Option, Some, None, IsSome}
+use Rattle.std.specs.Prelude.{ℕ, ◌≡◌, ◌+◌, ◌*◌, ◌/◌, ◌==◌, not, List, filter, length, map, nat_eq, slice_index, Option, Some, None, IsSome}
 use Rattle.std.specs.List.{range_with_len}
 use Rattle.std.specs.Map.{lookup}
 use Rattle.nrm_model.specs.Network.{NetworkValue}
@@ -29,3 +29,13 @@ bucket_in table i j = bucket_in_nest (lookup (nat_eq i) table) j
 
 abbrev pub HasPair : TableValue → ℕ → ℕ → Type 0
 HasPair table i j = IsSome (bucket_in table i j)
+
+-- ---- how a table is stored: the buckets leg by leg and on each leg product by product, of so many products, and 0 where a product
+-- doesn't use the leg
+abbrev pub nest_in : ℕ → List ℕ → ℕ → List (ℕ × ℕ)
+nest_in products buckets i =
+    map (λ j. (j, slice_index buckets (i * products + j)))
+    (filter (λ j. not (slice_index buckets (i * products + j) == 0)) (range_with_len 0 products))
+
+abbrev pub table_in : ℕ → List ℕ → TableValue
+table_in products buckets = map (λ i. (i, nest_in products buckets i)) (range_with_len 0 (length buckets / products))

@@ -1,15 +1,16 @@
-//! The buckets of a network, found once and looked up after: for each leg its products in file order, each with its
-//! bucket. The table holds neither the network nor the certificate.
-ghost use Rattle.std.specs.Prelude.{◌≡◌, ◌<◌, IfOk, Some, length, map};
+//! The buckets of a network, found once and looked up after: one list, leg by leg and on each leg product by product, with
+//! 0 where the product doesn't use the leg. The table holds neither the network nor the certificate.
+ghost use Rattle.std.specs.Prelude.{◌≡◌, ◌*◌, ◌<◌, IfOk, Some, length};
 ghost use Rattle.nrm_fraction.specs.Large.{size_limit};
+ghost use Rattle.nrm_model.specs.Inventory.{inventory_of, products_on};
 ghost use Rattle.nrm_model.specs.Network.{NetworkValue};
 ghost use Rattle.nrm_lp.specs.declared.certificate.Certificate.{Certificate as Cert};
 ghost use Rattle.nrm_virtual.specs.Adjusted.{HasPrices};
 ghost use Rattle.nrm_virtual.specs.Buckets.{bucket_of};
-ghost use Rattle.nrm_virtual.specs.Table.{HasPair, IsTableOf, bucket_in, nest_of};
+ghost use Rattle.nrm_virtual.specs.Table.{HasPair, IsTableOf, bucket_in};
+ghost use Rattle.nrm_virtual.specs.Inner.Written.{written};
 
 use crate::bucket;
-use indexmap::IndexMap;
 use nrm_lp::Certificate;
 use nrm_model::Network;
 use std::alloc::{AllocError, Global};
@@ -18,16 +19,16 @@ use std::marker::Model;
 /// The buckets of a network. Contracts see a list of legs, each with its products and their buckets.
 #[derive(Drop)]
 pub struct BucketTable {
-    nests: IndexMap<u8, IndexMap<u16, u8>>,
+    buckets: Vec<u8>,
+    products: usize,
 }
 
 impl Model for BucketTable {
-    ghost use Rattle.std.specs.Prelude.{map};
-    ghost use Rattle.nrm_virtual.specs.Table.{TableValue};
+    ghost use Rattle.nrm_virtual.specs.Table.{TableValue, table_in};
 
     ghost Value = { TableValue };
 
-    ghost view = { λ t. map (λ e. (e.0, e.1.entries)) t.nests.entries };
+    ghost view = { λ t. table_in t.products t.buckets.items };
 }
 
 impl BucketTable {
@@ -43,12 +44,12 @@ impl BucketTable {
         requires { HasPrices size_limit (length net.now.legs) cert.now }
         ensures { IfOk result (IsTableOf net.now cert.now) }
     {
-        let mut nests = IndexMap::new(alloc);
+        let products = net.product_count();
+        let mut buckets = vec![in alloc; 0; net.leg_count() * products]?;
         for leg in 0..net.leg_count() as u8 {
-            let nest = nest_of(alloc, net, cert, leg)?;
-            nests.insert(leg, nest)?;
+            put_leg(&mut buckets, net, cert, leg);
         }
-        Ok(BucketTable { nests })
+        Ok(BucketTable { buckets, products })
     }
 
     /// The bucket of a product on one of its legs. It takes no memory.
@@ -57,25 +58,21 @@ impl BucketTable {
         ensures found { Some result ≡ bucket_in self.now leg product }
         ensures bucket { (net : NetworkValue) (cert : Cert) → IsTableOf net cert self.now → result ≡ bucket_of net cert leg product }
     {
-        self.nests[&leg][&product]
+        self.buckets[leg as usize * self.products + product as usize]
     }
 }
 
-// A leg's products in file order, each with its bucket.
-fn nest_of(
-    alloc: Global,
-    net: &Network,
-    cert: &Certificate,
-    leg: u8,
-) -> Result<IndexMap<u16, u8>, AllocError>
+// Puts the buckets of a leg's products into their places.
+fn put_leg(buckets: &mut Vec<u8>, net: &Network, cert: &Certificate, leg: u8)
     requires prices { HasPrices size_limit (length net.now.legs) cert.now }
-    ensures { IfOk result (λ nest. nest.entries ≡ nest_of net.now cert.now leg) }
+    requires leg { leg < length net.now.legs }
+    requires long { length buckets.old.items ≡ length net.now.legs * length net.now.products }
+    ensures { buckets.new.items
+        ≡ written (leg * length net.now.products) (bucket_of net.now cert.now leg) (products_on (inventory_of net.now) leg)
+        buckets.old.items }
 {
-    let mut nest = IndexMap::new(alloc);
-    for product in 0..net.product_count() as u16 {
-        if net.uses_leg(product, leg) {
-            nest.insert(product, bucket(net, cert, leg, product))?;
-        }
+    let first = leg as usize * net.product_count();
+    for product in net.products_on(leg) {
+        buckets[first + *product as usize] = bucket(net, cert, leg, *product);
     }
-    Ok(nest)
 }

@@ -1,9 +1,9 @@
-use Rattle.std.proofs.Common.{◌≡◌}
-use Rattle.std.specs.List.{range_with_len}
-use Rattle.nrm_virtual.specs.Table.{nest_of}
-use Rattle.nrm_number.proofs.Ranges.{pairs}
-use Rattle.nrm_model.proofs.Maps.{shown}
+use Rattle.std.proofs.Common.{length}
+use Rattle.nrm_model.specs.Inventory.{inventory_of, uses_leg}
+use Rattle.nrm_virtual.specs.Buckets.{bucket_of}
+use Rattle.nrm_virtual.specs.Inner.Written.{AreWritten}
 use Rattle.nrm_virtual.proofs.table.BucketTable.build.Given as goal
 
+-- the buckets of the legs so far
 abbrev pub invariant-loop-leg : goal.invariant-loop-leg
-invariant-loop-leg l = shown l.nests.entries ≡ pairs (nest_of l.net l.cert) (range_with_len 0 l.leg)
+invariant-loop-leg l = AreWritten (uses_leg (inventory_of l.net)) (bucket_of l.net l.cert) (length l.net.legs) (length l.net.products) l.leg l.buckets.items
