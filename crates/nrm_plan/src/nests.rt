@@ -1,9 +1,10 @@
 //! The nests of a network at bid prices: buckets and protections, worked out once and looked up after. Beside them stand the
 //! seats that are kept from each product on each leg, in one list, so that a request looks up one number for a leg.
-ghost use Rattle.std.specs.Prelude.{ℕ, ◌≡◌, ◌-◌, ◌<◌, ◌≤◌, IfOk, Some, [], slice_index_or, length, map};
+ghost use Rattle.std.specs.Prelude.{ℕ, ◌≡◌, ◌-◌, ◌*◌, ◌<◌, ◌≤◌, IfOk, Some, [], slice_index_or, length, map, true};
 ghost use Rattle.std.specs.Int.{IsInRange};
 ghost use Rattle.std.specs.List.{range_with_len};
 ghost use Rattle.nrm_fraction.specs.Large.{size_limit};
+ghost use Rattle.nrm_model.specs.Inventory.{inventory_of, products_on, uses_leg};
 ghost use Rattle.nrm_model.specs.Network.{NetworkValue};
 ghost use Rattle.nrm_lp.specs.declared.certificate.Certificate.{Certificate as Cert};
 ghost use Rattle.nrm_virtual.specs.Adjusted.{HasPrices};
@@ -11,7 +12,8 @@ ghost use Rattle.nrm_virtual.specs.Buckets.{bucket_of};
 ghost use Rattle.nrm_virtual.specs.Table.{HasPair, IsTableOf, bucket_in};
 ghost use Rattle.nrm_emsr.specs.Protections.{protections_of};
 ghost use Rattle.nrm_plan.specs.Nesting.{AreNestsOf, level_at};
-ghost use Rattle.nrm_plan.specs.Inner.Kept.{kept_at, kept_in_all};
+ghost use Rattle.nrm_virtual.specs.Inner.Written.{written};
+ghost use Rattle.nrm_plan.specs.Inner.Kept.{AreKeptInAll, kept_at};
 
 use nrm_emsr::protections;
 use nrm_lp::Certificate;
@@ -76,7 +78,7 @@ fn level_at(levels: &[u16], bucket: u8) -> u16
     levels[bucket as usize - 1]
 }
 
-// The seats that are kept from a product on a leg; none where it doesn't use the leg.
+// The seats that are kept from a product on one of its legs.
 fn kept_at(
     net: &Network,
     buckets: &BucketTable,
@@ -88,20 +90,39 @@ fn kept_at(
         × AreNestsOf net.now k cert (record { buckets = buckets.now; protections = map (λ v. v.items) protections.now }) }
     requires leg { leg < length net.now.legs }
     requires product { product < length net.now.products }
-    ensures { result
-        ≡ kept_at net.now (record { buckets = buckets.now; protections = map (λ v. v.items) protections.now }) leg product }
+    requires uses { uses_leg (inventory_of net.now) leg product ≡ true }
+    ensures { result ≡ kept_at (record { buckets = buckets.now; protections = map (λ v. v.items) protections.now }) leg product }
 {
-    if net.uses_leg(product, leg) {
-        level_at(
-            &protections[leg as usize],
-            buckets.bucket_of(leg, product) - 1,
-        )
-    } else {
-        0
+    level_at(
+        &protections[leg as usize],
+        buckets.bucket_of(leg, product) - 1,
+    )
+}
+
+// Puts the seats that are kept from a leg's products into their places.
+fn put_leg(
+    kept: &mut Vec<u16>,
+    net: &Network,
+    buckets: &BucketTable,
+    protections: &[Vec<u16>],
+    leg: u8,
+)
+    requires nests { (cert : Cert) × (k : ℕ)
+        × AreNestsOf net.now k cert (record { buckets = buckets.now; protections = map (λ v. v.items) protections.now }) }
+    requires leg { leg < length net.now.legs }
+    requires long { length kept.old.items ≡ length net.now.legs * length net.now.products }
+    ensures { kept.new.items
+        ≡ written (leg * length net.now.products)
+        (kept_at (record { buckets = buckets.now; protections = map (λ v. v.items) protections.now }) leg)
+        (products_on (inventory_of net.now) leg) kept.old.items }
+{
+    let first = leg as usize * net.product_count();
+    for product in net.products_on(leg) {
+        kept[first + *product as usize] = kept_at(net, buckets, protections, leg, *product);
     }
 }
 
-// The seats that are kept from each product on each leg.
+// The seats that are kept from each product on each of its legs, and 0 where it doesn't use the leg.
 fn kept_in_all(
     alloc: Global,
     net: &Network,
@@ -110,15 +131,12 @@ fn kept_in_all(
 ) -> Result<Vec<u16>, AllocError>
     requires { (cert : Cert) × (k : ℕ)
         × AreNestsOf net.now k cert (record { buckets = buckets.now; protections = map (λ v. v.items) protections.now }) }
-    ensures { IfOk result (λ kept. kept.items
-        ≡ kept_in_all net.now (record { buckets = buckets.now; protections = map (λ v. v.items) protections.now })) }
+    ensures { IfOk result (λ kept. AreKeptInAll net.now
+        (record { buckets = buckets.now; protections = map (λ v. v.items) protections.now }) kept.items) }
 {
-    let products = net.product_count();
-    let mut kept = Vec::new(alloc);
-    for place in 0..net.leg_count() * products {
-        let leg = (place / products) as u8;
-        let product = (place % products) as u16;
-        kept.push(kept_at(net, buckets, protections, leg, product))?;
+    let mut kept = vec![in alloc; 0; net.leg_count() * net.product_count()]?;
+    for leg in 0..net.leg_count() as u8 {
+        put_leg(&mut kept, net, buckets, protections, leg);
     }
     Ok(kept)
 }

@@ -1,23 +1,20 @@
 -- The seats that are kept from each product on each leg, in one list.
-use Rattle.std.specs.Prelude.{ℕ, ◌≡◌, ◌+◌, ◌-◌, ◌*◌, ◌/◌, ◌%◌, ◌<◌, List, [], Some, if◌then◌else◌, length, map}
+use Rattle.std.specs.Prelude.{ℕ, ◌≡◌, ◌+◌, ◌-◌, ◌*◌, ◌<◌, List, [], Some, length}
 use Rattle.std.specs.Prelude.{slice_index, slice_index_or, unwrap_or}
-use Rattle.std.specs.List.{range_with_len}
 use Rattle.nrm_model.specs.Inventory.{inventory_of, uses_leg}
 use Rattle.nrm_model.specs.Network.{NetworkValue}
 use Rattle.nrm_virtual.specs.Table.{bucket_in}
+use Rattle.nrm_virtual.specs.Inner.Written.{AreWritten}
 use Rattle.nrm_plan.specs.Nesting.{NestsValue, level_at}
 
--- those kept from a product on a leg: the seats protected for the buckets above its own; none where it doesn't use the leg
-abbrev pub kept_at : NetworkValue → NestsValue → ℕ → ℕ → ℕ
-kept_at net nests i j =
-    if uses_leg (inventory_of net) i j
-    then level_at (slice_index_or nests.protections i []) (unwrap_or (bucket_in nests.buckets i j) 1 - 1) else 0
+-- those kept from a product on one of its legs: the seats protected for the buckets above its own
+abbrev pub kept_at : NestsValue → ℕ → ℕ → ℕ
+kept_at nests i j = level_at (slice_index_or nests.protections i []) (unwrap_or (bucket_in nests.buckets i j) 1 - 1)
 
--- leg by leg, and on each leg product by product
-abbrev pub kept_in_all : NetworkValue → NestsValue → List ℕ
-kept_in_all net nests =
-    map (λ n. kept_at net nests (n / length net.products) (n % length net.products))
-    (range_with_len 0 (length net.legs * length net.products))
+-- leg by leg, and on each leg product by product: those kept from it, and 0 where it doesn't use the leg
+abbrev pub AreKeptInAll : NetworkValue → NestsValue → List ℕ → Type 0
+AreKeptInAll net nests kept =
+    AreWritten (uses_leg (inventory_of net)) (kept_at nests) (length net.legs) (length net.products) (length net.legs) kept
 
 -- the place of a pair in the list, where so many products are on each leg, and the seats there
 pub record IsKeptAt (kept : List ℕ) (products i j seats : ℕ) : Type 0 where

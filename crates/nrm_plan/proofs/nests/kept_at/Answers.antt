@@ -1,11 +1,11 @@
 -- A product that uses the leg has a bucket in the table, and the leg protections above it.
-use Rattle.std.proofs.Common.{ℕ, ◌≡◌, ◌-◌, ◌<◌, ◌∙◌, Vec, Bool, List, [], length, get_or, map, ap, arith, sym}
-use Rattle.std.specs.Prelude.{if◌then◌else◌, unwrap_or}
+use Rattle.std.proofs.Common.{ℕ, ◌≡◌, ◌-◌, ◌<◌, ◌∙◌, Vec, List, [], length, get_or, map, ap, arith, sym}
+use Rattle.std.specs.Prelude.{unwrap_or}
 use Rattle.std.specs.declared.alloc.Global.{Global}
 use Rattle.std.proofs.lemmas.List.{get_or-map, length-map}
 use Rattle.nrm_model.specs.Network.{NetworkValue}
 use Rattle.nrm_lp.specs.declared.certificate.Certificate.{Certificate}
-use Rattle.nrm_virtual.specs.Table.{TableValue, bucket_in}
+use Rattle.nrm_virtual.specs.Table.{TableValue}
 use Rattle.nrm_virtual.proofs.Tables.{pair-in_table}
 use Rattle.nrm_plan.specs.Nesting.{AreNestsOf, NestsValue, level_at}
 use Rattle.nrm_plan.proofs.Looked.{legs-held, levels-held}
@@ -27,7 +27,7 @@ bounds-protections-leg c = leg-held c.args.net.now c.args.buckets.now c.args.pro
 pub bucket_of-requires : goal.bucket_of-requires
 bucket_of-requires c =
     let (cert, k, are) = c.requires.nests in
-    pair-in_table c.args.net.now cert c.args.buckets.now c.args.leg c.args.product are.buckets c.requires.leg c.requires.product (sym c.uses_leg.ensures ∙ c.if-uses_leg.true)
+    pair-in_table c.args.net.now cert c.args.buckets.now c.args.leg c.args.product are.buckets c.requires.leg c.requires.product c.requires.uses
 
 -- the protections of the leg are those that were read
 own : (levels : List (Vec ℕ Global)) (leg : ℕ) (v : Vec ℕ Global) (read : List ℕ) → leg < length levels → v ≡ get_or levels leg v → read ≡ v.items → get_or (shown levels) leg [] ≡ read
@@ -42,9 +42,7 @@ level_at-requires c =
     let held = levels-held c.args.net.now k cert nests are c.args.leg c.args.product c.requires.leg c.bucket_of.result (c.bucket_of.ensures.bucket c.args.net.now cert are.buckets) in
     omega (arith, held, ap length levels)
 
-pub returns-then-uses_leg : goal.returns-then-uses_leg
-returns-then-uses_leg c =
+pub returns : goal.returns
+returns c =
     let levels = own c.args.protections.now c.args.leg c.index-protections-leg.result c.deref.result.now (leg-held c.args.net.now c.args.buckets.now c.args.protections.now c.args.leg c.args.product c.requires.nests c.requires.leg) c.index-protections-leg.is c.deref.ensures.value in
-    let used = sym c.uses_leg.ensures ∙ c.if-uses_leg.true in
-    let seats : ℕ = level_at (get_or (shown c.args.protections.now) c.args.leg []) (unwrap_or (bucket_in c.args.buckets.now c.args.leg c.args.product) 1 - 1) in
-    c.level_at.ensures ∙ (λ n. level_at (sym levels n) (unwrap_or (c.bucket_of.ensures.found n) 1 - 1)) ∙ sym (ap (λ (t : Bool). if t then seats else 0) used)
+    c.level_at.ensures ∙ (λ n. level_at (sym levels n) (unwrap_or (c.bucket_of.ensures.found n) 1 - 1))

@@ -1,12 +1,12 @@
-use Rattle.std.proofs.Common.{Vec, ℕ, ◌≡◌, ◌/◌, ◌%◌, length, map}
-use Rattle.std.specs.List.{range_with_len}
+use Rattle.std.proofs.Common.{Vec, ℕ, length, map}
 use Rattle.std.specs.declared.alloc.Global.{Global}
+use Rattle.nrm_model.specs.Inventory.{inventory_of, uses_leg}
+use Rattle.nrm_virtual.specs.Inner.Written.{AreWritten}
 use Rattle.nrm_plan.specs.Inner.Kept.{kept_at}
 use Rattle.nrm_plan.proofs.nests.kept_in_all.Given as goal
 
--- the pairs so far
-abbrev pub invariant-loop-place : goal.invariant-loop-place
-invariant-loop-place l =
-    l.kept.items
-    ≡ map (λ n. kept_at l.net (record { buckets = l.buckets; protections = map (λ (v : Vec ℕ Global). v.items) l.protections }) (n / length l.net.products) (n % length l.net.products))
-    (range_with_len 0 l.place)
+-- the seats kept on the legs so far
+abbrev pub invariant-loop-leg : goal.invariant-loop-leg
+invariant-loop-leg l =
+    AreWritten (uses_leg (inventory_of l.net)) (kept_at (record { buckets = l.buckets; protections = map (λ (v : Vec ℕ Global). v.items) l.protections }))
+    (length l.net.legs) (length l.net.products) l.leg l.kept.items

@@ -1,7 +1,7 @@
 -- The buckets and the protections are the nests of the network, and so the list has the seats of each pair.
 use Rattle.std.proofs.Common.{Vec, ℕ, ◌∙◌, List, map, ap, subst, sym}
 use Rattle.std.specs.declared.alloc.Global.{Global}
-use Rattle.nrm_plan.specs.Inner.Kept.{AreKept, kept_in_all}
+use Rattle.nrm_plan.specs.Inner.Kept.{AreKept, AreKeptInAll}
 use Rattle.nrm_plan.specs.Nesting.{AreNestsOf, NestsValue}
 use Rattle.nrm_plan.proofs.KeptList.{are-kept}
 use Rattle.nrm_plan.proofs.nests.Nests.build.Goals as goal
@@ -17,6 +17,6 @@ pub invariant_of-result : goal.invariant_of-result
 invariant_of-result c =
     let nests : NestsValue = record { buckets = c.in_ok-buckets.buckets; protections = shown c.in_ok-protections.protections.items } in
     let are : AreNestsOf c.args.net.now c.args.period c.args.certificate.now nests = record { buckets = c.in_ok-buckets.ensures; protections = c.in_ok-protections.ensures } in
-    let is = c.in_ok-kept.ensures ∙ ap (λ (levels : List (Vec ℕ Global)). kept_in_all c.args.net.now (record { buckets = c.in_ok-buckets.buckets; protections = shown levels })) c.deref.ensures.value in
-    let kept = are-kept c.args.net.now c.args.period c.args.certificate.now nests c.in_ok-kept.kept.items are is in
+    let in-all = subst (λ (levels : List (Vec ℕ Global)). AreKeptInAll c.args.net.now (record { buckets = c.in_ok-buckets.buckets; protections = shown levels }) c.in_ok-kept.kept.items) c.deref.ensures.value c.in_ok-kept.ensures in
+    let kept = are-kept c.args.net.now c.args.period c.args.certificate.now nests c.in_ok-kept.kept.items are in-all in
     subst (λ (n : ℕ). AreKept nests n c.in_ok-kept.kept.items) (sym c.product_count.ensures.count) kept
