@@ -1,5 +1,5 @@
 -- The comparison of two fractions is that of their parts, multiplied across.
-use Rattle.std.proofs.Common.{ℕ, ◌≡◌, ◌∙◌, ◌+◌, ◌-◌, ◌*◌, ◌<◌, ◌≤◌, ◌==◌, ◌||◌, not, Bool, true, false, cond, List, [], ◌∷◌, length, get_or, min, map, sum_by, eq-eqb, slice_index, nat_lt, nat_abs, refl, sym, ap, ap₂, subst, arith, ℤ, pos, negsuc, ◌*ℤ◌, ◌<ℤ◌, int_lt}
+use Rattle.std.proofs.Common.{ℕ, ◌≡◌, ◌∙◌, ◌+◌, ◌-◌, ◌*◌, ◌<◌, ◌≤◌, ◌==◌, ◌||◌, not, Bool, true, false, cond, List, [], ◌∷◌, length, get_or, min, map, eq-eqb, slice_index, nat_lt, nat_abs, refl, sym, ap, ap₂, subst, arith, ℤ, pos, negsuc, ◌*ℤ◌, ◌<ℤ◌, int_lt}
 use native.Mathlib.Nat.{mul-le-mul_right, mul-pos}
 use Rattle.std.proofs.lemmas.Int.{ints}
 use Rattle.std.proofs.lemmas.Bool.{eqb-false, le-ltb, ltb-true, or_parts}
@@ -11,19 +11,16 @@ use Rattle.nrm_fraction.proofs.Field.{IsValue_whole}
 use Rattle.nrm_fraction.proofs.Tests.{less-is}
 use Rattle.nrm_fraction.proofs.Values.{IsValue, IsValue_over, IsValue_product, IsValue_turn}
 use Rattle.std.specs.List.{count_by, range_with_len}
-use Rattle.std.specs.List.Sorted.{IsPermutation}
 use Rattle.std.proofs.lemmas.List.FromFn.{length-map-range_with_len}
 use Rattle.std.proofs.lemmas.List.Sums.{sum_by-cons}
-use Rattle.nrm_emsr.specs.declared.nest.Nested.{Nested}
-use Rattle.nrm_model.specs.Demand.{demand_to_come}
+use Rattle.nrm_emsr.specs.declared.sums.Mean.{Mean}
 use Rattle.nrm_model.specs.Network.{NetworkValue, leg_of}
 use Rattle.nrm_lp.specs.declared.certificate.Certificate.{Certificate}
 use Rattle.nrm_virtual.specs.Buckets.{bucket_count}
 use Rattle.nrm_emsr.specs.Fares.{bucket_fare, mean_fare, weight_of, weighted_fares}
 use Rattle.nrm_emsr.specs.Protections.{at_most, demand_above, histories_over, least_from, seats_enough, suffices}
-use Rattle.nrm_emsr.specs.Inner.Nest.{crosses, in_buckets, nest_fare, nest_fares, nest_weight}
-use Rattle.nrm_emsr.proofs.Nests.{fares-is, nest_on, sum-is, weight-is}
-use Rattle.nrm_emsr.specs.Inner.Ranked.{Falls, greatest_count}
+use Rattle.nrm_emsr.specs.Inner.Sums.{AreSumsOf, crosses, fare_by}
+use Rattle.nrm_emsr.specs.Inner.Ranked.{greatest_count}
 use Rattle.nrm_emsr.proofs.Least.{enough-least}
 use Rattle.nrm_emsr.proofs.Places.{lower-fails, number-passes}
 use Rattle.nrm_emsr.proofs.Signs.{IsNat, nat-or-not, weighted-nat}
@@ -95,27 +92,21 @@ module _ (net : NetworkValue) (cert : Certificate) (i k : ℕ) (some : 0 < nat_a
   abbrev d : ℕ
   d = nat_abs cert.den
 
-  -- the fare of a bucket, as the list of the leg's products has it
-  fare-same : (b : ℕ) → chosen (nat_lt b (bucket_count net i)) (weight_of net cert i k b b == 0) ((weight_of net cert i k b b == 0) || int_lt (weighted_fares net cert i k b b) (pos 0)) (pos (slice_index (leg_of net i).cuts (b - 1) * d)) (weighted_fares net cert i k b b) (weight_of net cert i k b b)
-      ≡ nest_fare (nest_on net cert i k) (leg_of net i).cuts d b
-  fare-same b s = chosen (nat_lt b (bucket_count net i)) (sym (weight-is net cert i k b b) s == 0) ((sym (weight-is net cert i k b b) s == 0) || int_lt (sym (fares-is net cert i k b b) s) (pos 0)) (pos (slice_index (leg_of net i).cuts (b - 1) * d)) (sym (fares-is net cert i k b b) s) (sym (weight-is net cert i k b b) s)
-
-  fare-parts : (b : ℕ) → IsValue (bucket_fare net cert i k b) (nest_fare (nest_on net cert i k) (leg_of net i).cuts d b).0 ((nest_fare (nest_on net cert i k) (leg_of net i).cuts d b).1 * d)
+  -- the fare of a bucket in its parts
+  fare-parts : (b : ℕ) → IsValue (bucket_fare net cert i k b) (fare_by (weighted_fares net cert i k b b) (weight_of net cert i k b b) (leg_of net i).cuts d b).0 ((fare_by (weighted_fares net cert i k b b) (weight_of net cert i k b b) (leg_of net i).cuts d b).1 * d)
   fare-parts b =
       let t : ℕ = slice_index (leg_of net i).cuts (b - 1) in
       let w : ℕ = weight_of net cert i k b b in
       let a : ℤ = weighted_fares net cert i k b b in
-      subst (λ (r : ℤ × ℕ). IsValue (bucket_fare net cert i k b) r.0 (r.1 * d)) (fare-same b)
-      (parts w a t d some (nat_lt b (bucket_count net i)) (w == 0) ((w == 0) || int_lt a (pos 0)) (not-nought w) (λ h. not-nought w (or_parts (w == 0) (int_lt a (pos 0)) h).0))
+      parts w a t d some (nat_lt b (bucket_count net i)) (w == 0) ((w == 0) || int_lt a (pos 0)) (not-nought w) (λ h. not-nought w (or_parts (w == 0) (int_lt a (pos 0)) h).0)
 
   -- it isn't negative
-  fare-nat : (b : ℕ) → IsNat (nest_fare (nest_on net cert i k) (leg_of net i).cuts d b).0
+  fare-nat : (b : ℕ) → IsNat (fare_by (weighted_fares net cert i k b b) (weight_of net cert i k b b) (leg_of net i).cuts d b).0
   fare-nat b =
       let w : ℕ = weight_of net cert i k b b in
       let a : ℤ = weighted_fares net cert i k b b in
-      subst (λ (r : ℤ × ℕ). IsNat r.0) (fare-same b)
-      (chosen-nat (nat_lt b (bucket_count net i)) (w == 0) ((w == 0) || int_lt a (pos 0)) (slice_index (leg_of net i).cuts (b - 1) * d) a w
-      (λ h. weighted-nat net cert i k b b (ltb-true b (bucket_count net i) h)) (λ h. nat-or-not a (or_parts (w == 0) (int_lt a (pos 0)) h).1))
+      chosen-nat (nat_lt b (bucket_count net i)) (w == 0) ((w == 0) || int_lt a (pos 0)) (slice_index (leg_of net i).cuts (b - 1) * d) a w
+      (λ h. weighted-nat net cert i k b b (ltb-true b (bucket_count net i) h)) (λ h. nat-or-not a (or_parts (w == 0) (int_lt a (pos 0)) h).1)
 
   over-is : (y : ℕ) (demand : ℕ → ℕ) (hs : List ℕ) → count_by (nat_lt y) (map demand hs) ≡ count_by (λ h. nat_lt y (demand h)) hs
   over-is y demand [] = refl
@@ -124,62 +115,62 @@ module _ (net : NetworkValue) (cert : Certificate) (i k : ℕ) (some : 0 < nat_a
       ∙ ap (λ t. cond (nat_lt y (demand h)) 1 0 + t) (over-is y demand hs)
       ∙ sym (sum_by-cons (λ x. cond (nat_lt y (demand x)) 1 0) h hs)
 
-  module _ (b : ℕ) (demands : List ℕ) (a next : ℤ) (w v : ℕ)
-      (demands-are : demands ≡ map (λ h. sum_by (λ (nested : Nested). demand_to_come net nested.product h k) (in_buckets (nest_on net cert i k) 1 b)) (range_with_len 0 net.histories))
-      (w-is : w ≡ nest_weight (nest_on net cert i k) 1 b) (a-is : a ≡ nest_fares (nest_on net cert i k) 1 b) (positive : 0 < w)
-      (next-is : next ≡ (nest_fare (nest_on net cert i k) (leg_of net i).cuts d (b + 1)).0) (v-is : v ≡ (nest_fare (nest_on net cert i k) (leg_of net i).cuts d (b + 1)).1) where
-    demand-is : demands ≡ map (demand_above net cert i k b) (range_with_len 0 net.histories)
-    demand-is = demands-are ∙ (λ s. map (λ h. sum-is net cert i k (λ (nested : Nested). demand_to_come net nested.product h k) 1 b s) (range_with_len 0 net.histories))
+  module _ (b : ℕ) (above own : Mean) (ranked : List ℕ) (are : AreSumsOf net cert i k b above own ranked) (positive : 0 < above.seats)
+      (next : ℤ) (v : ℕ) (next-is : next ≡ (fare_by own.fares own.seats (leg_of net i).cuts d (b + 1)).0) (v-is : v ≡ (fare_by own.fares own.seats (leg_of net i).cuts d (b + 1)).1) where
+    abbrev demands : List ℕ
+    demands = map (demand_above net cert i k b) (range_with_len 0 net.histories)
+
+    abbrev next_fare : ℤ × ℕ
+    next_fare = fare_by (weighted_fares net cert i k (b + 1) (b + 1)) (weight_of net cert i k (b + 1) (b + 1)) (leg_of net i).cuts d (b + 1)
+
+    next-own : next ≡ next_fare.0
+    next-own = next-is ∙ (λ s. (fare_by (are.next_fares s) (are.next_seats s) (leg_of net i).cuts d (b + 1)).0)
+
+    seats-own : v ≡ next_fare.1
+    seats-own = v-is ∙ (λ s. (fare_by (are.next_fares s) (are.next_seats s) (leg_of net i).cuts d (b + 1)).1)
 
     count-is : (y : ℕ) → count_by (nat_lt y) demands ≡ histories_over net cert i k b y
-    count-is y = ap (count_by (nat_lt y)) demand-is ∙ over-is y (demand_above net cert i k b) (range_with_len 0 net.histories)
+    count-is y = over-is y (demand_above net cert i k b) (range_with_len 0 net.histories)
 
     long : length demands ≡ net.histories
-    long = ap length demand-is ∙ length-map-range_with_len (demand_above net cert i k b) 0 net.histories
-
-    weight : w ≡ weight_of net cert i k 1 b
-    weight = w-is ∙ weight-is net cert i k 1 b
-
-    fares : a ≡ weighted_fares net cert i k 1 b
-    fares = a-is ∙ fares-is net cert i k 1 b
+    long = length-map-range_with_len (demand_above net cert i k b) 0 net.histories
 
     some-weight : 0 < weight_of net cert i k 1 b
-    some-weight = omega (arith, weight, positive)
+    some-weight = omega (arith, are.seats, positive)
 
-    pointwise : (y : ℕ) → crosses (count_by (nat_lt y) demands) a w (length demands) next v ≡ suffices net cert i k b y
+    abbrev test : ℕ → Bool
+    test count = crosses count above.fares above.seats (length demands) next v
+
+    pointwise : (y : ℕ) → test (count_by (nat_lt y) demands) ≡ suffices net cert i k b y
     pointwise y =
-        (λ s. crosses (count-is y s) (fares s) (weight s) (long s) (next-is s) (v-is s))
+        (λ s. crosses (count-is y s) (are.fares s) (are.seats s) (long s) (next-own s) (seats-own s))
         ∙ sym (at_most-crosses (histories_over net cert i k b y) net.histories (mean_fare net cert i k 1 b) (bucket_fare net cert i k (b + 1)) (weighted_fares net cert i k 1 b)
-        (nest_fare (nest_on net cert i k) (leg_of net i).cuts d (b + 1)).0 (weight_of net cert i k 1 b) (nest_fare (nest_on net cert i k) (leg_of net i).cuts d (b + 1)).1 d some
+        next_fare.0 (weight_of net cert i k 1 b) next_fare.1 d some
         (IsValue_over (weighted_fares net cert i k 1 b) (weight_of net cert i k 1 b * d) (mul-pos some-weight some)) (fare-parts (b + 1)))
 
-    module _ (lower-bucket : b < bucket_count net i) (falling : List ℕ) (moved : IsPermutation demands falling) (falls : Falls falling) where
-      abbrev test : ℕ → Bool
-      test count = crosses count a w (length demands) next v
-
-      above-nat : IsNat a
-      above-nat = subst IsNat (sym fares) (weighted-nat net cert i k 1 b lower-bucket)
+    module _ (lower-bucket : b < bucket_count net i) where
+      above-nat : IsNat above.fares
+      above-nat = subst IsNat (sym are.fares) (weighted-nat net cert i k 1 b lower-bucket)
 
       next-nat : IsNat next
-      next-nat = subst IsNat (sym next-is) (fare-nat (b + 1))
+      next-nat = subst IsNat (sym next-own) (fare-nat (b + 1))
 
       below : (c e : ℕ) → c ≤ e → test e ≡ true → test c ≡ true
-      below c e = crosses-below a next w (length demands) v c e above-nat
+      below c e = crosses-below above.fares next above.seats (length demands) v c e above-nat
 
       none : test 0 ≡ true
-      none = crosses-none a next w (length demands) v above-nat next-nat
+      none = crosses-none above.fares next above.seats (length demands) v above-nat next-nat
 
       -- the demand at the place of the greatest count that passes is enough, or the authorised seats where they are fewer
-      place-is : min (leg_of net i).authorised (get_or falling (greatest_count test (length demands)) 0) ≡ seats_enough net cert i k b
+      place-is : min (leg_of net i).authorised (get_or ranked (greatest_count test (length demands)) 0) ≡ seats_enough net cert i k b
       place-is =
-          sym (enough-least net cert i k b (get_or falling (greatest_count test (length demands)) 0) some-weight
-          (sym (pointwise (get_or falling (greatest_count test (length demands)) 0)) ∙ number-passes test below none demands falling moved falls)
-          (λ y under. sym (pointwise y) ∙ lower-fails test below none demands falling moved falls y under))
+          sym (enough-least net cert i k b (get_or ranked (greatest_count test (length demands)) 0) some-weight
+          (sym (pointwise (get_or ranked (greatest_count test (length demands)) 0)) ∙ number-passes test below none demands ranked are.demands are.falls)
+          (λ y under. sym (pointwise y) ∙ lower-fails test below none demands ranked are.demands are.falls y under))
 
-      pub enough-is : min (leg_of net i).authorised (get_or falling (greatest_count (λ count. crosses count a w net.histories next v) net.histories) 0) ≡ seats_enough net cert i k b
-      enough-is = ap (λ (n : ℕ). min (leg_of net i).authorised (get_or falling (greatest_count (λ count. crosses count a w n next v) n) 0)) (sym long) ∙ place-is
+      pub enough-is : min (leg_of net i).authorised (get_or ranked (greatest_count (λ count. crosses count above.fares above.seats net.histories next v) net.histories) 0) ≡ seats_enough net cert i k b
+      enough-is = ap (λ (n : ℕ). min (leg_of net i).authorised (get_or ranked (greatest_count (λ count. crosses count above.fares above.seats n next v) n) 0)) (sym long) ∙ place-is
 
-pub none-enough : (net : NetworkValue) (cert : Certificate) (i k b : ℕ) → nest_weight (nest_on net cert i k) 1 b ≡ 0 → 0 ≡ seats_enough net cert i k b
+pub none-enough : (net : NetworkValue) (cert : Certificate) (i k b : ℕ) → weight_of net cert i k 1 b ≡ 0 → 0 ≡ seats_enough net cert i k b
 none-enough net cert i k b none =
-    let zero = sym (weight-is net cert i k 1 b) ∙ none in
-    sym (ap (λ (t : Bool). cond t 0 (least_from (suffices net cert i k b) (leg_of net i).authorised 0)) (eq-eqb (weight_of net cert i k 1 b) 0 zero))
+    sym (ap (λ (t : Bool). cond t 0 (least_from (suffices net cert i k b) (leg_of net i).authorised 0)) (eq-eqb (weight_of net cert i k 1 b) 0 none))

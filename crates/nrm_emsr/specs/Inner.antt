@@ -1,3 +1,4 @@
 -- What private functions serve.
 pub mod Nest
+pub mod Sums
 pub mod Ranked

@@ -1,25 +1,24 @@
 //! The comparison of two mean fares, in whole numbers that fit in 128 bits, and the greatest count of histories that
 //! passes.
-ghost use Rattle.std.specs.Prelude.{◌≡◌, ◌+◌, ◌*◌, ◌^◌, ◌<◌, ◌≤◌, ◌*ℤ◌, All, int_lt, length, not, pos, unsigned_abs};
+ghost use Rattle.std.specs.Prelude.{◌≡◌, ◌*◌, ◌^◌, ◌<◌, ◌≤◌, ◌*ℤ◌, int_lt, not, pos, unsigned_abs};
 ghost use Rattle.nrm_fraction.specs.Large.{size_limit};
-ghost use Rattle.nrm_model.specs.declared.limits.TheConstants.{MOST_HISTORIES, MOST_PRODUCTS};
-ghost use Rattle.nrm_emsr.specs.Inner.Nest.{IsSmall, crosses, nest_fare};
+ghost use Rattle.nrm_model.specs.declared.limits.TheConstants.{MOST_HISTORIES};
+ghost use Rattle.nrm_emsr.specs.Inner.Sums.{crosses, fare_by};
 ghost use Rattle.nrm_emsr.specs.Inner.Ranked.{greatest_count};
 
-use crate::nest::{Mean, Nested, mean_of, scaled};
+use crate::sums::{Mean, scaled};
 
-/// The fare of one bucket.
-pub(crate) fn fare_of(nest: &[Nested], cuts: &[u32], den: u64, bucket: u8) -> Mean
-    requires small { All IsSmall nest.now }
-    requires few { length nest.now ≤ MOST_PRODUCTS }
+/// The fare of a bucket, from its mean fare.
+pub(crate) fn fare_of(mean: Mean, cuts: &[u32], den: u64, bucket: u8) -> Mean
+    requires weight { mean.seats < 2 ^ 23 }
+    requires fares { unsigned_abs mean.fares < 2 ^ 98 }
     requires den { den < size_limit }
     requires first { 1 ≤ bucket }
-    ensures fares { result.fares ≡ (nest_fare nest.now cuts.now den bucket).0 }
-    ensures seats { result.seats ≡ (nest_fare nest.now cuts.now den bucket).1 }
+    ensures fares { result.fares ≡ (fare_by mean.fares mean.seats cuts.now den bucket).0 }
+    ensures seats { result.seats ≡ (fare_by mean.fares mean.seats cuts.now den bucket).1 }
     ensures seats_size { result.seats < 2 ^ 23 }
     ensures fares_size { unsigned_abs result.fares < 2 ^ 98 }
 {
-    let mean = mean_of(nest, bucket, bucket);
     if bucket as usize <= cuts.len() {
         if mean.seats == 0 {
             Mean {

@@ -1,5 +1,5 @@
 //! EMSR-b protection levels (chapter 2 of Talluri and van Ryzin) on the empirical demand: how many seats of a leg are
-//! kept for its higher buckets.
+//! protected for its higher buckets.
 #![tactic(auto)]
 
 mod compared;
@@ -7,6 +7,7 @@ mod laws;
 mod levels;
 mod nest;
 mod ranked;
+mod sums;
 #[cfg(test)]
 mod tests;
 

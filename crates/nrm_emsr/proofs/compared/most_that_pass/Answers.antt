@@ -1,6 +1,6 @@
 -- From all histories down, no count above this one passes; the first that does is the greatest.
 use Rattle.std.proofs.Common.{ℕ, ◌≡◌, ◌∙◌, Bool, false, true, sym, arith}
-use Rattle.nrm_emsr.specs.Inner.Nest.{crosses}
+use Rattle.nrm_emsr.specs.Inner.Sums.{crosses}
 use Rattle.nrm_emsr.proofs.Places.{greatest-no, greatest-yes}
 use Rattle.nrm_emsr.proofs.compared.most_that_pass.Goals as goal
 

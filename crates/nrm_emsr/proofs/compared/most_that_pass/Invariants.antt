@@ -1,6 +1,6 @@
 -- No greater count passes.
 use Rattle.std.proofs.Common.{◌≡◌, ◌≤◌}
-use Rattle.nrm_emsr.specs.Inner.Nest.{crosses}
+use Rattle.nrm_emsr.specs.Inner.Sums.{crosses}
 use Rattle.nrm_emsr.specs.Inner.Ranked.{greatest_count}
 use Rattle.nrm_emsr.proofs.compared.most_that_pass.Given as goal
 

@@ -9,7 +9,7 @@ use Rattle.nrm_model.specs.Inventory.{inventory_of, products_on, uses_leg}
 use Rattle.nrm_model.specs.Network.{NetworkValue}
 use Rattle.nrm_model.proofs.Inventories.{legs-count, on-leg-uses, on-leg-within}
 use Rattle.nrm_emsr.specs.declared.nest.Nested.{Nested}
-use Rattle.nrm_emsr.specs.Inner.Nest.{IsOf, IsSmall, nested_of}
+use Rattle.nrm_emsr.specs.Inner.Nest.{IsKnown, nested_of}
 use Rattle.nrm_emsr.proofs.nest.nested_on.Goals as goal
 
 -- the products on a leg are no more than all
@@ -30,22 +30,20 @@ nested_at-requires-clause-uses c =
 pub loop-product-preserved : goal.loop-product-preserved
 loop-product-preserved c =
     let net = c.args.net.now in
-    let f : ℕ → Nested = nested_of net c.args.cert.now c.args.leg c.args.period in
+    let f : ℕ → Nested = nested_of net c.args.cert.now c.args.leg in
     let numbers : List ℕ = products_on (inventory_of net) c.args.leg in
     let k : ℕ = c.loop-product.product-index in
     let same = c.products_on-product-items.ensures in
     let short : k < length numbers = omega (arith, c.loop-product-test.true, ap length same) in
     let j : ℕ = get_or c.products_on-product-items.result.now k 0 in
-    let below : j < length net.products = subst (λ (js : List ℕ). All (λ j. j < length net.products) js) (sym same) (on-leg-within net c.args.leg) k 0 c.loop-product-test.true in
     let x : Nested = c.nested_at.result in
     let items = c.in_ok-push.ensures.items in
-    let is : x ≡ f j = λ i. record { product = c.nested_at.ensures.product i; bucket = c.nested_at.ensures.bucket i; fare = c.nested_at.ensures.fare i; seats = c.nested_at.ensures.seats i } in
+    let is : x ≡ f j = λ i. record { product = c.nested_at.ensures.product i; bucket = c.nested_at.ensures.bucket i; fare = c.nested_at.ensures.fare i } in
     let more : map f (take (k + 1) numbers) ≡ map f (take k numbers) ++ f (get_or numbers k 0) ∷ [] = ap (map f) (take_more numbers k 0 short) ∙ map-append f (take k numbers) (get_or numbers k 0 ∷ []) in
     record {
       nest = items ∙ (λ n. c.loop-product.invariant.nest n ++ is n ∷ []) ∙ ap (λ (js : List ℕ). map f (take k numbers) ++ f (get_or js k 0) ∷ []) same ∙ sym more;
-      small = subst (All IsSmall) (sym items) (All-push IsSmall c.loop-product.nest.items x c.loop-product.invariant.small c.nested_at.ensures.small);
       few = omega (arith, ap length items, length-append c.loop-product.nest.items (x ∷ []), c.loop-product.invariant.few);
-      known = subst (All (IsOf (length net.products))) (sym items) (All-push (IsOf (length net.products)) c.loop-product.nest.items x c.loop-product.invariant.known (rw c.nested_at.ensures.product below));
+      known = subst (All (IsKnown (length net.products))) (sym items) (All-push (IsKnown (length net.products)) c.loop-product.nest.items x c.loop-product.invariant.known c.nested_at.ensures.known);
     }
 
 pub returns-clause-few : goal.returns-clause-few

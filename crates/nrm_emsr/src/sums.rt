@@ -1,0 +1,128 @@
+//! Sums over a leg's buckets, from the first on: their fares, each as often as its demand to come, and that demand, in each
+//! history and in all. Those of one bucket more are those so far and its own.
+ghost use Rattle.std.specs.Prelude.{ℕ, ◌≡◌, ◌+◌, ◌-◌, ◌*◌, ◌^◌, ◌<◌, ◌≤◌, ◌+ℤ◌, ◌*ℤ◌, All, length, map, pos, slice_index, unsigned_abs};
+ghost use Rattle.std.specs.Int.{IsInRange, is_in_range};
+ghost use Rattle.std.specs.List.{range_with_len};
+ghost use Rattle.nrm_model.specs.Demand.{demand_to_come, total_to_come};
+ghost use Rattle.nrm_model.specs.declared.limits.TheConstants.{MOST_DEMAND, MOST_PRODUCTS, MOST_THRESHOLDS, MOST_TOTAL_DEMAND};
+ghost use Rattle.nrm_emsr.specs.Inner.Nest.{IsKnown};
+ghost use Rattle.nrm_emsr.specs.Inner.Sums.{IsMeanOf, nest_demand};
+
+use crate::nest::Nested;
+use nrm_model::Network;
+
+/// A mean fare: the sum of the fares, each as often as its demand, over that demand and the certificate's denominator.
+#[derive(Clone, Copy)]
+pub(crate) struct Mean {
+    pub(crate) fares: i128,
+    pub(crate) seats: u32,
+}
+
+/// Adds the demand to come of the bucket behind `above` to that of buckets 1 to `above`, history by history, and gives its
+/// mean fare.
+pub(crate) fn add_bucket(
+    demands: &mut Vec<u32>,
+    net: &Network,
+    nest: &[Nested],
+    above: u8,
+    period: u8,
+) -> Mean
+    requires known { All (IsKnown (length net.now.products)) nest.now }
+    requires few { length nest.now ≤ MOST_PRODUCTS }
+    requires above { above ≤ MOST_THRESHOLDS }
+    requires period { IsInRange 1 net.now.periods period }
+    requires demands { demands.old.items ≡ map (nest_demand net.now period nest.now 1 above) (range_with_len 0 net.now.histories) }
+    ensures mean { IsMeanOf net.now period nest.now (above + 1) (above + 1) result }
+    ensures demands { demands.new.items
+        ≡ map (nest_demand net.now period nest.now 1 (above + 1)) (range_with_len 0 net.now.histories) }
+{
+    // For its clause alone: a network is within its limits.
+    let _ = net.n();
+    let bucket = above + 1;
+    let mut mean = Mean { fares: 0, seats: 0 };
+    for nested in nest {
+        if is_between(bucket, bucket, nested.bucket) {
+            let seats = add_product(demands, net, nested.product, period);
+            mean = with(mean, nested, seats);
+        }
+    }
+    mean
+}
+
+// Adds the demand to come of a product to these, history by history, and gives it in all.
+fn add_product(demands: &mut Vec<u32>, net: &Network, product: u16, period: u8) -> u32
+    requires product { product < length net.now.products }
+    requires period { IsInRange 1 net.now.periods period }
+    requires long { length demands.old.items ≡ net.now.histories }
+    requires room { All (λ seats. seats < 2 ^ 31) demands.old.items }
+    ensures total { result ≡ total_to_come net.now product period }
+    ensures within { result ≤ MOST_TOTAL_DEMAND }
+    ensures demands { demands.new.items
+        ≡ map (λ h. slice_index demands.old.items h + demand_to_come net.now product h period) (range_with_len 0 net.now.histories) }
+{
+    let mut total = 0;
+    for history in 0..net.n() {
+        let seats = net.to_come(product, history, period);
+        demands[history as usize] += seats;
+        total += seats;
+    }
+    total
+}
+
+// One more product in a mean.
+fn with(mean: Mean, nested: &Nested, seats: u32) -> Mean
+    requires fares { unsigned_abs mean.fares ≤ 2 ^ 75 * MOST_TOTAL_DEMAND * (MOST_PRODUCTS - 1) }
+    requires weight { mean.seats ≤ MOST_TOTAL_DEMAND * (MOST_PRODUCTS - 1) }
+    requires fare { unsigned_abs nested.now.fare < 2 ^ 75 }
+    requires seats { seats ≤ MOST_TOTAL_DEMAND }
+    ensures fares { result.fares ≡ mean.fares +ℤ (nested.now.fare *ℤ pos seats) }
+    ensures seats { result.seats ≡ mean.seats + seats }
+    ensures size { unsigned_abs result.fares ≤ unsigned_abs mean.fares + 2 ^ 75 * MOST_TOTAL_DEMAND }
+{
+    Mean {
+        fares: plus(mean.fares, scaled(nested.fare, seats)),
+        seats: mean.seats + seats,
+    }
+}
+
+/// The mean fare of some buckets and another one.
+pub(crate) fn both(mean: Mean, other: Mean) -> Mean
+    requires fares { unsigned_abs mean.fares < 2 ^ 98 }
+    requires weight { mean.seats < 2 ^ 23 }
+    requires other_fares { unsigned_abs other.fares < 2 ^ 98 }
+    requires other_weight { other.seats < 2 ^ 23 }
+    ensures fares { result.fares ≡ mean.fares +ℤ other.fares }
+    ensures seats { result.seats ≡ mean.seats + other.seats }
+    ensures size { unsigned_abs result.fares ≤ unsigned_abs mean.fares + unsigned_abs other.fares }
+{
+    Mean {
+        fares: mean.fares + other.fares,
+        seats: mean.seats + other.seats,
+    }
+}
+
+// Whether a bucket is from one to another.
+fn is_between(first: u8, last: u8, bucket: u8) -> bool
+    ensures { result ≡ is_in_range first last bucket }
+{
+    first <= bucket && bucket <= last
+}
+
+// A sum of fares and one more.
+fn plus(sum: i128, more: i128) -> i128
+    requires sum { unsigned_abs sum ≤ 2 ^ 75 * MOST_TOTAL_DEMAND * (MOST_PRODUCTS - 1) }
+    requires more { unsigned_abs more ≤ 2 ^ 75 * MOST_TOTAL_DEMAND }
+    ensures value { result ≡ sum +ℤ more }
+    ensures size { unsigned_abs result ≤ unsigned_abs sum + 2 ^ 75 * MOST_TOTAL_DEMAND }
+{
+    sum + more
+}
+
+/// A number times a factor.
+pub(crate) fn scaled(number: i128, factor: u32) -> i128
+    requires { unsigned_abs number * factor < 2 ^ 126 }
+    ensures value { result ≡ number *ℤ pos factor }
+    ensures size { unsigned_abs result ≡ unsigned_abs number * factor }
+{
+    number * i128::from(factor)
+}
