@@ -1,10 +1,10 @@
 //! Sums over a leg's buckets, from the first on: their fares, each as often as its demand to come, and that demand, in each
 //! history and in all. Those of one bucket more are those so far and its own.
-ghost use Rattle.std.specs.Prelude.{ℕ, ◌≡◌, ◌+◌, ◌-◌, ◌*◌, ◌^◌, ◌<◌, ◌≤◌, ◌+ℤ◌, ◌*ℤ◌, All, length, map, pos, slice_index, unsigned_abs};
+ghost use Rattle.std.specs.Prelude.{◌≡◌, ◌+◌, ◌-◌, ◌*◌, ◌^◌, ◌<◌, ◌≤◌, ◌+ℤ◌, ◌*ℤ◌, All, length, map, pos, slice_index, unsigned_abs};
 ghost use Rattle.std.specs.Int.{IsInRange, is_in_range};
 ghost use Rattle.std.specs.List.{range_with_len};
 ghost use Rattle.nrm_model.specs.Demand.{demand_to_come, total_to_come};
-ghost use Rattle.nrm_model.specs.declared.limits.TheConstants.{MOST_DEMAND, MOST_PRODUCTS, MOST_THRESHOLDS, MOST_TOTAL_DEMAND};
+ghost use Rattle.nrm_model.specs.declared.limits.TheConstants.{MOST_PRODUCTS, MOST_THRESHOLDS, MOST_TOTAL_DEMAND};
 ghost use Rattle.nrm_emsr.specs.Inner.Nest.{IsKnown};
 ghost use Rattle.nrm_emsr.specs.Inner.Sums.{IsMeanOf, nest_demand};
 
