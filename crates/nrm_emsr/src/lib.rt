@@ -2,6 +2,8 @@
 //! protected for its higher buckets.
 #![tactic(auto)]
 
+#[cfg(test)]
+mod bucket_tests;
 mod compared;
 mod laws;
 mod levels;

@@ -1,10 +1,7 @@
 //! Protections of small networks, worked by hand.
-ghost use Rattle.std.specs.Prelude.{IfOk, ◌<◌, length};
-ghost use Rattle.nrm_fraction.specs.Large.{size_limit};
-ghost use Rattle.nrm_virtual.specs.Adjusted.{HasPrices};
 
+use crate::bucket_tests::priced;
 use crate::protections;
-use nrm_lp::{Certificate, Numbers};
 use nrm_model::Network;
 use nrm_network::parse;
 use nrm_samples::two_legs_five_products;
@@ -12,23 +9,6 @@ use nrm_virtual::BucketTable;
 use std::alloc::{AllocError, Global};
 use std::process::Abort;
 use std::test::Fail;
-
-// A certificate with these whole bid prices. Nothing else of it counts here.
-fn priced(alloc: Global, prices: &[u32]) -> Result<Certificate, AllocError>
-    ensures { IfOk result (HasPrices size_limit (length prices.now)) }
-{
-    let mut p = Vec::new(alloc);
-    for price in prices {
-        p.push(i64::from(*price))?;
-    }
-    Ok(Certificate {
-        q: 1,
-        x: Numbers::new(Vec::new(alloc)),
-        den: 1,
-        p: Numbers::new(p),
-        value: 0,
-    })
-}
 
 // The protections of a leg at these prices: a number that no leg has where there is no such leg, no such period, or
 // another number of prices.
@@ -43,7 +23,7 @@ fn levels(
     if !known || prices.len() != net.leg_count() || period == 0 || period > net.t() {
         return [1000].to_vec(alloc);
     }
-    let cert = priced(alloc, prices)?;
+    let cert = priced(alloc, 1, prices)?;
     let table = BucketTable::build(alloc, net, &cert)?;
     protections(alloc, net, &cert, &table, leg, period)
 }

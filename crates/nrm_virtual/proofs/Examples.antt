@@ -5,10 +5,21 @@ use Rattle.std.proofs.lemmas.Int.{ints}
 use Rattle.nrm_model.specs.Inventory.{inventory_of, products_on}
 use Rattle.nrm_model.specs.Network.{NetworkValue}
 use Rattle.nrm_lp.specs.declared.certificate.Certificate.{Certificate}
-use Rattle.nrm_samples.specs.Networks.{two_legs_five_products}
 use Rattle.nrm_virtual.specs.Adjusted.{HasPrices, adjusted_fare}
 use Rattle.nrm_virtual.specs.Buckets.{bucket_count, bucket_of, bucket_of_fare}
 use Rattle.nrm_virtual.specs.Table.{IsTableOf, TableValue, bucket_in}
+
+-- two legs with two thresholds each, and five products
+abbrev two_legs_five_products : NetworkValue
+two_legs_five_products = record {
+  histories = 1;
+  periods = 1;
+  legs = record { name = codes "AB"; seats = 10; authorised = 10; cuts = 300 ∷ 100 ∷ [] } ∷ record { name = codes "BC"; seats = 10; authorised = 10; cuts = 300 ∷ 100 ∷ [] } ∷ [];
+  products = record { name = codes "ABH"; fare = 400; refund = 100; legs = 0 ∷ [] } ∷ record { name = codes "ABL"; fare = 150; refund = 100; legs = 0 ∷ [] }
+      ∷ record { name = codes "ACH"; fare = 500; refund = 100; legs = 0 ∷ 1 ∷ [] } ∷ record { name = codes "BCL"; fare = 80; refund = 100; legs = 1 ∷ [] }
+      ∷ record { name = codes "ACL"; fare = 229; refund = 100; legs = 0 ∷ 1 ∷ [] } ∷ [];
+  demand = [];
+}
 
 -- prices of 150 and 80, whole and in thirds
 abbrev pub full_seats : Certificate

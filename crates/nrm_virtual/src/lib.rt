@@ -4,8 +4,6 @@
 
 mod fares;
 mod table;
-#[cfg(test)]
-mod tests;
 
 pub use fares::{adjusted, bucket};
 pub use table::BucketTable;

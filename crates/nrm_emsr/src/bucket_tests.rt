@@ -1,19 +1,19 @@
-//! Adjusted fares and buckets of small networks, worked by hand.
+//! Adjusted fares and buckets of small networks, worked by hand: the table of them that protections are made of.
 ghost use Rattle.std.specs.Prelude.{IfOk, ◌<◌, length};
 ghost use Rattle.nrm_fraction.specs.Large.{size_limit};
 ghost use Rattle.nrm_virtual.specs.Adjusted.{HasPrices};
 
-use crate::{BucketTable, adjusted, bucket};
 use nrm_lp::{Certificate, Numbers};
 use nrm_model::Network;
 use nrm_network::parse;
 use nrm_samples::two_legs_five_products;
+use nrm_virtual::{BucketTable, adjusted, bucket};
 use std::alloc::{AllocError, Global};
 use std::process::Abort;
 use std::test::Fail;
 
 // A certificate with these bid prices over a denominator. Nothing else of it counts here.
-fn priced(alloc: Global, den: u32, prices: &[u32]) -> Result<Certificate, AllocError>
+pub(crate) fn priced(alloc: Global, den: u32, prices: &[u32]) -> Result<Certificate, AllocError>
     requires { 0 < den }
     ensures { IfOk result (HasPrices size_limit (length prices.now)) }
 {
