@@ -10,9 +10,9 @@ use Rattle.nrm_keeper.specs.declared.row.KeptRow.{KeptRow}
 use Rattle.nrm_keeper.specs.declared.row.KeepFault.{KeepFault}
 use Rattle.nrm_keeper.specs.Rows.{Lists}
 use Rattle.nrm_keeper.specs.Stored.{told}
-use Rattle.nrm_keeper.specs.File.{Seen, FileRows, seen, file_view, Across, Same, Done, Failed, ListsIn}
+use Rattle.nrm_keeper.specs.File.{Seen, FileRows, seen, file_view, rows_in, shown_in, IsSteadyIfOpen, IsTrusted, Across, Same, Done, Failed, ListsIn}
 use Rattle.nrm_keeper.specs.Steady.{IsSteady}
-use Rattle.nrm_keeper.specs.Inner.Passes.{Passes}
+use Rattle.nrm_keeper.specs.Inner.Passes.{Passes, TellsNone}
 
 both : (a b : Bool) → IsTrue (a && b) → IsTrue a × IsTrue b
 both true true h = (refl, refl)
@@ -24,9 +24,59 @@ and_back true true h k = refl
 and_back true false h k = absurd (cc)
 and_back false b h k = absurd (cc)
 
+-- the file as it is taken to be, before and after
+pub shown_across : (P : Option (List KeptRow) → Option (List KeptRow) → Type 0) (old new : Option Seen) → IsSome new → Across P old new → IsSteadyIfOpen new
+    → IsSteadyIfOpen old × P (rows_in old) (rows_in new)
+shown_across P old None there h steady = absurd (cc)
+shown_across P None (Some new) there h steady = (tt, h steady)
+shown_across P (Some old) (Some new) there h steady = h steady
+
+pub same_across : (old new : Option Seen) → Across Same old new → IsSteadyIfOpen new → IsSteadyIfOpen old × Same (rows_in old) (rows_in new)
+same_across None None h steady = (tt, refl)
+same_across (Some old) None h steady = absurd h
+same_across None (Some new) h steady = (tt, h steady)
+same_across (Some old) (Some new) h steady = h steady
+
+-- of a call that was done
+pub shown_done : (P : Option (List KeptRow) → Option (List KeptRow) → Type 0) (old new : FileRows) → Done P old new → IsTrusted new → IsTrusted old × P (shown_in old) (shown_in new)
+shown_done P old new d it = let s = shown_across P old.file new.file (d.there it.found) d.rows it.steady in (record { found = sym d.lost ∙ it.found; steady = s.0 }, s.1)
+
+found_before : (old new : Bool) → (old ≡ true → new ≡ true) → new ≡ false → old ≡ false
+found_before true new h found = absurd (let t = h refl in cc)
+found_before false new h found = refl
+
+-- and of one that failed
+pub shown_failed : (old new : FileRows) → Failed old new → IsTrusted new → IsTrusted old × Same (shown_in old) (shown_in new)
+shown_failed old new f it =
+    let s = same_across old.file new.file (f.rows it.found) it.steady in (record { found = found_before old.is_lost new.is_lost f.lost it.found; steady = s.0 }, s.1)
+
+-- a call that changes rows, by its answer
+pub shown_change : (P : Option (List KeptRow) → Option (List KeptRow) → Type 0) (old new : FileRows) (r : Result (Unit {0}) KeepFault) → OnOk r (Done P old new) → OnErr r (Failed old new)
+    → IsTrusted new → IsTrusted old × OnOk r (P (shown_in old) (shown_in new)) × OnErr r (shown_in new ≡ shown_in old)
+shown_change P old new (Ok x) d f it = let s = shown_done P old new d it in (s.0, s.1, tt)
+shown_change P old new (Err e) d f it = let s = shown_failed old new f it in (s.0, tt, s.1)
+
+-- and one that lists them
+pub shown_list : (old new : FileRows) (r : Result (Vec KeptRow Global) KeepFault) → IfOk r (λ list. Done (λ before after. Same before after × Lists list.items before) old new)
+    → OnErr r (Failed old new) → IsTrusted new → IsTrusted old × (shown_in new ≡ shown_in old) × IfOk r (λ list. Lists list.items (shown_in new))
+shown_list old new (Ok list) d f it =
+    let s = shown_done (λ before after. Same before after × Lists list.items before) old new d it in
+    (s.0, s.1.0, subst (λ (r : Option (List KeptRow)). Lists list.items r) (sym s.1.0) s.1.1)
+shown_list old new (Err e) d f it = let s = shown_failed old new f it in (s.0, s.1, tt)
+
+-- a call after which the file is lost
+pub lost_failed : (old new : FileRows) → new.is_lost ≡ true → Failed old new
+lost_failed old new lost = record { lost = λ was. lost; rows = λ found. absurd (let l = lost in cc) }
+
+pub answer_failed : {T : Type 0} (old new : FileRows) (r : Result T KeepFault) → OnErr r (new.is_lost ≡ true) → OnErr r (Failed old new)
+answer_failed old new (Ok x) lost = tt
+answer_failed old new (Err e) lost = lost_failed old new lost
+
 -- of three views, the rows of the first two being the same
 pub compose : (P : Option (List KeptRow) → Option (List KeptRow) → Type 0) (a b c : Option Seen) → Across Same a b → Across P b c → Across P a c
-compose P None b c h k = tt
+compose P None None c h k = k
+compose P None (Some b) None h k = tt
+compose P None (Some b) (Some c) h k = λ steady. let s = k steady in subst (λ (r : Option (List KeptRow)). P r c.rows) (h s.0) s.1
 compose P (Some a) None c h k = absurd h
 compose P (Some a) (Some b) None h k = k
 compose P (Some a) (Some b) (Some c) h k = λ steady. let s = k steady in let t = h s.0 in (t.0, subst (λ (r : Option (List KeptRow)). P r c.rows) t.1 s.1)
@@ -55,7 +105,8 @@ module _ {S : Type 0} (g : Ghosts S) where
   across : (P : Option (List KeptRow) → Option (List KeptRow) → Type 0) (lost : Bool) (old new : Option (Held S)) (f f' : ℕ) → Passes g P old new
       → Across P (file_view g old lost f).file (file_view g new lost f').file
   across P true old new f f' h = tt
-  across P false None new f f' h = tt
+  across P false None None f f' h = tt
+  across P false None (Some n) f f' h = absurd (cc)
   across P false (Some o) None f f' h = h
   across P false (Some o) (Some n) f f' h = seen_passes P o n h
 
@@ -67,6 +118,32 @@ module _ {S : Type 0} (g : Ghosts S) where
   there_in true new f was some = absurd (cc)
   there_in false None f was some = absurd (cc)
   there_in false (Some n) f was some = refl
+
+  -- of a file that was shut and is opened
+  across_opened : (new : Option (Held S)) → TellsNone g new → Across Same None (option_map (seen g) new)
+  unfolding seen
+  across_opened None h = tt
+  across_opened (Some n) h = λ steady. h (steadied n steady)
+
+  -- a file that is open after the connection was opened if it was shut, and then undid what was in doubt, if anything was
+  pub settled_by : (lost : Bool) (old mid new : Option (Held S)) (f f' : ℕ) (before : FileRows) → file_view g old lost f ≡ before → (IsSome old → mid ≡ old) → (old ≡ None → TellsNone g mid)
+      → IsSome mid → (lost ≡ false → new ≡ mid) → Done Same before (file_view g new lost f')
+  settled_by true old mid new f f' before is stays empty there same = record {
+    lost = ap (λ (v : FileRows). v.is_lost) is;
+    there = λ was. absurd (let w = was in cc);
+    rows = subst (λ (v : FileRows). Across Same v.file None) is tt;
+  }
+  settled_by false (Some o) mid new f f' before is stays empty there same = record {
+    lost = ap (λ (v : FileRows). v.is_lost) is;
+    there = λ was. there_in false new f' refl (subst (λ (m : Option (Held S)). IsSome m) (sym (same refl)) there);
+    rows = subst (λ (v : FileRows). Across Same v.file (option_map (seen g) new)) is
+        (subst (λ (m : Option (Held S)). Across Same (Some (seen g o)) (option_map (seen g) m)) (sym (same refl ∙ stays refl)) (λ steady. (steady, refl)));
+  }
+  settled_by false None mid new f f' before is stays empty there same = record {
+    lost = ap (λ (v : FileRows). v.is_lost) is;
+    there = λ was. there_in false new f' refl (subst (λ (m : Option (Held S)). IsSome m) (sym (same refl)) there);
+    rows = subst (λ (v : FileRows). Across Same v.file (option_map (seen g) new)) is (across_opened new (subst (λ (m : Option (Held S)). TellsNone g m) (sym (same refl)) (empty refl)));
+  }
 
   pub done_by : (P : Option (List KeptRow) → Option (List KeptRow) → Type 0) (first mid last : FileRows) (lost : Bool) (f f' : ℕ) (old new : Option (Held S)) → Done Same first mid
       → file_view g old lost f ≡ mid → IsSome new → Passes g P old new → last.file ≡ (file_view g new lost f').file → last.is_lost ≡ lost → Done P first last
@@ -89,9 +166,19 @@ module _ {S : Type 0} (g : Ghosts S) where
       → Done Same first mid → file_view g old lost f ≡ mid → OnErr r (Passes g Same old new)
       → answer ≡ r → OnErr answer (Failed (file_view g new lost f') last) → OnErr answer (Failed first last)
   failed_after first mid last lost f f' old new r (Ok x) d is h same failed = tt
-  failed_after first mid last lost f f' old new r (Err e) d is h same failed = λ was.
-      compose Same first.file (file_view g new lost f').file last.file
-      (compose Same first.file mid.file (file_view g new lost f').file d.rows (across_from Same lost old new f f' mid is (rw (sym same) at h))) (failed was)
+  failed_after first mid last lost f f' old new r (Err e) d is h same failed = record {
+    lost = λ was. failed.lost (ap (λ (v : FileRows). v.is_lost) is ∙ d.lost ∙ was);
+    rows = λ was. compose Same first.file (file_view g new lost f').file last.file
+        (compose Same first.file mid.file (file_view g new lost f').file d.rows (across_from Same lost old new f f' mid is (rw (sym same) at h))) (failed.rows was);
+  }
+
+  -- and one of which the connection can still tell
+  pub failed_from : (lost : Bool) (old new : Option (Held S)) (f f' : ℕ) (before : FileRows) → file_view g old lost f ≡ before → Passes g Same old new
+      → Failed before (file_view g new lost f')
+  failed_from lost old new f f' before is h = record {
+    lost = λ was. ap (λ (v : FileRows). v.is_lost) is ∙ was;
+    rows = λ kept. across_from Same lost old new f f' before is h;
+  }
 
   -- a list
   pub listed_after : (first mid last : FileRows) (lost : Bool) (f f' : ℕ) (old new : Option (Held S)) (r answer : Result (Vec KeptRow Global) KeepFault)

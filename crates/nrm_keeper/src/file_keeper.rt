@@ -5,12 +5,13 @@
 ghost use Rattle.std.specs.Prelude.{◌≡◌, ◌<◌, ◌^◌, None, Some, IfOk, OnOk, OnErr, IfSome, IsSome};
 ghost use Rattle.sqlite.specs.Files.{over_files};
 ghost use Rattle.nrm_keeper.specs.Steady.{IsSettled};
+ghost use Rattle.nrm_keeper.specs.Inner.Passes.{TellsNone};
 
 use crate::causes::{fault_of, raised};
 use crate::owner::StoreOwner;
 use crate::shut::{drop_in, find_in, keep_in, list_in};
 use crate::{KeepFault, Keeper, KeptRow};
-use sqlite::{Connection, File, FileStore};
+use sqlite::{Connection, File, FileStore, Unknown};
 use std::alloc::Global;
 use std::marker::Model;
 use std::rt::HostRuntime;
@@ -32,6 +33,9 @@ struct Doubt {
 /// for another cause than memory, a DELETE that removes no row, or a row of the table that is no kept row. After a call
 /// that failed otherwise than by a refused change the next one opens the file again, which is then no longer the one that
 /// was told (`is_lost`). What a change that failed may have left in the file is undone before anything else.
+///
+/// It tells no rows outright, and shows those of the file. They are the file's as far as it is trusted: it held nothing as it
+/// was first opened, nobody else wrote it since, it returned what was written, and it was never let go.
 #[derive(Drop)]
 pub struct FileKeeper<'a> {
     rt: &'a HostRuntime,
@@ -58,7 +62,7 @@ impl<'a> Model for FileKeeper<'a> {
 }
 
 impl<'a> FileKeeper<'a> {
-    ghost use Rattle.std.specs.Prelude.{◌≡◌, ◌<◌, ◌^◌, None, true, false, OnOk, OnErr};
+    ghost use Rattle.std.specs.Prelude.{◌≡◌, ◌<◌, ◌^◌, None, true, false, IsOk, OnOk, OnErr};
     ghost use Rattle.nrm_edge.specs.Causes.{counted};
     ghost use Rattle.nrm_keeper.specs.Rows.{has_failed};
     ghost use Rattle.nrm_keeper.specs.File.{Done, Failed, Same};
@@ -79,12 +83,14 @@ impl<'a> FileKeeper<'a> {
     }
 
     /// Ends the run's use of the store. A change that is still in doubt is undone if that can be done now; if the file is open
-    /// the log is copied into it and emptied; and then another run may have the store. It gives nothing back that a clause
-    /// could name.
+    /// the log is copied into it and emptied; and then another run may have the store. A keeper that never opened its file has
+    /// nothing to end.
     ///
     /// # Errors
     /// `Failed` if the log could not be copied in: the rows then stand in both files, as they did.
-    pub fn close(mut self) -> Result<(), KeepFault> {
+    pub fn close(mut self) -> Result<(), KeepFault>
+        ensures unopened { self.entry.file ≡ None → self.entry.is_lost ≡ false → IsOk result }
+    {
         if self.doubt.is_some() {
             let alloc = self.rt.alloc();
             let _undone = self.settle(alloc);
@@ -182,18 +188,19 @@ impl<'a> FileKeeper<'a> {
 
 // A new connection to the file, which belongs to this run from the first one on.
 fn opened(rt: &HostRuntime, path: &str, owner: &mut StoreOwner) -> Result<FileConnection, KeepFault>
-    ensures { IfOk result (λ connection. IsSettled over_files (Some connection)) }
+    ensures settled { IfOk result (λ connection. IsSettled over_files (Some connection)) }
+    ensures empty { IfOk result (λ connection. TellsNone over_files (Some connection)) }
 {
     if !owner.may_open(rt, path) {
         return Err(KeepFault::Failed);
     }
-    match Connection::open(rt, path) {
+    match Connection::open_from(rt, path, false, Unknown) {
         Ok(mut connection) => {
             owner.take(rt, path)?;
             connection.set_step_limit(Some(MOST_STEPS));
             Ok(connection)
         }
-        Err(error) => Err(fault_of(error)),
+        Err((error, _)) => Err(fault_of(error)),
     }
 }
 
@@ -208,6 +215,7 @@ fn open_if_shut(
     ensures settled { IsSettled over_files connection.new }
     ensures there { OnOk result (IsSome connection.new) }
     ensures stays { IsSome connection.old → connection.new ≡ connection.old }
+    ensures empty { connection.old ≡ None → TellsNone over_files connection.new }
     ensures shut { OnErr result (connection.new ≡ connection.old) }
 {
     if connection.is_some() {
@@ -253,9 +261,13 @@ impl Keeper for FileKeeper<'_> {
     ghost use Rattle.std.specs.Prelude.{◌≡◌, ◌<◌, ◌^◌, None, IfOk, OnOk, OnErr};
     ghost use Rattle.nrm_edge.specs.Causes.{counted};
     ghost use Rattle.nrm_keeper.specs.Rows.{Adds, Drops, Keeps, Lists, has_failed};
-    ghost use Rattle.nrm_keeper.specs.File.{Done, Failed, ListsIn, Same, untold};
+    ghost use Rattle.nrm_keeper.specs.File.{Done, Failed, IsTrusted, ListsIn, Same, shown_in, untold};
 
     ghost rows = { λ _. None };
+
+    ghost shown = { shown_in };
+
+    ghost trusted = { IsTrusted };
 
     ghost faults = { λ s. s.faults };
 
@@ -266,6 +278,8 @@ impl Keeper for FileKeeper<'_> {
         ensures unchanged { OnErr result (untold ≡ untold) }
         ensures kept { OnOk result (Done (Adds row) self.old self.new) }
         ensures same { OnErr result (Failed self.old self.new) }
+        ensures shows { IsTrusted self.new → IsTrusted self.old × OnOk result (Adds row (shown_in self.old) (shown_in self.new))
+            × OnErr result (shown_in self.new ≡ shown_in self.old) }
     {
         if let Err(fault) = self.settle(alloc) {
             return self.answered(Err(fault));
@@ -285,6 +299,8 @@ impl Keeper for FileKeeper<'_> {
         ensures unchanged { OnErr result (untold ≡ untold) }
         ensures gone { OnOk result (Done (Drops number) self.old self.new) }
         ensures same { OnErr result (Failed self.old self.new) }
+        ensures shows { IsTrusted self.new → IsTrusted self.old × OnOk result (Drops number (shown_in self.old) (shown_in self.new))
+            × OnErr result (shown_in self.new ≡ shown_in self.old) }
     {
         if let Err(fault) = self.settle(alloc) {
             return self.answered(Err(fault));
@@ -310,6 +326,8 @@ impl Keeper for FileKeeper<'_> {
         ensures rows { IfOk result (λ list. Done (λ before after. Same before after × Lists list.items before) self.old self.new) }
         ensures told { IfOk result (λ list. ListsIn list.items self.new.file) }
         ensures same { OnErr result (Failed self.old self.new) }
+        ensures shows { IsTrusted self.new → IsTrusted self.old × (shown_in self.new ≡ shown_in self.old)
+            × IfOk result (λ list. Lists list.items (shown_in self.new)) }
     {
         if let Err(fault) = self.settle(alloc) {
             return self.answered(Err(fault));

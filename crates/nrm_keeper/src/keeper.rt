@@ -8,11 +8,20 @@ use crate::{KeepFault, KeptRow};
 use std::alloc::Global;
 
 /// A place that keeps rows, and counts the calls that failed: one for each call that answers `Failed`, up to the last
-/// value of `u64`. What a call says of the rows holds of the rows that are told; a keeper that tells none says of itself how
-/// far it holds.
+/// value of `u64`. What a call says of the rows holds of the rows that are told (`rows`). A place that others may write, as a
+/// file, can't promise to tell its rows still after a call: it shows them (`shown`), and says what has to be so for them to be
+/// its rows (`trusted`). What is trusted after a call was trusted before it, so trust at the end of a run is trust all along;
+/// and then the call did to the rows that are shown what it says (`shows`).
 pub trait Keeper {
     /// The rows that are kept, by rising number, if the keeper tells them.
     ghost rows: { Self → Option (List KeptRow) };
+
+    /// What the place shows of its rows. They are its rows as far as `trusted` holds.
+    ghost shown: { Self → Option (List KeptRow) };
+
+    /// What has to be so for the rows to be those that are shown. Of rows in memory nothing; of a file that nobody else wrote
+    /// it, that it returned what was written, and that it was never let go.
+    ghost trusted: { Self → Type 0 };
 
     /// How often a call has failed.
     ghost faults: { Self → ℕ };
@@ -25,6 +34,8 @@ pub trait Keeper {
         requires { row.number < 10 ^ 12 }
         ensures added { OnOk result (Adds row (rows self.old) (rows self.new)) }
         ensures unchanged { OnErr result (rows self.new ≡ rows self.old) }
+        ensures shows { trusted self.new → trusted self.old × OnOk result (Adds row (shown self.old) (shown self.new))
+            × OnErr result (shown self.new ≡ shown self.old) }
         ensures counts { faults self.new ≡ counted (has_failed result) (faults self.old) };
 
     /// Drops the kept row of a number.
@@ -35,6 +46,8 @@ pub trait Keeper {
         requires { number < 10 ^ 12 }
         ensures dropped { OnOk result (Drops number (rows self.old) (rows self.new)) }
         ensures unchanged { OnErr result (rows self.new ≡ rows self.old) }
+        ensures shows { trusted self.new → trusted self.old × OnOk result (Drops number (shown self.old) (shown self.new))
+            × OnErr result (shown self.new ≡ shown self.old) }
         ensures counts { faults self.new ≡ counted (has_failed result) (faults self.old) };
 
     /// Every kept row, by rising number.
@@ -46,5 +59,7 @@ pub trait Keeper {
         ensures listed { IfOk result (λ list. Lists list.items (rows self.new)) }
         ensures stays { OnOk result (Keeps (rows self.old) (rows self.new)) }
         ensures unchanged { OnErr result (rows self.new ≡ rows self.old) }
+        ensures shows { trusted self.new → trusted self.old × (shown self.new ≡ shown self.old)
+            × IfOk result (λ list. Lists list.items (shown self.new)) }
         ensures counts { faults self.new ≡ counted (has_failed result) (faults self.old) };
 }

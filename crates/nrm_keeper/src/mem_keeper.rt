@@ -77,12 +77,16 @@ fn take_out(rows: &mut Vec<KeptRow>, number: u64)
 }
 
 impl Keeper for MemKeeper {
-    ghost use Rattle.std.specs.Prelude.{◌≡◌, ◌<◌, ◌^◌, ◌++◌, ◌∷◌, [], IfOk, OnOk, OnErr};
+    ghost use Rattle.std.specs.Prelude.{◌≡◌, ◌<◌, ◌^◌, ◌++◌, ◌∷◌, [], IfOk, OnOk, OnErr, ⊤};
     ghost use Rattle.nrm_edge.specs.Causes.{counted};
     ghost use Rattle.nrm_keeper.specs.Rows.{Adds, Drops, Keeps, Lists, told_if_rising, without, has_failed};
     ghost use Rattle.nrm_keeper.specs.Memory.{fails_next, after_call};
 
     ghost rows = { λ s. told_if_rising s.rows };
+
+    ghost shown = { λ s. told_if_rising s.rows };
+
+    ghost trusted = { λ _. ⊤ };
 
     ghost faults = { λ s. s.faults };
 
@@ -90,6 +94,8 @@ impl Keeper for MemKeeper {
         requires { row.number < 10 ^ 12 }
         ensures added { OnOk result (Adds row (told_if_rising self.old.rows) (told_if_rising self.new.rows)) }
         ensures unchanged { OnErr result (told_if_rising self.new.rows ≡ told_if_rising self.old.rows) }
+        ensures shows { ⊤ → ⊤ × OnOk result (Adds row (told_if_rising self.old.rows) (told_if_rising self.new.rows))
+            × OnErr result (told_if_rising self.new.rows ≡ told_if_rising self.old.rows) }
         ensures counts { self.new.faults ≡ counted (has_failed result) self.old.faults }
         ensures fails { has_failed result ≡ fails_next self.old }
         ensures appended { OnOk result (self.new ≡ record (after_call self.old) { rows = self.old.rows ++ row ∷ [] }) }
@@ -105,6 +111,8 @@ impl Keeper for MemKeeper {
         requires { number < 10 ^ 12 }
         ensures dropped { OnOk result (Drops number (told_if_rising self.old.rows) (told_if_rising self.new.rows)) }
         ensures unchanged { OnErr result (told_if_rising self.new.rows ≡ told_if_rising self.old.rows) }
+        ensures shows { ⊤ → ⊤ × OnOk result (Drops number (told_if_rising self.old.rows) (told_if_rising self.new.rows))
+            × OnErr result (told_if_rising self.new.rows ≡ told_if_rising self.old.rows) }
         ensures counts { self.new.faults ≡ counted (has_failed result) self.old.faults }
         ensures fails { has_failed result ≡ fails_next self.old }
         ensures removed { OnOk result (self.new ≡ record (after_call self.old) { rows = without number self.old.rows }) }
@@ -121,6 +129,8 @@ impl Keeper for MemKeeper {
         ensures listed { IfOk result (λ list. Lists list.items (told_if_rising self.new.rows)) }
         ensures stays { OnOk result (Keeps (told_if_rising self.old.rows) (told_if_rising self.new.rows)) }
         ensures unchanged { OnErr result (told_if_rising self.new.rows ≡ told_if_rising self.old.rows) }
+        ensures shows { ⊤ → ⊤ × (told_if_rising self.new.rows ≡ told_if_rising self.old.rows)
+            × IfOk result (λ list. Lists list.items (told_if_rising self.new.rows)) }
         ensures counts { self.new.faults ≡ counted (has_failed result) self.old.faults }
         ensures fails { has_failed result ≡ fails_next self.old }
         ensures whole { IfOk result (λ list. list.items ≡ self.old.rows) }

@@ -1,8 +1,11 @@
 //! The lock by which a store belongs to one run, from its first opening to the end of the process. It is part of the edge to
 //! the system: no clause can say what a lock does, so these few lines are to be read.
+ghost use Rattle.std.specs.Prelude.{◌≡◌, true, false, OnOk, OnErr};
+
 use crate::KeepFault;
 use std::fs::{self, File};
 use std::io::{self, ErrorKind};
+use std::marker::Model;
 use std::os::fd::AsRawFd;
 use std::os::unix::fs::MetadataExt;
 use std::rt::HostRuntime;
@@ -15,18 +18,31 @@ use std::rt::HostRuntime;
 /// Not kept out: a program that doesn't ask for the lock, as `sqlite3`, while no connection is open; and one that changes
 /// what the name leads to between the two questions.
 #[derive(Drop)]
-pub struct StoreOwner {
+pub(crate) struct StoreOwner {
     file: Option<File>,
+}
+
+// It is seen as whether it has a file.
+impl Model for StoreOwner {
+    ghost use Rattle.std.specs.Prelude.{Bool, is_some};
+
+    ghost Value = { Bool };
+
+    ghost view = { λ s. is_some s.file };
 }
 
 impl StoreOwner {
     /// No file yet.
-    pub fn of_none() -> StoreOwner {
+    pub(crate) fn of_none() -> StoreOwner
+        ensures { result ≡ false }
+    {
         StoreOwner { file: None }
     }
 
     /// Whether the path may be opened: the run has no file yet, or it is still the one that the path leads to.
-    pub fn may_open(&self, rt: &HostRuntime, path: &str) -> bool {
+    pub(crate) fn may_open(&self, rt: &HostRuntime, path: &str) -> bool
+        ensures { self.now ≡ false → result ≡ true }
+    {
         match &self.file {
             Some(file) => leads_to(rt, path, file),
             None => true,
@@ -37,7 +53,10 @@ impl StoreOwner {
     ///
     /// # Errors
     /// `Failed` if another run has the file, it can't be had, or the path leads elsewhere; `NoMemory` if memory ran out.
-    pub fn take(&mut self, rt: &HostRuntime, path: &str) -> Result<(), KeepFault> {
+    pub(crate) fn take(&mut self, rt: &HostRuntime, path: &str) -> Result<(), KeepFault>
+        ensures taken { OnOk result (self.new ≡ true) }
+        ensures same { OnErr result (self.new ≡ self.old) }
+    {
         if self.file.is_some() {
             return if self.may_open(rt, path) {
                 Ok(())

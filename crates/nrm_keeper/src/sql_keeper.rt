@@ -48,7 +48,13 @@ impl SqlKeeper {
 }
 
 impl Keeper for SqlKeeper {
+    ghost use Rattle.std.specs.Prelude.{⊤};
+
     ghost rows = { λ s. s.rows };
+
+    ghost shown = { λ s. s.rows };
+
+    ghost trusted = { λ _. ⊤ };
 
     ghost faults = { λ s. s.faults };
 

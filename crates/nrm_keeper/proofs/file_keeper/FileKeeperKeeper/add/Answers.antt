@@ -1,5 +1,5 @@
 use Rattle.nrm_keeper.specs.Rows.{Adds}
-use Rattle.nrm_keeper.proofs.FileLemmas.{done_after, failed_after}
+use Rattle.nrm_keeper.proofs.FileLemmas.{done_after, failed_after, shown_change}
 use Rattle.nrm_keeper.proofs.file_keeper.FileKeeperKeeper.add.Goals as goal
 
 pub returns-clause-kept : goal.returns-clause-kept
@@ -9,3 +9,6 @@ returns-clause-kept c = done_after _ (Adds c.args.row) c.args.self.now c.settle.
 pub returns-clause-same : goal.returns-clause-same
 returns-clause-same c = failed_after _ c.args.self.now c.settle.new.self c.changed.new.self c.self.inside.lost _ c.self.inside.faults c.self.inside.connection c.keep_in-kept.new.connection c.keep_in-kept.result c.changed.result
     c.in_default.ensures.done c.self.view_is c.keep_in-kept.ensures.same c.changed.ensures.answer c.changed.ensures.same
+
+pub returns-clause-shows : goal.returns-clause-shows
+returns-clause-shows c = shown_change (Adds c.args.row) c.args.self.now c.changed.new.self c.changed.result (returns-clause-kept c) (returns-clause-same c)

@@ -1,4 +1,4 @@
-use Rattle.nrm_keeper.proofs.FileLemmas.{listed_after, told_after}
+use Rattle.nrm_keeper.proofs.FileLemmas.{answer_failed, listed_after, shown_list, told_after}
 use Rattle.nrm_keeper.proofs.file_keeper.FileKeeperKeeper.all.Goals as goal
 
 pub returns-clause-rows : goal.returns-clause-rows
@@ -8,3 +8,6 @@ returns-clause-rows c = listed_after _ c.args.self.now c.settle.new.self c.answe
 pub returns-clause-told : goal.returns-clause-told
 returns-clause-told c = told_after _ c.answered-2.new.self c.self.inside.lost c.self.inside.faults c.self.inside.connection c.list_in-listed.new.connection c.list_in-listed.result c.answered-2.result
     c.list_in-listed.ensures.lists c.answered-2.ensures.answer c.answered-2.ensures.file
+
+pub returns-clause-shows : goal.returns-clause-shows
+returns-clause-shows c = shown_list c.args.self.now c.answered-2.new.self c.answered-2.result (returns-clause-rows c) (answer_failed c.args.self.now c.answered-2.new.self c.answered-2.result c.answered-2.ensures.lost)

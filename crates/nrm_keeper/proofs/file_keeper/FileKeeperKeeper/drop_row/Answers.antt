@@ -2,7 +2,7 @@ use Rattle.std.proofs.Common.{Ok, Err, Result, OnOk, OnErr}
 use Rattle.sqlite.specs.Files.{over_files}
 use Rattle.nrm_keeper.specs.File.{Same}
 use Rattle.nrm_keeper.specs.Rows.{Drops}
-use Rattle.nrm_keeper.proofs.FileLemmas.{done_after, failed_after, passes_on}
+use Rattle.nrm_keeper.proofs.FileLemmas.{done_after, failed_after, passes_on, shown_change}
 use Rattle.nrm_keeper.proofs.file_keeper.FileKeeperKeeper.drop_row.Goals as goal
 
 ok_by : {T E P Q : Type 0} (r : Result T E) → (P → Q) → OnOk r P → OnOk r Q
@@ -24,3 +24,6 @@ returns-clause-same c = failed_after _ c.args.self.now c.settle.new.self c.chang
     c.in_default.ensures.done c.self.view_is
     (err_by c.drop_in-dropped.result (passes_on over_files Same c.self.inside.connection c.find_in.new.connection c.drop_in-dropped.new.connection c.find_in.ensures.same) c.drop_in-dropped.ensures.same)
     c.changed.ensures.answer c.changed.ensures.same
+
+pub returns-clause-shows : goal.returns-clause-shows
+returns-clause-shows c = shown_change (Drops c.args.number) c.args.self.now c.changed.new.self c.changed.result (returns-clause-gone c) (returns-clause-same c)

@@ -11,3 +11,6 @@ returns-clause-added c = adds_in c.self.inside.connection c.keep-kept.new.conn c
 
 pub returns-clause-unchanged : goal.returns-clause-unchanged
 returns-clause-unchanged c = unchanged_in c.self.inside.connection c.keep-kept.new.conn c.self.invariant _ (ap (λ (t : ToldRows). t.rows) c.self.view_is) c.keep-kept.result c.raised.result c.raised.ensures.answer c.keep-kept.ensures.unchanged
+
+pub returns-clause-shows : goal.returns-clause-shows
+returns-clause-shows c = λ _. (tt, returns-clause-added c, returns-clause-unchanged c)

@@ -11,3 +11,6 @@ returns-clause-dropped c = drops_in c.self.inside.connection c.drop_kept-dropped
 
 pub returns-clause-unchanged : goal.returns-clause-unchanged
 returns-clause-unchanged c = unchanged_in c.self.inside.connection c.drop_kept-dropped.new.conn c.self.invariant _ (ap (λ (t : ToldRows). t.rows) c.self.view_is) c.drop_kept-dropped.result c.raised.result c.raised.ensures.answer c.drop_kept-dropped.ensures.unchanged
+
+pub returns-clause-shows : goal.returns-clause-shows
+returns-clause-shows c = λ _. (tt, returns-clause-dropped c, returns-clause-unchanged c)
