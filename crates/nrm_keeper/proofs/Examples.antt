@@ -1,7 +1,6 @@
 -- Rows, faults and answers, by hand.
 use Rattle.std.proofs.Common.{◌≡◌, [], ◌∷◌, true, false, pos, negsuc, refl}
 use Rattle.std.specs.Prelude.{ℕ, ◌^◌, ◌-◌, List, Some, None, Ok, Err, codes}
-use Rattle.sqlite_value.specs.declared.value.Value.{Value}
 use Rattle.sqlite_value.specs.declared.value.Value.TheVariants.{Null, Int, Text, Blob}
 use Rattle.sqlite.specs.declared.error.Error.TheVariants.{SqliteFailure, QueryReturnedNoRows}
 use Rattle.sqlite.specs.declared.error.ErrorCode.TheVariants as code

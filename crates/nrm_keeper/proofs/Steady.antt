@@ -1,5 +1,5 @@
 -- A statement, and one after another, over a store that is clean and open at the end.
-use Rattle.std.proofs.Common.{◌≡◌, ℕ, ◌≤◌, false, Option, Some, Ok, Err, Result, OnOk, OnErr, IfOk, arith, subst, ◌∙◌}
+use Rattle.std.proofs.Common.{◌≡◌, ◌≤◌, false, arith}
 use Rattle.sqlite_trees.specs.View.{doubt}
 use Rattle.sqlite.specs.State.{State, HasCleanDisk}
 use Rattle.nrm_keeper.specs.Steady.{IsSteady}

@@ -1,4 +1,4 @@
-use Rattle.std.proofs.Common.{◌≡◌, Bool, true, false, Option, Some, None, Ok, Err, Result, OnOk, IfSome, IsTrue, refl}
+use Rattle.std.proofs.Common.{◌≡◌, Bool, false, Option, Some, None, Ok, Err, Result, OnOk, IfSome, IsTrue, refl}
 use Rattle.sqlite.specs.Files.{over_files}
 use Rattle.nrm_keeper.proofs.FileLemmas.{settled_by}
 use Rattle.nrm_keeper.proofs.file_keeper.FileKeeper.settle.Goals as goal
