@@ -1,5 +1,5 @@
 -- The bookings of a book load again from their rows.
-use Rattle.std.proofs.Common.{ℕ, ◌≡◌, ◌∙◌, ◌+◌, ◌-◌, ◌<◌, ◌≤◌, nat_le, true, All, AllPairs, List, [], ◌∷◌, ◌++◌, length, get_or, suc, Some, Ok, refl, sym, ap, subst, arith, append-nil, append_assoc}
+use Rattle.std.proofs.Common.{ℕ, ◌≡◌, ◌∙◌, ◌+◌, ◌<◌, ◌≤◌, nat_le, true, All, AllPairs, List, [], ◌∷◌, ◌++◌, length, get_or, suc, Some, Ok, refl, sym, ap, subst, arith, append-nil, append_assoc}
 use Rattle.std.specs.Int.{IsInRange}
 use Rattle.std.specs.List.{list_all}
 use Rattle.std.proofs.lemmas.Bool.{le-leb}

@@ -1,5 +1,5 @@
 -- What is kept before a line is what the line makes of the book.
-use Rattle.std.proofs.Common.{ℕ, ◌≡◌, ◌≢◌, ◌∙◌, ◌+◌, ◌-◌, ◌<◌, Bool, true, false, List, [], ◌∷◌, ◌++◌, length, take, All, Option, Some, None, Result, Ok, Err, refl, sym, ap, subst, arith, append-nil}
+use Rattle.std.proofs.Common.{ℕ, ◌≡◌, ◌≢◌, ◌∙◌, ◌<◌, Bool, true, false, List, [], ◌∷◌, ◌++◌, length, take, All, Option, Some, None, Result, Ok, Err, refl, sym, ap, subst, arith, append-nil}
 use Rattle.std.specs.Prelude.{OnErr, OnOk}
 use Rattle.std.specs.Io.KnownBytes.{Appends}
 use Rattle.nrm_edge.specs.Causes.{HasCause}
@@ -20,13 +20,18 @@ use Rattle.nrm_session.specs.Answering.{AnswersLine, CutsLine, Steps}
 use Rattle.nrm_session.specs.Clerks.{Answers, AnswersCut, is_control}
 use Rattle.nrm_session.specs.Replies.{Reply, text_of}
 use Rattle.nrm_session.specs.Step.{Reoptimises, Step, lacks_period, optimises, overflows, wants_memory}
+use Rattle.nrm_keeper.specs.declared.keeper.Keeper.{Ghosts}
+use Rattle.nrm_keeper.specs.declared.row.KeepFault.{KeepFault}
 use Rattle.nrm_keeper.specs.declared.row.KeptRow.{KeptRow}
+use Rattle.nrm_keeper.specs.File.{Same}
 use Rattle.nrm_keeper.specs.Rows.{Adds, Drops}
-use Rattle.nrm_keeping.specs.Inner.Keeping.{KeepsAhead, KeptRefines, KeptRefinesCut}
+use Rattle.nrm_keeping.specs.Inner.Keeping.{KeepsAhead, KeptRefines, KeptRefinesCut, StaysWithBook}
+use Rattle.nrm_keeping.specs.Reading.{HoweverRead}
 use Rattle.nrm_keeping.specs.Rows.{AreRows, row_of, rows_of}
 use Rattle.nrm_keeping.specs.Run.{count_after}
 use Rattle.nrm_keeping.specs.Step.{ChangesBook, KeptReply, KeptStep, as_ever, kept_text, told}
 use Rattle.nrm_keeping.proofs.KeptRows.{live-row, product-name, rows-below, rows-more, rows-without}
+use Rattle.nrm_keeping.proofs.Readings.{changed-read, read-weaker}
 
 -- ---- lines that leave the book
 -- the rows stay, and so does the book
@@ -114,29 +119,29 @@ other-ahead control command.Plan rows rows' no_book no_cancel same s s' reply st
 other-ahead control command.Bad rows rows' no_book no_cancel same s s' reply stands step are = stays control rows rows' s s' same (ap (λ (s : SeatState). s.bookings) step.1) are
 
 -- ---- one line
-module _ {P : Type 0} (rows : P → Option (List KeptRow)) (faults : P → ℕ) (old new : ControlValue × P) (c : Command) where
+module _ {P : Type 0} (keeps : Ghosts P) (old new : ControlValue × P) (c : Command) where
   -- the rows are those of the book after the line
-  follows : IsControl old.0 → KeepsAhead old.0 c (rows old.1) (rows new.1) → (reply : Reply) → Steps old.0 new.0 c reply → AreRows old.0.net old.0.bookings (rows old.1) → AreRows new.0.net new.0.bookings (rows new.1)
-  follows kept ahead reply steps are =
+  follows : (rows rows' : Option (List KeptRow)) → IsControl old.0 → KeepsAhead old.0 c rows rows' → (reply : Reply) → Steps old.0 new.0 c reply → StaysWithBook old.0 new.0 rows rows'
+  follows rows rows' kept ahead reply steps are =
       let (s, stands) = some-state old.0 kept in
       let (s', step, stands') = steps.step s stands in
-      let own : AreRows old.0.net s.bookings (rows old.1) = are ∙ ap (λ (bookings : List Booking). Some (rows_of old.0.net bookings)) (sym stands.bookings) in
+      let own : AreRows old.0.net s.bookings rows = are ∙ ap (λ (bookings : List Booking). Some (rows_of old.0.net bookings)) (sym stands.bookings) in
       ahead s s' reply stands step own ∙ (λ k. Some (rows_of (sym steps.network k) (stands'.bookings k)))
 
-  pub kept-line : (reply : Reply) → IsControl old.0 → KeepsAhead old.0 c (rows old.1) (rows new.1) → faults new.1 ≡ faults old.1 → Steps old.0 new.0 c reply → KeptRefines rows faults old new (c ∷ []) (text_of reply)
+  pub kept-line : (reply : Reply) → IsControl old.0 → HoweverRead keeps (KeepsAhead old.0 c) old.1 new.1 → keeps.faults new.1 ≡ keeps.faults old.1 → Steps old.0 new.0 c reply → KeptRefines keeps old new (c ∷ []) (text_of reply)
   kept-line reply kept ahead count steps = record {
     network = steps.network;
-    stays = follows kept ahead reply steps;
+    stays = read-weaker keeps (KeepsAhead old.0 c) (StaysWithBook old.0 new.0) old.1 new.1 (λ a b before. follows a b kept before reply steps) ahead;
     run = λ s stands.
         let (s', step, stands') = steps.step s stands in
         (s', stands', record { writes = record { replies = told reply ∷ []; run = (s', as_ever reply s' step, refl); output = sym (append-nil (text_of reply)) }; counted = count });
   }
 
-  pub kept-line_cut : (reply : Reply) (count : ℕ) → IsControl old.0 → KeepsAhead old.0 c (rows old.1) (rows new.1) → faults new.1 ≡ faults old.1 → Steps old.0 new.0 c reply → count < length (text_of reply)
-      → KeptRefinesCut rows faults old new (c ∷ []) (take count (text_of reply))
+  pub kept-line_cut : (reply : Reply) (count : ℕ) → IsControl old.0 → HoweverRead keeps (KeepsAhead old.0 c) old.1 new.1 → keeps.faults new.1 ≡ keeps.faults old.1 → Steps old.0 new.0 c reply → count < length (text_of reply)
+      → KeptRefinesCut keeps old new (c ∷ []) (take count (text_of reply))
   kept-line_cut reply count kept ahead same steps within = record {
     network = steps.network;
-    stays = follows kept ahead reply steps;
+    stays = read-weaker keeps (KeepsAhead old.0 c) (StaysWithBook old.0 new.0) old.1 new.1 (λ a b before. follows a b kept before reply steps) ahead;
     run = λ s stands.
         let (s', step, stands') = steps.step s stands in (
           s',
@@ -149,11 +154,15 @@ module _ {P : Type 0} (rows : P → Option (List KeptRow)) (faults : P → ℕ) 
   }
 
   -- a line of which nothing was kept, and so nothing changed
-  pub unkept-line : (reply : KeptReply) → ((s : SeatState) → StandsFor old.0 s → KeptStep old.0.net s c reply s) → new.0 ≡ old.0 → rows new.1 ≡ rows old.1 → faults new.1 ≡ count_after (reply ∷ []) (faults old.1)
-      → KeptRefines rows faults old new (c ∷ []) (kept_text reply)
+  unkept-stay : new.0 ≡ old.0 → HoweverRead keeps Same old.1 new.1 → HoweverRead keeps (StaysWithBook old.0 new.0) old.1 new.1
+  unkept-stay same rows_same =
+      read-weaker keeps Same (StaysWithBook old.0 new.0) old.1 new.1 (λ a b rows are. rows ∙ are ∙ ap (λ (control : ControlValue). Some (rows_of control.net control.bookings)) (sym same)) rows_same
+
+  pub unkept-line : (reply : KeptReply) → ((s : SeatState) → StandsFor old.0 s → KeptStep old.0.net s c reply s) → new.0 ≡ old.0 → HoweverRead keeps Same old.1 new.1 → keeps.faults new.1 ≡ count_after (reply ∷ []) (keeps.faults old.1)
+      → KeptRefines keeps old new (c ∷ []) (kept_text reply)
   unkept-line reply steps same rows_same counted = record {
     network = ap (λ (control : ControlValue). control.net) same;
-    stays = λ are. rows_same ∙ are ∙ ap (λ (control : ControlValue). Some (rows_of control.net control.bookings)) (sym same);
+    stays = unkept-stay same rows_same;
     run = λ s stands. (
       s,
       subst (λ (control : ControlValue). StandsFor control s) (sym same) stands,
@@ -161,11 +170,11 @@ module _ {P : Type 0} (rows : P → Option (List KeptRow)) (faults : P → ℕ) 
     );
   }
 
-  pub unkept-line_cut : (reply : KeptReply) (count : ℕ) → ((s : SeatState) → StandsFor old.0 s → KeptStep old.0.net s c reply s) → new.0 ≡ old.0 → rows new.1 ≡ rows old.1
-      → faults new.1 ≡ count_after (reply ∷ []) (faults old.1) → count < length (kept_text reply) → KeptRefinesCut rows faults old new (c ∷ []) (take count (kept_text reply))
+  pub unkept-line_cut : (reply : KeptReply) (count : ℕ) → ((s : SeatState) → StandsFor old.0 s → KeptStep old.0.net s c reply s) → new.0 ≡ old.0 → HoweverRead keeps Same old.1 new.1
+      → keeps.faults new.1 ≡ count_after (reply ∷ []) (keeps.faults old.1) → count < length (kept_text reply) → KeptRefinesCut keeps old new (c ∷ []) (take count (kept_text reply))
   unkept-line_cut reply count steps same rows_same counted within = record {
     network = ap (λ (control : ControlValue). control.net) same;
-    stays = λ are. rows_same ∙ are ∙ ap (λ (control : ControlValue). Some (rows_of control.net control.bookings)) (sym same);
+    stays = unkept-stay same rows_same;
     run = λ s stands. (
       s,
       subst (λ (control : ControlValue). StandsFor control s) (sym same) stands,
@@ -177,8 +186,8 @@ module _ {P : Type 0} (rows : P → Option (List KeptRow)) (faults : P → ℕ) 
   }
 
   -- ---- as its reply was put
-  pub line-kept : {T E : Type 0} (held held' : Option (List ℕ)) (sunk sunk' : ℕ) (result : Result T E) → is_control old → is_control new → KeepsAhead old.0 c (rows old.1) (rows new.1) → faults new.1 ≡ faults old.1
-      → OnOk result (AnswersLine old.0 new.0 c held held') → HasCause sunk sunk' result → OnOk result (Answers (KeptRefines rows faults) is_control old new (c ∷ []) held held' sunk sunk')
+  pub line-kept : {T E : Type 0} (held held' : Option (List ℕ)) (sunk sunk' : ℕ) (result : Result T E) → is_control old → is_control new → HoweverRead keeps (KeepsAhead old.0 c) old.1 new.1 → keeps.faults new.1 ≡ keeps.faults old.1
+      → OnOk result (AnswersLine old.0 new.0 c held held') → HasCause sunk sunk' result → OnOk result (Answers (KeptRefines keeps) is_control old new (c ∷ []) held held' sunk sunk')
   line-kept held held' sunk sunk' (Ok value) was kept ahead count line cause = record {
     output = text_of line.reply;
     written = line.written;
@@ -189,8 +198,8 @@ module _ {P : Type 0} (rows : P → Option (List KeptRow)) (faults : P → ℕ) 
   }
   line-kept held held' sunk sunk' (Err error) was kept ahead count line cause = tt
 
-  pub line-kept_cut : {T E : Type 0} (held held' : Option (List ℕ)) (sunk sunk' : ℕ) (result : Result T E) → is_control old → is_control new → KeepsAhead old.0 c (rows old.1) (rows new.1) → faults new.1 ≡ faults old.1
-      → OnErr result (CutsLine old.0 new.0 c held held') → HasCause sunk sunk' result → OnErr result (AnswersCut (KeptRefinesCut rows faults) is_control old new (c ∷ []) held held' sunk sunk')
+  pub line-kept_cut : {T E : Type 0} (held held' : Option (List ℕ)) (sunk sunk' : ℕ) (result : Result T E) → is_control old → is_control new → HoweverRead keeps (KeepsAhead old.0 c) old.1 new.1 → keeps.faults new.1 ≡ keeps.faults old.1
+      → OnErr result (CutsLine old.0 new.0 c held held') → HasCause sunk sunk' result → OnErr result (AnswersCut (KeptRefinesCut keeps) is_control old new (c ∷ []) held held' sunk sunk')
   line-kept_cut held held' sunk sunk' (Ok value) was kept ahead count line cause = tt
   line-kept_cut held held' sunk sunk' (Err error) was kept ahead count line cause = record {
     output = take line.front.count (text_of line.reply);
@@ -202,8 +211,8 @@ module _ {P : Type 0} (rows : P → Option (List KeptRow)) (faults : P → ℕ) 
   }
 
   module _ (reply : KeptReply) (held held' : Option (List ℕ)) (sunk sunk' : ℕ) (kept : is_control new) (steps : (s : SeatState) → StandsFor old.0 s → KeptStep old.0.net s c reply s) (same : new.0 ≡ old.0)
-      (rows_same : rows new.1 ≡ rows old.1) (counted : faults new.1 ≡ count_after (reply ∷ []) (faults old.1)) where
-    pub line-unkept : {T E : Type 0} (result : Result T E) → OnOk result (Appends held held' (kept_text reply)) → HasCause sunk sunk' result → OnOk result (Answers (KeptRefines rows faults) is_control old new (c ∷ []) held held' sunk sunk')
+      (rows_same : HoweverRead keeps Same old.1 new.1) (counted : keeps.faults new.1 ≡ count_after (reply ∷ []) (keeps.faults old.1)) where
+    pub line-unkept : {T E : Type 0} (result : Result T E) → OnOk result (Appends held held' (kept_text reply)) → HasCause sunk sunk' result → OnOk result (Answers (KeptRefines keeps) is_control old new (c ∷ []) held held' sunk sunk')
     line-unkept (Ok value) written cause = record {
       output = kept_text reply;
       written = written;
@@ -215,7 +224,7 @@ module _ {P : Type 0} (rows : P → Option (List KeptRow)) (faults : P → ℕ) 
     line-unkept (Err error) written cause = tt
 
     pub line-unkept_cut : {T E : Type 0} (result : Result T E) → OnErr result (AppendsFront held held' (kept_text reply)) → HasCause sunk sunk' result
-        → OnErr result (AnswersCut (KeptRefinesCut rows faults) is_control old new (c ∷ []) held held' sunk sunk')
+        → OnErr result (AnswersCut (KeptRefinesCut keeps) is_control old new (c ∷ []) held held' sunk sunk')
     line-unkept_cut (Ok value) front cause = tt
     line-unkept_cut (Err error) front cause = record {
       output = take front.count (kept_text reply);
@@ -227,13 +236,19 @@ module _ {P : Type 0} (rows : P → Option (List KeptRow)) (faults : P → ℕ) 
     }
 
 -- ---- as the keeper answered
-pub sold-kept : {T E : Type 0} (control : ControlValue) (name : List ℕ) (party j number : ℕ) (rows rows' : Option (List KeptRow)) (result : Result T E) → product_named control.net name ≡ Some j
-    → answer.Sold number ≡ verdict_of control.net control.plan control.bookings control.next j party → IsControl control
-    → OnOk result (Adds (record { number = number; product = name; party = party }) rows rows') → OnOk result (KeepsAhead control (command.Book name party) rows rows')
-sold-kept control name party j number rows rows' (Ok value) found is kept adds = sold-ahead control name party j rows rows' found (answer.Sold number) is number refl kept adds
-sold-kept control name party j number rows rows' (Err error) found is kept adds = tt
+module _ {P : Type 0} (keeps : Ghosts P) (control : ControlValue) (old new : P) (result : Result (Unit {0}) KeepFault) where
+  pub sold-kept : (name : List ℕ) (party j number : ℕ) → product_named control.net name ≡ Some j
+      → answer.Sold number ≡ verdict_of control.net control.plan control.bookings control.next j party → IsControl control
+      → OnOk result (Adds (record { number = number; product = name; party = party }) (keeps.rows old) (keeps.rows new))
+      → (keeps.trusted new → keeps.trusted old × OnOk result (Adds (record { number = number; product = name; party = party }) (keeps.shown old) (keeps.shown new))
+      × OnErr result (keeps.shown new ≡ keeps.shown old))
+      → OnOk result (HoweverRead keeps (KeepsAhead control (command.Book name party)) old new)
+  sold-kept name party j number found is kept adds shows =
+      changed-read keeps old new (Adds (record { number = number; product = name; party = party })) (KeepsAhead control (command.Book name party)) result
+      (λ a b adds. sold-ahead control name party j a b found (answer.Sold number) is number refl kept adds) adds shows
 
-pub live-kept : {T E : Type 0} (control : ControlValue) (number : ℕ) (rows rows' : Option (List KeptRow)) (b : Booking) (result : Result T E) → booking_numbered control.bookings number ≡ Some b
-    → OnOk result (Drops number rows rows') → OnOk result (KeepsAhead control (command.Cancel number) rows rows')
-live-kept control number rows rows' b (Ok value) live drops = live-ahead control number rows rows' b live drops
-live-kept control number rows rows' b (Err error) live drops = tt
+  pub live-kept : (number : ℕ) (b : Booking) → booking_numbered control.bookings number ≡ Some b → OnOk result (Drops number (keeps.rows old) (keeps.rows new))
+      → (keeps.trusted new → keeps.trusted old × OnOk result (Drops number (keeps.shown old) (keeps.shown new)) × OnErr result (keeps.shown new ≡ keeps.shown old))
+      → OnOk result (HoweverRead keeps (KeepsAhead control (command.Cancel number)) old new)
+  live-kept number b live drops shows =
+      changed-read keeps old new (Drops number) (KeepsAhead control (command.Cancel number)) result (λ a b' drops. live-ahead control number a b' b live drops) drops shows

@@ -12,7 +12,6 @@ use Rattle.nrm_outside.specs.Refusals.{Refusal, network_under}
 use Rattle.nrm_outside.specs.Words.{overflow_line, told_pivots}
 use Rattle.nrm_control.specs.State.{SeatState}
 use Rattle.nrm_stream.specs.Commands.{commands_of}
-use Rattle.nrm_session.specs.declared.serving.End.TheVariants as end
 use Rattle.nrm_keeper.specs.declared.row.KeptRow.{KeptRow}
 use Rattle.nrm_keeper.specs.Rows.{Lists}
 use Rattle.nrm_keeping.specs.Ends.{AnswersAll, Begins, Completes, Ends, KeptOutside, NothingHinders, Opens, RefusesRows, Starts, Tells, TellsOverflow, file_fault, overflow, refused, store_fault, store_refused, usage}

@@ -1,5 +1,5 @@
 -- How a call ends, out of how its parts went.
-use Rattle.std.proofs.Common.{ℕ, ◌≡◌, ◌∙◌, ◌+◌, ◌≤◌, List, [], ◌∷◌, ◌++◌, take, Option, Some, None, Ok, Err, refl, sym, ap, subst, arith, inl, inr}
+use Rattle.std.proofs.Common.{ℕ, ◌≡◌, ◌∙◌, ◌≤◌, List, [], ◌∷◌, ◌++◌, take, Option, Some, None, Ok, Err, refl, sym, ap, subst, arith, inl, inr}
 use Rattle.nrm_edge.specs.Causes.{counted}
 use Rattle.nrm_model.specs.Inventory.{inventory_of}
 use Rattle.nrm_model.specs.Limits.{IsNetwork}
@@ -24,6 +24,7 @@ use Rattle.nrm_outside.specs.declared.network_file.NoNetwork.TheVariants as none
 use Rattle.nrm_session.specs.Serving.{CountsFaults, ServesBy, Streams}
 use Rattle.nrm_session.specs.declared.serving.End.{End}
 use Rattle.nrm_session.specs.declared.serving.End.TheVariants as end
+use Rattle.nrm_keeper.specs.declared.keeper.Keeper.{Ghosts}
 use Rattle.nrm_keeper.specs.declared.row.KeptRow.{KeptRow}
 use Rattle.nrm_keeper.specs.declared.row.KeepFault.{KeepFault}
 use Rattle.nrm_keeper.specs.declared.row.KeepFault.TheVariants as keep
@@ -32,6 +33,7 @@ use Rattle.nrm_keeping.specs.Ends.{Begins, Ends, KeptOutside, Leaves, NoSession,
 use Rattle.nrm_keeping.specs.Jobs.{KeptJob, store_fault_line, store_refused_line}
 use Rattle.nrm_keeping.specs.Inner.Parts.{PutsIfSome, PutsLine, loaded_in, status_at, status_for, unlisted_line, unplanned_line}
 use Rattle.nrm_keeping.specs.Inner.Keeping.{KeptRefines, KeptRefinesCut}
+use Rattle.nrm_keeping.specs.Reading.{Reading, Trusts, rows_by}
 use Rattle.nrm_keeping.specs.Rows.{AreRows, Loaded, load, load_behind, loaded_state, rows_of}
 use Rattle.nrm_keeping.specs.Run.{KeptWrites, KeptWritesCut, count_after}
 use Rattle.nrm_keeping.specs.declared.status.KeptStatus.{KeptStatus}
@@ -102,21 +104,39 @@ serves-weaker whole cut whole' cut' w k before after limit end.WriteFault (taken
 serves-weaker whole cut whole' cut' w k before after limit end.WriteFault (taken, output, did, inr (ended, inr is)) = (taken, output, did, inr (ended, inr (w (commands_of taken) output is)))
 serves-weaker whole cut whole' cut' w k before after limit end.TooLong (taken, output, took, long, wrote, is) = (taken, output, took, long, wrote, w (whole_commands (take limit taken)) output is)
 
-module _ {P : Type 0} (rows_of_keeper : P → Option (List KeptRow)) (faults : P → ℕ) (job : KeptJob) (before after : KeptOutside) (starts : Starts (Some job) before) (start new : ControlValue) (listed ended : P)
+-- what both meanings imply
+served-as : (X : Type 0) (whole cut : List Command → List ℕ → Type 0) → ((c : List Command) (o : List ℕ) → whole c o → X) → ((c : List Command) (o : List ℕ) → cut c o → X)
+    → (before after : Streams) (limit : ℕ) (e : End) → ServesBy whole cut before after limit e → X
+served-as X whole cut w k before after limit end.Done (taken, output, did, ended, is) = w (commands_of taken) output is
+served-as X whole cut w k before after limit end.ReadFault (taken, output, did, is) = w (whole_commands taken) output is
+served-as X whole cut w k before after limit end.WriteFault (taken, output, did, inl (inl is)) = k (whole_commands taken) output is
+served-as X whole cut w k before after limit end.WriteFault (taken, output, did, inl (inr is)) = w (whole_commands taken) output is
+served-as X whole cut w k before after limit end.WriteFault (taken, output, did, inr (ended, inl is)) = k (commands_of taken) output is
+served-as X whole cut w k before after limit end.WriteFault (taken, output, did, inr (ended, inr is)) = w (commands_of taken) output is
+served-as X whole cut w k before after limit end.TooLong (taken, output, took, long, wrote, is) = w (whole_commands (take limit taken)) output is
+
+-- what is trusted of the keeper after a session was trusted before its first line
+pub served-trusts : {P : Type 0} (keeps : Ghosts P) (how : Reading) (start new : ControlValue) (listed ended : P) (before after : Streams) (limit : ℕ) (e : End)
+    → ServesBy (KeptRefines keeps (start, listed) (new, ended)) (KeptRefinesCut keeps (start, listed) (new, ended)) before after limit e → Trusts keeps how ended → Trusts keeps how listed
+served-trusts keeps how start new listed ended before after limit e serves trusted =
+    served-as (Trusts keeps how listed) (KeptRefines keeps (start, listed) (new, ended)) (KeptRefinesCut keeps (start, listed) (new, ended)) (λ c o is. (is.stays how trusted).0) (λ c o is. (is.stays how trusted).0)
+    before after limit e serves
+
+module _ {P : Type 0} (keeps : Ghosts P) (how : Reading) (job : KeptJob) (before after : KeptOutside) (starts : Starts (Some job) before) (start new : ControlValue) (listed ended : P)
     (network : start.net ≡ starts.begins.net) (plan : start.plan ≡ starts.begins.plan) (loaded : loaded_in start ≡ starts.loaded) (stands : StandsFor start (loaded_state start.plan (loaded_in start)))
-    (tells : (rows : List KeptRow) → before.rows ≡ Some rows → rows_of_keeper listed ≡ Some starts.rows) (count : faults listed ≡ before.store_faults) (rows_after : after.rows ≡ rows_of_keeper ended) (faults_after : after.store_faults ≡ faults ended)
-    (kept : IsControl new) where
+    (tells : (rows : List KeptRow) → before.rows ≡ Some rows → rows_by keeps how listed ≡ Some starts.rows) (count : keeps.faults listed ≡ before.store_faults) (rows_after : after.rows ≡ rows_by keeps how ended)
+    (faults_after : after.store_faults ≡ keeps.faults ended) (trusted : Trusts keeps how ended) (kept : IsControl new) where
   began : StandsFor start (loaded_state starts.begins.plan starts.loaded)
   began = subst (λ (s : SeatState). StandsFor start s) (λ k. loaded_state (plan k) (loaded k)) stands
 
   -- the rows were those of the book before the first line
-  rows-began : (rows : List KeptRow) → before.rows ≡ Some rows → AreRows start.net start.bookings (rows_of_keeper listed)
+  rows-began : (rows : List KeptRow) → before.rows ≡ Some rows → AreRows start.net start.bookings (rows_by keeps how listed)
   rows-began rows told =
       let all = load-rows starts.begins.net starts.loaded starts.rows starts.loads in
       tells rows told ∙ ap Some (sym all ∙ (λ k. rows_of (sym network k) (sym (ap (λ (l : Loaded). l.bookings) loaded) k)))
 
   -- and are those of the last state's
-  leaves : (last : SeatState) → StandsFor new last → new.net ≡ start.net → (AreRows start.net start.bookings (rows_of_keeper listed) → AreRows new.net new.bookings (rows_of_keeper ended)) → Leaves starts.begins.net before after last
+  leaves : (last : SeatState) → StandsFor new last → new.net ≡ start.net → (AreRows start.net start.bookings (rows_by keeps how listed) → AreRows new.net new.bookings (rows_by keeps how ended)) → Leaves starts.begins.net before after last
   leaves last stands' same stays =
       let net : new.net ≡ starts.begins.net = same ∙ network in
       let own : IsNetwork starts.begins.net = subst IsNetwork net kept.network in
@@ -127,21 +147,21 @@ module _ {P : Type 0} (rows_of_keeper : P → Option (List KeptRow)) (faults : P
         again = load-again starts.begins.net last.bookings new.next own book;
       }
 
-  runs-on : (commands : List Command) (output : List ℕ) → KeptRefines rows_of_keeper faults (start, listed) (new, ended) commands output → RunsOn (Some job) before after starts commands output
+  runs-on : (commands : List Command) (output : List ℕ) → KeptRefines keeps (start, listed) (new, ended) commands output → RunsOn (Some job) before after starts commands output
   runs-on commands output refines =
       let (last, stands', writes) = refines.run (loaded_state starts.begins.plan starts.loaded) began in
-      let on : KeptWrites starts.begins.net (loaded_state starts.begins.plan starts.loaded) commands output last (faults listed) (faults ended) =
-      subst (λ (net : NetworkValue). KeptWrites net (loaded_state starts.begins.plan starts.loaded) commands output last (faults listed) (faults ended)) network writes in
-      (last, leaves last stands' refines.network refines.stays, record { writes = on.writes; counted = faults_after ∙ on.counted ∙ ap (count_after on.writes.replies) count })
+      let on : KeptWrites starts.begins.net (loaded_state starts.begins.plan starts.loaded) commands output last (keeps.faults listed) (keeps.faults ended) =
+      subst (λ (net : NetworkValue). KeptWrites net (loaded_state starts.begins.plan starts.loaded) commands output last (keeps.faults listed) (keeps.faults ended)) network writes in
+      (last, leaves last stands' refines.network (refines.stays how trusted).1, record { writes = on.writes; counted = faults_after ∙ on.counted ∙ ap (count_after on.writes.replies) count })
 
-  runs-on_cut : (commands : List Command) (output : List ℕ) → KeptRefinesCut rows_of_keeper faults (start, listed) (new, ended) commands output → RunsOnCut (Some job) before after starts commands output
+  runs-on_cut : (commands : List Command) (output : List ℕ) → KeptRefinesCut keeps (start, listed) (new, ended) commands output → RunsOnCut (Some job) before after starts commands output
   runs-on_cut commands output refines =
       let (last, stands', writes) = refines.run (loaded_state starts.begins.plan starts.loaded) began in
-      let on : KeptWritesCut starts.begins.net (loaded_state starts.begins.plan starts.loaded) commands output last (faults listed) (faults ended) =
-      subst (λ (net : NetworkValue). KeptWritesCut net (loaded_state starts.begins.plan starts.loaded) commands output last (faults listed) (faults ended)) network writes in
-      (last, leaves last stands' refines.network refines.stays, record { writes = on.writes; counted = faults_after ∙ on.counted ∙ ap (count_after (on.writes.replies ++ on.writes.reply ∷ [])) count })
+      let on : KeptWritesCut starts.begins.net (loaded_state starts.begins.plan starts.loaded) commands output last (keeps.faults listed) (keeps.faults ended) =
+      subst (λ (net : NetworkValue). KeptWritesCut net (loaded_state starts.begins.plan starts.loaded) commands output last (keeps.faults listed) (keeps.faults ended)) network writes in
+      (last, leaves last stands' refines.network (refines.stays how trusted).1, record { writes = on.writes; counted = faults_after ∙ on.counted ∙ ap (count_after (on.writes.replies ++ on.writes.reply ∷ [])) count })
 
-  pub served-ends : (e : End) → ServesBy (KeptRefines rows_of_keeper faults (start, listed) (new, ended)) (KeptRefinesCut rows_of_keeper faults (start, listed) (new, ended)) (streams_at before.at) (streams_at after.at) stream_limit e
+  pub served-ends : (e : End) → ServesBy (KeptRefines keeps (start, listed) (new, ended)) (KeptRefinesCut keeps (start, listed) (new, ended)) (streams_at before.at) (streams_at after.at) stream_limit e
       → CountsFaults (streams_at before.at) (streams_at after.at) e → Ends (Some job) before after (status_at e)
   served-ends e serves counts = by e (serves-weaker _ _ (RunsOn (Some job) before after starts) (RunsOnCut (Some job) before after starts) runs-on runs-on_cut (streams_at before.at) (streams_at after.at) stream_limit e serves) counts
     where

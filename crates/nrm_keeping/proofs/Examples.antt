@@ -1,6 +1,6 @@
 -- Rows, steps and runs by hand, on a network of two legs: AB has 3 seats and BC has 2.
 use Rattle.std.proofs.Common.{zero, suc}
-use Rattle.std.specs.Prelude.{◌≡◌, ◌-◌, ℕ, [], ◌∷◌, codes, flat_map, Some, None, Ok, Err, refl}
+use Rattle.std.specs.Prelude.{◌≡◌, ℕ, [], ◌∷◌, codes, flat_map, Some, None, Ok, Err, refl}
 use Rattle.std.specs.Fmt.{digits}
 use Rattle.nrm_model.specs.declared.mode.Mode.TheVariants as modes
 use Rattle.nrm_plan.specs.Plans.{PlanValue}
@@ -8,7 +8,7 @@ use Rattle.nrm_book.specs.declared.booking.Booking.{Booking}
 use Rattle.nrm_control.specs.State.{SeatState}
 use Rattle.nrm_stream.specs.declared.command.Command.TheVariants as command
 use Rattle.nrm_samples.specs.Networks.{two_legs}
-use Rattle.nrm_session.specs.Replies.{unknown, sold, cancelled, memory}
+use Rattle.nrm_session.specs.Replies.{sold, cancelled, memory}
 use Rattle.nrm_keeper.specs.declared.row.KeptRow.{KeptRow}
 use Rattle.nrm_keeping.specs.Jobs.{kept_job_of, store_refused_line}
 use Rattle.nrm_keeping.specs.Laws.{carried_out, replies_to_those}

@@ -1,16 +1,18 @@
 -- Commands that were answered one after another with their bookings kept, and one of them that was cut.
-use Rattle.std.proofs.Common.{ℕ, ◌≡◌, ◌∙◌, List, [], ◌∷◌, ◌++◌, Option, refl, sym, ap, subst, append_assoc}
+use Rattle.std.proofs.Common.{ℕ, ◌≡◌, ◌∙◌, List, [], ◌∷◌, ◌++◌, refl, sym, ap, subst, append_assoc}
 use Rattle.nrm_model.specs.Network.{NetworkValue}
 use Rattle.nrm_control.specs.State.{SeatState}
 use Rattle.nrm_control.specs.Standing.{ControlValue}
 use Rattle.nrm_stream.specs.declared.command.Command.{Command}
 use Rattle.nrm_session.specs.Clerks.{AreMeanings}
 use Rattle.nrm_session.proofs.Answered.{cut-joined, cut-longer, writes-joined}
-use Rattle.nrm_keeper.specs.declared.row.KeptRow.{KeptRow}
-use Rattle.nrm_keeping.specs.Inner.Keeping.{KeptRefines, KeptRefinesCut}
+use Rattle.nrm_keeper.specs.declared.keeper.Keeper.{Ghosts}
+use Rattle.nrm_keeping.specs.Inner.Keeping.{KeptRefines, KeptRefinesCut, StaysWithBook}
+use Rattle.nrm_keeping.specs.Reading.{HoweverRead}
 use Rattle.nrm_keeping.specs.Run.{KeptWrites, KeptWritesCut, count_after}
 use Rattle.nrm_keeping.specs.Step.{KeptReply, KeptStep, told, store, kept_text}
 use Rattle.nrm_edge.specs.Causes.{one_more}
+use Rattle.nrm_keeping.proofs.Readings.{read-idle, read-joined}
 
 -- the store's count goes on by further replies
 pub count-append : (replies others : List KeptReply) (count : ℕ) → count_after (replies ++ others) count ≡ count_after others (count_after replies count)
@@ -37,44 +39,48 @@ kept-joined_cut net s mid s' commands more output text a b c first rest = record
       ∙ ap (λ (replies : List KeptReply). count_after replies a) (sym (append_assoc first.writes.replies rest.writes.replies (rest.writes.reply ∷ [])));
 }
 
-module _ {P : Type 0} (rows : P → Option (List KeptRow)) (faults : P → ℕ) where
-  refines-nothing : (at : ControlValue × P) → KeptRefines rows faults at at [] []
+module _ {P : Type 0} (keeps : Ghosts P) where
+  refines-nothing : (at : ControlValue × P) → KeptRefines keeps at at [] []
   refines-nothing at = record {
     network = refl;
-    stays = λ are. are;
+    stays = read-idle keeps (StaysWithBook at.0 at.0) at.1 (λ rows are. are);
     run = λ s stands. (s, stands, record { writes = record { replies = []; run = refl; output = refl }; counted = refl });
   }
 
-  module _ (old mid new : ControlValue × P) (commands more : List Command) (output text : List ℕ) (first : KeptRefines rows faults old mid commands output) where
-    refines-more : KeptRefines rows faults mid new more text → KeptRefines rows faults old new (commands ++ more) (output ++ text)
+  module _ (old mid new : ControlValue × P) (commands more : List Command) (output text : List ℕ) (first : KeptRefines keeps old mid commands output) where
+    both-stay : HoweverRead keeps (StaysWithBook mid.0 new.0) mid.1 new.1 → HoweverRead keeps (StaysWithBook old.0 new.0) old.1 new.1
+    both-stay rest =
+        read-joined keeps (StaysWithBook old.0 mid.0) (StaysWithBook mid.0 new.0) (StaysWithBook old.0 new.0) old.1 mid.1 new.1 (λ a b c stays further are. further (stays are)) first.stays rest
+
+    refines-more : KeptRefines keeps mid new more text → KeptRefines keeps old new (commands ++ more) (output ++ text)
     refines-more rest = record {
       network = rest.network ∙ first.network;
-      stays = λ are. rest.stays (first.stays are);
+      stays = both-stay rest.stays;
       run = λ s stands.
           let (m, stands_m, writes) = first.run s stands in
           let (s', stands', others) = rest.run m stands_m in (
             s',
             stands',
-            kept-joined old.0.net s m s' commands more output text (faults old.1) (faults mid.1) (faults new.1) writes
-                (subst (λ (net : NetworkValue). KeptWrites net m more text s' (faults mid.1) (faults new.1)) first.network others),
+            kept-joined old.0.net s m s' commands more output text (keeps.faults old.1) (keeps.faults mid.1) (keeps.faults new.1) writes
+                (subst (λ (net : NetworkValue). KeptWrites net m more text s' (keeps.faults mid.1) (keeps.faults new.1)) first.network others),
           );
     }
 
-    refines-then_cut : KeptRefinesCut rows faults mid new more text → KeptRefinesCut rows faults old new (commands ++ more) (output ++ text)
+    refines-then_cut : KeptRefinesCut keeps mid new more text → KeptRefinesCut keeps old new (commands ++ more) (output ++ text)
     refines-then_cut rest = record {
       network = rest.network ∙ first.network;
-      stays = λ are. rest.stays (first.stays are);
+      stays = both-stay rest.stays;
       run = λ s stands.
           let (m, stands_m, writes) = first.run s stands in
           let (s', stands', others) = rest.run m stands_m in (
             s',
             stands',
-            kept-joined_cut old.0.net s m s' commands more output text (faults old.1) (faults mid.1) (faults new.1) writes
-                (subst (λ (net : NetworkValue). KeptWritesCut net m more text s' (faults mid.1) (faults new.1)) first.network others),
+            kept-joined_cut old.0.net s m s' commands more output text (keeps.faults old.1) (keeps.faults mid.1) (keeps.faults new.1) writes
+                (subst (λ (net : NetworkValue). KeptWritesCut net m more text s' (keeps.faults mid.1) (keeps.faults new.1)) first.network others),
           );
     }
 
-  refines-behind : (old new : ControlValue × P) (commands more : List Command) (output : List ℕ) → KeptRefinesCut rows faults old new commands output → KeptRefinesCut rows faults old new (commands ++ more) output
+  refines-behind : (old new : ControlValue × P) (commands more : List Command) (output : List ℕ) → KeptRefinesCut keeps old new commands output → KeptRefinesCut keeps old new (commands ++ more) output
   refines-behind old new commands more output cut = record {
     network = cut.network;
     stays = cut.stays;
@@ -83,7 +89,7 @@ module _ {P : Type 0} (rows : P → Option (List KeptRow)) (faults : P → ℕ) 
         (s', stands', record { writes = cut-longer (KeptStep old.0.net) kept_text s s' commands more output writes.writes; counted = writes.counted });
   }
 
-  pub keeping-means : AreMeanings {V = ControlValue × P} (KeptRefines rows faults) (KeptRefinesCut rows faults)
+  pub keeping-means : AreMeanings {V = ControlValue × P} (KeptRefines keeps) (KeptRefinesCut keeps)
   keeping-means = record {
     nothing = refines-nothing;
     more = refines-more;

@@ -7,8 +7,10 @@ ghost use Rattle.nrm_control.specs.Standing.{StandsFor};
 ghost use Rattle.nrm_control.specs.State.{SeatState};
 ghost use Rattle.nrm_stream.specs.Commands.{IsCommand};
 ghost use Rattle.nrm_stream.specs.declared.command.Command.TheVariants as command;
+ghost use Rattle.nrm_keeper.specs.File.{Same};
 ghost use Rattle.nrm_keeper.specs.Rows.{has_failed};
 ghost use Rattle.nrm_keeping.specs.Inner.Keeping.{KeepsAhead};
+ghost use Rattle.nrm_keeping.specs.Reading.{HoweverRead};
 ghost use Rattle.nrm_keeping.specs.Step.{ChangesBook};
 
 use nrm_control::{Answer, Controller};
@@ -30,8 +32,8 @@ fn keep_sale<P: Keeper>(
     requires party { IsInRange 1 MOST_PARTY party }
     requires next { controller.now.next < BOOKING_LIMIT }
     ensures kept { OnOk result
-        (KeepsAhead controller.now (command.Book product.now party) (P.rows keeper.old) (P.rows keeper.new)) }
-    ensures same { OnErr result (P.rows keeper.new ≡ P.rows keeper.old) }
+        (HoweverRead P.Keeper (KeepsAhead controller.now (command.Book product.now party)) keeper.old keeper.new) }
+    ensures same { OnErr result (HoweverRead P.Keeper Same keeper.old keeper.new) }
     ensures changes { OnErr result ((s : SeatState) → StandsFor controller.now s
         → ChangesBook controller.now.net s (command.Book product.now party)) }
     ensures counts { P.faults keeper.new ≡ counted (has_failed result) (P.faults keeper.old) }
@@ -61,8 +63,8 @@ fn keep_cancellation<P: Keeper>(
     number: u64,
 ) -> Result<(), KeepFault>
     requires number { number ≤ LAST_BOOKING }
-    ensures kept { OnOk result (KeepsAhead controller.now (command.Cancel number) (P.rows keeper.old) (P.rows keeper.new)) }
-    ensures same { OnErr result (P.rows keeper.new ≡ P.rows keeper.old) }
+    ensures kept { OnOk result (HoweverRead P.Keeper (KeepsAhead controller.now (command.Cancel number)) keeper.old keeper.new) }
+    ensures same { OnErr result (HoweverRead P.Keeper Same keeper.old keeper.new) }
     ensures changes { OnErr result ((s : SeatState) → StandsFor controller.now s
         → ChangesBook controller.now.net s (command.Cancel number)) }
     ensures counts { P.faults keeper.new ≡ counted (has_failed result) (P.faults keeper.old) }
@@ -82,8 +84,8 @@ fn keep<P: Keeper>(
 ) -> Result<(), KeepFault>
     requires command { IsCommand command.now }
     requires next { controller.now.next < BOOKING_LIMIT }
-    ensures kept { OnOk result (KeepsAhead controller.now command.now (P.rows keeper.old) (P.rows keeper.new)) }
-    ensures same { OnErr result (P.rows keeper.new ≡ P.rows keeper.old) }
+    ensures kept { OnOk result (HoweverRead P.Keeper (KeepsAhead controller.now command.now) keeper.old keeper.new) }
+    ensures same { OnErr result (HoweverRead P.Keeper Same keeper.old keeper.new) }
     ensures changes { OnErr result ((s : SeatState) → StandsFor controller.now s → ChangesBook controller.now.net s command.now) }
     ensures counts { P.faults keeper.new ≡ counted (has_failed result) (P.faults keeper.old) }
 {
@@ -104,9 +106,9 @@ impl<P: Keeper> Clerk<P> for Keeping {
 
     ghost ready = { is_control };
 
-    ghost whole = { KeptRefines P.rows P.faults };
+    ghost whole = { KeptRefines P.Keeper };
 
-    ghost cut = { KeptRefinesCut P.rows P.faults };
+    ghost cut = { KeptRefinesCut P.Keeper };
 
     fn answer<K: Sink>(
         alloc: Global,

@@ -11,6 +11,7 @@ ghost use Rattle.nrm_keeping.specs.Inner.Parts.{job_in, status_at};
 ghost use Rattle.nrm_keeping.specs.Jobs.{kept_job_of};
 ghost use Rattle.nrm_keeping.specs.Laws.{FaultsLeaveNothing, KeptHindsightBounds, KeptMoneyAddsUp, KeptPlansAreOptimal, KeptRunsHaveFirstParts, KeptSeatsAreKept};
 ghost use Rattle.nrm_keeping.specs.Laws.{RowsLoadAgain};
+ghost use Rattle.nrm_keeping.specs.Reading.{Reading, Trusts, rows_by};
 
 use crate::KeptStatus;
 use crate::keeping::Keeping;
@@ -80,8 +81,8 @@ fn answer_stream<S: Source, K: Sink, P: Keeper>(
     requires next { controller.old.next ≤ LATEST_START }
     requires ready { is_control (controller.old, keeper.old) }
     ensures serves { let at = streams S.coming S.faults K.held K.faults in
-        ServesBy (KeptRefines P.rows P.faults (controller.old, keeper.old) (controller.new, keeper.new))
-        (KeptRefinesCut P.rows P.faults (controller.old, keeper.old) (controller.new, keeper.new))
+        ServesBy (KeptRefines P.Keeper (controller.old, keeper.old) (controller.new, keeper.new))
+        (KeptRefinesCut P.Keeper (controller.old, keeper.old) (controller.new, keeper.new))
         (at source.old sink.old) (at source.new sink.new) stream_limit result }
     ensures counts { let at = streams S.coming S.faults K.held K.faults in
         CountsFaults (at source.old sink.old) (at source.new sink.new) result }
@@ -100,8 +101,9 @@ fn run_job<F: Files, S: Source, K: Sink, P: Keeper>(
     sink: &mut K,
     keeper: &mut P,
 ) -> KeptStatus
-    ensures ends { let at = kept_outside F.contents F.faults S.coming S.faults K.held K.faults P.rows P.faults in
-        Ends (Some (job_in job.entry)) (at files.old source.old sink.old keeper.old) (at files.new source.new sink.new keeper.new) result }
+    ensures ends { (how : Reading) → Trusts P.Keeper how keeper.new → Trusts P.Keeper how keeper.old
+        × (let at = kept_outside F.contents F.faults S.coming S.faults K.held K.faults (rows_by P.Keeper how) P.faults in
+        Ends (Some (job_in job.entry)) (at files.old source.old sink.old keeper.old) (at files.new source.new sink.new keeper.new) result) }
     ensures failures { let at = kept_outside F.contents F.faults S.coming S.faults K.held K.faults P.rows P.faults in
         Failures result (at files.old source.old sink.old keeper.old).at (at files.new source.new sink.new keeper.new).at }
     ensures goes { let at = kept_outside F.contents F.faults S.coming S.faults K.held K.faults P.rows P.faults in
@@ -132,8 +134,10 @@ fn run_job<F: Files, S: Source, K: Sink, P: Keeper>(
 ///
 /// What the call says of itself: `call` ties the words, the file, the rows, the stream, the written bytes and the counts of faults to the
 /// status (`KeptCall`). If the store tells its rows, they are the bookings that stand, at the end of each session however it ends, and so
-/// behind each line, since every front of a stream is a stream; and a later run loads just these bookings from them. `sent`: nothing is
-/// kept back at the end.
+/// behind each line, since every front of a stream is a stream; and a later run loads just these bookings from them. `on_trust`: all of
+/// this holds of the rows that the store shows, if the store is trusted after the call, and it was trusted before. So a file that began
+/// empty, that nobody else wrote, that returned what was written and was never let go has just the rows of the bookings that stand.
+/// `sent`: nothing is kept back at the end.
 ///
 /// The other clauses are laws about every such session, whatever the faults of its store. Without the lines that were answered `store` or
 /// `memory` it is a session without a store (`faults`), of which the laws of `nrm_cli::run` hold. No leg has more seats sold than are
@@ -153,6 +157,10 @@ pub fn run_kept<F: Files, S: Source, K: Sink, P: Keeper>(
     ensures call { let at = kept_outside F.contents F.faults S.coming S.faults K.held K.faults P.rows P.faults in
         KeptCall (kept_job_of (map string_bytes words.now)) (at files.old source.old sink.old keeper.old)
         (at files.new source.new sink.new keeper.new) result }
+    ensures on_trust { P.trusted keeper.new → P.trusted keeper.old
+        × (let at = kept_outside F.contents F.faults S.coming S.faults K.held K.faults P.shown P.faults in
+        KeptCall (kept_job_of (map string_bytes words.now)) (at files.old source.old sink.old keeper.old)
+        (at files.new source.new sink.new keeper.new) result) }
     ensures sent { SentOn result (K.unsent sink.old) (K.unsent sink.new) }
     ensures faults { FaultsLeaveNothing }
     ensures seats { KeptSeatsAreKept }

@@ -7,4 +7,4 @@ use Rattle.nrm_keeping.proofs.keeping.keep_cancellation.Goals as goal
 pub returns-in-Some-clause-kept : goal.returns-in-Some-clause-kept
 returns-in-Some-clause-kept g c =
     let found = ap (λ (book : BookValue). booking_numbered book.bookings c.args.number) (sym c.book.ensures.book) ∙ sym c.find.ensures ∙ c.in-Some.is in
-    live-kept c.args.controller.now c.args.number (g.P.Keeper.rows c.args.keeper.now) (g.P.Keeper.rows c.drop_row.new.self) _ c.drop_row.result found c.drop_row.ensures.dropped
+    live-kept g.P.Keeper c.args.controller.now c.args.keeper.now c.drop_row.new.self c.drop_row.result c.args.number _ found c.drop_row.ensures.dropped c.drop_row.ensures.shows

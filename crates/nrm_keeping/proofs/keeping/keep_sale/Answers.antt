@@ -6,5 +6,5 @@ use Rattle.nrm_keeping.proofs.keeping.keep_sale.Goals as goal
 pub returns-in-Sold-clause-kept : goal.returns-in-Sold-clause-kept
 returns-in-Sold-clause-kept g c =
     let found = ap (λ (net : NetworkValue). product_named net c.args.product.now) (sym c.network.ensures.network) ∙ sym c.in-Some.ensures.number in
-    sold-kept c.args.controller.now c.args.product.now c.args.party c.in-Some.found c.in-Sold.number (g.P.Keeper.rows c.args.keeper.now) (g.P.Keeper.rows c.add.new.self) c.add.result
-    found c.in-Sold.ensures.answer c.verdict.ensures.kept c.add.ensures.added
+    sold-kept g.P.Keeper c.args.controller.now c.args.keeper.now c.add.new.self c.add.result c.args.product.now c.args.party c.in-Some.found c.in-Sold.number
+    found c.in-Sold.ensures.answer c.verdict.ensures.kept c.add.ensures.added c.add.ensures.shows

@@ -2,4 +2,4 @@ use Rattle.nrm_keeping.proofs.KeptRuns.{keeping-means}
 use Rattle.nrm_keeping.proofs.top.answer_stream.Goals as goal
 
 pub serve_by-requires-clause-meanings : goal.serve_by-requires-clause-meanings
-serve_by-requires-clause-meanings g c = keeping-means g.P.Keeper.rows g.P.Keeper.faults
+serve_by-requires-clause-meanings g c = keeping-means g.P.Keeper

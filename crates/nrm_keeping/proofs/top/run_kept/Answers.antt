@@ -2,6 +2,7 @@ use Rattle.std.proofs.Common.{rules, ◌∙◌, ap, option_map, refl, sym}
 use Rattle.nrm_keeping.specs.Ends.{usage}
 use Rattle.nrm_keeping.specs.Jobs.{usage_line}
 use Rattle.nrm_keeping.specs.Inner.Parts.{job_in}
+use Rattle.nrm_keeping.specs.Reading.{on_trust, outright}
 use Rattle.nrm_keeping.specs.declared.status.KeptStatus.TheVariants as status
 use Rattle.nrm_outside.proofs.Networks.{taken-network}
 use Rattle.nrm_keeping.proofs.Again.{load-again}
@@ -14,8 +15,15 @@ use Rattle.nrm_keeping.proofs.top.run_kept.Goals as goal
 pub returns-in-Some-clause-call : goal.returns-in-Some-clause-call
 returns-in-Some-clause-call g c =
     let asked = sym (sym c.asked_in.ensures ∙ ap (option_map job_in) c.in-Some.is) in
-    let ends = same-job-ends _ _ _ _ c.run_job.result asked c.run_job.ensures.ends in
+    let ends = same-job-ends _ _ _ _ c.run_job.result asked (c.run_job.ensures.ends outright tt).1 in
     record { ends = ends; complete = completes _ _ _ c.run_job.result ends; failures = c.run_job.ensures.failures; goes = c.run_job.ensures.goes }
+
+pub returns-in-Some-clause-on_trust : goal.returns-in-Some-clause-on_trust
+returns-in-Some-clause-on_trust g c = λ trusted.
+    let asked = sym (sym c.asked_in.ensures ∙ ap (option_map job_in) c.in-Some.is) in
+    let read = c.run_job.ensures.ends on_trust trusted in
+    let ends = same-job-ends _ _ _ _ c.run_job.result asked read.1 in
+    (read.0, record { ends = ends; complete = completes _ _ _ c.run_job.result ends; failures = c.run_job.ensures.failures; goes = c.run_job.ensures.goes })
 
 pub returns-in-None-clause-call : goal.returns-in-None-clause-call
 returns-in-None-clause-call g c =
@@ -27,6 +35,19 @@ returns-in-None-clause-call g c =
       failures = told-counts _ _ status.Usage c.put_line.result usage_line refl refl c.put_line.ensures.puts (λ quiet. quiet);
       goes = record { files = refl; file_faults = search rules; source_faults = search rules; sink_faults = c.put_line.ensures.later };
     }
+
+pub returns-in-None-clause-on_trust : goal.returns-in-None-clause-on_trust
+returns-in-None-clause-on_trust g c = λ trusted.
+    let none = sym c.asked_in.ensures ∙ ap (option_map job_in) c.in-None.is in
+    let ends = told-ends _ _ _ status.Usage c.put_line.result usage_line (unasked _ _ usage_line refl refl refl) (usage none) c.put_line.ensures.puts in (
+      trusted,
+      record {
+        ends = ends;
+        complete = completes _ _ _ c.put_line.result ends;
+        failures = told-counts _ _ status.Usage c.put_line.result usage_line refl refl c.put_line.ensures.puts (λ quiet. quiet);
+        goes = record { files = refl; file_faults = search rules; source_faults = search rules; sink_faults = c.put_line.ensures.later };
+      },
+    )
 
 pub returns-in-Some-clause-faults : goal.returns-in-Some-clause-faults
 returns-in-Some-clause-faults g c = faults-leave-nothing
