@@ -26,7 +26,7 @@ use Rattle.nrm_keeper.specs.declared.row.KeptRow.{KeptRow}
 use Rattle.nrm_keeper.specs.File.{Same}
 use Rattle.nrm_keeper.specs.Rows.{Adds, Drops}
 use Rattle.nrm_keeping.specs.Inner.Keeping.{KeepsAhead, KeptRefines, KeptRefinesCut, StaysWithBook}
-use Rattle.nrm_keeping.specs.Reading.{HoweverRead}
+use Rattle.nrm_keeping.specs.Inner.Reading.{HoweverRead}
 use Rattle.nrm_keeping.specs.Rows.{AreRows, row_of, rows_of}
 use Rattle.nrm_keeping.specs.Run.{count_after}
 use Rattle.nrm_keeping.specs.Step.{ChangesBook, KeptReply, KeptStep, as_ever, kept_text, told}

@@ -33,7 +33,7 @@ use Rattle.nrm_keeping.specs.Ends.{Begins, Ends, KeptOutside, Leaves, NoSession,
 use Rattle.nrm_keeping.specs.Jobs.{KeptJob, store_fault_line, store_refused_line}
 use Rattle.nrm_keeping.specs.Inner.Parts.{PutsIfSome, PutsLine, loaded_in, status_at, status_for, unlisted_line, unplanned_line}
 use Rattle.nrm_keeping.specs.Inner.Keeping.{KeptRefines, KeptRefinesCut}
-use Rattle.nrm_keeping.specs.Reading.{Reading, Trusts, rows_by}
+use Rattle.nrm_keeping.specs.Inner.Reading.{Reading, Trusts, rows_by}
 use Rattle.nrm_keeping.specs.Rows.{AreRows, Loaded, load, load_behind, loaded_state, rows_of}
 use Rattle.nrm_keeping.specs.Run.{KeptWrites, KeptWritesCut, count_after}
 use Rattle.nrm_keeping.specs.declared.status.KeptStatus.{KeptStatus}

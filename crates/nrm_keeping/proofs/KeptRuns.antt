@@ -8,7 +8,7 @@ use Rattle.nrm_session.specs.Clerks.{AreMeanings}
 use Rattle.nrm_session.proofs.Answered.{cut-joined, cut-longer, writes-joined}
 use Rattle.nrm_keeper.specs.declared.keeper.Keeper.{Ghosts}
 use Rattle.nrm_keeping.specs.Inner.Keeping.{KeptRefines, KeptRefinesCut, StaysWithBook}
-use Rattle.nrm_keeping.specs.Reading.{HoweverRead}
+use Rattle.nrm_keeping.specs.Inner.Reading.{HoweverRead}
 use Rattle.nrm_keeping.specs.Run.{KeptWrites, KeptWritesCut, count_after}
 use Rattle.nrm_keeping.specs.Step.{KeptReply, KeptStep, told, store, kept_text}
 use Rattle.nrm_edge.specs.Causes.{one_more}

@@ -4,7 +4,7 @@ use Rattle.nrm_keeper.specs.declared.keeper.Keeper.{Ghosts}
 use Rattle.nrm_keeper.specs.declared.row.KeptRow.{KeptRow}
 use Rattle.nrm_keeper.specs.Rows.{Keeps, Lists}
 use Rattle.nrm_keeper.specs.File.{Same}
-use Rattle.nrm_keeping.specs.Reading.{HoweverRead, on_trust, outright, rows_by}
+use Rattle.nrm_keeping.specs.Inner.Reading.{HoweverRead, on_trust, outright, rows_by}
 
 keeps-by : (before after : Option (List KeptRow)) → after ≡ before → Keeps before after
 keeps-by None after same = tt

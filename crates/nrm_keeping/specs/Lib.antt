@@ -3,7 +3,6 @@ pub mod Inner
 pub mod Jobs
 pub mod Laws
 pub mod Numbers
-pub mod Reading
 pub mod Rows
 pub mod Run
 pub mod Step

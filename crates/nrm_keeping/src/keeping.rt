@@ -10,7 +10,7 @@ ghost use Rattle.nrm_stream.specs.declared.command.Command.TheVariants as comman
 ghost use Rattle.nrm_keeper.specs.File.{Same};
 ghost use Rattle.nrm_keeper.specs.Rows.{has_failed};
 ghost use Rattle.nrm_keeping.specs.Inner.Keeping.{KeepsAhead};
-ghost use Rattle.nrm_keeping.specs.Reading.{HoweverRead};
+ghost use Rattle.nrm_keeping.specs.Inner.Reading.{HoweverRead};
 ghost use Rattle.nrm_keeping.specs.Step.{ChangesBook};
 
 use nrm_control::{Answer, Controller};

@@ -11,7 +11,7 @@ ghost use Rattle.nrm_keeping.specs.Inner.Parts.{job_in, status_at};
 ghost use Rattle.nrm_keeping.specs.Jobs.{kept_job_of};
 ghost use Rattle.nrm_keeping.specs.Laws.{FaultsLeaveNothing, KeptHindsightBounds, KeptMoneyAddsUp, KeptPlansAreOptimal, KeptRunsHaveFirstParts, KeptSeatsAreKept};
 ghost use Rattle.nrm_keeping.specs.Laws.{RowsLoadAgain};
-ghost use Rattle.nrm_keeping.specs.Reading.{Reading, Trusts, rows_by};
+ghost use Rattle.nrm_keeping.specs.Inner.Reading.{Reading, Trusts, rows_by};
 
 use crate::KeptStatus;
 use crate::keeping::Keeping;

@@ -7,7 +7,7 @@ use Rattle.nrm_session.specs.Replies.{Reply}
 use Rattle.nrm_session.specs.Step.{Step}
 use Rattle.nrm_keeper.specs.declared.keeper.Keeper.{Ghosts}
 use Rattle.nrm_keeper.specs.declared.row.KeptRow.{KeptRow}
-use Rattle.nrm_keeping.specs.Reading.{HoweverRead}
+use Rattle.nrm_keeping.specs.Inner.Reading.{HoweverRead}
 use Rattle.nrm_keeping.specs.Rows.{AreRows}
 use Rattle.nrm_keeping.specs.Run.{KeptWrites, KeptWritesCut}
 

@@ -8,7 +8,7 @@ use Rattle.nrm_keeping.specs.Inner.Parts.{job_in, loaded_in}
 use Rattle.nrm_keeping.proofs.Counts.{opened-goes, served-failures, served-goes, told-counts, unlisted-failures, unplanned-failures, without-failures}
 use Rattle.nrm_keeping.proofs.Ending.{begun-load, begun-stands, keeps-stay, list-told, lists-before, served-ends, served-trusts, without-load, without-network, without-plan, without-rows}
 use Rattle.nrm_keeping.proofs.Readings.{listed-read, unlisted-read}
-use Rattle.nrm_keeping.specs.Reading.{rows_by}
+use Rattle.nrm_keeping.specs.Inner.Reading.{rows_by}
 use Rattle.nrm_keeping.specs.Jobs.{store_refused_line}
 use Rattle.nrm_keeping.specs.declared.status.KeptStatus.TheVariants as status
 use Rattle.nrm_keeping.proofs.top.run_job.Goals as goal

@@ -2,7 +2,7 @@ use Rattle.std.proofs.Common.{rules, ◌∙◌, ap, option_map, refl, sym}
 use Rattle.nrm_keeping.specs.Ends.{usage}
 use Rattle.nrm_keeping.specs.Jobs.{usage_line}
 use Rattle.nrm_keeping.specs.Inner.Parts.{job_in}
-use Rattle.nrm_keeping.specs.Reading.{on_trust, outright}
+use Rattle.nrm_keeping.specs.Inner.Reading.{on_trust, outright}
 use Rattle.nrm_keeping.specs.declared.status.KeptStatus.TheVariants as status
 use Rattle.nrm_outside.proofs.Networks.{taken-network}
 use Rattle.nrm_keeping.proofs.Again.{load-again}
