@@ -76,11 +76,14 @@ class PlaceTest(unittest.TestCase):
         """A command as a process."""
         return subprocess.Popen([sys.executable, SOURCES, name, *map(str, words)], **{"cwd": self.folder, "env": self.blind(), **more})
 
+    def finished(self, *words: object, **more: object) -> Done:
+        """Words that were run in the folder."""
+        done = subprocess.run([*map(str, words)], capture_output=True, **{"cwd": self.folder, "timeout": SECONDS, **more})
+        return Done(done.stdout.decode(), done.stderr.decode(), done.returncode)
+
     def ran(self, name: str, *words: object, **more: object) -> Done:
         """A command that was run in the folder."""
-        done = subprocess.run([sys.executable, SOURCES, name, *map(str, words)], capture_output=True,
-                              **{"cwd": self.folder, "timeout": SECONDS, "env": self.blind(), **more})
-        return Done(done.stdout.decode(), done.stderr.decode(), done.returncode)
+        return self.finished(sys.executable, SOURCES, name, *words, **{"env": self.blind(), **more})
 
     def told(self, name: str, *words: object, **more: object) -> str:
         """The output of a command that ends with status 0."""
@@ -88,13 +91,14 @@ class PlaceTest(unittest.TestCase):
         self.assertEqual(done.status, 0, f"{name}: {done.err or done.out}")
         return done.out
 
-    def stopped(self, name: str, *words: object, status: int = 1, **more: object) -> str:
-        """What a command tells on standard error that must end with a status, and name itself."""
+    def stopped(self, name: str, *words: object, status: int = 1, says: str = "", **more: object) -> str:
+        """What a command tells on standard error that must end with a status, name itself, and say something."""
         done = self.ran(name, *words, **more)
         names_itself = done.err.startswith((f"nrm-tools {name}: ", f"usage: nrm-tools {name}"))
-        self.assertEqual((done.status, names_itself, "Traceback" in done.err), (status, True, False), f"{name} {done.err!r}")
+        found = done.status, names_itself, "Traceback" in done.err
+        self.assertEqual(found, (status, True, False), f"{name} {done.err!r}")
+        self.want_in(done.err, says)
         return done.err
-
 
     # What needs the program: a test that comes to it is skipped where there is none
 
@@ -108,6 +112,6 @@ class PlaceTest(unittest.TestCase):
 
     def nrm(self, *words: object, given: bytes = b"", status: int = 0) -> str:
         """What a run of the program writes, which must end with a status."""
-        done = subprocess.run([*self.program.words, *map(str, words)], cwd=self.folder, input=given, stdout=subprocess.PIPE, timeout=SECONDS)
-        self.assertEqual(done.returncode, status, f"nrm {words}")
-        return done.stdout.decode()
+        done = self.finished(*self.program.words, *words, input=given)
+        self.assertEqual(done.status, status, f"nrm {words}")
+        return done.out

@@ -4,6 +4,7 @@ from __future__ import annotations
 import random
 from typing import Iterable, Sequence
 
+FEW = "periods,2,1\nleg,A,1\nproduct,P,5,A\n"
 SECOND = """periods,2,2,2
 leg,AB,3,5,300,90
 leg,BC,9,2

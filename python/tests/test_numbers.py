@@ -9,13 +9,14 @@ from typing import Callable
 
 from files.test_solvers import WITH_THIRDS, WRITTEN_BY_ESOLVER, WRITTEN_BY_GLPSOL
 from harness import Done, PlaceTest
+from made import FEW
 from nrm.__main__ import main
 from nrm.network import MOST_DIGITS, fraction, is_whole, number, whole
 
 LONG = ["9" * 4300, "9" * 4301, "1" + "0" * 20_000]  # Python makes no number of more than 4,300 digits
-FEW = "periods,1,1,2\nleg,A,1,1,7\nproduct,P,5,A\nrefund,P,50\ndemand,P,1,1\n"
+OF_EACH_ROW = "periods,1,1,2\nleg,A,1,1,7\nproduct,P,5,A\nrefund,P,50\ndemand,P,1,1\n"
 PLACES = [("periods,1", "periods,{}"), ("1,2\n", "{},2\n"), ("A,1,", "A,{},"), ("1,7", "{},7"), (",7", ",{}"), ("P,5", "P,{}"), ("P,50", "P,{}"),
-          ("P,1,1", "P,{},1"), ("P,1,1", "P,1,{}")]  # of FEW, in each of which stands a number
+          ("P,1,1", "P,{},1"), ("P,1,1", "P,1,{}")]  # of OF_EACH_ROW, in each of which stands a number
 
 
 class Reading(unittest.TestCase):
@@ -42,8 +43,8 @@ class Refusing(PlaceTest):
         return Done(out.getvalue(), err.getvalue(), status)
 
     def network(self, old: str, new: str) -> str:
-        self.assertIn(old, FEW)
-        return self.file("long.csv", FEW.replace(old, new))
+        self.assertIn(old, OF_EACH_ROW)
+        return self.file("long.csv", OF_EACH_ROW.replace(old, new))
 
     def test_in_each_place_of_a_network(self) -> None:
         certificate = self.file("certificate", "value 5/1\nproduct P 1/1\nleg A 5/1\n")
@@ -54,7 +55,7 @@ class Refusing(PlaceTest):
                 self.assertEqual((done.status, done.err, len(done.out) < 1000), (3, "", True), done.out[:200])
                 self.want_in(done.out, ": 9999" if it[0] == "9" else ": 1000")
                 self.assertEqual(tuple(self.ran("audit", path, certificate)), ("refused: `nrm print` says why\n", "", 3))
-                self.want_in(self.stopped("lp", path), "is refused: `nrm-tools explain")
+                self.stopped("lp", path, says="is refused: `nrm-tools explain")
 
     def test_what_is_to_be_written_instead_is_told_short(self) -> None:
         for it in LONG:
@@ -63,7 +64,7 @@ class Refusing(PlaceTest):
             self.want_in(self.ran("explain", self.network("P,5", f"P,{it} EUR")).out, "write digits alone: ")
 
     def test_in_a_certificate(self) -> None:
-        network = self.file("few.csv", FEW)
+        network = self.file("few.csv", OF_EACH_ROW)
         for it in LONG:
             for line in (f"value {it}/1", f"value 1/{it}"):
                 path = self.file("certificate", line + "\nproduct P 1/1\nleg A 5/1\n")
@@ -76,12 +77,12 @@ class Refusing(PlaceTest):
         for it in LONG:
             for number in (it, f"1e{it}", f"1e-{it}", f"0.{it}"):
                 solution = self.file("solution", WRITTEN_BY_GLPSOL.replace("0.666666666666667", number))
-                self.want_in(self.stopped("lp", network, "--solution", solution), "has a line that")
+                self.stopped("lp", network, "--solution", solution, says="has a line that")
             solution = self.file("solution", WRITTEN_BY_ESOLVER.replace("2/3", f"2/{it}"))
-            self.want_in(self.stopped("lp", network, "--solution", solution), "has a line that")
+            self.stopped("lp", network, "--solution", solution, says="has a line that")
 
     def test_in_words(self) -> None:
-        network = self.file("few.csv", FEW)
+        network = self.file("few.csv", OF_EACH_ROW)
         for it in LONG:
             for name, words in (("replay", [network, "--seed", it]), ("thresholds", [network, it])):
                 done = super().ran(name, *words)
@@ -89,7 +90,7 @@ class Refusing(PlaceTest):
                 self.want_in(done.err, f"usage: nrm-tools {name} ")
 
     def test_in_replies(self) -> None:
-        network = self.file("few.csv", "periods,2,1\nleg,A,1\nproduct,P,5,A\ndemand,P,1,1\ndemand,P,2,1\n")
+        network = self.file("few.csv", FEW + "demand,P,1,1\ndemand,P,2,1\n")
         stream = self.file("stream", "book P 1\n")
         leg = "s/^leg A/leg A seats 1 authorised 1 sold 0 left 1/"
         for it in LONG:
@@ -107,4 +108,4 @@ class Refusing(PlaceTest):
 
     def answered(self, name: str, words: list[str], script: str, sentence: str) -> None:
         """Sees that a command refuses what a program answers, with a sentence."""
-        self.want_in(self.stopped(name, *words, "--program", "sh", self.file("script", script)), sentence)
+        self.stopped(name, *words, "--program", "sh", self.file("script", script), says=sentence)

@@ -8,6 +8,7 @@ import random
 from collections import Counter
 
 COLUMNS = ["--departs", "Departure", "--booked", "Booked on", "--product", "Fare product", "--seats", "Seats"]
+CUT_ONCE = [*COLUMNS, "--cuts", "7"]
 HEADS = "Booked on,Departure,Fare product,Seats\n"
 
 
@@ -20,8 +21,9 @@ class MadeLog:
         draw = random.Random(seed)
         first = datetime.date(2024, 12, draw.randint(1, 28))
         self.departures = [first + datetime.timedelta(7 * it) for it in range(seasons)]
-        self.requests = [(day, day - datetime.timedelta(draw.randint(0, 90)), draw.choice(self.PRODUCTS), draw.randint(1, 4))
-                         for day in draw.choices(self.departures, k=requests) + self.departures]
+        days = draw.choices(self.departures, k=requests) + self.departures
+        self.requests = [(it, it - datetime.timedelta(draw.randint(0, 90)), draw.choice(self.PRODUCTS),
+                          draw.randint(1, 4)) for it in days]
 
     def text(self, form: str, separator: str = ",", end: str = "\n", above: str = "") -> str:
         """The log, with dates in a form of `strftime`."""

@@ -3,11 +3,12 @@ from __future__ import annotations
 
 import csv
 import datetime
+import itertools
 import re
 from collections import Counter
 
 from harness import EXAMPLES, PlaceTest
-from logs.made_log import COLUMNS, HEADS, MadeLog
+from logs.made_log import COLUMNS, CUT_ONCE, HEADS, MadeLog
 from made import SECOND
 from nrm.network import Network, text_of
 
@@ -15,28 +16,28 @@ from nrm.network import Network, text_of
 class Demands(PlaceTest):
     def test_makes_the_network_of_the_example(self) -> None:
         log = EXAMPLES / "log"
-        made = self.told("log", log / "requests.csv", *COLUMNS, "--cuts", "30,7", "--network", log / "rows.csv", "--names", "names.csv")
+        made = self.told("log", log / "requests.csv", *COLUMNS, "--cuts", "30,7", "--network", log / "rows.csv",
+                         "--names", "names.csv")
         self.assertEqual(made, (log / "network.csv").read_text())
         self.assertEqual(self.nrm("print", self.file("made.csv", made)).splitlines()[0], "periods,3,3,2")
         self.want_in((self.folder / "names.csv").read_text(), "ZV-Q,ZV_Q\n")
 
     def test_reads_every_form_to_the_same_rows(self) -> None:
         log, cuts = MadeLog(7), [60, 30, 7]
-        forms = {"iso": log.text("%Y-%m-%d"), "basic": log.text("%Y%m%d"), "with a time": log.text("%Y-%m-%dT%H:%M:%S"),
-                 "points": log.text("%d.%m.%Y", ";", "\r\n"), "slashes": log.text("%d/%m/%Y %H:%M", "\t"),
-                 "year first": log.text("%Y/%m/%d"), "year and points": log.text("%Y. %m. %d."), "weekday": log.text("%a %d.%m.%Y, %H:%M"),
-                 "English": log.text("%B %d, %Y %I:%M %p"), "stamp": log.text("%Y%m%d%H%M%S"), "digits": log.text("%Y-%m-%d-%H.%M.%S"),
-                 "hour": log.text("%d/%m/%Y %Hh%M"), "point time": log.text("%d.%m.%Y %H.%M"),
-                 "month first": log.text("%m/%d/%Y", "|"), "airline": log.text("%d%b%y"), "month": log.text("%d-%b-%Y"),
-                 "title": log.text("%Y-%m-%d", above="Export of today\n\n,,,\n"),
-                 "mark": b"\xef\xbb\xbf" + log.text("%d.%m.%Y", ";").encode(), "UTF-16": log.text("%d.%m.%Y", ";").encode("utf-16"),
-                 "Windows": log.text("%Y-%m-%d").encode("cp1252")}
-        made = {name: self.told("log", self.file("log.csv", text), *COLUMNS, "--cuts", "60,30,7", "--names", f"{name}.names")
-                for name, text in forms.items()}
-        first = made["iso"]
-        for name, rows in made.items():
-            self.assertEqual(rows, first, name)
-        with open(self.folder / "iso.names", encoding="utf-8") as file:
+        words = ["log.csv", *COLUMNS, "--cuts", "60,30,7"]
+        self.file("log.csv", log.text("%Y-%m-%d"))
+        first = self.told("log", *words, "--names", "names.csv")
+        for form in ("%Y%m%d", "%Y-%m-%dT%H:%M:%S", "%Y/%m/%d", "%Y. %m. %d.", "%a %d.%m.%Y, %H:%M", "%d.%m.%Y %H.%M",
+                     "%B %d, %Y %I:%M %p", "%Y-%m-%d-%H.%M.%S", "%d/%m/%Y %Hh%M", "%Y%m%d%H%M%S", "%d%b%y", "%d-%b-%Y"):
+            self.file("log.csv", log.text(form))
+            self.assertEqual(self.told("log", *words), first, form)
+        points = log.text("%d.%m.%Y", ";")
+        for text in (log.text("%d.%m.%Y", ";", "\r\n"), log.text("%d/%m/%Y %H:%M", "\t"), log.text("%m/%d/%Y", "|"),
+                     log.text("%Y-%m-%d", above="Export of today\n\n,,,\n"), b"\xef\xbb\xbf" + points.encode(),
+                     points.encode("utf-16"), log.text("%Y-%m-%d").encode("cp1252")):
+            self.file("log.csv", text)
+            self.assertEqual(self.told("log", *words), first, text[:200])
+        with open(self.folder / "names.csv", encoding="utf-8") as file:
             names = {row[0]: row[1] for row in csv.reader(file)}
         found = Counter[tuple[str, int, int]]()
         for kind, product, history, *seats in csv.reader(first.splitlines()[1:]):
@@ -45,10 +46,11 @@ class Demands(PlaceTest):
 
     def test_goes_on_to_a_session(self) -> None:
         """From the rows that it makes, with legs and fares put between, to a network that the program takes."""
-        rows = self.told("log", self.file("log.csv", MadeLog(3).text("%Y-%m-%d")), *COLUMNS, "--cuts", "14").splitlines()
+        log = self.file("log.csv", MadeLog(3).text("%Y-%m-%d"))
+        rows = self.told("log", log, *COLUMNS, "--cuts", "14").splitlines()
         products = sorted({it.split(",")[1] for it in rows[1:]})
-        made = [rows[0], "leg,LH454,40,200", *[f"product,{it},{100 + 50 * at},LH454" for at, it in enumerate(products)], *rows[1:]]
-        path = self.file("network.csv", "\n".join(made) + "\n")
+        fares = [f"product,{it},{100 + 50 * at},LH454" for at, it in enumerate(products)]
+        path = self.file("network.csv", "\n".join([rows[0], "leg,LH454,40,200", *fares, *rows[1:], ""]))
         self.assertEqual(self.nrm("print", path).splitlines()[:2], ["periods,5,2,2", "leg,LH454,40,40,200"])
         self.assertEqual(self.nrm("run", "bid", path, given=f"book {products[-1]} 1\n".encode()), "ok 1\n")
         completed = self.told("log", "log.csv", *COLUMNS, "--cuts", "30,7", "--network", path)
@@ -62,18 +64,20 @@ class Demands(PlaceTest):
         kept = [it for it in SECOND.splitlines() if not it.startswith(("periods", "demand"))]
         self.assertEqual(made, ["periods,1,2,2", *kept, "demand,AB,1,2,0"])
         first = "periods,9,9,,\nleg,X,3\nproduct,AB,5,X\n"
-        self.assertEqual(self.told("log", *words, self.file("first.csv", first)).splitlines()[:2], ["periods,1,2", "leg,X,3"])
+        made = self.told("log", *words, self.file("first.csv", first)).splitlines()
+        self.assertEqual(made[:2], ["periods,1,2", "leg,X,3"])
 
     def test_joins_columns_to_a_product(self) -> None:
-        log = self.file("log.csv", "Day,Made,Flight,Class\n2025-03-07,2025-03-01,LH 454,Y\n2025-03-07,2025-03-02,LH 454,\n"
-                                    "2025-03-07,2025-03-06,LH 454,Y\n")
-        made = self.told("log", log, "--departs", "day", "--booked", "made", "--product", "flight", "class", "--cuts", "3")
+        rows = "".join(f"2025-03-07,2025-03-0{it}\n" for it in ("1,LH 454,Y", "2,LH 454,", "6,LH 454,Y"))
+        words = ["--departs", "day", "--booked", "made", "--product", "flight", "class", "--cuts", "3"]
+        made = self.told("log", self.file("log.csv", "Day,Made,Flight,Class\n" + rows), *words)
         self.assertEqual(made, "periods,1,2\ndemand,LH-454,1,1,0\ndemand,LH-454-Y,1,1,1\n")
 
     def test_leaves_out_rows(self) -> None:
         """Those that were cancelled, as a column says, in a file that `grep` doesn't read."""
         heads = "Made;Day;Product;Seats;;State\r\n"
-        rows = [("lh 1", "2", "booked"), ("Cancelled 7", "3", " CANCELLED "), ("lh 1", "5", "Void"), ("Cancelled 7", "1", "booked")]
+        rows = [("lh 1", "2", "booked"), ("Cancelled 7", "3", " CANCELLED "), ("lh 1", "5", "Void"),
+                ("Cancelled 7", "1", "booked")]
         text = [f'2025-03-01 10:20;"2025-03-07";"{product}";{seats};;"{state}"\r\n' for product, seats, state in rows]
         words = ["--departs", "day", "--booked", "made", "--product", "product", "--seats", "seats", "--cuts", "3"]
         few = self.told("log", self.file("few.csv", heads + text[0] + text[3]), *words)
@@ -93,7 +97,8 @@ class Demands(PlaceTest):
         words = [log, *COLUMNS, "--cuts", "3"]
         out, err, status = self.ran("log", *words)
         self.assertEqual((out.count("\n"), status), (301, 0))
-        self.want_in(err, "nrm-tools log: a network file takes 256 products: with its legs and fares `nrm-tools split` cuts it into files\n")
+        self.want_in(err, "nrm-tools log: a network file takes 256 products: "
+                          "with its legs and fares `nrm-tools split` cuts it into files\n")
         self.assertEqual(re.findall("^product,.*", err, re.M), sorted(f"product,P{it}," for it in range(300)))
         rows = [["periods", 1, 1], *[["leg", f"L{it}", 9] for it in range(100)],
                 *[["product", f"P{it}", 50 + it, f"L{it % 100}"] for it in range(300)]]
@@ -107,19 +112,20 @@ class Demands(PlaceTest):
     def test_takes_the_latest_seasons(self) -> None:
         log = MadeLog(5, seasons=40)
         path = self.file("log.csv", log.text("%Y-%m-%d"))
-        self.want_in(self.stopped("log", path, *COLUMNS, "--cuts", "7"),
-                     "40 days of departure, and a network file takes 32 histories: say --last 32")
+        self.stopped("log", path, *CUT_ONCE,
+                     says="40 days of departure, and a network file takes 32 histories: say --last 32")
         log.requests = [it for it in log.requests if it[0] in log.departures[-6:]]
-        few = self.told("log", self.file("few.csv", log.text("%Y-%m-%d")), *COLUMNS, "--cuts", "7")
-        self.assertEqual(self.told("log", path, *COLUMNS, "--cuts", "7", "--last", "6"), few)
+        few = self.told("log", self.file("few.csv", log.text("%Y-%m-%d")), *CUT_ONCE)
+        self.assertEqual(self.told("log", path, *CUT_ONCE, "--last", "6"), few)
 
     def test_takes_the_seasons_of_a_weekday(self) -> None:
         log = MadeLog(8, seasons=21)
         log.departures = [log.departures[0] + datetime.timedelta(it) for it in range(21)]
-        log.requests = [(log.departures[it % 21], log.departures[it % 21] - datetime.timedelta(it % 60), f"P{it % 3}", 1) for it in range(500)]
+        log.requests = [(day, day - datetime.timedelta(it % 60), f"P{it % 3}", 1)
+                        for it, day in enumerate(itertools.islice(itertools.cycle(log.departures), 500))]
         path = self.file("log.csv", log.text("%Y-%m-%d"))
         log.requests = [it for it in log.requests if it[0].strftime("%a") == "Tue"]
-        tuesdays = self.told("log", self.file("few.csv", log.text("%Y-%m-%d")), *COLUMNS, "--cuts", "7")
+        tuesdays = self.told("log", self.file("few.csv", log.text("%Y-%m-%d")), *CUT_ONCE)
         self.assertEqual(tuesdays.splitlines()[0], "periods,3,2")
-        self.assertEqual(self.told("log", path, *COLUMNS, "--cuts", "7", "--weekday", "tue"), tuesdays)
-        self.want_in(self.stopped("log", "few.csv", *COLUMNS, "--cuts", "7", "--weekday", "fri"), "no departure of the log is on a fri")
+        self.assertEqual(self.told("log", path, *CUT_ONCE, "--weekday", "tue"), tuesdays)
+        self.stopped("log", "few.csv", *CUT_ONCE, "--weekday", "fri", says="no departure of the log is on a fri")

@@ -4,17 +4,19 @@ from __future__ import annotations
 import datetime
 
 from harness import PlaceTest
-from logs.made_log import COLUMNS, HEADS, log_with_remarks
+from logs.made_log import COLUMNS, CUT_ONCE, HEADS, log_with_remarks
 from test_numbers import LONG
 
+GOOD = "2025-03-01,2025-03-07,P,1\n"
 REFUSED_LOGS = [  # the log's rows, more words, and a part of the sentence
     ("2025-03-08,2025-03-07,P,1\n", [], "line 2: it was made on 2025-03-08, after its departure on 2025-03-07"),
     ("2025-03-01,07.03.25,P,1\n", [], "'07.03.25' has a year of two digits; write it as 2025-03-07"),
     ("2025-03-01,7 Nivose 2025,P,1\n", [], "'7 Nivose 2025' is no date that is known; write it as 2025-03-07"),
-    ("Total,,,4\n", [], "line 2: it has no day of departure"), (",2025-03-07,P,4\n", [], "line 2: it has no day on which it was made"),
-    ("2025-03-01,2025-03-07,P,1\n", ["--without", "seats"], "wants a column and one text or more"),
-    ("2025-03-01,2025-03-07,P,1\n", ["--without", "state", "x"], "has no column state; its headings are"),
-    ("2025-03-01,2025-03-07,P,1\n", ["--without", "seats", "2", "1"], "has no request below its headings"),
+    ("Total,,,4\n", [], "line 2: it has no day of departure"),
+    (",2025-03-07,P,4\n", [], "line 2: it has no day on which it was made"),
+    (GOOD, ["--without", "seats"], "wants a column and one text or more"),
+    (GOOD, ["--without", "state", "x"], "has no column state; its headings are"),
+    (GOOD, ["--without", "seats", "2", "1"], "has no request below its headings"),
     ("2025-02-29,2025-03-07,P,1\n", [], "'2025-02-29' is no date"),
     ("45717,45723,P,1\n", [], "'45723' is no date"),
     ("03/04/2025,05/04/2025,P,1\n", [], "05/04/2025 can be read with the day or the month first; say --dates dmy"),
@@ -22,22 +24,25 @@ REFUSED_LOGS = [  # the log's rows, more words, and a part of the sentence
     ("2025-03-01,2025-03-07,P,two\n", [], "line 2: 'two' is no number of seats"),
     ("2025-03-01,2025-03-07,,1\n", [], "line 2: it names no product"),
     ("", [], "has no request below its headings"),
-    ("2025-03-01,2025-03-07,P,1\n", ["--cuts", "7,30"], "each is to be fewer days"),
-    ("2025-03-01,2025-03-07,P,1\n", ["--cuts", "week"], "days before departure are wanted"),
-    ("2025-03-01,2025-03-07,P,1\n", ["--cuts", ",".join(map(str, range(40, 20, -1)))], "21 periods, and a network file takes 16"),
-    ("2025-03-01,2025-03-07,P,1\n", ["--last", "33"], "takes 1 to 32 histories"),
-    ("2025-03-01,2025-03-07,P,1\n", ["--seats", "Pax"], "has no column Pax; its headings are Booked on, Departure, Fare product, Seats"),
+    (GOOD, ["--cuts", "7,30"], "each is to be fewer days"),
+    (GOOD, ["--cuts", "week"], "days before departure are wanted"),
+    (GOOD, ["--cuts", ",".join(map(str, range(40, 20, -1)))], "21 periods, and a network file takes 16"),
+    (GOOD, ["--last", "33"], "takes 1 to 32 histories"),
+    (GOOD, ["--seats", "Pax"], "has no column Pax; its headings are Booked on, Departure, Fare product, Seats"),
     ("2025-03-01,2025-03-07,P,1000\n", [], "P was asked for 1000 seats for 2025-03-07, and a row of demand takes 999")]
 
 OPEN_QUOTES = [  # remarks by their lines, more words, and a part of the sentence
-    ({31: '"see mail'}, [], "line 31 can't be read: a quote is opened in it and isn't closed in it, which would take the lines below"),
+    ({31: '"see mail'}, [],
+     "line 31 can't be read: a quote is opened in it and isn't closed in it, which would take the lines below"),
     ({31: '"see mail', 550: 'said "yes"'}, [], "line 31 can't be read: a quote is opened in it and isn't closed in it"),
     ({31: '"see mail', 550: '"yes"'}, [], "line 31 can't be read: a quote is opened in it and isn't closed in it"),
     ({31: '"two\nlines"'}, [], "line 31 can't be read: a quote is opened in it and isn't closed in it"),
     ({31: '"two\rlines"'}, [], "--multiline takes fields with line feeds"),
     ({601: '"see mail'}, [], "line 601 can't be read: a quote is opened in it and isn't closed in it"),
-    ({31: '"see" mail'}, [], "line 31 can't be read: a quote is opened and closed in it and more text stands behind it"),
-    ({31: '"see mail'}, ["--multiline"], "line 31 can't be read: a quote is opened and closed in it, in line 32, and more text stands"),
+    ({31: '"see" mail'}, [],
+     "line 31 can't be read: a quote is opened and closed in it and more text stands behind it"),
+    ({31: '"see mail'}, ["--multiline"],
+     "line 31 can't be read: a quote is opened and closed in it, in line 32, and more text stands"),
     ({601: '"see mail'}, ["--multiline"], "line 601 can't be read: a quote is opened in it that is closed nowhere")]
 
 
@@ -45,24 +50,24 @@ class Refusals(PlaceTest):
     def test_refuses_with_a_sentence(self) -> None:
         for rows, words, sentence in REFUSED_LOGS:
             path = self.file("log.csv", HEADS + rows)
-            self.want_in(self.stopped("log", path, *COLUMNS, *(["--cuts", "7"] if "--cuts" not in words else []), *words), sentence)
+            self.stopped("log", path, *(COLUMNS if "--cuts" in words else CUT_ONCE), *words, says=sentence)
         path = self.file("rows.csv", "periods,1,1\nleg,A,1\nproduct,P,5,A\n")
         log = self.file("log.csv", HEADS + "2025-03-01,2025-03-07,new_one,1\n")
-        self.want_in(self.stopped("log", log, *COLUMNS, "--cuts", "7", "--network", path), "NEW-ONE, which stands for 'new_one'")
+        self.stopped("log", log, *CUT_ONCE, "--network", path, says="NEW-ONE, which stands for 'new_one'")
         for wrong in ("", "leg,A,1\n", b"\xff\xff"):
             rows = self.file("rows.csv", wrong)
-            self.want_in(self.stopped("log", log, *COLUMNS, "--cuts", "7", "--network", rows), "has no row of a product")
-        self.want_in(self.stopped("log", log, *COLUMNS, "--cuts", "7", "--network", ""), "No such file")
+            self.stopped("log", log, *CUT_ONCE, "--network", rows, says="has no row of a product")
+        self.stopped("log", log, *CUT_ONCE, "--network", "", says="No such file")
         book = self.file("log.xlsx", b"PK\x03\x04\x14\0")
-        self.want_in(self.stopped("log", book, *COLUMNS, "--cuts", "7"), "log.xlsx is a spreadsheet's own file: save it as CSV")
+        self.stopped("log", book, *CUT_ONCE, says="log.xlsx is a spreadsheet's own file: save it as CSV")
 
     def test_numbers_that_are_too_long_are_refused(self) -> None:
-        good = self.file("good.csv", HEADS + "2025-03-01,2025-03-07,P,1\n")
+        good = self.file("good.csv", HEADS + GOOD)
         for it in LONG:
-            log = self.file("log.csv", f"{HEADS}2025-03-01,2025-03-07,P,1\n2025-03-01,2025-03-07,P,{it}\n")
-            self.want_in(self.stopped("log", log, *COLUMNS, "--cuts", "7"), "' is no number of seats\n")
-            self.want_in(self.stopped("log", good, *COLUMNS, "--cuts", f"{it},7"), "days before departure are wanted")
-            self.stopped("log", good, *COLUMNS, "--cuts", "7", "--last", it, status=2)
+            log = self.file("log.csv", f"{HEADS}{GOOD}2025-03-01,2025-03-07,P,{it}\n")
+            self.stopped("log", log, *CUT_ONCE, says="' is no number of seats\n")
+            self.stopped("log", good, *COLUMNS, "--cuts", f"{it},7", says="days before departure are wanted")
+            self.stopped("log", good, *CUT_ONCE, "--last", it, status=2)
 
 
 class Reading(PlaceTest):
@@ -70,36 +75,39 @@ class Reading(PlaceTest):
         """One that isn't closed, in a column that nobody asked for, would take the rows below it into its field."""
         for remarks, words, sentence in OPEN_QUOTES:
             path = self.file("log.csv", log_with_remarks(600, remarks))
-            err = self.stopped("log", path, *COLUMNS, "--cuts", "7", *words)
-            self.want_in(err, sentence)
-            self.want_in(err, "\n    2025-02-01;2025-03-0")
+            self.want_in(self.stopped("log", path, *CUT_ONCE, *words, says=sentence), "\n    2025-02-01;2025-03-0")
         for words in ([], ["--multiline"]):
             path = self.file("log.csv", log_with_remarks(600, {}).replace(";Remark", ';"Remark', 1))
-            self.want_in(self.stopped("log", path, *COLUMNS, "--cuts", "7", *words), "line 1 can't be read: a quote is opened")
-        plain = self.told("log", self.file("log.csv", log_with_remarks(600, {})), *COLUMNS, "--cuts", "7")
-        lines = self.file("log.csv", log_with_remarks(600, {31: '"two\r\nlines\n"', 90: '"a ""quote"""', 99: "in\" a field"}))
-        out, err, status = self.ran("log", lines, *COLUMNS, "--cuts", "7", "--multiline")
+            self.stopped("log", path, *CUT_ONCE, *words, says="line 1 can't be read: a quote is opened")
+        plain = self.told("log", self.file("log.csv", log_with_remarks(600, {})), *CUT_ONCE)
+        log = log_with_remarks(600, {31: '"two\r\nlines\n"', 90: '"a ""quote"""', 99: "in\" a field"})
+        out, err, status = self.ran("log", self.file("log.csv", log), *CUT_ONCE, "--multiline")
         self.assertEqual((out, status), (plain, 0), err)
-        self.want_in(err, "nrm-tools log: rows read 600 of 603 lines; down to the headings 1, empty 0, lines within fields 2\n")
+        self.want_in(err, "nrm-tools log: rows read 600 of 603 lines; "
+                          "down to the headings 1, empty 0, lines within fields 2\n")
         names = self.file("names.csv", 'name,stands for\nA,"open\nB,other\n')
-        self.want_in(self.stopped("log", "log.csv", *COLUMNS, "--cuts", "7", "--multiline", "--names", names), "has a quote that isn't closed")
+        self.stopped("log", "log.csv", *CUT_ONCE, "--multiline", "--names", names, says="has a quote that isn't closed")
 
     def test_tells_what_it_has_read(self) -> None:
         """How many rows of how many lines, which departures, and on which days between them there is none."""
-        heads = "Export\n\nBooked on,Departure,Fare product,Seats\n"
+        heads = f"Export\n\n{HEADS}"
         for days, wanted in (
                 ([1, 2, 3], "3 days, from 2025-03-01 to 2025-03-03; days between without one: none"),
                 ([9], "1 days, from 2025-03-09 to 2025-03-09; days between without one: none"),
-                ([1, 2, 3, 4, 5, 6, 7, 8, 12, 13, 15], "11 days, from 2025-03-01 to 2025-03-15; days between without one: 2025-03-09 to "
-                 "2025-03-11, 2025-03-14"),
-                ([7, 14, 28], "3 days, from 2025-03-07 to 2025-03-28; days between without one: 2025-03-21; each mon, tue, wed, thu, sat, sun"),
+                ([1, 2, 3, 4, 5, 6, 7, 8, 12, 13, 15], "11 days, from 2025-03-01 to 2025-03-15; "
+                 "days between without one: 2025-03-09 to 2025-03-11, 2025-03-14"),
+                ([7, 14, 28], "3 days, from 2025-03-07 to 2025-03-28; "
+                 "days between without one: 2025-03-21; each mon, tue, wed, thu, sat, sun"),
                 ([7, 10], "2 days, from 2025-03-07 to 2025-03-10; days between without one: each sat, sun")):
             rows = [f"2025-02-01,2025-03-{day:02},P,1\n" for day in reversed(days)] + [",,,\n"]
-            err = self.ran("log", self.file("log.csv", heads + "".join(rows)), *COLUMNS, "--cuts", "7")[1]
-            self.want_in(err, f"nrm-tools log: rows read {len(days)} of {len(days) + 4} lines; down to the headings 3, empty 1\n")
+            err = self.ran("log", self.file("log.csv", heads + "".join(rows)), *CUT_ONCE)[1]
+            self.want_in(err, f"nrm-tools log: rows read {len(days)} of {len(days) + 4} lines; "
+                              "down to the headings 3, empty 1\n")
             self.want_in(err, f"nrm-tools log: departures on {wanted}\n")
-        text = heads + "".join(f"2025-02-01,{datetime.date(2025, 3, 1) + datetime.timedelta(2 * it)},P,1\n" for it in range(30))
-        err = self.ran("log", self.file("log.csv", text), *COLUMNS, "--cuts", "7")[1]
+        days = [datetime.date(2025, 3, 1) + datetime.timedelta(2 * it) for it in range(30)]
+        text = heads + "".join(f"2025-02-01,{day},P,1\n" for day in days)
+        err = self.ran("log", self.file("log.csv", text), *CUT_ONCE)[1]
         self.want_in(err, "2025-03-02, 2025-03-04, ")
         self.want_in(err, ", 2025-04-09, and 9 more times\n")
-        self.want_in(self.stopped("log", self.file("log.csv", heads + "x,2025-03-01,P,1\n"), *COLUMNS, "--cuts", "7"), "rows read 1 of 4 lines")
+        wrong = self.file("log.csv", heads + "x,2025-03-01,P,1\n")
+        self.stopped("log", wrong, *CUT_ONCE, says="rows read 1 of 4 lines")

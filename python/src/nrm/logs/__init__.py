@@ -1,4 +1,4 @@
-"""Logs of requests, as a reservation system exports them: their rows, their dates, the requests and the demand that these make.
+"""Logs of requests, as a reservation system exports them: their rows, their dates, the requests and their demand.
 
-Rooms above tell nothing by themselves: what is to be told as a log is read goes to a function that is given. May use: nothing.
+What is to be told as a log is read goes to a function that is given. May use: nothing.
 """

@@ -14,11 +14,12 @@ WEEKDAYS = ["mon", "tue", "wed", "thu", "fri", "sat", "sun"]
 MONTHS = ["JAN", "FEB", "MAR", "APR", "MAY", "JUN", "JUL", "AUG", "SEP", "OCT", "NOV", "DEC"]
 TIME = re.compile(r"(?:(?:T|,? +)\d{1,2}(?::\d{2}.*|h\d{2}|\.\d{2}(?:\.\d{2})?)|-\d{2}\.\d{2}\.\d{2}(?:\.\d+)?)$")
 WEEKDAY = re.compile(r"[^\W\d_]{2,10}[.,]* +(?=\d)")  # in any language, before the date
-YEAR_FIRST = re.compile(r"(\d{4})([-/.]) ?(\d{1,2})\2 ?(\d{1,2})\.?")
-DIGITS = re.compile(r"(\d{4})(\d{2})(\d{2})(?:\d{4}(?:\d{2})?)?")  # and the time
-WITH_POINTS = re.compile(r"(\d{1,2})\. ?(\d{1,2})\. ?(\d{4})")
-WITH_MONTH = re.compile(r"(\d{1,2})[- .]*([A-Za-z]{3})[a-z]*[- .,]*(\d{4}|\d{2})")
-MONTH_FIRST = re.compile(r"([A-Za-z]{3})[a-z]*[ .]+(\d{1,2}),? +(\d{4})")
+MONTH_FIRST = re.compile(r"(?P<month>[A-Za-z]{3})[a-z]*[ .]+(?P<day>\d{1,2}),? +(?P<year>\d{4})")
+FORMS = [re.compile(it) for it in (
+    r"(?P<year>\d{4})([-/.]) ?(?P<month>\d{1,2})\2 ?(?P<day>\d{1,2})\.?",
+    r"(?P<year>\d{4})(?P<month>\d{2})(?P<day>\d{2})(?:\d{4}(?:\d{2})?)?",  # and the time
+    r"(?P<day>\d{1,2})\. ?(?P<month>\d{1,2})\. ?(?P<year>\d{4})",
+    r"(?P<day>\d{1,2})[- .]*(?P<month>[A-Za-z]{3})[a-z]*[- .,]*(?P<year>\d{4}|\d{2})")]
 EITHER_WAY = re.compile(r"(\d{1,2})([/-])(\d{1,2})\2(\d{4})")
 SHORT_YEAR = re.compile(r"\d{1,2}([./-]) ?\d{1,2}\1 ?\d{2}")
 
@@ -44,21 +45,21 @@ class Dates:
 
     def day(self, text: str) -> datetime.date:
         """The day that a text says; a ValueError where it says none."""
-        if (found := MONTH_FIRST.fullmatch(TIME.sub("", text))) and found[1].upper() in MONTHS:
-            return datetime.date(int(found[3]), MONTHS.index(found[1].upper()) + 1, int(found[2]))
+        if found := MONTH_FIRST.fullmatch(TIME.sub("", text)):
+            return date_of(**found.groupdict())
         text = without_time(text)
-        if found := YEAR_FIRST.fullmatch(text):
-            return datetime.date(int(found[1]), int(found[3]), int(found[4]))
-        if found := DIGITS.fullmatch(text):
-            return datetime.date(*map(int, found.groups()))
-        if found := WITH_POINTS.fullmatch(text):
-            return datetime.date(int(found[3]), int(found[2]), int(found[1]))
-        if (found := WITH_MONTH.fullmatch(text)) and found[2].upper() in MONTHS:
-            return datetime.date(int(found[3]) + (2000 if len(found[3]) == 2 else 0), MONTHS.index(found[2].upper()) + 1, int(found[1]))
+        if found := next(filter(None, (it.fullmatch(text) for it in FORMS)), None):
+            return date_of(**found.groupdict())
         if found := EITHER_WAY.fullmatch(text):
             day, month = (found[1], found[3]) if self.order == "dmy" else (found[3], found[1])
-            return datetime.date(int(found[4]), int(month), int(day))
+            return date_of(day, month, found[4])
         raise ValueError(text)
+
+
+def date_of(day: str, month: str, year: str) -> datetime.date:
+    """A day by its texts: the month in digits or in English, of the year perhaps the last two digits alone."""
+    number = int(month) if month.isdigit() else MONTHS.index(month.upper()) + 1
+    return datetime.date(int(year) + (2000 if len(year) == 2 else 0), number, int(day))
 
 
 def order_shown_by(twofold: Sequence[re.Match[str]]) -> str:
@@ -83,7 +84,7 @@ def spans_of(days: Iterable[datetime.date]) -> list[str]:
 
 
 def departures_told(days: Sequence[datetime.date], most: int) -> str:
-    """How many days of departure there are, the first and the last, and which days between them have none, of which so many are told."""
+    """How many days of departure there are, from which to which, and those between that have none, so many at most."""
     known, departing = set(days), {it.weekday() for it in days}
     between = [days[0] + datetime.timedelta(it) for it in range(1, (days[-1] - days[0]).days)]
     spans = spans_of(it for it in between if it not in known and it.weekday() in departing)

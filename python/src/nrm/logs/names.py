@@ -32,8 +32,8 @@ def names_in(path: str | None) -> dict[str, str]:
     names: dict[str, str] = {}
     for line, (name, *stands_for) in ((line, row) for line, row in rows if row):
         if len(stands_for) != 1 or not NAME.fullmatch(name) or name in names.values() or stands_for[0] in names:
-            raise Stop(f"{path} is no list of names: line {line} is to have a name of its own, of 1 to {MOST_NAME_BYTES} of A-Z, "
-                       "0-9 and -, and one text that it stands for")
+            raise Stop(f"{path} is no list of names: line {line} is to have a name of its own, of 1 to "
+                       f"{MOST_NAME_BYTES} of A-Z, 0-9 and -, and one text that it stands for")
         names[stands_for[0]] = name
     return names
 

@@ -19,8 +19,8 @@ SEATS = re.compile(r"([0-9]{1,18})(?:[.,]0+)?")
 
 @dataclass(frozen=True)
 class Columns:
-    """The headings of the columns that are read: those of the product are several, and there may be none of the seats. Rows that have
-    some texts in a column are left out."""
+    """The headings of the columns that are read: those of the product are several, and there may be none of the seats.
+    Rows that have some texts in a column are left out."""
     departs: str
     booked: str
     product: Sequence[str]
@@ -29,7 +29,8 @@ class Columns:
 
     def read(self) -> list[str]:
         """The headings, in the order in which a row is read, those that leave rows out at the end."""
-        return [self.departs, self.booked, *self.product, *([self.seats] if self.seats else []), *[column for column, *_ in self.without]]
+        return [self.departs, self.booked, *self.product, *([self.seats] if self.seats else []),
+                *[column for column, *_ in self.without]]
 
     def asked_for(self, fields: Sequence[str]) -> str:
         """The text of the product, joined."""
@@ -74,9 +75,9 @@ def day_of(dates: Dates, text: str, which: str) -> datetime.date:
         raise ValueError(f"{cut_short(text)!r} {why}; write it as 2025-03-07") from None
 
 
-def rows_kept(rows: Sequence[LogRow], without: Sequence[Sequence[str]], tell: Callable[[str], None]) -> Sequence[LogRow]:
-    """The rows of a log without those that have one of some texts in a column; these columns are the last. Tells how many are left
-    out."""
+def rows_kept(rows: Sequence[LogRow], without: Sequence[Sequence[str]],
+              tell: Callable[[str], None]) -> Sequence[LogRow]:
+    """The rows of a log without those that have one of some texts in a column of the last; tells how many these are."""
     kept = rows
     for at, (column, *texts) in enumerate(without, -len(without)):
         unwanted = {it.strip().lower() for it in texts}
@@ -87,7 +88,8 @@ def rows_kept(rows: Sequence[LogRow], without: Sequence[Sequence[str]], tell: Ca
     return kept
 
 
-def requests_in(path: str, columns: Columns, order: str | None, is_multiline: bool, tell: Callable[[str], None]) -> list[Request]:
+def requests_in(path: str, columns: Columns, order: str | None, is_multiline: bool,
+                tell: Callable[[str], None]) -> list[Request]:
     """The requests of the log at a path. Tells what was read."""
     log = Log(path, columns.read(), is_multiline)
     tell(log.told())
@@ -101,7 +103,8 @@ def requests_in(path: str, columns: Columns, order: str | None, is_multiline: bo
             wrong.append(f"line {it.line}: {why}")
     if wrong:
         more = [f"and {len(wrong) - MOST_TOLD} more"] if len(wrong) > MOST_TOLD else []
-        raise Stop("\n    ".join([f"{path} has rows that can't be read; mend them, or take them out", *wrong[:MOST_TOLD], *more]))
+        unread = f"{path} has rows that can't be read; mend them, or take them out"
+        raise Stop("\n    ".join([unread, *wrong[:MOST_TOLD], *more]))
     if not requests:
         raise Stop(f"{path} has no request below its headings")
     tell(departures_told(sorted({it.departs for it in requests}), MOST_TOLD))

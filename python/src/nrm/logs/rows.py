@@ -1,4 +1,4 @@
-"""The rows of a log: its text, the row of headings, and below it what stands in the columns that are asked for. None is lost in silence.
+"""The rows of a log: its text, its headings, and what stands below those that are asked for. None is lost in silence.
 
 May use: nrm.
 """
@@ -23,7 +23,8 @@ def text_in(path: str) -> str:
     csv.field_size_limit(2**31 - 1)
     data = bytes_in(path)
     if data.startswith(OF_A_SPREADSHEET):
-        raise Stop(f"{path} is a spreadsheet's own file: save it as CSV, or `soffice --headless --convert-to csv {path}`")
+        raise Stop(f"{path} is a spreadsheet's own file: save it as CSV, or "
+                   f"`soffice --headless --convert-to csv {path}`")
     if data.startswith((b"\xff\xfe", b"\xfe\xff")):
         return data.decode("utf-16", "replace")
     try:
@@ -45,16 +46,14 @@ class LogRow:
 
 
 class Log:
-    """The rows of a log.
-
-    above, empty, within  the lines that are no row: the headings and those above, the empty ones, and those with which a row goes on
-    """
+    """The rows of a log, and how many lines are none: down to the headings, empty, or within a row that goes on."""
 
     def __init__(self, path: str, columns: Sequence[str], is_multiline: bool = False) -> None:
         text = text_in(path)
         self.path, self.is_multiline, self.lines = path, is_multiline, list(io.StringIO(text, newline=""))
         try:
-            separator, places = next(((it, found) for it in SEPARATORS if (found := self.headings(it, columns))), ("", []))
+            found = ((it, self.headings(it, columns)) for it in SEPARATORS)
+            separator, places = next((it for it in found if it[1]), ("", []))
         except csv.Error as fault:
             raise Stop(f"{path} can't be read as fields with separators between them: {fault}")
         if not places:
@@ -80,7 +79,7 @@ class Log:
         return []
 
     def records(self, separator: str) -> Iterator[tuple[int, int, list[str]]]:
-        """The records below some lines, each with the lines in which it begins and ends; a Stop where one doesn't end as it should."""
+        """The records below the headings, each with the lines in which it begins and ends."""
         reader, begins = csv.reader(self.lines[self.above:], delimiter=separator, strict=True), self.above + 1
         while True:
             try:
@@ -96,46 +95,52 @@ class Log:
             begins = ends + 1
 
     def no_record(self, begins: int, ends: int, is_open: bool = False) -> Stop:
-        """A Stop for a record that begins in a line and doesn't end as it should, which shows in another or in the same; a quote may
-        be open at the end of the file."""
+        """A Stop for a record that doesn't end as it should, as shows in a line, or at the end with an open quote."""
         if (ends > begins or is_open) and not self.is_multiline:
-            why = "a quote is opened in it and isn't closed in it, which would take the lines below with it: close it or take it out"
-            why += "; --multiline takes fields with line feeds"
+            why = ("a quote is opened in it and isn't closed in it, which would take the lines below with it: "
+                   "close it or take it out; --multiline takes fields with line feeds")
         elif is_open:
             why = "a quote is opened in it that is closed nowhere: close it or take it out"
         else:
-            why = f"a quote is opened and closed in it{f', in line {ends},' if ends > begins else ''} and more text stands behind it: close it"
-            why += " at the end of its field, or write a quote within a field twice"
+            why = (f"a quote is opened and closed in it{f', in line {ends},' if ends > begins else ''} and more text "
+                   "stands behind it: close it at the end of its field, or write a quote within a field twice")
         line = self.lines[begins - 1].rstrip("\r\n")
         return Stop(f"{self.path}: line {begins} can't be read: {why}\n    {cut_short(line)}")
 
     def told(self) -> str:
         """How many rows were read of how many lines, and what the other lines were."""
         more = f", lines within fields {self.within}" if self.within else ""
-        return f"rows read {len(self.rows)} of {len(self.lines)} lines; down to the headings {self.above}, empty {self.empty}{more}"
+        return (f"rows read {len(self.rows)} of {len(self.lines)} lines; down to the headings {self.above}, "
+                f"empty {self.empty}{more}")
 
 
 def what_is_there(text: str, columns: Sequence[str]) -> str:
     """What is said of a log without a row that has all columns: the row that has most of them, and which it lacks."""
-    rows = (row for it in SEPARATORS for row in itertools.islice(csv.reader(text.splitlines(), delimiter=it), MOST_ABOVE))
-    none: list[str] = []
-    headings = max(rows, key=lambda row: -len(lacking(columns, row)), default=none)
+    rows = (row for it in SEPARATORS
+            for row in itertools.islice(csv.reader(text.splitlines(), delimiter=it), MOST_ABOVE))
+    headings = min(rows, key=lambda row: len(lacking(columns, row)), default=list[str]())
     lacks = lacking(columns, headings)
     if len(lacks) == len(columns):
         return f"has no row of headings with {', '.join(columns)}; it begins {text.lstrip()[:100]!r}"
-    return f"has no column {', '.join(lacks)}; its headings are {', '.join(it.strip() for it in headings if it.strip())}"
+    return f"has no column {', '.join(lacks)}; its headings are {', '.join(filter(None, map(str.strip, headings)))}"
+
+
+def plain(names: Sequence[str]) -> list[str]:
+    """Names of columns as they are compared."""
+    return [it.strip().lower() for it in names]
 
 
 def lacking(columns: Sequence[str], fields: Sequence[str]) -> list[str]:
     """The columns that a row of headings lacks."""
-    return [it for it in columns if it.strip().lower() not in (field.strip().lower() for field in fields)]
+    there = plain(fields)
+    return [it for it, wanted in zip(columns, plain(columns)) if wanted not in there]
 
 
 def places_of(columns: Sequence[str], fields: Sequence[str]) -> list[int]:
     """Where the columns stand in a row of headings; nowhere where it has not all of them."""
     if lacking(columns, fields):
         return []
-    headings, wanted = ([it.strip().lower() for it in some] for some in (fields, columns))
+    headings, wanted = plain(fields), plain(columns)
     for it in wanted:
         if headings.count(it) > 1:
             raise Stop(f"the log has two columns {it}: give one of them another heading")
