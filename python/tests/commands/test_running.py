@@ -3,6 +3,7 @@ from __future__ import annotations
 
 import importlib.util
 import os
+import shutil
 import signal
 import subprocess
 import sys
@@ -10,11 +11,13 @@ import time
 
 from harness import EXAMPLES, SECONDS, SOURCES, TOP, PlaceTest
 from logs.made_log import COLUMNS
+from made import FEW
 from nrm import __version__
 from nrm.commands import NAMED
 from nrm.seasons.drawing import Settings
-from seasons.clusters import by_one_process
+from seasons.clusters import by_one_process, needs_dask
 
+NETWORK = str(EXAMPLES / "log" / "network.csv")
 OF_NRM = {"none": 3, "folder": 9, "refused": 3}
 OWN_STATUSES = {"audit": OF_NRM, "explain": OF_NRM}  # those of the program
 SERVE = {"desks"}  # these go on until they are ended, and have tests of their own
@@ -26,42 +29,46 @@ class Running(PlaceTest):
 
     def setUp(self) -> None:
         super().setUp()
-        network, stream = str(EXAMPLES / "log" / "network.csv"), str(EXAMPLES / "log" / "commands.txt")
+        requests, rows, stream = (str(EXAMPLES / "log" / it) for it in ("requests.csv", "rows.csv", "commands.txt"))
+        network, program = NETWORK, self.with_program
         kept = self.file("kept", (EXAMPLES / "log" / "bid.txt").read_bytes()[:40])
         certificate = self.file("certificate", self.nrm("plan", "bid", network))
-        log = [str(EXAMPLES / "log" / "requests.csv"), *COLUMNS, "--cuts", "30,7", "--network", str(EXAMPLES / "log" / "rows.csv")]
         self.words = {  # with which each ends with status 0
-            "log": log,
-            "audit": [network, certificate], "explain": [network, certificate], "lp": [network], "split": [network, "parts"],
-            "season": [network, stream, "--out", "pictures", *self.with_program], "replay": [network, *self.with_program],
-            "resume": [network, "bid", stream, kept, *self.with_program],
-            "thresholds": [network, "3", "--out", "made.csv", *self.with_program],
-            "optimum": [network, "ZRH-VIE", *self.with_program],
-            "simulate": [network, "--seasons", 1, "--out", "played", *self.with_program]}
+            "log": [requests, *COLUMNS, "--cuts", "30,7", "--network", rows],
+            "audit": [network, certificate], "explain": [network, certificate],
+            "lp": [network], "split": [network, "parts"],
+            "season": [network, stream, "--out", "pictures", *program], "replay": [network, *program],
+            "resume": [network, "bid", stream, kept, *program], "optimum": [network, "ZRH-VIE", *program],
+            "thresholds": [network, "3", "--out", "made.csv", *program],
+            "simulate": [network, "--seasons", 1, "--out", "played", *program]}
         self.assertEqual(self.words.keys() | SERVE, NAMED.keys())
         if not importlib.util.find_spec("distributed"):
             del self.words["simulate"]  # which needs Dask
-        (self.folder / "played").mkdir()
-        self.file("played/network-seasons.csv", by_one_process(self.program, network, Settings(), 1))  # so it has but to tell
+        (self.folder / "played").mkdir()  # so simulate has but to tell
+        self.file("played/network-seasons.csv", by_one_process(self.program, network, Settings(), 1))
+
+    @needs_dask
+    def test_simulate_is_among_them(self) -> None:
+        self.assertIn("simulate", self.words)
 
     def test_each_names_itself_and_gives_no_traceback(self) -> None:
         refused = self.file("refused.csv", "leg,AB\n\xff")
         for name, words in self.words.items():
             self.want_in(self.told(name, "--help"), f"usage: nrm-tools {name} ")
-            self.want_in(self.stopped(name, status=2), "usage: ")
-            self.want_in(self.stopped(name, *words, "--no-such-option", status=2), "usage: ")
+            self.stopped(name, status=2, says="usage: ")
+            self.stopped(name, *words, "--no-such-option", status=2, says="usage: ")
             for what, path in (("none", "there/is-none"), ("folder", str(self.folder)), ("refused", refused)):
                 done = self.ran(name, path, *words[1:])
                 wanted = OWN_STATUSES.get(name, {}).get(what, 1)
-                self.assertEqual((done.status, "Traceback" in done.err, bool(done.err) or name in OWN_STATUSES), (wanted, False, True),
-                                 f"{name} {what}: {done.err}")
-                self.assertTrue(not done.err or done.err.startswith(f"nrm-tools {name}: "), f"{name} doesn't name itself: {done.err}")
+                found = done.status, "Traceback" in done.err, bool(done.err) or name in OWN_STATUSES
+                self.assertEqual(found, (wanted, False, True), f"{name} {what}: {done.err}")
+                self.assertTrue(not done.err or done.err.startswith(f"nrm-tools {name}: "), f"{name}: {done.err}")
 
     def test_each_refuses_a_network_with_a_number_that_is_too_long(self) -> None:
         network = self.file("long.csv", f"periods,1,1\nleg,A,1\nproduct,P,{'9' * 4301},A\ndemand,P,1,1\n")
         for name, words in self.words.items():
             if name not in (*OWN_STATUSES, "log"):
-                self.want_in(self.stopped(name, network, *words[1:]), "refused")
+                self.stopped(name, network, *words[1:], says="refused")
 
     def test_each_ends_quietly_where_nobody_reads(self) -> None:
         for name, words in self.words.items():
@@ -100,30 +107,31 @@ class Running(PlaceTest):
             self.assertEqual((process.returncode, err), (-signal.SIGINT, b""), name)
 
     def test_those_that_run_the_program_tell_where_it_is_another(self) -> None:
-        network, stream = self.file("few.csv", "periods,2,1\nleg,A,1\nproduct,P,5,A\n"), self.file("stream", "book P 1\n")
+        network, stream = self.file("few.csv", FEW), self.file("stream", "book P 1\n")
         for script, sentences in (("", ("0 replies", "has no bound")),
                                   ("awk '{ print \"ok 1\" }'", ("don't fit the lines", "has no bound"))):
             program = ["--program", "sh", self.file("script", script)]
-            self.want_in(self.stopped("season", network, stream, *program), sentences[0])
-            self.want_in(self.stopped("replay", network, *program), sentences[1])
+            self.stopped("season", network, stream, *program, says=sentences[0])
+            self.stopped("replay", network, *program, says=sentences[1])
             self.assertEqual(self.ran("replay", network, *program).out, "")  # and no heads of a table
         for script in ("", "echo ok 1", "echo class P 5", "echo cost A 0", "echo value A 1/0"):
             program = ["--program", "sh", self.file("script", script)]
-            self.want_in(self.stopped("thresholds", network, 2, *program), f"what `cuts {network} A 2` wrote is no answer to it")
-            self.want_in(self.stopped("optimum", network, "A", *program), f"what `dp {network} A` wrote is no answer to it")
+            self.stopped("thresholds", network, 2, *program, says=f"what `cuts {network} A 2` wrote is no answer to it")
+            self.stopped("optimum", network, "A", *program, says=f"what `dp {network} A` wrote is no answer to it")
         program = ["--program", "sh", self.file("script", "echo no leg; exit 10")]
-        self.want_in(self.stopped("thresholds", network, 2, *program), f"`cuts {network} A 2` ended with status 10: no leg\n")
+        self.stopped("thresholds", network, 2, *program, says=f"`cuts {network} A 2` ended with status 10: no leg\n")
 
     def test_resume_tells_what_is_wrong_with_its_files(self) -> None:
-        network, stream = self.file("few.csv", "periods,2,1\nleg,A,1\nproduct,P,5,A\n"), self.file("stream", "book P 1\n")
-        kept, other, refused = self.file("kept", ""), self.file("other", "no A\n"), self.file("refused.csv", "periods,1,1\nleg,a,1\n")
-        for wrong, sentence in ((refused, "ended with status 3: refused row 2 why 5 name; `nrm-tools explain` tells"),
-                                (self.folder, "status 9: file fault")):
-            self.want_in(self.stopped("resume", wrong, "bid", stream, kept, *self.with_program), sentence)
-        self.want_in(self.stopped("resume", network, "bid", "/proc/self/mem", kept, *self.with_program), "/proc/self/mem: Input/output error")
-        self.want_in(self.stopped("resume", network, "bid", stream, other, *self.with_program),
-                     "line 1: 'no A\\n' was kept, and the program answers 'ok 1\\n'")
-        self.want_in(self.stopped("split", network, stream), f"{stream} is a file, and a folder is wanted")
+        network, stream = self.file("few.csv", FEW), self.file("stream", "book P 1\n")
+        kept, other = self.file("kept", ""), self.file("other", "no A\n")
+        refused = self.file("refused.csv", "periods,1,1\nleg,a,1\n")
+        for words, sentence in (
+                ([refused, "bid", stream, kept], "status 3: refused row 2 why 5 name; `nrm-tools explain` tells"),
+                ([self.folder, "bid", stream, kept], "ended with status 9: file fault"),
+                ([network, "bid", "/proc/self/mem", kept], "/proc/self/mem: Input/output error"),
+                ([network, "bid", stream, other], "line 1: 'no A\\n' was kept, and the program answers 'ok 1\\n'")):
+            self.stopped("resume", *words, *self.with_program, says=sentence)
+        self.stopped("split", network, stream, says=f"{stream} is a file, and a folder is wanted")
 
 
 class CommandLine(PlaceTest):
@@ -141,38 +149,33 @@ class CommandLine(PlaceTest):
         program = self.file("bin/nrm", "#!/bin/sh\n")
         os.chmod(program, 0o755)
         copied = self.folder / "src"
-        subprocess.run(["cp", "-r", SOURCES, copied], check=True)
-        for path, wanted in ((f"{folder}:/usr/bin:/bin", f"{program}\nsha256 "), ("/usr/bin:/bin", "there is no `nrm` on the path; ")):
-            done = subprocess.run([sys.executable, copied, "--version"], env={**os.environ, "PATH": path}, capture_output=True, text=True)
-            self.assertEqual((done.returncode, done.stderr), (0, ""))
-            self.want_in(done.stdout, f"nrm-tools {__version__}\n{wanted}")
-        checksum = subprocess.run(["sha256sum", program], capture_output=True, text=True).stdout.split()[0]
-        done = subprocess.run([sys.executable, copied, "--version"], env={**os.environ, "PATH": f"{folder}:/usr/bin:/bin"},
-                              capture_output=True, text=True)
-        self.want_in(done.stdout, f"sha256 {checksum}\n")
+        shutil.copytree(SOURCES, copied)
+        checksum = self.finished("sha256sum", program).out.split()[0]
+        for path, wanted in ((f"{folder}:/usr/bin:/bin", f"{program}\nsha256 {checksum}\n"),
+                             ("/usr/bin:/bin", "there is no `nrm` on the path; ")):
+            done = self.finished(sys.executable, copied, "--version", env={**os.environ, "PATH": path})
+            self.assertEqual((done.err, done.status), ("", 0))
+            self.want_in(done.out, f"nrm-tools {__version__}\n{wanted}")
 
     def test_words_that_name_no_command_end_with_status_2(self) -> None:
         for words in ([], ["nope"], ["--nope"]):
-            done = subprocess.run([sys.executable, SOURCES, *words], capture_output=True, text=True)
-            self.assertEqual((done.returncode, done.stdout, done.stderr.startswith("usage: nrm-tools ")), (2, "", True), done.stderr)
+            done = self.finished(sys.executable, SOURCES, *words)
+            self.assertEqual((done.out, done.status), ("", 2))
+            self.assertTrue(done.err.startswith("usage: nrm-tools "), done.err)
 
     def test_the_launcher_and_the_module_run_the_same_commands(self) -> None:
-        network = str(EXAMPLES / "log" / "network.csv")
-        wanted = self.told("lp", network)
+        wanted = self.told("lp", NETWORK)
         for words, more in (([TOP / "nrm-tools"], {}), ([sys.executable, "-m", "nrm"], {"PYTHONPATH": str(SOURCES)})):
-            done = subprocess.run([*words, "lp", network], cwd=self.folder, capture_output=True, text=True, env={**os.environ, **more})
-            self.assertEqual((done.returncode, done.stdout, done.stderr), (0, wanted, ""))
+            self.assertEqual(self.finished(*words, "lp", NETWORK, env={**os.environ, **more}), (wanted, "", 0))
 
     def test_what_stands_in_the_users_folder_is_never_imported(self) -> None:
         self.file("argparse.py", "raise SystemExit('a file of the folder was run')")
-        done = subprocess.run([TOP / "nrm-tools", "lp", EXAMPLES / "log" / "network.csv"], cwd=self.folder, capture_output=True, text=True)
-        self.assertEqual((done.returncode, done.stderr), (0, ""))
+        done = self.finished(TOP / "nrm-tools", "lp", NETWORK)
+        self.assertEqual((done.err, done.status), ("", 0))
 
     def test_what_a_terminal_cant_show_is_written_out(self) -> None:
-        path = os.path.join(os.fsencode(self.folder), b"\xff\xc3\xbc.csv")
-        with open(path, "wb") as file:
-            file.write("periods,1,1\nleg,Zürich,1\n".encode())
+        path = self.file(os.fsdecode(b"\xff\xc3\xbc.csv"), "periods,1,1\nleg,Zürich,1\n")
         for form, shown in (("utf-8", "Zürich"), ("ascii", "Z\\xfcrich")):
-            done = subprocess.run([sys.executable, SOURCES, "explain", path], capture_output=True, env={**os.environ, "PYTHONIOENCODING": form})
-            self.assertEqual((done.returncode, done.stderr), (3, b""))
-            self.want_in(done.stdout.decode(), f"the name: {shown}\n")
+            done = self.ran("explain", path, env={**os.environ, "PYTHONIOENCODING": form})
+            self.assertEqual((done.err, done.status), ("", 3))
+            self.want_in(done.out, f"the name: {shown}\n")

@@ -1,8 +1,7 @@
-"""What simulate tells of mistakes, of numbers that are too long and of programs that are others, and where there is no Dask."""
+"""What simulate tells of mistakes, of numbers that are too long, of a program that is another, and of no Dask."""
 from __future__ import annotations
 
 import shutil
-import subprocess
 import sys
 
 from harness import SOURCES
@@ -20,15 +19,17 @@ class Mistakes(SimulateTest):
         refused = self.file("refused.csv", "periods,1,1\nleg,a,1\n")
         tls, tcp = ["--tls", "a", "b", "c"], ["--cluster", "tcp://127.0.0.1:9"]
         one = self.file("one.csv", "periods,1,1\nleg,A,1\nproduct,P,5,A\n")
-        for words, status, wanted in ((["none.csv"], 1, "none.csv: No such file"), ([refused], 1, "nrm-tools explain"),
-                                      ([LOG, "--show", "0.9"], 2, "together"), ([LOG, "--parties", "0:1"], 2, "--parties"),
-                                      ([LOG, "--cancel", "2"], 2, "--cancel"), ([one, "--leave-out"], 1, "two"),
-                                      ([LOG, "--leave-out", "--demand", "poisson"], 2, "--leave-out"),
-                                      ([LOG, LOG], 1, "named twice"), ([LOG, "--out", one], 1, "is a file"),
-                                      ([LOG, *tls], 2, "cluster tls://ADDRESS"), ([LOG, *tcp, *tls], 2, "cluster tls://ADDRESS"),
-                                      ([LOG, *tcp], 1, "no Dask scheduler at tcp://127.0.0.1:9")):
+        for words, status, wanted in (
+                (["none.csv"], 1, "none.csv: No such file"), ([refused], 1, "nrm-tools explain"),
+                ([LOG, "--show", "0.9"], 2, "together"), ([LOG, "--parties", "0:1"], 2, "--parties"),
+                ([LOG, "--cancel", "2"], 2, "--cancel"), ([one, "--leave-out"], 1, "two"),
+                ([LOG, "--leave-out", "--demand", "poisson"], 2, "--leave-out"),
+                ([LOG, LOG], 1, "named twice"), ([LOG, "--out", one], 1, "is a file"),
+                ([LOG, *tls], 2, "cluster tls://ADDRESS"), ([LOG, *tcp, *tls], 2, "cluster tls://ADDRESS"),
+                ([LOG, *tcp], 1, "no Dask scheduler at tcp://127.0.0.1:9")):
             done = self.ran("simulate", *words, "--seasons", 1, *self.with_program, timeout=SECONDS)
-            self.assertEqual((done.status, "Traceback" in done.err, done.out), (status, False, ""), f"{words} {done.err}")
+            found = done.status, "Traceback" in done.err, done.out
+            self.assertEqual(found, (status, False, ""), f"{words} {done.err}")
             self.want_in(done.err, wanted)
 
     def test_a_program_that_is_another_is_told(self) -> None:
@@ -36,7 +37,7 @@ class Mistakes(SimulateTest):
         for text, wanted in (('test "$1" = print || echo ok 1', "`run first` has no bound: ok 1"),
                              (unlike, "`run first` answers requests otherwise than by")):
             words = [SEASON, "--seasons", 1, "--workers", 1, "--program", "sh", self.file("other", text)]
-            self.want_in(self.stopped("simulate", *words, timeout=SECONDS), f"nrm-tools simulate: {wanted}")
+            self.stopped("simulate", *words, timeout=SECONDS, says=f"nrm-tools simulate: {wanted}")
 
     def test_numbers_that_are_too_long_are_refused_in_options(self) -> None:
         for it in LONG:
@@ -63,10 +64,10 @@ class Alone(SimulateTest):
             self.want_in(str(why), "answers to a request is no number of a booking")
 
     def test_it_says_where_there_is_no_dask(self) -> None:
-        """As under a Python that sees no packages, of a package that stands in no checkout: so it goes on under no other."""
+        """As under a Python that sees no packages, beside no checkout: so it goes on under no other."""
         shutil.copytree(SOURCES / "nrm", self.folder / "nrm")
-        done = subprocess.run([sys.executable, "-S", "-B", "-m", "nrm", "simulate", LOG, "--seasons", "1"], cwd=self.folder,
-                              capture_output=True, text=True, timeout=SECONDS, env={"PATH": "/usr/bin:/bin"})
-        self.assertEqual((done.stdout, done.returncode, done.stderr.count("\n")), ("", 1, 1), done.stderr)
-        self.want_in(done.stderr, "has no Dask; ")
-        self.want_in(done.stderr, "python3-distributed")
+        words = ["-S", "-B", "-m", "nrm", "simulate", LOG, "--seasons", 1]
+        done = self.finished(sys.executable, *words, timeout=SECONDS, env={"PATH": "/usr/bin:/bin"})
+        self.assertEqual((done.out, done.status, done.err.count("\n")), ("", 1, 1), done.err)
+        self.want_in(done.err, "has no Dask; ")
+        self.want_in(done.err, "python3-distributed")

@@ -72,11 +72,11 @@ class Solvers(PlaceTest):
         self.assertEqual(self.nrm("check", network, path), "optimal\n")
         self.assertEqual(self.told("audit", network, path).splitlines()[-1], "optimal")
         other = self.file("other.csv", WITH_THIRDS.replace("product,BCD,102", "product,BCD,103"))
-        self.want_in(self.stopped("lp", other, "--solution", solution), "the solution of another network")
+        self.stopped("lp", other, "--solution", solution, says="the solution of another network")
         for wrong in (WRITTEN_BY_GLPSOL.replace("f f", "i i"), WRITTEN_BY_GLPSOL.replace("bas 4", "bas 5"), "", "s\n"):
-            self.want_in(self.stopped("lp", network, "--solution", self.file("wrong", wrong)), "isn't an optimal one")
-        self.want_in(self.stopped("lp", network, "--solution", self.file("wrong", WRITTEN_BY_GLPSOL.replace("0.6", "many"))), "has a line that")
-        self.want_in(self.stopped("lp", network, "--solution", ""), "No such file")
+            self.stopped("lp", network, "--solution", self.file("wrong", wrong), says="isn't an optimal one")
+        self.stopped("lp", network, "--solution", self.file("wrong", WRITTEN_BY_GLPSOL.replace("0.6", "many")), says="has a line that")
+        self.stopped("lp", network, "--solution", "", says="No such file")
 
     def test_has_the_authorised_seats_as_caps(self) -> None:
         """The same program as of a file of version 1 with as many seats; the certificate is one for the authorised seats alone."""
@@ -105,7 +105,7 @@ class Solvers(PlaceTest):
                                    ("status OPTIMAL", "status UNSOLVED", "isn't an optimal one"), ("806", "807", "another network"),
                                    ("97/3", "97/0", "has a line that"), ("97/3", "many", "has a line that")):
             wrong = self.file("wrong", WRITTEN_BY_ESOLVER.replace(old, new))
-            self.want_in(self.stopped("lp", network, "--solution", wrong), sentence)
+            self.stopped("lp", network, "--solution", wrong, says=sentence)
 
     def test_takes_decimals_for_the_fractions_that_they_stand_for(self) -> None:
         for numerator, denominator in [(2, 3), (1, 7), (299_998, 3), (99_999_998, 7), (31_968, 1), (5, 4096), (0, 1), (1234, 997)]:

@@ -153,8 +153,8 @@ class OwnWorkers(SimulateTest):
             self.simulated(LOG, "--seasons", count, "--workers", 1, "--out", "cut")
             self.assertEqual(self.whole("cut"), by_one_process(self.program, LOG, Settings(), count), f"{count} seasons")
         words = [LOG, "--out", "cut", *self.with_program, "--seasons"]
-        self.want_in(self.stopped("simulate", *words, 70), "has more seasons than the 70 that are asked for")
-        self.want_in(self.stopped("simulate", *words, 90, "--seed", 2), "another run, which differs in: seed")
+        self.stopped("simulate", *words, 70, says="has more seasons than the 70 that are asked for")
+        self.stopped("simulate", *words, 90, "--seed", 2, says="another run, which differs in: seed")
 
     @takes_long
     def test_a_stopped_worker_is_told_and_not_waited_for_without_end(self) -> None:

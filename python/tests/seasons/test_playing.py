@@ -11,7 +11,7 @@ class Playing(PlaceTest):
         out = self.told("replay", EXAMPLES / "log" / "network.csv", *self.with_program)
         self.assertEqual(out.splitlines()[-1].split(), ["all", "7,760", "4,410", "57", "%", "5,490", "71", "%", "6,600", "85", "%"])
         one = self.file("one.csv", "periods,1,1\nleg,A,1\nproduct,P,5,A\n")
-        self.want_in(self.stopped("replay", one, *self.with_program), "two histories")
+        self.stopped("replay", one, *self.with_program, says="two histories")
         rows = [row.fields for row in rows_of((EXAMPLES / "log" / "network.csv").read_bytes())]
         rows = [[*row, 2] if row[0] == "periods" else [*row[:2], 0, *row[2:]] if row[0] == "leg" else row for row in rows]
         self.assertEqual(self.told("replay", self.file("second.csv", text_of(rows)), *self.with_program), out)

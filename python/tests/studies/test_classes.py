@@ -55,7 +55,7 @@ class Classes(PlaceTest):
         path, program = self.file("many.csv", text_of(many)), self.with_program
         for leg, wanted in (("X", "the products whose only leg is X are 11, and it takes 1 to 10"), ("Y", "only leg is Y are 0, and"),
                             ("Z", "there is no leg Z")):
-            self.want_in(self.stopped("optimum", path, leg, *program), wanted)
+            self.stopped("optimum", path, leg, *program, says=wanted)
         few = self.file("few.csv", text_of([it for it in many if it[1] not in ("P0", "OVER")]))
         out = self.told("optimum", few, "X", *program)  # ten, at one fare, for which nobody asked
         self.assertEqual(out.splitlines()[-2:], ["  optimum     0.00", "  EMSR-b      0.00"])
