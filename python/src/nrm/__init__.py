@@ -1,7 +1,7 @@
-"""The tools beside `nrm`: network files read, explained and cut, seasons played and shown, many desks at one controller.
+"""The tools beside `nrm`: network files read and explained, seasons played and shown, many desks at one controller.
 
-Holds the version, `Stop`, the one error of a user's mistake, and how a file is read and a folder made so that a fault is one.
-May use: nothing.
+Holds the version, `Stop`, the one error of a user's mistake, and how a file is read and a folder made so that a fault
+is one. May use: nothing.
 """
 from __future__ import annotations
 

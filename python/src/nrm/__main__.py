@@ -16,8 +16,8 @@ from nrm.program import Program
 USAGE = f"usage: {TOOLS} NAME WORD..."
 MANUAL = f"""{USAGE}
 
-`{TOOLS} NAME --help` tells all of a command, and `{TOOLS} --version` the version, and the program that the commands run with its
-checksum. The commands:
+`{TOOLS} NAME --help` tells all of a command, and `{TOOLS} --version` the version, and the program that the commands run
+with its checksum. The commands:
 """
 
 
@@ -47,7 +47,8 @@ def main(words: Sequence[str] | None = None) -> int:
     if name in ("-h", "--help", "--version"):
         return status_of(name, version if name == "--version" else help_of_all, rest)
     if name not in NAMED:
-        print(f"{USAGE}\n{TOOLS}: {f'there is no command {name}' if name else 'no command is named'}; --help lists all", file=sys.stderr)
+        wrong = f"there is no command {name}" if name else "no command is named"
+        print(f"{USAGE}\n{TOOLS}: {wrong}; --help lists all", file=sys.stderr)
         return 2
     run = importlib.import_module(NAMED[name]).run
     return int(run(rest) if name in ALONE else status_of(name, run, rest))

@@ -1,6 +1,6 @@
-"""How a command begins and ends: its words, and its status. A user's mistake, a closed pipe and Ctrl-C are told in a line, or not at all.
+"""How a command begins and ends: its words, its status, and how a mistake, a closed pipe or Ctrl-C is told.
 
-May use: nrm.
+May use: nrm, nrm.telling.libraries.
 """
 from __future__ import annotations
 
@@ -12,6 +12,7 @@ import sys
 from typing import Callable, Sequence
 
 from nrm import Stop
+from nrm.telling.libraries import is_there, missing
 
 TOOLS = "nrm-tools"
 Run = Callable[[Sequence[str]], int]
@@ -31,7 +32,8 @@ def parser(name: str, manual: str) -> argparse.ArgumentParser:
 
 def add_program(words: argparse.ArgumentParser) -> None:
     """The option for which program is run, among the words of a command."""
-    words.add_argument("--program", nargs="+", metavar="WORD", help="what runs `nrm`, where it isn't the one that is found")
+    words.add_argument("--program", nargs="+", metavar="WORD",
+                       help="what runs `nrm`; else it is the program of this folder, or the one on the path")
 
 
 def status_of(name: str, run: Run, words: Sequence[str]) -> int:
@@ -63,6 +65,14 @@ def status_of(name: str, run: Run, words: Sequence[str]) -> int:
 def tell(name: str, text: str) -> None:
     """Tells something on standard error, in the name of a command."""
     print(f"{title(name)}: {text}", file=sys.stderr)
+
+
+def lacking(name: str, *libraries: str) -> list[str]:
+    """Those of some libraries that aren't there; what isn't made without them is told in the name of a command."""
+    found = [it for it in libraries if not is_there(it)]
+    if found:
+        tell(name, missing(found))
+    return found
 
 
 def tell_what_cant_be_shown() -> None:

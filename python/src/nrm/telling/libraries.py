@@ -1,12 +1,14 @@
-"""Which libraries are there for pictures and pages, and what is said where one isn't. May use: nothing."""
+"""Which libraries are there for pictures, pages and seasons, and what is said where one isn't. May use: nothing."""
 from __future__ import annotations
 
 import importlib
+import os
 import sys
 from typing import Sequence
 
 DEBIANS_PYTHON = "/usr/bin/python3"
 NEEDED_FOR = {"matplotlib": "pictures", "jinja2": "page"}
+KNOWN_AS = {"distributed": "Dask"}
 
 
 def is_there(library: str) -> bool:
@@ -18,13 +20,20 @@ def is_there(library: str) -> bool:
         return False
 
 
+def is_debians() -> bool:
+    """Whether this Python is Debian's own, and not one of a virtual environment beside it."""
+    return sys.prefix == sys.base_prefix and os.path.realpath(sys.executable) == os.path.realpath(DEBIANS_PYTHON)
+
+
+def lacks(libraries: Sequence[str]) -> str:
+    """A sentence that says that this Python lacks some libraries, and which of Debian's packages have them."""
+    names, packages = " and no ".join(KNOWN_AS.get(it, it) for it in libraries), [f"python3-{it}" for it in libraries]
+    if is_debians():
+        return f"{sys.executable} has no {names}; `apt-get install {' '.join(packages)}` installs what is missing"
+    return (f"{sys.executable}, the Python that was asked, has no {names}; Debian's {' and '.join(packages)} "
+            f"{'are' if len(packages) > 1 else 'is'} for {DEBIANS_PYTHON}: NRM_PYTHON={DEBIANS_PYTHON} nrm-tools ..")
+
+
 def missing(libraries: Sequence[str]) -> str:
-    """A sentence that says what isn't made, since these libraries aren't there, and which of Debian's packages have them."""
-    made, names = " and no ".join(NEEDED_FOR[it] for it in libraries), " and no ".join(libraries)
-    packages = " and ".join(f"python3-{it}" for it in libraries)
-    if sys.executable == DEBIANS_PYTHON:
-        advice = f"`apt-get install {packages.replace(' and', '')}` installs what is missing"
-    else:
-        are = "are" if len(libraries) > 1 else "is"
-        advice = f"Debian's {packages} {are} for {DEBIANS_PYTHON}: NRM_PYTHON={DEBIANS_PYTHON} nrm-tools .."
-    return f"no {made}, since {sys.executable}, the Python that was asked, has no {names}; {advice}"
+    """A sentence that says what isn't made, since this Python lacks some libraries."""
+    return f"no {' and no '.join(NEEDED_FOR[it] for it in libraries)}, since {lacks(libraries)}"

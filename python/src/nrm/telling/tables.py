@@ -3,7 +3,7 @@ from __future__ import annotations
 
 from dataclasses import dataclass
 from fractions import Fraction
-from typing import Iterable, Sequence, Union
+from typing import Sequence, Union
 
 Cell = Union[str, int, Fraction, None]
 
@@ -35,7 +35,6 @@ class Table:
                  for row in rows)
         return "\n".join([self.title, "", *lines, ""])
 
-
-def print_table(title: str, heads: Sequence[str], rows: Iterable[Sequence[Cell]]) -> None:
-    """Prints a table of text behind an empty line."""
-    print("\n" + Table(title, heads, list(rows)).text(), end="")
+    def show(self) -> None:
+        """Prints the table behind an empty line."""
+        print("\n" + self.text(), end="")

@@ -2,14 +2,15 @@
 
     nrm-tools explain NETWORK [CERTIFICATE]
 
-`nrm print NETWORK` tells the first row that it refuses, and `nrm check NETWORK CERTIFICATE` the first line. This tells all: of
-each row what the program says of it, and below that, for each field that is at fault, the line of the file as an editor counts
-it, the field and what stands in it, and how to mend it. The first that is told is the program's. A row that is refused still
-makes its name known, so no row is told for the fault of another. Which version a file is of, its row of periods says: with `,2` at
-its end it is of version 2, with authorised seats behind the seats of each leg and with rows of refunds.
+`nrm print NETWORK` tells the first row that it refuses, and `nrm check NETWORK CERTIFICATE` the first line. This tells
+all: of each row what the program says of it, and below that, for each field that is at fault, the line of the file as
+an editor counts it, the field and what stands in it, and how to mend it. The first that is told is the program's. A row
+that is refused still makes its name known, so no row is told for the fault of another. Which version a file is of, its
+row of periods says: with `,2` at its end it is of version 2, with authorised seats behind the seats of each leg and
+with rows of refunds.
 
-The status is 3 where something is refused, 9 where a file can't be read, and else 0. A certificate that is read may still be
-wrong: `nrm check` and `nrm-tools audit` say so.
+The status is 3 where something is refused, 9 where a file can't be read, and else 0. A certificate that is read may
+still be wrong: `nrm check` and `nrm-tools audit` say so.
 """
 from __future__ import annotations
 
@@ -44,18 +45,20 @@ def explain(path: str, certificate: str | None = None) -> int:
         print(f"{path}: rows refused {len(refusals)}{'; the certificate was not read' if certificate else ''}")
         return REFUSED
     network = Network.of(rows_of(data))
-    faults = [] if certificate is None else list(faults_of_certificate(bytes_of(certificate, "refused certificate no file"), network))
+    faults: list[tuple[str, str]] = []
+    if certificate is not None:
+        faults += faults_of_certificate(bytes_of(certificate, "refused certificate no file"), network)
     for words, advice in faults:
         print(f"{words}\n    {advice}")
-    print(f"{path}: no row is refused; legs {len(network.legs)}, products {len(network.products)}, histories {network.histories}, "
-          f"periods {network.periods}")
+    print(f"{path}: no row is refused; legs {len(network.legs)}, products {len(network.products)}, "
+          f"histories {network.histories}, periods {network.periods}")
     if certificate is not None:
         print(f"{certificate}: {f'faults {len(faults)}' if faults else 'no line is refused'}")
     return REFUSED if faults else 0
 
 
 def bytes_of(path: str, missing: str) -> bytes:
-    """The bytes of a file, as far as shows that it is too long; where it isn't there, what the program says of that is told."""
+    """The bytes of a file, as far as shows that it is too long; that there is none is told as the program does."""
     try:
         with open(path, "rb") as file:
             return file.read(MOST_NETWORK_BYTES + 1)

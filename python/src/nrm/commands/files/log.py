@@ -4,40 +4,44 @@
                   [--without COLUMN TEXT..] [--network FILE] [--names FILE] [--weekday DAY] [--last N] [--dates dmy|mdy]
                   [--multiline] > NEW
 
-LOG has a row of headings and below it a row for each request: the day of departure, the day on which it was made, what was
-asked for, and how many seats, 1 where no column says so. COLUMN is a heading, in capitals or not; what was asked for may stand in
-several, such as the flight and the class, which are then joined. Rows above the headings are passed over, and so are other
-columns and empty rows. Fields are kept apart by commas, semicolons, tabs or bars, and may stand in quotes. The file may be in
-UTF-8, in UTF-16 with its mark, or else in Windows-1252. --without status cancelled leaves out the rows that have that text, or one
-of several, in that column, in capitals or not; it may be said of more columns than one.
+LOG has a row of headings and below it a row for each request: the day of departure, the day on which it was made, what
+was asked for, and how many seats, 1 where no column says so. COLUMN is a heading, in capitals or not; what was asked
+for may stand in several, such as the flight and the class, which are then joined. Rows above the headings are passed
+over, and so are other columns and empty rows. Fields are kept apart by commas, semicolons, tabs or bars, and may stand
+in quotes. The file may be in UTF-8, in UTF-16 with its mark, or else in Windows-1252. --without status cancelled leaves
+out the rows that have that text, or one of several, in that column, in capitals or not; it may be said of more columns
+than one.
 
-QUOTES. A quote that isn't closed takes all that follows into its field, up to the next quote. So each row is to end in its line: where a
-quote is opened in it and not closed, or closed and followed by more text, the log is refused, with the line. --multiline is for logs
-whose fields have line feeds on purpose, within quotes; a quote that is closed nowhere is refused then too.
+QUOTES. A quote that isn't closed takes all that follows into its field, up to the next quote. So each row is to end in
+its line: where a quote is opened in it and not closed, or closed and followed by more text, the log is refused, with
+the line. --multiline is for logs whose fields have line feeds on purpose, within quotes; a quote that is closed nowhere
+is refused then too.
 
-WHAT IS READ. On standard error stands each time how many rows were read of how many lines; from which day to which there are
-departures, and how many; and which days between them have none: days of the week on which there never is one, and single days.
+WHAT IS READ. On standard error stands each time how many rows were read of how many lines; from which day to which
+there are departures, and how many; and which days between them have none: days of the week on which there never is one,
+and single days.
 
-SEASONS. Each day of departure is a season, and so a history: they are numbered from the earliest. With --weekday fri they are the
-Fridays alone, with --last N the N latest; a file takes 32.
+SEASONS. Each day of departure is a season, and so a history: they are numbered from the earliest. With --weekday fri
+they are the Fridays alone, with --last N the N latest; a file takes 32.
 
-PERIODS. --cuts 60,30,7 makes four: more than 60 days before departure, up to 60, up to 30, and up to 7, the day itself among them.
-A file takes 16.
+PERIODS. --cuts 60,30,7 makes four: more than 60 days before departure, up to 60, up to 30, and up to 7, the day itself
+among them. A file takes 16.
 
-DATES. 2025-03-07, 2025/03/07, 2025.03.07 and 20250307; 7.3.2025 and 07.03.2025, the day first; in English 7MAR2025, 07-Mar-2025,
-7 March 2025, March 7, 2025, and 07MAR25. A weekday before it and a time behind it are passed over. 07/03/2025 and 07-03-2025 are
-read one way in a log: as another of its dates shows, since no month is above 12, or as --dates says, dmy for the day first or mdy
-for the month first. Where neither does, the log is refused. So is a year of two digits behind a month in digits, as in 07.03.25.
+DATES. 2025-03-07, 2025/03/07, 2025.03.07 and 20250307; 7.3.2025 and 07.03.2025, the day first; in English 7MAR2025,
+07-Mar-2025, 7 March 2025, March 7, 2025, and 07MAR25. A weekday before it and a time behind it are passed over.
+07/03/2025 and 07-03-2025 are read one way in a log: as another of its dates shows, since no month is above 12, or as
+--dates says, dmy for the day first or mdy for the month first. Where neither does, the log is refused. So is a year of
+two digits behind a month in digits, as in 07.03.25.
 
-NAMES. A product whose text is no name of a network file gets one: in capitals, `-` for all but letters and digits, shorter where
-it is too long, and a name of its own. --names FILE writes the list, `name,stands for`; where FILE is there already the names
-in it stay, and new ones are added. So better ones may be written into it.
+NAMES. A product whose text is no name of a network file gets one: in capitals, `-` for all but letters and digits,
+shorter where it is too long, and a name of its own. --names FILE writes the list, `name,stands for`; where FILE is
+there already the names in it stay, and new ones are added. So better ones may be written into it.
 
-What is written is the demand, as rows `demand`, with the row of periods above them. With --network FILE, which has rows of legs
-and products, it is the whole network file: the demand and the periods of FILE are replaced; its version, authorised seats and
-refunds stay. If these are more than a network file takes, `nrm-tools split` cuts it. What is still to be done, such as the
-products to which FILE has no row, is told on standard error. A log that has a row that can't be read is refused: it prints the first
-20 such rows, and how many more there are.
+What is written is the demand, as rows `demand`, with the row of periods above them. With --network FILE, which has rows
+of legs and products, it is the whole network file: the demand and the periods of FILE are replaced; its version,
+authorised seats and refunds stay. If these are more than a network file takes, `nrm-tools split` cuts it. What is still
+to be done, such as the products to which FILE has no row, is told on standard error. A log that has a row that can't be
+read is refused: it prints the first 20 such rows, and how many more there are.
 """
 from __future__ import annotations
 
@@ -109,9 +113,10 @@ def tell(text: str) -> None:
 
 
 def tell_names(demand: Demand, names: dict[str, str], path: str | None) -> None:
-    """Tells which names were made, or how many if a list at a path has them, and whether the products are too many for one file."""
+    """Tells which names were made, or how many if a list at a path has them, and if there are too many for one file."""
     if len(demand.products) > MOST_PRODUCTS:
-        tell(f"a network file takes {MOST_PRODUCTS} products: with its legs and fares `nrm-tools split` cuts it into files")
+        tell(f"a network file takes {MOST_PRODUCTS} products: with its legs and fares `nrm-tools split` cuts it "
+             "into files")
     made = [text for text in demand.products if names[text] != text]
     if path:
         tell(f"names made {len(made)}; {path} lists what they stand for")

@@ -3,14 +3,15 @@
     nrm-tools split TIMETABLE FOLDER
 
 TIMETABLE is written like a network file, but may have any number of legs and products. Legs that a product joins belong
-together, and so do those that products join to them in their turn: what is sold on such a part is worth the same whatever happens
-in another. Each part becomes a file of its own, FOLDER/part-1.csv and so on in the order of their first legs, with its products,
-their refunds and demand, and the row of periods; it is of the version that TIMETABLE has. FOLDER/parts.csv says of each product
-in which file it is, so that a request goes to the right session. A line for each part is told. A leg without a product is in no
-file, and told; and so is a part of an earlier run that is still in the folder.
+together, and so do those that products join to them in their turn: what is sold on such a part is worth the same
+whatever happens in another. Each part becomes a file of its own, FOLDER/part-1.csv and so on in the order of their
+first legs, with its products, their refunds and demand, and the row of periods; it is of the version that TIMETABLE
+has. FOLDER/parts.csv says of each product in which file it is, so that a request goes to the right session. A line for
+each part is told. A leg without a product is in no file, and told; and so is a part of an earlier run that is still in
+the folder.
 
-A part with more than 64 legs or 256 products is told too, with its legs and the products without which it would fall apart, and
-not written; the status is then 1.
+A part with more than 64 legs or 256 products is told too, with its legs and the products without which it would fall
+apart, and not written; the status is then 1.
 """
 from __future__ import annotations
 

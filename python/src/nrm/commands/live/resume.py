@@ -2,17 +2,18 @@
 
     nrm-tools resume NETWORK MODE STREAM REPLIES [--go-on] [--program WORD...]
 
-STREAM has the lines so far, in their order, and REPLIES what was kept of the replies; the last one may be cut. The program is run
-over the stream, and what was kept must be a front of what it answers: otherwise it is told where the two part, and the status is 1.
-What is told is the first line without a whole reply, and how many bytes the whole replies before it have.
+STREAM has the lines so far, in their order, and REPLIES what was kept of the replies; the last one may be cut. The
+program is run over the stream, and what was kept must be a front of what it answers: otherwise it is told where the two
+part, and the status is 1. What is told is the first line without a whole reply, and how many bytes the whole replies
+before it have.
 
-With --go-on that is told on standard error. Then the program is run over the lines before that one, whose replies are compared and
-not written again, and goes on with the lines of standard input; its replies and its status are passed on. Of the lines before, it
-is given those alone that can have changed something: what they were answered begins with `ok`, `no`, `cancelled` or `optimised`.
+With --go-on that is told on standard error. Then the program is run over the lines before that one, whose replies are
+compared and not written again, and goes on with the lines of standard input; its replies and its status are passed on.
+Of the lines before, it is given those alone that can have changed something: what they were answered begins with `ok`,
+`no`, `cancelled` or `optimised`.
 
-A line that was answered `memory` changed nothing, and may be answered otherwise another time, so it is never given again. If
-what was kept ends inside `memory`, the line has no whole reply, and the stream goes on there. With no --program it is the program
-`nrm` of this folder, or the one on the path.
+A line that was answered `memory` changed nothing, and may be answered otherwise another time, so it is never given
+again. If what was kept ends inside `memory`, the line has no whole reply, and the stream goes on there.
 """
 from __future__ import annotations
 

@@ -2,33 +2,33 @@
 
     nrm-tools optimum NETWORK LEG [--out FOLDER] [--program WORD...]
 
-The classes are the products whose only leg is LEG, 1 to 10 of them, and they have all its authorised seats to themselves: what
-is sold over several legs has no part in this. The optimum is that of `nrm dp`. EMSR-b's protections are those of `nrm plan davn`
-on a network of this leg and these classes alone, with a bucket for each fare. Prints, for each class, its fare, its mean
-demand in a history, and how many seats are kept from it by each for the classes above; and the mean revenue of a history by
-each, the second one worked out in exact fractions by the same model, with its share of the optimum.
+The classes are the products whose only leg is LEG, 1 to 10 of them, and they have all its authorised seats to
+themselves: what is sold over several legs has no part in this. The optimum is that of `nrm dp`. EMSR-b's protections
+are those of `nrm plan davn` on a network of this leg and these classes alone, with a bucket for each fare. Prints, for
+each class, its fare, its mean demand in a history, and how many seats are kept from it by each for the classes above;
+and the mean revenue of a history by each, the second one worked out in exact fractions by the same model, with its
+share of the optimum.
 
-With --out the revenue over the number of seats, what each further seat adds to it, which is the bid price of that seat, and the
-protections are drawn, as optimum.png and optimum.svg in FOLDER. That needs matplotlib (Debian's python3-matplotlib). With no
---program it is the program of this folder, or the one on the path.
+With --out the revenue over the number of seats, what each further seat adds to it, which is the bid price of that seat,
+and the protections are drawn, as optimum.png and optimum.svg in FOLDER. That needs matplotlib (Debian's
+python3-matplotlib).
 
-WHAT THE NUMBERS MEAN. The model has the classes come one after the other, from the lowest fare to the highest. Each class asks
-for what it did in one of the histories, each as likely, and whatever the other classes ask for. If it comes so, no rule of
-control earns more on the mean than the optimum. Where it doesn't come so, the optimum is no bound and no forecast. If classes
-come in another order, what a dear class asks for may be known before the seats are gone, and a control that makes use of that
-can earn more. If the demand of classes rises and falls together, as it does where some days are busy for all, then the same
-protections earn more or less than is told here. EMSR-b itself reads the histories as they are, with what is common to the
-classes in them. So the share says how near EMSR-b's rule comes on this leg in a plain model. What protections earn in your
-seasons, with the other legs and with new plans, `nrm-tools replay` says.
+WHAT THE NUMBERS MEAN. The model has the classes come one after the other, from the lowest fare to the highest. Each
+class asks for what it did in one of the histories, each as likely, and whatever the other classes ask for. If it comes
+so, no rule of control earns more on the mean than the optimum. Where it doesn't come so, the optimum is no bound and no
+forecast. If classes come in another order, what a dear class asks for may be known before the seats are gone, and a
+control that makes use of that can earn more. If the demand of classes rises and falls together, as it does where some
+days are busy for all, then the same protections earn more or less than is told here. EMSR-b itself reads the histories
+as they are, with what is common to the classes in them. So the share says how near EMSR-b's rule comes on this leg in a
+plain model. What protections earn in your seasons, with the other legs and with new plans, `nrm-tools replay` says.
 """
 from __future__ import annotations
 
 from typing import Sequence
 
-from nrm.commands.running import add_program, parser, tell
+from nrm.commands.running import add_program, lacking, parser
 from nrm.program import Program
 from nrm.studies.classes import LegAlone, remarks, tables
-from nrm.telling.libraries import is_there, missing
 
 
 def run(given: Sequence[str]) -> int:
@@ -42,13 +42,10 @@ def run(given: Sequence[str]) -> int:
     leg = LegAlone(asked.network, asked.leg, Program.found(asked.program))
     emsr = leg.emsr()
     for table in tables(leg, emsr):
-        print("\n" + table.text(), end="")
+        table.show()
     for remark in remarks(leg, emsr):
         print("\n" + remark)
-    if asked.out is None:
-        return 0
-    if not is_there("matplotlib"):
-        tell("optimum", missing(["matplotlib"]))
+    if asked.out is None or lacking("optimum", "matplotlib"):
         return 0
     from nrm.studies import pictures
     from nrm.telling.figures import written

@@ -2,11 +2,11 @@
 
     nrm-tools replay NETWORK [--seed NUMBER] [--program WORD...]
 
-Each history in its turn is taken out of NETWORK and becomes the season: its requests, a seat each, in the order of the periods
-and mixed within each period by the seed, with a line `reoptimise` at the start of each period but the first. `nrm` answers
-them in the three modes on the network of the other histories. It prints the bound of hindsight, and how much of it each mode
-earns; nothing is cancelled, so nothing is withheld. `nrm-tools simulate --leave-out` plays the same seasons many times, each in
-another order. With no --program it is the program of this folder, or the one on the path.
+Each history in its turn is taken out of NETWORK and becomes the season: its requests, a seat each, in the order of the
+periods and mixed within each period by the seed, with a line `reoptimise` at the start of each period but the first.
+`nrm` answers them in the three modes on the network of the other histories. It prints the bound of hindsight, and how
+much of it each mode earns; nothing is cancelled, so nothing is withheld. `nrm-tools simulate --leave-out` plays the
+same seasons many times, each in another order.
 """
 from __future__ import annotations
 

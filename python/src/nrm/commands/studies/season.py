@@ -2,22 +2,23 @@
 
     nrm-tools season NETWORK STREAM [--out FOLDER] [--leg LEG] [--decimal] [--program WORD...]
 
-`nrm` answers the lines of STREAM on NETWORK under `first`, `bid` and `davn`. It prints the revenue of each mode beside the
-bound of hindsight, what it has withheld of cancelled bookings where some product's refund is below 100 per cent, and the bid
-prices of each leg, at the opening, at each line `reoptimise` and at the end; the seats of one leg, sold, left and protected; and
-of how many requests each product was refused. The seats left are those of the authorised seats.
+`nrm` answers the lines of STREAM on NETWORK under `first`, `bid` and `davn`. It prints the revenue of each mode beside
+the bound of hindsight, what it has withheld of cancelled bookings where some product's refund is below 100 per cent,
+and the bid prices of each leg, at the opening, at each line `reoptimise` and at the end; the seats of one leg, sold,
+left and protected; and of how many requests each product was refused. The seats left are those of the authorised seats.
 
-The tables come on standard output; the pictures go to FOLDER, the current one where nothing is said, each as PNG and as SVG, and
-are the same each time. They need matplotlib (Debian's python3-matplotlib). Tables and pictures are in season.html too, a page that
-stands alone in one file, without scripts; it needs jinja2 (python3-jinja2). What isn't there is told, and the tables come in any case.
-LEG is the leg whose seats are drawn, by default the one of which most seats were asked for. With --decimal the tables have decimals
-in the place of fractions, as a spreadsheet wants them. With no --program it is the program of this folder, or the one on the path.
+The tables come on standard output; the pictures go to FOLDER, the current one where nothing is said, each as PNG and as
+SVG, and are the same each time. They need matplotlib (Debian's python3-matplotlib). Tables and pictures are in
+season.html too, a page that stands alone in one file, without scripts; it needs jinja2 (python3-jinja2). What isn't
+there is told, and the tables come in any case. LEG is the leg whose seats are drawn, by default the one of which most
+seats were asked for. With --decimal the tables have decimals in the place of fractions, as a spreadsheet wants them.
 
 HOW REPLIES ARE TOLD APART. Before the first line, behind each line `reoptimise K` of a period that the network has, and
-behind the last line, the lines `plan`, `leg LEG` for each leg, and `hindsight` are put into the stream. None of them changes
-what any other line is answered. Each line has one reply, and each reply one line, but for two: the text of a plan goes on with
-lines that begin with `product`, `leg` and a fraction, `nest` or `protect`, and that of a leg with lines that begin with `on`.
-So the replies are dealt out to the lines in order, and those to the lines put in are taken away.
+behind the last line, the lines `plan`, `leg LEG` for each leg, and `hindsight` are put into the stream. None of them
+changes what any other line is answered. Each line has one reply, and each reply one line, but for two: the text of a
+plan goes on with lines that begin with `product`, `leg` and a fraction, `nest` or `protect`, and that of a leg with
+lines that begin with `on`. So the replies are dealt out to the lines in order, and those to the lines put in are taken
+away.
 """
 from __future__ import annotations
 
@@ -25,10 +26,9 @@ import os
 from typing import Iterator, Sequence
 
 from nrm import make_folder
-from nrm.commands.running import add_program, parser, tell
+from nrm.commands.running import add_program, lacking, parser
 from nrm.program import Program
 from nrm.studies.course import Season, page, tables
-from nrm.telling.libraries import is_there, missing
 from nrm.telling.page import write
 
 
@@ -44,20 +44,20 @@ def run(given: Sequence[str]) -> int:
     asked = words.parse_args(given)
     season = Season.played(asked.network, asked.stream, asked.leg, Program.found(asked.program))
     told = list(tables(season, asked.decimal))
-    print("Each point of the season is behind a line of the stream:", *[f"{name} {number}" for number, name in season.stream.points],
+    print("Each point of the season is behind a line of the stream:",
+          *[f"{name} {number}" for number, name in season.stream.points],
           sep="\n  ")
     for table in told:
-        print("\n" + table.text(), end="")
-    lacking = [it for it in ("matplotlib", "jinja2") if not is_there(it)]
-    if lacking:
-        tell("season", missing(lacking))
+        table.show()
+    missing = lacking("season", "matplotlib", "jinja2")
     pictures: list[str] = []
-    for path in drawn(season, asked.out) if "matplotlib" not in lacking else ():
+    for path in drawn(season, asked.out) if "matplotlib" not in missing else ():
         print(path if pictures else f"\n{path}")
         pictures.append(path)
-    if "jinja2" not in lacking:
+    if "jinja2" not in missing:
         make_folder(asked.out)
-        print(write(os.path.join(asked.out, "season.html"), page(season, told, [it for it in pictures if it.endswith(".svg")])))
+        print(write(os.path.join(asked.out, "season.html"),
+                    page(season, told, [it for it in pictures if it.endswith(".svg")])))
     return 0
 
 

@@ -2,40 +2,42 @@
 
     nrm-tools simulate NETWORK... --seasons N [--seed S] [--out FOLDER] [--modes MODE...] [--demand HOW] [--order HOW]
                        [--parties SIZE:WEIGHT,...] [--cancel P] [--show P --denied-cost C] [--leave-out]
-                       [--workers N | --cluster ADDRESS [--tls CA CERTIFICATE KEY]] [--patience SECONDS] [--program WORD...]
+                       [--workers N | --cluster ADDRESS [--tls CA CERTIFICATE KEY]] [--patience SECONDS]
+                       [--program WORD...]
 
-For each NETWORK and season requests are drawn, with a line `reoptimise` at the start of each period but the first, and `nrm`
-answers them in each mode. It prints the revenue of each mode with its standard error and its share of the bound of hindsight;
-the difference of each two modes on the same requests, with its 95 per cent interval; the load of each leg; and the share of the
-requests for each product that was refused. If the networks differ in the authorised seats of one leg alone, what is earned is
-told by these.
+For each NETWORK and season requests are drawn, with a line `reoptimise` at the start of each period but the first, and
+`nrm` answers them in each mode. It prints the revenue of each mode with its standard error and its share of the bound
+of hindsight; the difference of each two modes on the same requests, with its 95 per cent interval; the load of each
+leg; and the share of the requests for each product that was refused. If the networks differ in the authorised seats of
+one leg alone, what is earned is told by these.
 
-HOW A SEASON IS DRAWN. --demand histories: the requests of a history, each as likely (the default); independent: those of a
-history for each product, drawn apart; poisson: numbers about the mean of the histories, for each product and period apart.
---order: within a period mixed (the default), or low-first, by fare. --parties 1:80,2:15,4:5: of 100 requests 80 are for a seat,
-15 for two and 5 for four; the seats that are asked for stay the same, so the last party of a product in a period may be
-smaller. --cancel 0.1: each booking is cancelled with this probability, at a line drawn from those after it. --show 0.9: each
-seat booked at the end is taken with this probability; those taken beyond the physical seats of a leg are denied boardings, at
---denied-cost each. --leave-out: plans are made without the history that is played. The same --seed gives the same seasons, and
-they are the same on networks that differ in the seats and thresholds of legs alone.
+HOW A SEASON IS DRAWN. --demand histories: the requests of a history, each as likely (the default); independent: those
+of a history for each product, drawn apart; poisson: numbers about the mean of the histories, for each product and
+period apart. --order: within a period mixed (the default), or low-first, by fare. --parties 1:80,2:15,4:5: of 100
+requests 80 are for a seat, 15 for two and 5 for four; the seats that are asked for stay the same, so the last party of
+a product in a period may be smaller. --cancel 0.1: each booking is cancelled with this probability, at a line drawn
+from those after it. --show 0.9: each seat booked at the end is taken with this probability; those taken beyond the
+physical seats of a leg are denied boardings, at --denied-cost each. --leave-out: plans are made without the history
+that is played. The same --seed gives the same seasons, and they are the same on networks that differ in the seats and
+thresholds of legs alone.
 
-WHERE IT RUNS. It needs Dask (Debian's python3-distributed, which is for /usr/bin/python3: if the Python that was asked has no
-Dask and that one has, a checkout's command goes on under that one). It starts as many processes as there are processors, or
---workers, on this machine. They talk by TLS, with keys that are made for the run and are in memory alone (it takes Debian's
-python3-cryptography), so no other account of the machine can use them. With --cluster it uses the workers of the Dask scheduler
-at ADDRESS, each of which must be able to run the words of --program. A scheduler without TLS runs anything for anybody who
-reaches it, and on the machine of each who asks it: so let it be tls://ADDRESS, and give with --tls the files of the certificate
-that signs for it, of your certificate and of your key, all as PEM. The workers are sent these tools. One whose program or whose
-tools aren't those of this machine, byte for byte, is refused with both checksums. If no seasons come back, since a worker was
-stopped or is lost, that is told after 30 seconds, and ends the run after --patience, by default 300. The results don't depend
-on where it runs.
+WHERE IT RUNS. It needs Dask (Debian's python3-distributed, which is for /usr/bin/python3: if the Python that was asked
+has no Dask and that one has, a checkout's command goes on under that one). It starts as many processes as there are
+processors, or --workers, on this machine. They talk by TLS, with keys that are made for the run and are in memory alone
+(it takes Debian's python3-cryptography), so no other account of the machine can use them. With --cluster it uses the
+workers of the Dask scheduler at ADDRESS, each of which must be able to run the words of --program. A scheduler without
+TLS runs anything for anybody who reaches it, and on the machine of each who asks it: so let it be tls://ADDRESS, and
+give with --tls the files of the certificate that signs for it, of your certificate and of your key, all as PEM. The
+workers are sent these tools. One whose program or whose tools aren't those of this machine, byte for byte, is refused
+with both checksums. If no seasons come back, since a worker was stopped or is lost, that is told after 30 seconds, and
+ends the run after --patience, by default 300. The results don't depend on where it runs.
 
-WHAT IS WRITTEN. The summary comes on standard output, progress on standard error. With --out FOLDER there are also summary.txt,
-simulate.html with the tables and pictures, each picture as SVG, and for each network NAME-seasons.csv with a row for each
-season and mode. The pictures need matplotlib (Debian's python3-matplotlib), the page jinja2 (python3-jinja2); what isn't there
-is told, and the rest comes in any case. A run that was cut, by Ctrl-C too, has kept the seasons that were done, and the same
-line goes on from there; so does one with more seasons. Without --out nothing is kept. With no --program it is the built `nrm`
-of this folder, or the one on the path.
+WHAT IS WRITTEN. The summary comes on standard output, progress on standard error. With --out FOLDER there are also
+summary.txt, simulate.html with the tables and pictures, each picture as SVG, and for each network NAME-seasons.csv with
+a row for each season and mode. The pictures need matplotlib (Debian's python3-matplotlib), the page jinja2
+(python3-jinja2); what isn't there is told, and the rest comes in any case. A run that was cut, by Ctrl-C too, has kept
+the seasons that were done, and the same line goes on from there; so does one with more seasons. Without --out nothing
+is kept.
 """
 from __future__ import annotations
 
@@ -44,13 +46,12 @@ import functools
 import importlib.util
 import os
 import re
-import sys
 import tempfile
 from pathlib import Path
 from typing import Callable, Iterator, Sequence
 
 from nrm import Stop, make_folder
-from nrm.commands.running import add_program, parser, tell
+from nrm.commands.running import add_program, lacking, parser, tell
 from nrm.network import number
 from nrm.program import TOP, Program
 from nrm.replies import MODES
@@ -58,7 +59,7 @@ from nrm.seasons.drawing import DEMANDS, LARGEST_PARTY, ORDERS, Settings
 from nrm.seasons.pages import Picture, about, page, pictures
 from nrm.seasons.results import Results, Study
 from nrm.seasons.rows import Seasons, check_same
-from nrm.telling.libraries import DEBIANS_PYTHON, is_there, missing
+from nrm.telling.libraries import DEBIANS_PYTHON, is_debians, lacks
 from nrm.telling.page import write
 
 DEBIANS_DASK = "/usr/lib/python3/dist-packages/distributed"
@@ -95,7 +96,8 @@ def run(given: Sequence[str]) -> int:
 def read_parties(text: str) -> tuple[tuple[int, float], ...]:
     """Sizes of parties and their weights."""
     pairs = tuple((number(size), number(weight)) for size, weight in (it.split(":") for it in text.split(",")))
-    if not all(1 <= size <= LARGEST_PARTY and weight >= 0 for size, weight in pairs) or not any(weight for _, weight in pairs):
+    sizes, weights = zip(*pairs)
+    if not (1 <= min(sizes) and max(sizes) <= LARGEST_PARTY and 0 <= min(weights) and 0 < max(weights)):
         raise ValueError
     return pairs
 
@@ -149,9 +151,9 @@ def words_of(given: Sequence[str]) -> argparse.Namespace:
 
 def settings_of(asked: argparse.Namespace) -> Settings:
     """The settings that are asked for; modes in their usual order."""
-    return Settings(seed=asked.seed, modes=tuple(it for it in MODES if it in asked.modes), demand=asked.demand, order=asked.order,
-                    parties=asked.parties, cancel=asked.cancel, show=asked.show, denied_cost=asked.denied_cost or 0,
-                    leave_out=asked.leave_out)
+    return Settings(seed=asked.seed, modes=tuple(it for it in MODES if it in asked.modes), demand=asked.demand,
+                    order=asked.order, parties=asked.parties, cancel=asked.cancel, show=asked.show,
+                    denied_cost=asked.denied_cost or 0, leave_out=asked.leave_out)
 
 
 def names_of(paths: Sequence[str]) -> list[str]:
@@ -171,12 +173,10 @@ def see_dask(given: Sequence[str]) -> None:
     """Sees that there is Dask, or goes on under Debian's Python if that one has it."""
     if importlib.util.find_spec("distributed"):
         return
-    if os.path.realpath(sys.executable) == os.path.realpath(DEBIANS_PYTHON):
-        raise Stop(f"{sys.executable} has no Dask; `apt-get install python3-distributed` installs it")
-    if os.path.isdir(DEBIANS_DASK) and os.access(DEBIANS_PYTHON, os.X_OK) and (SOURCES / "__main__.py").is_file():
+    is_in_debians = os.path.isdir(DEBIANS_DASK) and os.access(DEBIANS_PYTHON, os.X_OK) and not is_debians()
+    if is_in_debians and (SOURCES / "__main__.py").is_file():
         os.execv(DEBIANS_PYTHON, [DEBIANS_PYTHON, str(SOURCES), "simulate", *given])
-    raise Stop(f"{sys.executable}, the Python that was asked, has no Dask; Debian's package python3-distributed has it for "
-               f"{DEBIANS_PYTHON}: NRM_PYTHON={DEBIANS_PYTHON} nrm-tools ..")
+    raise Stop(lacks(["distributed"]))
 
 
 def play(asked: argparse.Namespace, studies: Sequence[Seasons], settings: Settings, words: Sequence[str]) -> None:
@@ -196,12 +196,10 @@ def show(asked: argparse.Namespace, settings: Settings, studies: Sequence[Season
     if not asked.out:
         return
     print("\n" + write(os.path.join(asked.out, "summary.txt"), summary))
-    lacking = [it for it in ("matplotlib", "jinja2") if not is_there(it)]
-    if lacking:
-        tell("simulate", missing(lacking))
-    shown = list(pictures(study)) if "matplotlib" not in lacking else []
+    missing = lacking("simulate", "matplotlib", "jinja2")
+    shown = list(pictures(study)) if "matplotlib" not in missing else []
     paths = {Path(it).stem: it for it in drawn(shown, asked.out)} if shown else {}
-    if "jinja2" not in lacking:
+    if "jinja2" not in missing:
         print(write(os.path.join(asked.out, "simulate.html"), page(sentences, tables, shown, paths)))
     print(*paths.values(), *(it.whole for it in studies), sep="\n")
 

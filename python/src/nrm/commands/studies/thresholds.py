@@ -2,34 +2,32 @@
 
     nrm-tools thresholds NETWORK GROUPS [--out FILE] [--pictures FOLDER] [--program WORD...]
 
-For each leg that a product uses, `nrm cuts` divides the fares on it into at most GROUPS groups, 1 to 10, so that the seats that
-were asked for lie as close to the centres of their groups as can be: the cost is the sum, over the seats of all histories, of
-the distance of the fare from the centre. Prints, for each leg, the cuts, the centres, the cost, and the cost for each seat. A
-cut is the least fare of its group, and as a threshold of the leg it ends a bucket there: NETWORK's own thresholds have no say.
+For each leg that a product uses, `nrm cuts` divides the fares on it into at most GROUPS groups, 1 to 10, so that the
+seats that were asked for lie as close to the centres of their groups as can be: the cost is the sum, over the seats of
+all histories, of the distance of the fare from the centre. Prints, for each leg, the cuts, the centres, the cost, and
+the cost for each seat. A cut is the least fare of its group, and as a threshold of the leg it ends a bucket there:
+NETWORK's own thresholds have no say.
 
-With --out the network is written to FILE, with the cuts as the thresholds of the legs and all other rows as they stand. A leg
-that no product uses keeps its thresholds. `nrm run davn FILE` then controls by them, and `nrm-tools replay FILE` says what they
-would have earned.
+With --out the network is written to FILE, with the cuts as the thresholds of the legs and all other rows as they stand.
+A leg that no product uses keeps its thresholds. `nrm run davn FILE` then controls by them, and `nrm-tools replay FILE`
+says what they would have earned.
 
-With --pictures the fares of each leg are drawn with their cuts and centres, as thresholds.png and thresholds.svg in FOLDER. That
-needs matplotlib (Debian's python3-matplotlib): without it the fares are told in a table. With no --program it is the program
-of this folder, or the one on the path.
+With --pictures the fares of each leg are drawn with their cuts and centres, as thresholds.png and thresholds.svg in
+FOLDER. That needs matplotlib (Debian's python3-matplotlib): without it the fares are told in a table.
 
-WHICH FARES. A product of several legs stands on each of them with its whole fare. Its bucket, though, comes from what it brings the
-leg: its fare less the bid prices of the other legs. So where much is asked for over several legs, try the thresholds out before
-you use them.
+WHICH FARES. A product of several legs stands on each of them with its whole fare. Its bucket, though, comes from what
+it brings the leg: its fare less the bid prices of the other legs. So where much is asked for over several legs, try the
+thresholds out before you use them.
 """
 from __future__ import annotations
 
 from typing import Sequence
 
-from nrm.commands.running import add_program, parser, tell
+from nrm.commands.running import add_program, lacking, parser
 from nrm.limits import MOST_GROUPS
 from nrm.network import Network, fields_in, number, text_of, with_thresholds
 from nrm.program import Program
 from nrm.studies.groupings import Grouping, groupings, table_of
-from nrm.telling.libraries import is_there, missing
-from nrm.telling.tables import Table
 
 
 def run(given: Sequence[str]) -> int:
@@ -43,7 +41,7 @@ def run(given: Sequence[str]) -> int:
     asked = words.parse_args(given)
     network, rows = Network.read(asked.network), fields_in(asked.network)
     found = list(groupings(asked.network, network, asked.groups, Program.found(asked.program)))
-    show(table_of(found, asked.groups))
+    table_of(found, asked.groups).show()
     unused = [leg for leg in network.legs if leg not in {it.leg for it in found}]
     if unused:
         print(f"\nno product uses {', '.join(unused)}")
@@ -56,17 +54,11 @@ def run(given: Sequence[str]) -> int:
     return 0
 
 
-def show(table: Table) -> None:
-    """It prints a table behind an empty line."""
-    print("\n" + table.text(), end="")
-
-
 def draw(found: Sequence[Grouping], folder: str) -> None:
     """Draws the fares, or tells them where there is no matplotlib."""
-    if not is_there("matplotlib"):
-        tell("thresholds", missing(["matplotlib"]))
+    if lacking("thresholds", "matplotlib"):
         for it in found:
-            show(it.table())
+            it.table().show()
         return
     from nrm.studies import pictures
     from nrm.telling.figures import written
