@@ -14,7 +14,7 @@ import subprocess
 import threading
 from dataclasses import dataclass
 from pathlib import Path
-from typing import IO, ContextManager, Iterable, Iterator, Sequence
+from typing import IO, Callable, ContextManager, Iterable, Iterator, Sequence, TypeVar
 
 from nrm import Stop
 from nrm.replies import replies_of
@@ -25,6 +25,7 @@ LINES_AT_ONCE = 1000  # that are sent before their replies are read: they and th
 REFUSED = 3
 INPUT_FAULT = 4
 DOORS = ("nrm", "nrm_kept")  # the scripts at the top of a checkout, which may build
+Told = TypeVar("Told")
 
 
 # Where it is
@@ -129,6 +130,14 @@ class Program:
             raise ended(" ".join(words), done.returncode, lines[-1] if lines else "")
         return lines
 
+    def told(self, read: Callable[[list[str]], Told], *words: str) -> Told:
+        """What a run with some words tells, as its lines are read; a Stop where they are no answer."""
+        lines = self.lines(*words)
+        try:
+            return read(lines)
+        except (ValueError, LookupError):
+            raise Stop(f"what `{' '.join(words)}` wrote is no answer to it: is that another program?")
+
     def replies(self, mode: str, network: str, stream: bytes) -> list[bytes]:
         """The replies to the lines of a stream, one each, by a run on the network file at a path."""
         done = subprocess.run([*self.words, "run", mode, network], input=stream, stdout=subprocess.PIPE)
@@ -163,11 +172,6 @@ def ended(words: str, status: int, told: str) -> Stop:
 def unanswered(mode: str, network: str, status: int, written: bytes = b"") -> Stop:
     """A Stop for a run on a stream that ended with a status, behind the last line that it wrote."""
     return ended(f"run {mode} {network}", status, written.rstrip(b"\n").rpartition(b"\n")[2].decode("latin-1"))
-
-
-def no_answer(*words: str) -> Stop:
-    """A Stop for lines that are no answer to the words of a run."""
-    return Stop(f"what `{' '.join(words)}` wrote is no answer to it: is that another program?")
 
 
 # A dialogue, and a stream

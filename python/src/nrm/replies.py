@@ -1,4 +1,4 @@
-"""What the program writes, read: replies and the lines that they answer, plans, texts of legs, bounds, and the lines of `cuts` and `dp`.
+"""What the program writes, read: replies, plans, texts of legs, bounds, and the lines of `cuts` and `dp`.
 
 Each is read here and nowhere else, into values with exact fractions. May use: nrm.network.
 """
@@ -9,7 +9,7 @@ from dataclasses import dataclass, field
 from fractions import Fraction
 from typing import Callable, Iterable, Iterator, Sequence, Union
 
-from nrm.network import MOST_DIGITS, fraction, is_whole, whole
+from nrm.network import fraction, whole
 
 MODES = ("first", "bid", "davn")
 MOST_SHOWN = 200  # of what is no answer
@@ -21,7 +21,7 @@ class NoAnswer(ValueError):
 
 # Which reply belongs to which line
 
-FURTHER = re.compile(rb"(on|product|nest|protect) |leg [^ ]+ [0-9]+/")  # a line of the text of a leg or a plan, but its first
+FURTHER = re.compile(rb"(on|product|nest|protect) |leg [^ ]+ [0-9]+/")  # a line of a text of a leg or a plan, not its first
 FURTHER_IN = re.compile(rb"^(?:" + FURTHER.pattern + rb")", re.MULTILINE)
 TEXT = re.compile(rb"leg |value ")  # how the text of a leg and that of a plan begin
 
@@ -39,8 +39,8 @@ def replies_of(lines: Iterable[bytes]) -> Iterator[bytes]:
 
 
 def whole_replies(output: bytes) -> tuple[list[bytes], bytes]:
-    """The whole replies that a piece of output has, and what is left of it: half a line, or the text of a leg or a plan at its
-    end, which may go on. That text is whole once the reply to a next line stands behind it."""
+    """The whole replies that a piece of output has, and what is left of it: half a line, or the text of a leg or a plan
+    at its end, which may go on: it is whole once the reply to a next line stands behind it."""
     end = output.rfind(b"\n") + 1
     lines = [line + b"\n" for line in output[:end].split(b"\n")[:-1]]
     made = list(replies_of(lines)) if FURTHER_IN.search(output) else lines
@@ -64,16 +64,6 @@ class NoLeg:
 
 
 @dataclass(frozen=True)
-class NoFare:
-    """There is room, and the fare is below the bid prices of the legs."""
-
-
-@dataclass(frozen=True)
-class Unknown:
-    """No product, no standing booking, no leg or no period is named so."""
-
-
-@dataclass(frozen=True)
 class Cancelled:
     """The booking of this number is gone, and this amount is given back, in currency units."""
     number: int
@@ -87,23 +77,33 @@ class Optimised:
 
 
 @dataclass(frozen=True)
-class Overflow:
+class Plain:
+    """An answer that says nothing more than its name does."""
+
+
+class NoFare(Plain):
+    """There is room, and the fare is below the bid prices of the legs."""
+
+
+class Unknown(Plain):
+    """No product, no standing booking, no leg or no period is named so."""
+
+
+class Overflow(Plain):
     """The program of the plan or of the bound is too large. The plan in force stays."""
 
 
-@dataclass(frozen=True)
-class Memory:
+class Memory(Plain):
     """There was too little memory, and nothing has changed."""
 
 
-@dataclass(frozen=True)
-class Store:
+class Store(Plain):
     """The store failed, and nothing has changed."""
 
 
 @dataclass(frozen=True)
 class Leg:
-    """A leg: its physical and its authorised seats, those that are sold and left of the latter, and what each product has sold."""
+    """A leg: its physical and authorised seats, those sold and left of the latter, and what each product has sold."""
     name: str
     seats: int
     authorised: int
@@ -158,8 +158,8 @@ class Hindsight:
 
 Answer = Union[Sold, NoLeg, NoFare, Unknown, Cancelled, Optimised, Overflow, Memory, Store, Leg, Plan, Hindsight]
 SAME: dict[str, Answer] = {
-    "unknown": Unknown(), "overflow": Overflow(), "memory": Memory(), "store": Store(), "no fare": NoFare(), "first": Plan(),
-    "optimised none": Optimised(None)}
+    "unknown": Unknown(), "overflow": Overflow(), "memory": Memory(), "store": Store(), "no fare": NoFare(),
+    "first": Plan(), "optimised none": Optimised(None)}
 FORMS: list[tuple[re.Pattern[str], Callable[..., Answer]]] = [
     (re.compile(r"ok ([0-9]+)"), lambda number: Sold(whole(number))),
     (re.compile(r"no ([A-Z0-9-]+)"), NoLeg),
@@ -228,48 +228,31 @@ class Cuts:
 
 
 def cuts_of(leg: str, lines: Sequence[str]) -> Cuts:
-    """What the lines of `nrm cuts` say of a leg."""
+    """What the lines of `nrm cuts` say of a leg; a ValueError where they say nothing of it."""
     words = [line.split(" ") for line in lines]
     if [it[:2] for it in words] != [["cuts", leg], ["centres", leg], ["cost", leg]]:
-        raise NoAnswer(repr(lines))
-    thresholds, centres, cost = (numbers_of(it[2:]) for it in words)
-    if len(centres) != len(thresholds) + 1 or len(cost) != 1:
-        raise NoAnswer(repr(lines))
-    return Cuts(thresholds, centres, cost[0])
+        raise ValueError(leg)
+    thresholds, centres, (cost,) = (tuple(map(whole, it[2:])) for it in words)
+    if len(centres) != len(thresholds) + 1:
+        raise ValueError(leg)
+    return Cuts(thresholds, centres, cost)
 
 
 @dataclass(frozen=True)
 class LegValue:
-    """What a leg can earn by itself: the name and fare of each class, the highest first, the mean revenue of a history, and the
-    seats that are kept for the first class, for the first two, and so on."""
+    """What a leg can earn by itself: the name and fare of each class, the highest first, the mean revenue of a history,
+    and the seats that are protected for the first class, for the first two, and so on."""
     classes: tuple[tuple[str, int], ...]
     value: Fraction
     protections: tuple[int, ...]
 
 
 def leg_value_of(leg: str, lines: Sequence[str]) -> LegValue:
-    """What the lines of `nrm dp` say of a leg."""
-    words = [line.split(" ") for line in lines]
-    if [it[:2] for it in words[-2:]] != [["value", leg], ["protect", leg]] or any(it[0] != "class" or len(it) != 3 for it in words[:-2]):
-        raise NoAnswer(repr(lines))
-    classes = tuple((name, numbers_of([fare])[0]) for _, name, fare in words[:-2])
-    protections = numbers_of(words[-1][2:])
-    if len(words[-2]) != 3 or len(classes) != len(protections) + 1:
-        raise NoAnswer(repr(lines))
-    return LegValue(classes, fraction_of(words[-2][2]), protections)
-
-
-def numbers_of(words: Iterable[str]) -> tuple[int, ...]:
-    """Whole numbers, each from its word."""
-    found = tuple(words)
-    if not all(map(is_whole, found)):
-        raise NoAnswer(repr([it[:MOST_DIGITS] for it in found]))
-    return tuple(map(whole, found))
-
-
-def fraction_of(word: str) -> Fraction:
-    """A fraction from its word, in the form that the program writes."""
-    try:
-        return fraction(word)
-    except ValueError:
-        raise NoAnswer(repr(word[:MOST_DIGITS]))
+    """What the lines of `nrm dp` say of a leg; a ValueError where they say nothing of it."""
+    *classes, value, protections = (line.split(" ") for line in lines)
+    heads = [*(it[:1] for it in classes), value[:2], protections[:2]]
+    if heads != [*(["class"] for _ in protections[1:]), ["value", leg], ["protect", leg]]:
+        raise ValueError(leg)
+    [mean] = value[2:]
+    return LegValue(tuple((name, whole(fare)) for _, name, fare in classes), fraction(mean),
+                    tuple(map(whole, protections[2:])))

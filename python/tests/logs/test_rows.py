@@ -8,29 +8,26 @@ from logs.made_log import COLUMNS, CUT_ONCE, HEADS, log_with_remarks
 from test_numbers import LONG
 
 GOOD = "2025-03-01,2025-03-07,P,1\n"
-REFUSED_LOGS = [  # the log's rows, more words, and a part of the sentence
-    ("2025-03-08,2025-03-07,P,1\n", [], "line 2: it was made on 2025-03-08, after its departure on 2025-03-07"),
-    ("2025-03-01,07.03.25,P,1\n", [], "'07.03.25' has a year of two digits; write it as 2025-03-07"),
-    ("2025-03-01,7 Nivose 2025,P,1\n", [], "'7 Nivose 2025' is no date that is known; write it as 2025-03-07"),
-    ("Total,,,4\n", [], "line 2: it has no day of departure"),
-    (",2025-03-07,P,4\n", [], "line 2: it has no day on which it was made"),
-    (GOOD, ["--without", "seats"], "wants a column and one text or more"),
-    (GOOD, ["--without", "state", "x"], "has no column state; its headings are"),
-    (GOOD, ["--without", "seats", "2", "1"], "has no request below its headings"),
-    ("2025-02-29,2025-03-07,P,1\n", [], "'2025-02-29' is no date"),
-    ("45717,45723,P,1\n", [], "'45723' is no date"),
-    ("03/04/2025,05/04/2025,P,1\n", [], "05/04/2025 can be read with the day or the month first; say --dates dmy"),
-    ("13/04/2025,04/14/2025,P,1\n", [], "13/04/2025 has the day first, and 04/14/2025 the month"),
-    ("2025-03-01,2025-03-07,P,two\n", [], "line 2: 'two' is no number of seats"),
-    ("2025-03-01,2025-03-07,,1\n", [], "line 2: it names no product"),
-    ("", [], "has no request below its headings"),
-    (GOOD, ["--cuts", "7,30"], "each is to be fewer days"),
-    (GOOD, ["--cuts", "week"], "days before departure are wanted"),
-    (GOOD, ["--cuts", ",".join(map(str, range(40, 20, -1)))], "21 periods, and a network file takes 16"),
-    (GOOD, ["--last", "33"], "takes 1 to 32 histories"),
-    (GOOD, ["--seats", "Pax"], "has no column Pax; its headings are Booked on, Departure, Fare product, Seats"),
-    ("2025-03-01,2025-03-07,P,1000\n", [], "P was asked for 1000 seats for 2025-03-07, and a row of demand takes 999")]
-
+REFUSED_ROWS = [  # what stands below the headings, and a part of the sentence
+    ("2025-03-08,2025-03-07,P,1", "line 2: it was made on 2025-03-08, after its departure on 2025-03-07"),
+    ("2025-03-01,07.03.25,P,1", "'07.03.25' has a year of two digits; write it as 2025-03-07"),
+    ("2025-03-01,7 Nivose 2025,P,1", "'7 Nivose 2025' is no date that is known; write it as 2025-03-07"),
+    ("Total,,,4", "line 2: it has no day of departure"), (",2025-03-07,P,4", "line 2: it has no day on which it was made"),
+    ("2025-02-29,2025-03-07,P,1", "'2025-02-29' is no date"), ("45717,45723,P,1", "'45723' is no date"),
+    ("03/04/2025,05/04/2025,P,1", "05/04/2025 can be read with the day or the month first; say --dates dmy"),
+    ("13/04/2025,04/14/2025,P,1", "13/04/2025 has the day first, and 04/14/2025 the month"),
+    ("2025-03-01,2025-03-07,P,two", "line 2: 'two' is no number of seats"),
+    ("2025-03-01,2025-03-07,,1", "line 2: it names no product"), ("", "has no request below its headings"),
+    ("2025-03-01,2025-03-07,P,1000", "P was asked for 1000 seats for 2025-03-07, and a row of demand takes 999")]
+REFUSED_WORDS = {  # a part of the sentence, of a log that is good
+    "wants a column and one text or more": "--cuts 7 --without seats",
+    "has no column state; its headings are": "--cuts 7 --without state x",
+    "has no request below its headings": "--cuts 7 --without seats 2 1",
+    "each is to be fewer days": "--cuts 7,30",
+    "days before departure are wanted": "--cuts week",
+    "21 periods, and a network file takes 16": f"--cuts {','.join(map(str, range(40, 20, -1)))}",
+    "takes 1 to 32 histories": "--cuts 7 --last 33",
+    "has no column Pax; its headings are Booked on, Departure, Fare product, Seats": "--cuts 7 --seats Pax"}
 OPEN_QUOTES = [  # remarks by their lines, more words, and a part of the sentence
     ({31: '"see mail'}, [],
      "line 31 can't be read: a quote is opened in it and isn't closed in it, which would take the lines below"),
@@ -48,9 +45,11 @@ OPEN_QUOTES = [  # remarks by their lines, more words, and a part of the sentenc
 
 class Refusals(PlaceTest):
     def test_refuses_with_a_sentence(self) -> None:
-        for rows, words, sentence in REFUSED_LOGS:
-            path = self.file("log.csv", HEADS + rows)
-            self.stopped("log", path, *(COLUMNS if "--cuts" in words else CUT_ONCE), *words, says=sentence)
+        for rows, sentence in REFUSED_ROWS:
+            self.stopped("log", self.file("log.csv", f"{HEADS}{rows}\n"), *CUT_ONCE, says=sentence)
+        log = self.file("log.csv", HEADS + GOOD)
+        for sentence, words in REFUSED_WORDS.items():
+            self.stopped("log", log, *COLUMNS, *words.split(), says=sentence)
         path = self.file("rows.csv", "periods,1,1\nleg,A,1\nproduct,P,5,A\n")
         log = self.file("log.csv", HEADS + "2025-03-01,2025-03-07,new_one,1\n")
         self.stopped("log", log, *CUT_ONCE, "--network", path, says="NEW-ONE, which stands for 'new_one'")

@@ -229,20 +229,13 @@ class Player:
         return {mode: played(self.network, season, self.program, mode, path, clock or Clock()) for mode in self.settings.modes}
 
 
-@dataclass(frozen=True)
-class Replayed:
-    """A history that was played without being known: the bound, and the revenue of each mode."""
-    history: int
-    bound: Fraction
-    revenues: list[int]
-
-
-def replayed(player: Player) -> Iterator[Replayed]:
-    """Each history of a network in its turn, as the season that is to come; the player leaves it out of the plans."""
+def replayed(player: Player) -> Iterator[tuple[int, Fraction, list[int]]]:
+    """Each history of a network in its turn, played as the season that is to come and left out of the plans: its number,
+    its bound, and the revenue of each mode."""
     modes = player.settings.modes
     for history in range(1, player.network.histories + 1):
         outcomes = player.outcomes(history_again(player.network, history, random.Random(player.settings.seed)))
         bound = outcomes[modes[0]].bound
         if bound is None:
             raise Stop(f"history {history} has no bound: its program is too large")
-        yield Replayed(history, bound, [outcomes[mode].revenue for mode in modes])
+        yield history, bound, [outcomes[mode].revenue for mode in modes]

@@ -5,6 +5,7 @@ May use: nrm, nrm.limits, nrm.network, nrm.program, nrm.replies, nrm.telling.tab
 """
 from __future__ import annotations
 
+import functools
 import os
 import tempfile
 from collections import Counter
@@ -15,8 +16,8 @@ from typing import Sequence
 from nrm import Stop
 from nrm.limits import MOST_CLASSES
 from nrm.network import Network, fields_in, text_of, with_thresholds
-from nrm.program import Program, no_answer
-from nrm.replies import NoAnswer, leg_value_of, plan_of
+from nrm.program import Program
+from nrm.replies import leg_value_of, plan_of
 from nrm.telling.tables import Cell, Table
 
 
@@ -69,22 +70,16 @@ class LegAlone:
         self.rows = [row for row in rows if row[0] == "periods" or row[:2] == ["leg", leg]
                      or row[0] in ("product", "demand") and row[1] in alone]
         self.seats = network.legs[leg].authorised
-        self.classes, self.optimal = self.optimum(network, path)
+        self.classes, self.optimal = program.told(functools.partial(self.optimum, network), "dp", path, leg)
 
-    def optimum(self, network: Network, path: str) -> tuple[list[FareClass], Policy]:
-        """The classes and the protections of `nrm dp`, whose value must be what the protections earn."""
-        words = ["dp", path, self.name]
-        try:
-            told = leg_value_of(self.name, self.program.lines(*words))
-        except NoAnswer:
-            raise no_answer(*words)
-        if any(name not in network.products or network.products[name].fare != fare for name, fare in told.classes):
-            raise no_answer(*words)
-        histories = range(1, network.histories + 1)
-        classes = [FareClass(name, fare, tuple(map(network.products[name].demand_in, histories))) for name, fare in told.classes]
+    def optimum(self, network: Network, lines: list[str]) -> tuple[list[FareClass], Policy]:
+        """The classes and the protections by the lines of `nrm dp`; a ValueError where these don't earn the value told."""
+        told, histories = leg_value_of(self.name, lines), range(1, network.histories + 1)
+        products = [network.products[name] for name, _ in told.classes]
+        classes = [FareClass(it.name, it.fare, tuple(map(it.demand_in, histories))) for it in products]
         policy = Policy([0, *told.protections], classes, self.seats)
-        if policy.values[-1] != told.value:
-            raise no_answer(*words)
+        if [(it.name, it.fare) for it in classes] != [*told.classes] or policy.values[-1] != told.value:
+            raise ValueError(self.name)
         return classes, policy
 
     def value(self) -> Fraction:
@@ -102,13 +97,12 @@ class LegAlone:
             path = os.path.join(folder, f"{self.name} alone.csv")
             with open(path, "w", encoding="ascii") as file:
                 file.write(self.file())
-            words = ["plan", "davn", path]
-            lines = self.program.lines(*words)
-        try:
-            plan = plan_of(lines)
-            return Policy([plan.kept_from(self.name, it.name) for it in self.classes], self.classes, self.seats)
-        except (ValueError, LookupError):
-            raise no_answer(*words)
+            return self.program.told(self.policy, "plan", "davn", path)
+
+    def policy(self, lines: list[str]) -> Policy:
+        """The protections by the lines of a plan."""
+        plan = plan_of(lines)
+        return Policy([plan.kept_from(self.name, it.name) for it in self.classes], self.classes, self.seats)
 
 
 def tables(leg: LegAlone, emsr: Policy) -> list[Table]:

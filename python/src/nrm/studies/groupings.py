@@ -4,12 +4,13 @@ May use: nrm.network, nrm.program, nrm.replies, nrm.telling.tables.
 """
 from __future__ import annotations
 
+import functools
 from dataclasses import dataclass
 from typing import Iterator, Sequence
 
 from nrm.network import Network
-from nrm.program import Program, no_answer
-from nrm.replies import Cuts, NoAnswer, cuts_of
+from nrm.program import Program
+from nrm.replies import Cuts, cuts_of
 from nrm.telling.tables import Cell, Table
 
 
@@ -46,14 +47,15 @@ def groupings(path: str, network: Network, groups: int, program: Program) -> Ite
     """The grouping of each leg that a product uses, by `nrm cuts` on the network file at a path."""
     for leg in network.legs:
         if asked := asked_on(network, leg):
-            words = ["cuts", path, leg, str(groups)]
-            try:
-                cuts = cuts_of(leg, program.lines(*words))
-            except NoAnswer:
-                raise no_answer(*words)
-            if not {*cuts.thresholds, *cuts.centres} <= asked.keys():
-                raise no_answer(*words)
-            yield Grouping(leg, asked, cuts)
+            yield program.told(functools.partial(grouping, leg, asked), "cuts", path, leg, str(groups))
+
+
+def grouping(leg: str, asked: dict[int, int], lines: Sequence[str]) -> Grouping:
+    """The grouping of a leg by the lines of `nrm cuts`; a ValueError where they name a fare that isn't one of the leg's."""
+    cuts = cuts_of(leg, lines)
+    if not {*cuts.thresholds, *cuts.centres} <= asked.keys():
+        raise ValueError(leg)
+    return Grouping(leg, asked, cuts)
 
 
 def table_of(found: Sequence[Grouping], groups: int) -> Table:

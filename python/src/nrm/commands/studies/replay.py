@@ -37,11 +37,12 @@ def run(given: Sequence[str]) -> int:
     sums, bounds = [0] * len(MODES), Fraction(0)
     with tempfile.TemporaryDirectory() as folder:
         settings = Settings(seed=asked.seed, leave_out=True)
-        for it in replayed(Player(bytes_in(asked.network), settings, Program.found(asked.program), folder)):
-            if it.history == 1:
+        player = Player(bytes_in(asked.network), settings, Program.found(asked.program), folder)
+        for history, bound, revenues in replayed(player):
+            if history == 1:
                 print(LINE.format("history", "bound", *[it for mode in MODES for it in (mode, "")]).rstrip())
-            print(row(str(it.history), it.bound, it.revenues))
-            sums, bounds = [a + b for a, b in zip(sums, it.revenues)], bounds + it.bound
+            print(row(str(history), bound, revenues))
+            sums, bounds = [a + b for a, b in zip(sums, revenues)], bounds + bound
     print(row("all", bounds, sums))
     return 0
 
