@@ -7,7 +7,7 @@ from __future__ import annotations
 import re
 from dataclasses import dataclass, field
 from fractions import Fraction
-from typing import Callable, Iterable, Iterator, Sequence, Union
+from typing import Callable, Iterable, Iterator, NamedTuple, Sequence, Union
 
 from nrm.network import fraction, whole
 
@@ -112,8 +112,7 @@ class Leg:
     products: dict[str, int]
 
 
-@dataclass(frozen=True)
-class Nest:
+class Nest(NamedTuple):
     """Of a product on a leg: its adjusted fare, and its bucket, from 1."""
     adjusted: Fraction
     bucket: int

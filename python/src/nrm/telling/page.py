@@ -1,8 +1,9 @@
-"""A page of HTML that stands alone: headings, text, tables and pictures in one file, without scripts or anything from elsewhere.
+"""A page of HTML that stands alone: headings, text, tables and pictures in one file, without scripts or links elsewhere.
 
-It is made for a wide and a narrow screen, for paper and for a reader that speaks: tables have heads and a caption, pictures a title
-and a description, and what is wider than the screen moves in a box of its own. jinja2 makes it of page.html and escapes each name and
-text; what is put in as it stands is the pictures, which matplotlib has escaped. May use: nrm.telling.tables.
+It is made for a wide and a narrow screen, for paper and for a reader that speaks: tables have heads and a caption,
+pictures a title and a description, and what is wider than the screen moves in a box of its own. jinja2 makes it of
+page.html and escapes each name and text; what is put in as it stands is the pictures, which matplotlib has escaped.
+May use: nrm.telling.tables.
 """
 from __future__ import annotations
 
@@ -19,20 +20,6 @@ OF_TITLE = re.compile(r"<(title|desc|metadata)\b.*?</\1>", re.S)
 
 
 @dataclass(frozen=True)
-class Words:
-    """A heading or a paragraph."""
-    kind: str
-    text: str
-
-
-@dataclass(frozen=True)
-class ShownTable:
-    """A table; its first column names the rows."""
-    table: Table
-    kind: str = "table"
-
-
-@dataclass(frozen=True)
 class Picture:
     """A picture: the attributes and the inside of its SVG element, its title, and what it shows in words."""
     number: int
@@ -41,27 +28,26 @@ class Picture:
     attributes: str
     inside: str
     is_large: bool
-    kind: str = "picture"
 
 
 class Page:
-    """A page that is written part by part."""
+    """A page that is written part by part, each a kind and what there is of it."""
 
     def __init__(self, title: str) -> None:
         self.title, self.numbers = title, itertools.count(1)
-        self.parts: list[Union[Words, ShownTable, Picture]] = []
+        self.parts: list[tuple[str, Union[str, Table, Picture]]] = []
 
     def heading(self, text: str) -> None:
         """Begins a section."""
-        self.parts.append(Words("heading", text))
+        self.parts.append(("heading", text))
 
     def text(self, text: str) -> None:
         """Adds a paragraph."""
-        self.parts.append(Words("text", text))
+        self.parts.append(("text", text))
 
     def table(self, table: Table) -> None:
-        """Adds a table."""
-        self.parts.append(ShownTable(table))
+        """Adds a table, whose first column names the rows."""
+        self.parts.append(("table", table))
 
     def picture(self, svg: str, title: str, description: str, is_large: bool = False) -> None:
         """Adds a picture, the text of an SVG file, with a title and what it shows in words."""
@@ -70,12 +56,14 @@ class Page:
         body = re.sub(r'\b(id="|href="#|url\(#)', rf"\1picture-{number}-", body)  # no name stands twice on a page
         attributes, _, inside = body[len("<svg"):].partition(">")
         attributes = re.sub(r'\s(width|height|role|aria-\w+)="[^"]*"', "", attributes)
-        self.parts.append(Picture(number, title, description, attributes, inside.rstrip(), is_large))
+        picture = Picture(number, title, description, attributes, inside.rstrip(), is_large)
+        self.parts.append(("picture", picture))
 
     def html(self) -> str:
         """The page as text."""
         import jinja2  # here, since who makes no page needs none
-        environment = jinja2.Environment(autoescape=True, trim_blocks=True, lstrip_blocks=True, keep_trailing_newline=True)
+        environment = jinja2.Environment(autoescape=True, trim_blocks=True, lstrip_blocks=True,
+                                         keep_trailing_newline=True)
         return environment.from_string(TEMPLATE.read_text(encoding="utf-8")).render(page=self)
 
 
