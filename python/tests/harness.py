@@ -1,7 +1,8 @@
 """One harness for all tests: a place with files, in which commands are run, and the program that they run.
 
-The program is named by NRM_PROGRAM, whose words may be those of the script `nrm` at the top or of `tests/reference.py`; else it is
-the one that the commands find. Where there is none, the tests that come to need it are skipped, as the last line of the run tells.
+The program is named by NRM_PROGRAM, whose words may be those of the script `nrm` at the top or of `tests/reference.py`;
+else it is the one that the commands find. Where there is none, the tests that come to need it are skipped, as the last
+line of the run tells.
 """
 from __future__ import annotations
 
@@ -60,7 +61,8 @@ class PlaceTest(unittest.TestCase):
         return str(path)
 
     def blind(self, *libraries: str) -> dict[str, str]:
-        """An environment without some libraries, or with neither matplotlib nor jinja2: so nothing is drawn, which takes long."""
+        """An environment without some libraries, or with neither matplotlib nor jinja2: so nothing is drawn, which
+        takes long."""
         blinded = self.folder / "-".join(["blind", *libraries])
         blinded.mkdir(exist_ok=True)
         for name in libraries or BLINDED:
@@ -74,11 +76,13 @@ class PlaceTest(unittest.TestCase):
 
     def process(self, name: str, *words: object, **more: object) -> subprocess.Popen[bytes]:
         """A command as a process."""
-        return subprocess.Popen([sys.executable, SOURCES, name, *map(str, words)], **{"cwd": self.folder, "env": self.blind(), **more})
+        return subprocess.Popen([sys.executable, SOURCES, name, *map(str, words)],
+                                **{"cwd": self.folder, "env": self.blind(), **more})
 
     def finished(self, *words: object, **more: object) -> Done:
         """Words that were run in the folder."""
-        done = subprocess.run([*map(str, words)], capture_output=True, **{"cwd": self.folder, "timeout": SECONDS, **more})
+        done = subprocess.run([*map(str, words)], capture_output=True,
+                              **{"cwd": self.folder, "timeout": SECONDS, **more})
         return Done(done.stdout.decode(), done.stderr.decode(), done.returncode)
 
     def ran(self, name: str, *words: object, **more: object) -> Done:

@@ -22,7 +22,8 @@ demand,AB,1,5,0
 demand,BC,1,6,1
 demand,CD,2,0,3
 """
-OF_REFUNDS = ["book AB 4", "cancel 1", "book AC 1", "reoptimise 2", "book AC 1", "cancel 2", "book AB 2", "book CD 3", "cancel 9", "cancel 3"]
+OF_REFUNDS = ["book AB 4", "cancel 1", "book AC 1", "reoptimise 2", "book AC 1", "cancel 2", "book AB 2", "book CD 3",
+              "cancel 9", "cancel 3"]
 
 
 def made_timetable(draw: random.Random, parts: Sequence[int]) -> tuple[list[list[object]], list[list[str]]]:
@@ -35,7 +36,8 @@ def made_timetable(draw: random.Random, parts: Sequence[int]) -> tuple[list[list
     draw.shuffle(products)
     rows = [["periods", 2, 2], *[["leg", it, draw.randint(1, 9)] for it in every],
             *[["product", name, fare, *used] for name, fare, used in products],
-            *[["demand", name, history, draw.randint(0, 5), draw.randint(0, 5)] for name, _, _ in products for history in (1, 2)]]
+            *[["demand", name, history, draw.randint(0, 5), draw.randint(0, 5)] for name, _, _ in products
+              for history in (1, 2)]]
     return rows, legs
 
 

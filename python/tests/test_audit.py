@@ -1,4 +1,5 @@
-"""The auditor's command, which shares nothing with the program, on the certificates of the cases and of other solvers."""
+"""The auditor's command, which shares nothing with the program, on the certificates of the cases and of other
+solvers."""
 from __future__ import annotations
 
 import re
@@ -46,7 +47,8 @@ def plans() -> Iterator[tuple[str, bytes, Fraction]]:
         if case.words[:2] == [b"plan", b"bid"] and case.stdout.startswith(b"value "):
             yield case.name, case.files[case.words[2].decode()], Fraction(case.stdout.split()[1].decode())
     for path in sorted(EXAMPLES.glob("*/network.csv")):
-        out = subprocess.run([sys.executable, reference.__file__, "plan", "bid", path], stdout=subprocess.PIPE, check=True).stdout
+        out = subprocess.run([sys.executable, reference.__file__, "plan", "bid", path], stdout=subprocess.PIPE,
+                             check=True).stdout
         yield str(path), path.read_bytes(), Fraction(out.split()[1].decode())
 
 
@@ -55,16 +57,20 @@ def audited(network: bytes, certificate: bytes) -> subprocess.CompletedProcess[s
     with tempfile.TemporaryDirectory() as folder:
         Path(folder, "network").write_bytes(network)
         Path(folder, "certificate").write_bytes(certificate)
-        return subprocess.run([sys.executable, audit.__file__, "network", "certificate"], cwd=folder, capture_output=True, text=True)
+        return subprocess.run([sys.executable, audit.__file__, "network", "certificate"], cwd=folder,
+                              capture_output=True, text=True)
 
 
 def solved(network: bytes) -> tuple[int, Fraction] | None:
-    """How many histories the program of a network stands for, and the value that `glpsol` finds for it; None where it finds none."""
+    """How many histories the program of a network stands for, and the value that `glpsol` finds for it; None where it
+    finds none."""
     with tempfile.TemporaryDirectory() as folder:
         Path(folder, "network").write_bytes(network)
-        program = subprocess.run([sys.executable, SOURCES, "lp", "network"], cwd=folder, stdout=subprocess.PIPE, text=True).stdout
+        program = subprocess.run([sys.executable, SOURCES, "lp", "network"], cwd=folder, stdout=subprocess.PIPE,
+                                 text=True).stdout
         Path(folder, "program").write_text(program)
-        subprocess.run(["glpsol", "--exact", "--lp", "program", "--write", "solution"], cwd=folder, stdout=subprocess.DEVNULL)
+        subprocess.run(["glpsol", "--exact", "--lp", "program", "--write", "solution"], cwd=folder,
+                       stdout=subprocess.DEVNULL)
         solution = Path(folder, "solution")
         found = re.search(r"^s bas \d+ \d+ f f (\S+)$", solution.read_text() if solution.exists() else "", re.M)
         histories = re.match(r"\\ All (\d+) histories", program)
@@ -87,7 +93,9 @@ class Audits(PlaceTest):
     def test_the_command_is_that_file(self) -> None:
         words = EXAMPLES / "certificate" / "network.csv", EXAMPLES / "certificate" / "certificate.txt"
         told = self.told("audit", *words)
-        self.assertEqual(told, subprocess.run([sys.executable, audit.__file__, *words], stdout=subprocess.PIPE, text=True).stdout)
+        self.assertEqual(told,
+                         subprocess.run([sys.executable, audit.__file__, *words], stdout=subprocess.PIPE,
+                                        text=True).stdout)
         self.assertEqual(told.splitlines()[-1], "optimal")
 
     def test_of_each_network_that_a_case_prints_is_read_what_is_read_of_the_canonical_one(self) -> None:
@@ -102,7 +110,8 @@ class Audits(PlaceTest):
                     count += 1
         self.assertGreaterEqual(count, FEWEST_READ)
 
-    @unittest.skipUnless(shutil.which("glpsol"), "glpsol isn't installed (Debian's package is glpk-utils): no program solved by it")
+    @unittest.skipUnless(shutil.which("glpsol"),
+                         "glpsol isn't installed (Debian's package is glpk-utils): no program solved by it")
     def test_glpsol_finds_the_value_of_each_plan(self) -> None:
         wanted = list(plans())
         self.assertGreaterEqual(len(wanted), FEWEST_PLANS)
@@ -110,4 +119,5 @@ class Audits(PlaceTest):
             for (name, _, value), found in zip(wanted, pool.map(lambda it: solved(it[1]), wanted)):
                 self.assertIsNotNone(found, f"{name}: glpsol found no optimal value")
                 histories, total = found
-                self.assertLessEqual(abs(total - histories * value), Fraction(1, 10**9) * max(1, histories * value), name)
+                self.assertLessEqual(abs(total - histories * value),
+                                     Fraction(1, 10**9) * max(1, histories * value), name)

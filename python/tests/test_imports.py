@@ -1,4 +1,5 @@
-"""Imports go one way, each file says at its head what it may use, and each folder has as many files as one can keep in mind."""
+"""Imports go one way, each file says at its head what it may use, and each folder has as many files as one can keep in
+mind."""
 from __future__ import annotations
 
 import ast
@@ -93,5 +94,6 @@ class Imports(unittest.TestCase):
         for name, path in MODULES.items():
             for node in ast.walk(ast.parse(path.read_text())):
                 if isinstance(node, (ast.FunctionDef, ast.AsyncFunctionDef)):
-                    untyped = [it.arg for it in node.args.args + node.args.kwonlyargs if not it.annotation and it.arg not in ("self", "cls")]
+                    untyped = [it.arg for it in node.args.args + node.args.kwonlyargs if not it.annotation
+                               and it.arg not in ("self", "cls")]
                     self.assertEqual((untyped, node.returns is None), ([], False), f"{name}: {node.name}")

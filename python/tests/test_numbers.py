@@ -15,16 +15,19 @@ from nrm.network import MOST_DIGITS, fraction, is_whole, number, whole
 
 LONG = ["9" * 4300, "9" * 4301, "1" + "0" * 20_000]  # Python makes no number of more than 4,300 digits
 OF_EACH_ROW = "periods,1,1,2\nleg,A,1,1,7\nproduct,P,5,A\nrefund,P,50\ndemand,P,1,1\n"
-PLACES = [("periods,1", "periods,{}"), ("1,2\n", "{},2\n"), ("A,1,", "A,{},"), ("1,7", "{},7"), (",7", ",{}"), ("P,5", "P,{}"), ("P,50", "P,{}"),
+PLACES = [("periods,1", "periods,{}"), ("1,2\n", "{},2\n"), ("A,1,", "A,{},"), ("1,7", "{},7"), (",7", ",{}"),
+          ("P,5", "P,{}"), ("P,50", "P,{}"),
           ("P,1,1", "P,{},1"), ("P,1,1", "P,1,{}")]  # of OF_EACH_ROW, in each of which stands a number
 
 
 class Reading(unittest.TestCase):
     def test_a_number_is_read_up_to_its_longest(self) -> None:
         longest = "9" * MOST_DIGITS
-        self.assertEqual((whole("0"), whole(longest), number(" -07"), fraction("6/4")), (0, int(longest), -7, Fraction(3, 2)))
+        self.assertEqual((whole("0"), whole(longest), number(" -07"), fraction("6/4")),
+                         (0, int(longest), -7, Fraction(3, 2)))
         readers: list[tuple[Callable[[str], object], list[str]]] = [
-            (whole, ["", "-1", "01", "1.0", " 1", "٣"]), (number, ["", "x", "1.5"]), (fraction, ["", "1", "1/0", "1/", "/1", "1/2/3", "-1/2", "1/02"])]
+            (whole, ["", "-1", "01", "1.0", " 1", "٣"]), (number, ["", "x", "1.5"]),
+            (fraction, ["", "1", "1/0", "1/", "/1", "1/2/3", "-1/2", "1/02"])]
         for reader, wrong in readers:
             for text in [*wrong, longest + "9", *LONG, *[f"1/{it}" for it in LONG], *[f"{it}/1" for it in LONG]]:
                 with self.assertRaises(ValueError, msg=text[:50]) as why:
@@ -34,7 +37,8 @@ class Reading(unittest.TestCase):
 
 
 class Refusing(PlaceTest):
-    """Most commands are called in this process, since they are so many: one that fails at a number would fail here too."""
+    """Most commands are called in this process, since they are so many: one that fails at a number would fail here
+    too."""
 
     def ran(self, name: str, *words: object, **_: object) -> Done:
         out, err = io.StringIO(), io.StringIO()
@@ -54,7 +58,8 @@ class Refusing(PlaceTest):
                 done = self.ran("explain", path)
                 self.assertEqual((done.status, done.err, len(done.out) < 1000), (3, "", True), done.out[:200])
                 self.want_in(done.out, ": 9999" if it[0] == "9" else ": 1000")
-                self.assertEqual(tuple(self.ran("audit", path, certificate)), ("refused: `nrm print` says why\n", "", 3))
+                self.assertEqual(tuple(self.ran("audit", path, certificate)),
+                                 ("refused: `nrm print` says why\n", "", 3))
                 self.stopped("lp", path, says="is refused: `nrm-tools explain")
 
     def test_what_is_to_be_written_instead_is_told_short(self) -> None:
@@ -70,7 +75,8 @@ class Refusing(PlaceTest):
                 path = self.file("certificate", line + "\nproduct P 1/1\nleg A 5/1\n")
                 for name in ("audit", "explain"):
                     done = self.ran(name, network, path)
-                    self.assertEqual((done.status, done.err, done.out.partition("\n")[0]), (3, "", "refused certificate line 1 large"))
+                    self.assertEqual((done.status, done.err, done.out.partition("\n")[0]),
+                                     (3, "", "refused certificate line 1 large"))
 
     def test_in_a_solution(self) -> None:
         network = self.file("thirds.csv", WITH_THIRDS)
@@ -96,13 +102,16 @@ class Refusing(PlaceTest):
         for it in LONG:
             for line in (f"hindsight {it}/1 revenue 0 withheld 0", f"hindsight 1/1 revenue {it} withheld 0"):
                 self.answered("replay", [network], f"sed 's|^hindsight$|{line}|; s/^book.*/ok 1/'", "has no bound")
-                self.answered("season", [network, stream], f"sed 's/^plan/value 1\\/1/; {leg}; s|^hindsight$|{line}|; s/^book.*/ok 1/'",
+                self.answered("season", [network, stream],
+                              f"sed 's/^plan/value 1\\/1/; {leg}; s|^hindsight$|{line}|; s/^book.*/ok 1/'",
                               "replies don't fit")
             for line in (f"value A {it}/1", f"protect A {it}", f"value A 1/{it}"):
                 self.answered("optimum", [network, "A"], f"echo class P 5; echo '{line}'", "is no answer to it")
             for line in (f"cuts A {it}", f"centres A {it}", f"cost A {it}"):
-                lines = [line if line.startswith(one.split()[0]) else one for one in ("cuts A", "centres A 5", "cost A 0")]
-                self.answered("thresholds", [network, "2"], "".join(f"echo '{one}'\n" for one in lines), "is no answer to it")
+                lines = [line if line.startswith(one.split()[0]) else one
+                         for one in ("cuts A", "centres A 5", "cost A 0")]
+                self.answered("thresholds", [network, "2"], "".join(f"echo '{one}'\n" for one in lines),
+                              "is no answer to it")
         zero = f"sed 's/^plan/value 1\\/0/; {leg}; s|^hindsight$|hindsight 1/0 revenue 0 withheld 0|'"
         self.answered("season", [network, stream], zero, "replies don't fit")
 

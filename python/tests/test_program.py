@@ -1,4 +1,5 @@
-"""The program is found where it is built or on the path, nothing is built, and what it writes is told where a run fails."""
+"""The program is found where it is built or on the path, nothing is built, and what it writes is told where a run
+fails."""
 from __future__ import annotations
 
 import os
@@ -18,7 +19,8 @@ ANSWERS = "#!/bin/sh\necho {}\n"
 
 
 class Finding(PlaceTest):
-    """In a checkout that is made: a copy of the tools, a script `nrm` that would build, sources, and a program or none."""
+    """In a checkout that is made: a copy of the tools, a script `nrm` that would build, sources, and a program or
+    none."""
 
     def setUp(self) -> None:
         super().setUp()
@@ -38,8 +40,10 @@ class Finding(PlaceTest):
         path.chmod(0o755)
         return str(path)
 
-    def asked(self, path: str, *words: str, name: str = "thresholds", asks: tuple[str, ...] = (NETWORK, "2")) -> tuple[str, str, int]:
-        """What a command tells that runs the program, such as the lines of `nrm cuts`, which no program here answers."""
+    def asked(self, path: str, *words: str, name: str = "thresholds",
+              asks: tuple[str, ...] = (NETWORK, "2")) -> tuple[str, str, int]:
+        """What a command tells that runs the program, such as the lines of `nrm cuts`, which no program here
+        answers."""
         done = subprocess.run([sys.executable, self.top / "python" / "src", name, *asks, *words], cwd=self.folder,
                               env={**os.environ, "PATH": path}, capture_output=True, text=True)
         self.assertFalse((self.folder / "building").exists(), "something was built")
@@ -73,8 +77,9 @@ class Finding(PlaceTest):
     def test_where_there_is_none_a_sentence_says_how_to_get_one(self) -> None:
         out, err, status = self.asked(SYSTEM)
         self.assertEqual((out, status), ("", 1))
-        self.want_in(err, f"nrm-tools thresholds: {self.top} has no built program that fits its sources, there is no other `nrm` on the path, "
-                          f"and nothing is built here: `{self.top}/nrm --build` proves and builds it, and --program says which to run\n")
+        self.want_in(err, f"nrm-tools thresholds: {self.top} has no built program that fits its sources, there is no "
+                          f"other `nrm` on the path, and nothing is built here: `{self.top}/nrm --build` proves and "
+                          "builds it, and --program says which to run\n")
 
     def test_each_command_that_runs_the_program_builds_none(self) -> None:
         """In a checkout without a program, and where that is asked for by its name on the path."""
@@ -105,7 +110,8 @@ class Finding(PlaceTest):
         self.assertEqual(self.version(f"{self.folder}/bin:{SYSTEM}"), str(self.top / "nrm"))
         (self.top / "nrm").unlink()
         self.assertEqual(self.version(f"{self.folder}/bin:{SYSTEM}"), other)
-        self.want_in(self.asked(SYSTEM)[1], "nrm-tools thresholds: there is no `nrm` on the path; --program says which to run")
+        self.want_in(self.asked(SYSTEM)[1],
+                     "nrm-tools thresholds: there is no `nrm` on the path; --program says which to run")
 
     def test_a_script_that_would_build_is_passed_over(self) -> None:
         """Where the folder of a checkout is on the path, or its script is named."""
@@ -118,7 +124,8 @@ class Finding(PlaceTest):
         self.want_in(self.asked(SYSTEM, "--program", "checkout/nrm")[1], "wrote is no answer to it")
 
     def test_what_isnt_there_is_told(self) -> None:
-        self.assertEqual(self.asked(SYSTEM, "--program", "none/nrm")[1:], ("nrm-tools thresholds: none/nrm: No such file or directory\n", 1))
+        self.assertEqual(self.asked(SYSTEM, "--program", "none/nrm")[1:], ("nrm-tools thresholds: none/nrm: No such "
+                                                                           "file or directory\n", 1))
 
 
 class Runs(PlaceTest):
@@ -143,7 +150,8 @@ class Runs(PlaceTest):
     def test_a_run_that_fails_is_told_with_its_status_and_its_line(self) -> None:
         refused = self.file("refused.csv", "periods,1,1\nleg,a,1\n")
         sentence = f"`run bid {refused}` ended with status 3: refused row 2 why 5 name; `nrm-tools explain` tells every row of a network"
-        for run in (lambda: self.program.replies("bid", refused, b""), lambda: self.program.replies_of_a_line("bid", refused, b"")):
+        for run in (lambda: self.program.replies("bid", refused, b""),
+                    lambda: self.program.replies_of_a_line("bid", refused, b"")):
             with self.assertRaises(Stop) as stop:
                 run()
             self.want_in(str(stop.exception), sentence)
@@ -161,4 +169,6 @@ class Runs(PlaceTest):
 
     def test_the_checksum_is_that_of_the_file(self) -> None:
         found = Program((sys.executable,)).checksum()
-        self.assertEqual(found, subprocess.run(["sha256sum", sys.executable], capture_output=True, text=True).stdout.split()[0])
+        self.assertEqual(found,
+                         subprocess.run(["sha256sum", sys.executable], capture_output=True,
+                                        text=True).stdout.split()[0])

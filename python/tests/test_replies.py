@@ -6,12 +6,16 @@ import unittest
 from fractions import Fraction
 
 from harness import EXAMPLES, PlaceTest
-from nrm.replies import (MODES, Cancelled, Cuts, Hindsight, Leg, LegValue, Memory, Nest, NoAnswer, NoFare, NoLeg, Optimised, Overflow,
-                         Plan, Sold, Store, Unknown, answer_of, cuts_of, leg_value_of, plan_of, replies_of, whole_replies)
+from nrm.replies import (MODES, Cancelled, Cuts, Hindsight, Leg, LegValue, Memory, Nest, NoAnswer, NoFare, NoLeg,
+                         Optimised, Overflow,
+                         Plan, Sold, Store, Unknown, answer_of, cuts_of, leg_value_of, plan_of, replies_of,
+                         whole_replies)
 
 ANSWERS = {
-    "ok 7": Sold(7), "no AB-1": NoLeg("AB-1"), "no fare": NoFare(), "unknown": Unknown(), "cancelled 3 120": Cancelled(3, 120),
-    "optimised 7/2": Optimised(Fraction(7, 2)), "optimised none": Optimised(None), "overflow": Overflow(), "memory": Memory(),
+    "ok 7": Sold(7), "no AB-1": NoLeg("AB-1"), "no fare": NoFare(), "unknown": Unknown(),
+    "cancelled 3 120": Cancelled(3, 120),
+    "optimised 7/2": Optimised(Fraction(7, 2)), "optimised none": Optimised(None), "overflow": Overflow(),
+    "memory": Memory(),
     "store": Store(), "first": Plan(), "hindsight 7/3 revenue 2 withheld 1": Hindsight(Fraction(7, 3), 2, 1),
     "leg AB seats 9 authorised 8 sold 3 left 5\non AB P 3": Leg("AB", 9, 8, 3, 5, {"P": 3}),
     "value 5/2\nproduct P 1/2\nleg AB 3/1": Plan(Fraction(5, 2), {"P": Fraction(1, 2)}, {"AB": Fraction(3)}),
@@ -20,8 +24,10 @@ ANSWERS = {
     "value 5/2\nleg AB 3/1\nnest AB P -4/3 2\nprotect AB 6": Plan(
         Fraction(5, 2), {}, {"AB": Fraction(3)}, {("AB", "P"): Nest(Fraction(-4, 3), 2)}, {"AB": (6,)}),
     "value 0/1\nnest AB P -430/3 2": Plan(Fraction(0), nests={("AB", "P"): Nest(Fraction(-430, 3), 2)})}
-NO_ANSWERS = ["", "bad", "ok", "ok one", "ok 1 2", "no", "optimised 1/0", "hindsight 1/0 revenue 1 withheld 0", "hindsight 1 revenue 1 withheld 0",
-              "leg AB", "leg AB seats x authorised 8 sold 3 left 5", "value", "value one", "value 1/0", "value 1/1\nproduct P", "closed idle",
+NO_ANSWERS = ["", "bad", "ok", "ok one", "ok 1 2", "no", "optimised 1/0", "hindsight 1/0 revenue 1 withheld 0",
+              "hindsight 1 revenue 1 withheld 0",
+              "leg AB", "leg AB seats x authorised 8 sold 3 left 5", "value", "value one", "value 1/0",
+              "value 1/1\nproduct P", "closed idle",
               "value -1/1", "value 1/1\nleg AB -1/1", "value 1/1\nnest AB P --4/1 2", "value 1/1\nnest AB P -/1 2",
               "value 1/1\nnest AB P 4/1 -2"]
 CUTS = ["cuts AB 400", "centres AB 500 150", "cost AB 1200"]
@@ -53,8 +59,10 @@ class Answers(unittest.TestCase):
 
     def test_the_value_of_a_leg_is_read(self) -> None:
         self.assertEqual(leg_value_of("AB", VALUE), LegValue((("ABH", 400), ("ABL", 150)), Fraction(4175, 2), (3,)))
-        for wrong in ([], VALUE[1:], VALUE[:-1], [*VALUE[:2], "value AB 1/0", VALUE[3]], [*VALUE[:2], "value BC 1/2", VALUE[3]],
-                      [*VALUE[:3], "protect AB 3 4"], ["class ABH", *VALUE[1:]], ["class ABH x", *VALUE[1:]], ["nest ABH 4", *VALUE[1:]]):
+        for wrong in ([], VALUE[1:], VALUE[:-1], [*VALUE[:2], "value AB 1/0", VALUE[3]],
+                      [*VALUE[:2], "value BC 1/2", VALUE[3]],
+                      [*VALUE[:3], "protect AB 3 4"], ["class ABH", *VALUE[1:]], ["class ABH x", *VALUE[1:]],
+                      ["nest ABH 4", *VALUE[1:]]):
             with self.assertRaises(ValueError, msg=wrong):
                 leg_value_of("AB", wrong)
 
@@ -64,14 +72,18 @@ class Dealing(PlaceTest):
 
     def test_replies_are_dealt_one_to_a_line(self) -> None:
         for mode, lines_of_a_plan in (("first", 1), ("bid", 9), ("davn", 19)):
-            out = self.nrm("run", mode, EXAMPLES / "log" / "network.csv", given=b"".join(it + b"\n" for it in self.LINES)).encode()
+            out = self.nrm("run", mode, EXAMPLES / "log" / "network.csv",
+                           given=b"".join(it + b"\n" for it in self.LINES)).encode()
             dealt = [it.count(b"\n") for it in replies_of(io.BytesIO(out))]
-            self.assertEqual(dealt, [lines_of_a_plan, 1, 1, 2 if b"ok 1\n" in out else 1, lines_of_a_plan, lines_of_a_plan, 1, 1], mode)
+            self.assertEqual(dealt,
+                             [lines_of_a_plan, 1, 1, 2 if b"ok 1\n" in out else 1, lines_of_a_plan, lines_of_a_plan,
+                              1, 1], mode)
 
     def test_replies_are_whole_in_any_pieces(self) -> None:
         """Each reply comes once it is known to be whole, and the last text is held."""
         for mode in MODES:
-            out = self.nrm("run", mode, EXAMPLES / "log" / "network.csv", given=b"".join(it + b"\n" for it in self.LINES)).encode()
+            out = self.nrm("run", mode, EXAMPLES / "log" / "network.csv",
+                           given=b"".join(it + b"\n" for it in self.LINES)).encode()
             for size in (1, 7, len(out)):
                 found, left = [], b""
                 for at in range(0, len(out), size):
@@ -80,8 +92,10 @@ class Dealing(PlaceTest):
                 self.assertEqual((found, left), (list(replies_of(io.BytesIO(out))), b""), f"{mode} in pieces of {size}")
 
     def test_the_program_writes_what_is_read(self) -> None:
-        out = self.nrm("run", "davn", EXAMPLES / "log" / "network.csv", given=b"".join(it + b"\n" for it in self.LINES[:-1])).encode()
+        out = self.nrm("run", "davn", EXAMPLES / "log" / "network.csv",
+                       given=b"".join(it + b"\n" for it in self.LINES[:-1])).encode()
         kinds = [type(answer_of(it)) for it in replies_of(io.BytesIO(out))]
         self.assertEqual([kinds[0], kinds[1], kinds[3], kinds[6]], [Plan, Leg, Leg, Hindsight])
-        self.assertEqual(leg_value_of("AB", self.program.lines("dp", str(EXAMPLES / "certificate" / "network.csv"), "AB")),
+        self.assertEqual(leg_value_of("AB",
+                                      self.program.lines("dp", str(EXAMPLES / "certificate" / "network.csv"), "AB")),
                          leg_value_of("AB", VALUE))

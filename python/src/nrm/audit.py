@@ -2,15 +2,15 @@
 
     nrm-tools audit NETWORK CERTIFICATE
 
-The files are those of docs/network-file.md and docs/certificate.md, and the network file is one that `nrm print` accepts.
-Of each condition it is told whether it holds, then what the allocation gains and what the prices cost, in a history on the
-mean. What a leg can give are its authorised seats, which in a file of version 1 are its seats. The last line and the status are
-those of `nrm check`: `optimal` and 0, the first condition that fails and 1, or why a file is refused and 3. Nothing of the
-program or of its tools is used, all numbers are exact fractions, and all are means of a history, where the program counts in
-whole numbers over all histories.
+The files are those of docs/network-file.md and docs/certificate.md, and the network file is one that `nrm print`
+accepts. Of each condition it is told whether it holds, then what the allocation gains and what the prices cost, in a
+history on the mean. What a leg can give are its authorised seats, which in a file of version 1 are its seats. The last
+line and the status are those of `nrm check`: `optimal` and 0, the first condition that fails and 1, or why a file is
+refused and 3. Nothing of the program or of its tools is used, all numbers are exact fractions, and all are means of a
+history, where the program counts in whole numbers over all histories.
 
-This file shares nothing with the other tools, on purpose: so what it finds doesn't stand on what they read, and it can be read,
-copied and run by itself, as `python3 audit.py NETWORK CERTIFICATE`.
+This file shares nothing with the other tools, on purpose: so what it finds doesn't stand on what they read, and it can
+be read, copied and run by itself, as `python3 audit.py NETWORK CERTIFICATE`.
 """
 from __future__ import annotations
 
@@ -42,8 +42,8 @@ def number_of(field: str) -> int:
 
 
 class Network:
-    """Seats, authorised seats and thresholds of each leg; fare, legs, refund percentage and demand, in all histories and periods
-    together, of each product."""
+    """Seats, authorised seats and thresholds of each leg; fare, legs, refund percentage and demand, in all histories
+    and periods together, of each product."""
 
     def __init__(self, path: str) -> None:
         self.histories = self.periods = self.version = 0
@@ -58,7 +58,8 @@ class Network:
             try:
                 for row in filter(None, csv.reader(file)):  # a blank line is an empty row, and counts for nothing
                     self.take(row[0], row[1], row[2:])
-                if not (self.histories and self.seats and self.fare and set().union(*self.legs.values()) <= self.seats.keys()):
+                if not (self.histories and self.seats and self.fare
+                        and set().union(*self.legs.values()) <= self.seats.keys()):
                     raise ValueError
             except (ValueError, TypeError, LookupError, csv.Error):
                 raise Refused("refused: `nrm print` says why")
@@ -73,7 +74,8 @@ class Network:
             self.authorised[name] = thresholds.pop(0) if self.version == 2 else seats
             self.thresholds[name] = thresholds
         elif kind == "product":
-            self.fare[name], self.legs[name], self.refund[name], self.demand[name] = number_of(rest[0]), rest[1:], 100, 0
+            self.fare[name], self.legs[name] = number_of(rest[0]), rest[1:]
+            self.refund[name], self.demand[name] = 100, 0
         elif kind == "refund" and self.version == 2 and name in self.fare:
             [self.refund[name]] = map(number_of, rest)
         elif kind == "demand":
@@ -132,21 +134,22 @@ def audit(network: Network, certificate: Certificate) -> str:
     """Tells each condition, and gives the last line."""
     bound = {it: Fraction(demand, network.histories) for it, demand in network.demand.items()}
     worth = {it: sum(certificate.price[leg] for leg in legs) for it, legs in network.legs.items()}
-    sold = {leg: sum(seats for it, seats in certificate.seats.items() if leg in network.legs[it]) for leg in network.seats}
-    gain = sum((network.fare[it] * seats for it, seats in certificate.seats.items()), Fraction(0))
-    cost = sum((network.authorised[leg] * price for leg, price in certificate.price.items()), Fraction(0))
-    cost += sum(bound[it] * max(network.fare[it] - worth[it], Fraction(0)) for it in bound)
+    seats, price, fare, authorised = certificate.seats, certificate.price, network.fare, network.authorised
+    sold = {leg: sum(seats[it] for it in seats if leg in network.legs[it]) for leg in network.seats}
+    gain = sum((fare[it] * seats[it] for it in seats), Fraction(0))
+    cost = sum((authorised[leg] * price[leg] for leg in price), Fraction(0))
+    cost += sum(bound[it] * max(fare[it] - worth[it], Fraction(0)) for it in bound)
     conditions = {
         "2 no product has more seats than its demand":
-            [f"product {it}" for it, seats in certificate.seats.items() if seats > bound[it]],
+            [f"product {it}" for it in seats if seats[it] > bound[it]],
         "3 no leg gives more seats than are authorised":
-            [f"leg {leg}" for leg in sold if sold[leg] > network.authorised[leg]],
+            [f"leg {leg}" for leg in sold if sold[leg] > authorised[leg]],
         "4 each leg with a price is full":
-            [f"leg {leg}" for leg, price in certificate.price.items() if price > 0 and sold[leg] < network.authorised[leg]],
+            [f"leg {leg}" for leg in price if price[leg] > 0 and sold[leg] < authorised[leg]],
         "5 each product that is worth more than its legs has all its demand":
-            [f"product {it}" for it, seats in certificate.seats.items() if seats < bound[it] and network.fare[it] > worth[it]],
+            [f"product {it}" for it in seats if seats[it] < bound[it] and fare[it] > worth[it]],
         "6 each product that has seats is worth its legs":
-            [f"product {it}" for it, seats in certificate.seats.items() if seats > 0 and network.fare[it] < worth[it]],
+            [f"product {it}" for it in seats if seats[it] > 0 and fare[it] < worth[it]],
         "7 the value is the cost":
             ["value"] if certificate.value != cost else [],
     }
@@ -174,7 +177,7 @@ def ended(network_path: str, certificate_path: str) -> tuple[str, int]:
 
 def run(words: Sequence[str]) -> int:
     """Tells the audit of the two files that the words name, and gives the status."""
-    parser = argparse.ArgumentParser(prog="nrm-tools audit", usage="nrm-tools audit NETWORK CERTIFICATE", description=__doc__,
+    parser = argparse.ArgumentParser("nrm-tools audit", "nrm-tools audit NETWORK CERTIFICATE", __doc__,
                                      formatter_class=argparse.RawDescriptionHelpFormatter)
     parser.add_argument("network")
     parser.add_argument("certificate")

@@ -1,8 +1,8 @@
-"""The network file of both versions: its rows with their lines, the network that they make, and rows changed and written.
+"""The network file of both versions: its rows with their lines, the network that they make, and rows as text.
 
-It sees what a network needs to be one. That a file is within all its limits is for `nrm print` to say, and what is wrong with it
-for `nrm.files.explained`. Numbers are refused by their length first, since Python makes none of more than 4,300 digits, and fails at
-one. May use: nrm.
+It sees what a network needs to be one. That a file is within all its limits is for `nrm print` to say, and what is
+wrong with it for `nrm.files.explained`. Numbers are refused by their length first, since Python makes none of more than
+4,300 digits, and fails at one. May use: nrm.
 """
 from __future__ import annotations
 
@@ -114,14 +114,10 @@ def text_of(rows: Iterable[Sequence[object]]) -> str:
     return "".join(",".join(map(str, fields)) + "\n" for fields in rows)
 
 
-def fields_before_thresholds(rows: Sequence[Sequence[object]]) -> int:
-    """The fields of a leg before its thresholds: as many as the row of periods has, 3 in version 1 and 4 in version 2."""
-    return len(rows[0])
-
-
-def with_thresholds(rows: Sequence[Sequence[object]], thresholds: Mapping[str, Sequence[int]]) -> Iterator[Sequence[object]]:
+def with_thresholds(rows: Sequence[Sequence[object]],
+                    thresholds: Mapping[str, Sequence[int]]) -> Iterator[Sequence[object]]:
     """The rows of a network, with other thresholds of the legs that have some given."""
-    before = fields_before_thresholds(rows)
+    before = len(rows[0])  # as many fields as the row of periods has: 3 in version 1 and 4 in version 2
     for row in rows:
         yield [*row[:before], *thresholds[str(row[1])]] if row[0] == "leg" and row[1] in thresholds else row
 
@@ -144,8 +140,8 @@ class Leg:
 
 @dataclass(frozen=True)
 class Product:
-    """A product: its fare and its legs, the percentage of the fare that a cancellation gives back, and by the number of the
-    history the seats asked for in each period."""
+    """A product: its fare and its legs, the percentage of the fare that a cancellation gives back, and by the number of
+    the history the seats asked for in each period."""
     name: str
     fare: int
     legs: tuple[str, ...]
@@ -163,7 +159,8 @@ class Product:
 
 @dataclass(frozen=True)
 class Network:
-    """What a network file says: its version, 1 or 2, how many histories and periods there are, and the legs and products by name."""
+    """What a network file says: its version, 1 or 2, the numbers of histories and periods, legs and products by
+    name."""
     version: int
     histories: int
     periods: int
@@ -191,11 +188,11 @@ class Network:
 
     def rows(self, legs: Iterable[str] | None = None, products: Sequence[str] | None = None) -> Iterator[list[object]]:
         """The rows of a network file of the same version with these legs and products, or with all."""
-        legs_there = [self.legs[it] for it in (self.legs if legs is None else legs)]
         sold = [self.products[it] for it in (self.products if products is None else products)]
         is_second = self.version == 2
         yield ["periods", self.histories, self.periods, *([2] if is_second else [])]
-        yield from (["leg", it.name, it.seats, *([it.authorised] if is_second else []), *it.thresholds] for it in legs_there)
+        for it in [self.legs[it] for it in (self.legs if legs is None else legs)]:
+            yield ["leg", it.name, it.seats, *([it.authorised] if is_second else []), *it.thresholds]
         yield from (["product", it.name, it.fare, *it.legs] for it in sold)
         yield from (["refund", it.name, it.refund] for it in sold if it.refund != ALL_OF_IT)
         yield from (["demand", it.name, history, *seats] for it in sold for history, seats in sorted(it.demand.items()))
@@ -216,7 +213,8 @@ class Network:
     def mean_demand(self) -> dict[str, list[float]]:
         """The mean of the histories: of each product, the seats asked for in each period."""
         none = (0,) * self.periods
-        return {name: [sum(seats) / self.histories for seats in zip(none, *it.demand.values())] for name, it in self.products.items()}
+        return {name: [sum(seats) / self.histories for seats in zip(none, *it.demand.values())]
+                for name, it in self.products.items()}
 
 
 class Reading:
@@ -232,31 +230,24 @@ class Reading:
         if (kind == "periods") == bool(self.version):
             raise ValueError("the row of periods comes first, and once")
         if kind == "periods":
-            self.take_periods(name, rest)
-            return
-        if not NAME.fullmatch(name):
+            if rest[1:] not in ([], ["2"]):
+                raise ValueError("a version is 2, or isn't said")
+            self.histories, self.periods, self.version = whole(name), whole(rest[0]), len(rest)
+        elif not NAME.fullmatch(name):
             raise ValueError(name)
-        if kind == "product":
-            self.take_product(name, whole(rest[0]), tuple(rest[1:]))
-            return
-        self.take_numbers(kind, name, tuple(map(whole, rest)))
-
-    def take_periods(self, histories: str, rest: list[str]) -> None:
-        if rest[1:] not in ([], ["2"]):
-            raise ValueError("a version is 2, or isn't said")
-        self.histories, self.periods, self.version = whole(histories), whole(rest[0]), len(rest)
-
-    def take_product(self, name: str, fare: int, legs: tuple[str, ...]) -> None:
-        if name in self.products or not legs or not self.legs.keys() >= set(legs):
-            raise ValueError(name)
-        self.products[name] = Product(name, fare, legs)
+        elif kind == "product":
+            fare, legs = whole(rest[0]), tuple(rest[1:])
+            if name in self.products or not legs or not self.legs.keys() >= set(legs):
+                raise ValueError(name)
+            self.products[name] = Product(name, fare, legs)
+        else:
+            self.take_numbers(kind, name, tuple(map(whole, rest)))
 
     def take_numbers(self, kind: str, name: str, numbers: tuple[int, ...]) -> None:
         """Takes a row whose fields behind the name are numbers."""
         if kind == "leg" and name not in self.legs:
-            seats = numbers[0]
-            authorised, thresholds = (numbers[1], numbers[2:]) if self.version == 2 else (seats, numbers[1:])
-            self.legs[name] = Leg(name, seats, authorised, thresholds)
+            before = 2 if self.version == 2 else 1  # its seats, and the authorised ones where they are said
+            self.legs[name] = Leg(name, numbers[0], numbers[before - 1], numbers[before:])
         elif kind == "refund" and self.version == 2:
             [refund] = numbers
             self.products[name] = dataclasses.replace(self.products[name], refund=refund)

@@ -1,6 +1,6 @@
 """The program `nrm`: how it is found and run, as a whole run, a dialogue or a stream. Nothing here builds it.
 
-A run that ends with another status than 0 is a `Stop` that tells the status and the line that the program wrote with it.
+A run that ends with another status than 0 is a `Stop` that tells the status and the last line that was written.
 May use: nrm, nrm.replies.
 """
 from __future__ import annotations
@@ -14,7 +14,7 @@ import subprocess
 import threading
 from dataclasses import dataclass
 from pathlib import Path
-from typing import IO, Callable, ContextManager, Iterable, Iterator, Sequence, TypeVar
+from typing import Callable, ContextManager, Iterable, Iterator, Sequence, TypeVar
 
 from nrm import Stop
 from nrm.replies import replies_of
@@ -25,6 +25,7 @@ LINES_AT_ONCE = 1000  # that are sent before their replies are read: they and th
 REFUSED = 3
 INPUT_FAULT = 4
 DOORS = ("nrm", "nrm_kept")  # the scripts at the top of a checkout, which may build
+WHICH = "--program says which to run"
 Told = TypeVar("Told")
 
 
@@ -59,7 +60,7 @@ def sources_of(top: Path) -> Iterator[Path]:
 
 
 def program_behind(path: str) -> str | None:
-    """The program that a file is, or that the script of a checkout stands for; None if that one has none that fits its sources."""
+    """The program that a file is, or that the script of a checkout stands for; None if none there fits its sources."""
     script = Path(path).resolve()
     if script.name not in DOORS or not is_checkout(script.parent):
         return path
@@ -87,9 +88,9 @@ def on_path() -> str | None:
 def no_program(top: Path) -> Stop:
     """Why there is no program, for who has a checkout at a folder or none."""
     if is_checkout(top):
-        return Stop(f"{top} has no built program that fits its sources, there is no other `nrm` on the path, and nothing is built here: "
-                    f"`{top / 'nrm'} --build` proves and builds it, and --program says which to run")
-    return Stop("there is no `nrm` on the path; --program says which to run")
+        return Stop(f"{top} has no built program that fits its sources, there is no other `nrm` on the path, "
+                    f"and nothing is built here: `{top / 'nrm'} --build` proves and builds it, and {WHICH}")
+    return Stop(f"there is no `nrm` on the path; {WHICH}")
 
 
 # How it is run
@@ -102,7 +103,8 @@ class Program:
 
     @classmethod
     def found(cls, words: Sequence[str] | None = None) -> Program:
-        """The program of some words, else the one of the checkout or release that this file is of, else the one on the path."""
+        """The program of some words, else that of the checkout or release that this file is of, else that on the
+        path."""
         if words:
             there = shutil.which(words[0])
             found = program_behind(os.path.abspath(there)) if there else words[0]
@@ -145,21 +147,23 @@ class Program:
             raise unanswered(mode, network, done.returncode, done.stdout)
         return list(replies_of(io.BytesIO(done.stdout)))
 
-    def replies_of_a_line(self, mode: str, network: str, stream: bytes, clock: ContextManager[object] | None = None) -> list[bytes]:
-        """The replies to a stream none of whose lines asks for a text, without line feeds: as `replies`, and much faster, since all
-        goes through two files in memory. A clock counts the time in the program."""
+    def replies_of_a_line(self, mode: str, network: str, stream: bytes,
+                          clock: ContextManager[object] | None = None) -> list[bytes]:
+        """The replies to a stream none of whose lines asks for a text, without line feeds: as `replies`, and much
+        faster, since all goes through two files in memory. A clock counts the time in the program."""
         given, told = os.memfd_create("stream"), os.memfd_create("replies")
         try:
             os.write(given, stream)
             os.lseek(given, 0, os.SEEK_SET)
+            words = [*self.words, "run", mode, network]
             with clock or contextlib.nullcontext():
-                status = subprocess.run([*self.words, "run", mode, network], stdin=given, stdout=told, close_fds=False).returncode
+                done = subprocess.run(words, stdin=given, stdout=told, close_fds=False)
             written = os.pread(told, os.fstat(told).st_size, 0)
         finally:
             os.close(given)
             os.close(told)
-        if status:
-            raise unanswered(mode, network, status, written)
+        if done.returncode:
+            raise unanswered(mode, network, done.returncode, written)
         return written.split(b"\n")[:-1]
 
 
@@ -177,13 +181,25 @@ def unanswered(mode: str, network: str, status: int, written: bytes = b"") -> St
 # A dialogue, and a stream
 
 
-class Dialogue:
-    """A run whose replies are read before more is sent. None of its lines asks for a text."""
+class Run:
+    """A run that is given its lines as it answers."""
 
     def __init__(self, program: Program, mode: str, network: str) -> None:
         self.mode, self.network = mode, network
-        self.process = subprocess.Popen([*program.words, "run", mode, network], stdin=subprocess.PIPE, stdout=subprocess.PIPE)
-        self.input, self.output = end_of(self.process.stdin), end_of(self.process.stdout)
+        words = [*program.words, "run", mode, network]
+        self.process = subprocess.Popen(words, stdin=subprocess.PIPE, stdout=subprocess.PIPE)
+        given, told = self.process.stdin, self.process.stdout
+        assert isinstance(given, io.BufferedWriter) and isinstance(told, io.BufferedReader)
+        self.input, self.output = given, told
+
+    def kill(self) -> None:
+        """Ends a run of which no more is wanted."""
+        self.process.kill()
+        self.process.wait()
+
+
+class Dialogue(Run):
+    """A run whose replies are read before more is sent. None of its lines asks for a text."""
 
     def ask(self, lines: Sequence[str]) -> list[bytes]:
         """The replies to some lines, without line feeds."""
@@ -208,26 +224,26 @@ class Dialogue:
         return unanswered(self.mode, self.network, self.process.wait())
 
     def kill(self) -> None:
-        """Ends a run of which no more is wanted."""
-        self.process.kill()
+        super().kill()
+        self.output.close()
+        with contextlib.suppress(BrokenPipeError):
+            self.input.close()
 
 
-class Stream:
-    """A run that is given lines by a thread of its own, and then, if one is named, what a file descriptor has; its output is read as
-    it comes. `fault` is the status if that descriptor can't be read, and None otherwise."""
+class Stream(Run):
+    """A run that is given lines by a thread of its own, and then, if one is named, what a file descriptor has; its
+    output is read as it comes. `fault` is the status if that descriptor can't be read, and None otherwise."""
 
-    def __init__(self, program: Program, mode: str, network: str, lines: Iterable[bytes], source: int | None = None) -> None:
+    def __init__(self, program: Program, mode: str, network: str, lines: Iterable[bytes],
+                 source: int | None = None) -> None:
+        super().__init__(program, mode, network)
         self.fault: int | None = None
-        self.process = subprocess.Popen([*program.words, "run", mode, network], stdin=subprocess.PIPE, stdout=subprocess.PIPE)
-        output = self.process.stdout
-        assert isinstance(output, io.BufferedReader)
-        self.output = output
         threading.Thread(target=self.feed, args=(lines, source), daemon=True).start()
 
     def feed(self, lines: Iterable[bytes], source: int | None) -> None:
         """Gives the program its input, to the end."""
         try:
-            with end_of(self.process.stdin) as end:
+            with self.input as end:
                 end.writelines(lines)
                 end.flush()
                 while source is not None and (piece := os.read(source, PIECE)):
@@ -242,14 +258,3 @@ class Stream:
     def wait(self) -> int:
         """The status, once the program has ended."""
         return self.process.wait()
-
-    def kill(self) -> None:
-        """Ends a run of which no more is wanted."""
-        self.process.kill()
-        self.process.wait()
-
-
-def end_of(pipe: IO[bytes] | None) -> IO[bytes]:
-    """Our end of a pipe that was asked for."""
-    assert pipe is not None
-    return pipe

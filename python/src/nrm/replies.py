@@ -21,7 +21,7 @@ class NoAnswer(ValueError):
 
 # Which reply belongs to which line
 
-FURTHER = re.compile(rb"(on|product|nest|protect) |leg [^ ]+ [0-9]+/")  # a line of a text of a leg or a plan, not its first
+FURTHER = re.compile(rb"(on|product|nest|protect) |leg [^ ]+ [0-9]+/")  # a line within the text of a leg or a plan
 FURTHER_IN = re.compile(rb"^(?:" + FURTHER.pattern + rb")", re.MULTILINE)
 TEXT = re.compile(rb"leg |value ")  # how the text of a leg and that of a plan begin
 
@@ -120,13 +120,13 @@ class Nest(NamedTuple):
 
 @dataclass(frozen=True)
 class Plan:
-    """The plan in force. Under `first` there is none, and all is empty; nests and protections are those of `davn` alone.
+    """The plan in force. Under `first` all is empty; nests and protections are those of `davn` alone.
 
     value          the revenue still to come in a history, on the mean, in currency units
     allocation     of each product, the seats that it is allotted in a history, on the mean
     prices         of each leg, its bid price in currency units
     nests          of each leg and product on it, the adjusted fare and the bucket
-    protections    of each leg, the seats that are kept for bucket 1, for buckets 1 and 2, and so on
+    protections    of each leg, the seats that are protected for bucket 1, for buckets 1 and 2, and so on
     """
     value: Fraction | None = None
     allocation: dict[str, Fraction] = field(default_factory=dict)
@@ -149,7 +149,7 @@ class Plan:
 
 @dataclass(frozen=True)
 class Hindsight:
-    """What no choice of the requests so far could have exceeded, the revenue, and what was withheld, in currency units."""
+    """What no choice of the requests so far could have exceeded, the revenue, and what was withheld."""
     bound: Fraction
     revenue: int
     withheld: int

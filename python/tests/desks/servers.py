@@ -1,4 +1,5 @@
-"""What the tests of desks stand on: a server on a journal, over the program or over one in its place, and clients that ask it."""
+"""What the tests of desks stand on: a server on a journal, over the program or over one in its place, and clients that
+ask it."""
 from __future__ import annotations
 
 import contextlib
@@ -30,13 +31,16 @@ def child_of(process: int) -> int:
 class Server:
     """A run of the command in a folder, or of other words that come to run it."""
 
-    def __init__(self, folder: Path, words: Sequence[str], *options: str, path: Path | None = None, journal: object = None,
-                 limit: Callable[[], object] | None = None, status: int | None = None, variables: Mapping[str, str] | None = None,
+    def __init__(self, folder: Path, words: Sequence[str], *options: str, path: Path | None = None,
+                 journal: object = None,
+                 limit: Callable[[], object] | None = None, status: int | None = None,
+                 variables: Mapping[str, str] | None = None,
                  before: Sequence[str] = ()) -> None:
         self.path, self.err = path or folder / "socket", folder / "told"
         options = (*options, *(["--journal", str(journal)] if journal else []))
         with open(self.err, "w") as told:
-            self.process = subprocess.Popen([*before, *DESKS, "--socket", str(self.path), *options, "--", *words], stderr=told,
+            self.process = subprocess.Popen([*before, *DESKS, "--socket", str(self.path), *options, "--", *words],
+                                            stderr=told,
                                             preexec_fn=limit, env={**os.environ, **(variables or {})})
         if status is None:
             self.wait_until_it_listens()
@@ -138,8 +142,8 @@ class ServerTest(PlaceTest):
         return path
 
     def stub(self, name: str, replies: Mapping[str, str], pause: float = 0) -> list[str]:
-        """A program in place of the controller, which answers some lines so, after a pause in seconds, and writes down what it
-        gets."""
+        """A program in place of the controller, which answers some lines so, after a pause in seconds, and writes down
+        what it gets."""
         return [self.script(name, STUB.format(got=str(self.folder / "got"), answers=replies, pause=pause))]
 
     def got(self) -> list[str]:

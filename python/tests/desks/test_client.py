@@ -28,7 +28,8 @@ def made_network(draw: random.Random) -> str:
     for at in range(7):
         used = draw.sample(legs, draw.choice([1, 1, 2, 3]))
         rows.append(f"product,P{at},{draw.randint(50, 600)},{','.join(used)}")
-        rows += [f"demand,P{at},{history},{draw.randint(0, 9)},{draw.randint(0, 9)}" for history in (1, 2) if draw.randrange(4)]
+        rows += [f"demand,P{at},{history},{draw.randint(0, 9)},{draw.randint(0, 9)}" for history in (1, 2)
+                 if draw.randrange(4)]
     return "\n".join(rows) + "\n"
 
 
@@ -84,7 +85,8 @@ class Desks(ServerTest):
                 self.assertEqual(str(self.expect(Late, desk.plan)), "no answer in 0.2 seconds")
             with Desk(path, seconds=0.2) as desk:
                 desk.socket.setsockopt(socket.SOL_SOCKET, socket.SO_SNDBUF, 1)
-                self.assertEqual(str(self.expect(Late, lambda: desk.reply("x" * 1_000_000))), "no line was taken in 0.2 seconds")
+                self.assertEqual(str(self.expect(Late, lambda: desk.reply("x" * 1_000_000))),
+                                 "no line was taken in 0.2 seconds")
             with mock.patch.object(OldSocket, "connect", side_effect=OldTimeout):
                 for place in (path, ("127.0.0.1", 80)):
                     why = self.expect(Late, lambda: Desk(place, seconds=0.2))
@@ -108,12 +110,16 @@ class Desks(ServerTest):
                     with Desk.start([*self.program.words, "run"], mode, path) as copy:
                         for line in lines:
                             copy.reply(line)
-                        self.assertEqual((copy.available(product), copy.hindsight()), (party, before), "asking changes nothing")
-                        self.assertFalse(party < 999 and is_sold(copy, product, party + 1), f"{mode} {seed} {product} {party + 1}")
-                        self.assertEqual(party == 0 or is_sold(copy, product, party), True, f"{mode} {seed} {product} {party}")
+                        self.assertEqual((copy.available(product), copy.hindsight()), (party, before),
+                                         "asking changes nothing")
+                        self.assertFalse(party < 999 and is_sold(copy, product, party + 1),
+                                         f"{mode} {seed} {product} {party + 1}")
+                        self.assertEqual(party == 0 or is_sold(copy, product, party), True,
+                                         f"{mode} {seed} {product} {party}")
                     seen[mode, "none" if party == 0 else "all" if party == 999 else "some"] += 1
         for mode in MODES:
-            self.assertEqual(all(seen[mode, it] for it in ("none", "some")), True, f"parties of both kinds under {mode}: {seen}")
+            self.assertEqual(all(seen[mode, it] for it in ("none", "some")), True,
+                             f"parties of both kinds under {mode}: {seen}")
         self.assertEqual(any(seen[mode, "all"] for mode in MODES), True, "a leg with room for 999")
 
     def test_a_desk_in_python_gets_typed_answers(self) -> None:
@@ -126,11 +132,14 @@ class Desks(ServerTest):
                     self.assertEqual(found, (Sold(1), of.Unknown(), of.Unknown()), "bookings")
                     self.assertEqual(desk.leg("AB"), of.Leg("AB", 10, 10, 3, 7, {"ABL": 3}))
                     self.assertEqual(desk.leg("NONE"), of.Unknown())
-                    self.assertEqual((desk.plan().protections, desk.plan().nests["BC", "ACL"], desk.plan().prices["AB"]),
+                    self.assertEqual((desk.plan().protections, desk.plan().nests["BC", "ACL"],
+                                      desk.plan().prices["AB"]),
                          ({"AB": (7, 10), "BC": (4, 6)}, Nest(Fraction(79), 3), 150), "the plan")
-                    self.assertEqual((desk.cancel(1), desk.reoptimise(1)), (of.Cancelled(1, 450), of.Optimised(Fraction(4130))))
+                    self.assertEqual((desk.cancel(1), desk.reoptimise(1)),
+                                     (of.Cancelled(1, 450), of.Optimised(Fraction(4130))))
                     self.assertEqual((desk.hindsight().revenue, desk.hindsight().withheld), (0, 0), "hindsight")
-                    self.assertEqual([desk.available(it) for it in ("ABL", "BCL", "ABH")], [3, 4, 10], "what is available")
+                    self.assertEqual([desk.available(it) for it in ("ABL", "BCL", "ABH")], [3, 4, 10],
+                                     "what is available")
                     for call, words in [(desk.book, ("ABL", 0)), (desk.book, ("a\nb", 1)), (desk.reply, ("a\nb",)),
                                         (desk.cancel, (-1,))]:
                         self.expect(ValueError, lambda: call(*words))
@@ -145,7 +154,8 @@ class Desks(ServerTest):
             self.expect(of.Late, desk.plan)
         self.expect(of.Ended, lambda: Desk(self.folder / "none"))
         for odd in ["odd", "value 1/" + "9" * 4301, "value 1e9999999", "value 1/1\nproduct"]:
-            with Desk.start(self.stub("odd", {"plan": odd, "leg A": f"leg A seats {'9' * 4301} authorised 1 sold 1 left 1",
+            with Desk.start(self.stub("odd", {"plan": odd, "leg A": f"leg A seats {'9' * 4301} authorised 1 sold 1 "
+                                                                    "left 1",
                                                  "cancel 1": "ok " + "9" * 4301}), "x", "y") as desk:
                 for call in (desk.plan, lambda: desk.leg("A"), lambda: desk.cancel(1)):
                     self.expect(of.Strange, call)
@@ -159,7 +169,8 @@ class Desks(ServerTest):
         subprocess.run(["cc", "-Wall", "-Wextra", "-Werror", "-o", built, EXAMPLES / "desk" / "desk.c"], check=True)
         stream = (EXAMPLES / "hub" / "commands.txt").read_bytes()
         with self.hub_server(mode="davn") as server:
-            done = subprocess.run([built, server.path], input=stream + b"nonsense\n", capture_output=True, timeout=SECONDS)
+            done = subprocess.run([built, server.path], input=stream + b"nonsense\n", capture_output=True,
+                                  timeout=SECONDS)
             wanted = b"".join(self.program.replies("davn", HUB, stream)) + b"bad\n"
             self.assertEqual((done.returncode, done.stdout, done.stderr), (0, wanted, b""), "its replies")
             server.end()

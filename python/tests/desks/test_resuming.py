@@ -24,7 +24,8 @@ class Resuming(PlaceTest):
     def test_goes_on_with_a_live_sender(self) -> None:
         """The commands of `docs/operating.md`, after a cut at each of some bytes of the replies."""
         hub = EXAMPLES / "hub"
-        lines, replies = (hub / "commands.txt").read_bytes().splitlines(keepends=True), (hub / "replies.txt").read_bytes()
+        lines, replies = (hub / "commands.txt").read_bytes().splitlines(keepends=True), (
+            hub / "replies.txt").read_bytes()
         script = """
             told=$("$PYTHON" "$TOOLS" resume "$HUB" first stream replies --program "$@")
             line=$(echo "$told" | sed 's/.*line \\([0-9]*\\);.*/\\1/'); size=$(echo "$told" | sed 's/.*; \\([0-9]*\\) bytes.*/\\1/')
@@ -37,7 +38,8 @@ class Resuming(PlaceTest):
             self.file("later", b"".join(lines[-5:]))
             self.file("replies", replies[:at])
             names = {"PYTHON": sys.executable, "TOOLS": str(SOURCES), "HUB": str(hub / "network.csv")}
-            done = subprocess.run(["bash", "-c", script, "bash", *self.program.words], cwd=self.folder, env={**os.environ, **names},
+            done = subprocess.run(["bash", "-c", script, "bash", *self.program.words], cwd=self.folder,
+                                  env={**os.environ, **names},
                                   timeout=SECONDS)
             found = [(self.folder / it).read_bytes() for it in ("whole", "stream")]
             self.assertEqual((done.returncode, *found), (0, replies, b"".join(lines)), f"cut at {at}")

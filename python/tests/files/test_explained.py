@@ -41,12 +41,16 @@ demand,ZV-Q,2,1,1,1
 
 FAULTS_OF_MANY = [  # the row, the cause, the line of the editor, the field, and a part of the advice
     (1, "1 kind", 1, "field 1, the kind: Heading", "no heading row"), (2, "3 fields", 3, None, "padded it with commas"),
-    (3, "7 range", 4, "field 3, the seats: 1020", "0 to 999"), (4, "5 name", 5, "field 2, the name: lh454_27Nov", "LH454-27NOV"),
-    (5, "1 kind", 6, "field 1, the kind: # remark", "no remarks"), (6, "6 number", 7, "field 3, the fare: 1,250", "1250"),
-    (7, "6 number", 8, "field 3, the fare: 110.50", "round it"), (8, "9 missing", 9, "field 4, leg 1: ZRH-VEI", "is it ZRH-VIE of line 4?"),
+    (3, "7 range", 4, "field 3, the seats: 1020", "0 to 999"),
+    (4, "5 name", 5, "field 2, the name: lh454_27Nov", "LH454-27NOV"),
+    (5, "1 kind", 6, "field 1, the kind: # remark", "no remarks"),
+    (6, "6 number", 7, "field 3, the fare: 1,250", "1250"),
+    (7, "6 number", 8, "field 3, the fare: 110.50", "round it"),
+    (8, "9 missing", 9, "field 4, leg 1: ZRH-VEI", "is it ZRH-VIE of line 4?"),
     (9, "5 name", 10, "field 2, the name: 'VB-Q\\n'", "VB-Q"), (10, "7 range", 12, "field 3, the history: 4", "1 to 3"),
     (11, "11 sum", 13, None, "1003 together"), (12, "9 missing", 14, "field 2, the product: LATE", "line 16, below"),
-    (13, "1 kind", 15, "field 1, the kind: ''", "the row is empty"), (14, "6 number", 16, "field 3, the fare: 07", "write 7")]
+    (13, "1 kind", 15, "field 1, the kind: ''", "the row is empty"),
+    (14, "6 number", 16, "field 3, the fare: 07", "write 7")]
 
 FAULTS_OF_VERSION_2 = """refund,ZV-Y,50
 periods,3,3,02
@@ -72,27 +76,31 @@ FAULTS_TOLD_OF_VERSION_2 = [  # the row, the cause, the field, and a part of the
     (2, "6 number", "field 4, the version: 02", "write 2"),
     (3, "3 fields", None, "takes leg,NAME,SEATS,AUTHORISED and up to 9 thresholds, since line 2 says version 2"),
     (4, "7 range", "field 4, the authorised seats: 1090", "it is to be 0 to 999; is it a threshold?"),
-    (5, "10 thresholds", "field 6, threshold 2: 90", "below 90"), (6, "6 number", "field 4, the authorised seats: 09", "write 9"),
+    (5, "10 thresholds", "field 6, threshold 2: 90", "below 90"),
+    (6, "6 number", "field 4, the authorised seats: 09", "write 9"),
     (9, "6 number", "field 3, the percentage: 33.5", "write a whole number, a percentage: round it"),
     (10, "6 number", "field 3, the percentage: 33%", "write digits alone: 33"),
     (11, "9 missing", "field 2, the product: ZV-M", "line 17, below, makes it"),
     (12, "7 range", "field 3, the percentage: 120", "it is to be 0 to 100"),
-    (13, "1 kind", "field 1, the kind: Refund", "write refund, in lower case"), (14, "3 fields", None, "takes refund,PRODUCT,PERCENTAGE"),
+    (13, "1 kind", "field 1, the kind: Refund", "write refund, in lower case"),
+    (14, "3 fields", None, "takes refund,PRODUCT,PERCENTAGE"),
     (15, "5 name", "field 2, the product: zv_q", "write ZV-Q"),
     (16, "1 kind", "field 1, the kind: fare", "none of periods, leg, product, refund and demand")]
 
 TWO_VERSIONS = [  # a file, and the first advice
-    ("periods,1,1\nleg,AB,9,12,300,100\nproduct,P,5,AB\n", "if 12 are authorised seats, the file is to be of version 2, with ,2 at the "
-                                                             "end of line 1"),
-    ("periods,1,1\nleg,AB,9\nproduct,P,5,AB\nrefund,P,50\n", "a file of version 1 has no refunds: make it version 2, with ,2 at the end of "
-                                                               "line 1"),
+    ("periods,1,1\nleg,AB,9,12,300,100\nproduct,P,5,AB\n", "if 12 are authorised seats, the file is to be of version "
+                                                             "2, with ,2 at the end of line 1"),
+    ("periods,1,1\nleg,AB,9\nproduct,P,5,AB\nrefund,P,50\n", "a file of version 1 has no refunds: make it version 2, "
+                                                               "with ,2 at the end of line 1"),
     ("periods,1,1\nleg,AB,9\nproduct,P,5,AB\nRefund,P,50\n", "a file of version 1 has no refunds"),
     ("periods,1,1,1\nleg,AB,9\nproduct,P,5,AB\n", "it is to be 2, or left out for version 1"),
     ("periods,1,1,\nleg,AB,9\nproduct,P,5,AB\n", "a number is wanted; where the row ends in commas"),
     ("periods,1,1,,\nleg,AB,9,,\nproduct,P,5,AB,\n", "a spreadsheet padded it"),
     ("periods,1,1,3\nleg,AB,9,9\nproduct,P,5,AB\nrefund,P,0\n", "it is to be 2, or left out"),
-    ("periods,1,1,2\nleg,AB,9,9\nproduct,P,5,AB\nrefund,P,50\nrefund,P,100\n", "line 4 has the refund of P: delete one of the two"),
-    ("leg,AB,9,9\nproduct,P,5,AB\nrefund,P,50\n", "the row of periods comes first: add periods,HISTORIES,PERIODS,2 above"),
+    ("periods,1,1,2\nleg,AB,9,9\nproduct,P,5,AB\nrefund,P,50\nrefund,P,100\n",
+     "line 4 has the refund of P: delete one of the two"),
+    ("leg,AB,9,9\nproduct,P,5,AB\nrefund,P,50\n",
+     "the row of periods comes first: add periods,HISTORIES,PERIODS,2 above"),
     ("periods,1,1,2\nproduct,P,5,AB\n", "no row makes a leg of this name")]
 
 KINDS_SPELT_OTHERWISE = """#sep=;
@@ -112,7 +120,8 @@ def files_of(case):
     words = [it.decode("utf-8", "surrogateescape") for it in case.words]
     if case.program == "nrm_kept":
         return words[1:2]
-    places = {"print": slice(1, None), "check": slice(1, None), "run": slice(2, None), "plan": slice(2, None), "cuts": slice(1, 2),
+    places = {"print": slice(1, None), "check": slice(1, None), "run": slice(2, None), "plan": slice(2, None),
+              "cuts": slice(1, 2),
               "dp": slice(1, 2)}
     return words[places[words[0]]] if words and words[0] in places else []
 
@@ -150,7 +159,8 @@ def spoilt_anywhere(data, draw):
     """The bytes of a file with some of them changed, left out or put in."""
     for _ in range(draw.randint(1, 4)):
         at = draw.randrange(len(data) + 1)
-        put = draw.choice([b"", b"", b",", b'"', b"\n", b"\r\n", b"\r", b"0", b"9", b"999", b"a", b"A", b" ", b"\xef\xbb\xbf", b"\xff",
+        put = draw.choice([b"", b"", b",", b'"', b"\n", b"\r\n", b"\r", b"0", b"9", b"999", b"a", b"A", b" ",
+                           b"\xef\xbb\xbf", b"\xff",
                            b"\nleg,", b"\nproduct,", b"\nrefund,", b",2", b"refund"])
         data = data[:at] + put + data[at + draw.choice([0, 0, 1, 1, 2, 9]):]
     return data
@@ -172,7 +182,8 @@ class ExplainedRows(PlaceTest):
                 refused += 1
             elif case.words[:1] == [b"print"] and case.status == 0 and not is_output_gone:
                 out, status = self.explained(case)
-                self.assertEqual((": no row is refused; " in out.partition("\n")[0], status), (True, 0), f"{case.name} {out[:200]}")
+                self.assertEqual((": no row is refused; " in out.partition("\n")[0], status), (True, 0),
+                                 f"{case.name} {out[:200]}")
                 taken += 1
         self.assertGreaterEqual(refused, 300, "there are fewer cases than there were")
         self.assertGreaterEqual(taken, 20, "there are fewer cases than there were")
@@ -185,8 +196,10 @@ class ExplainedRows(PlaceTest):
             self.want_in(entry, f"refused row {row} why {why}\n    line {line}{f', {field}' if field else ''}\n")
             self.want_in(entry, advice)
         self.want_in(entries[6], "    line 8, field 5, leg 2: ZRH-VIE\n        the product has this leg already")
-        out = self.ran("explain", self.file("few.csv", "periods,33,17\nleg,AB,3,9,9\nproduct,P,5,AB\ndemand,P,1,1000\n"))[0]
-        for wanted in ("field 2, the histories: 33", "field 3, the periods: 17", "field 5, threshold 2: 9", "field 4, period 1: 1000"):
+        out = self.ran("explain",
+                       self.file("few.csv", "periods,33,17\nleg,AB,3,9,9\nproduct,P,5,AB\ndemand,P,1,1000\n"))[0]
+        for wanted in ("field 2, the histories: 33", "field 3, the periods: 17", "field 5, threshold 2: 9",
+                       "field 4, period 1: 1000"):
             self.want_in(out, f", {wanted}\n")
 
     def test_tells_every_row_of_version_2(self) -> None:
@@ -203,23 +216,29 @@ class ExplainedRows(PlaceTest):
         for text, advice in TWO_VERSIONS:
             path = self.file("versions.csv", text)
             out, err, status = self.ran("explain", path)
-            self.assertEqual((status, err, out.partition("\n")[0] + "\n"), (3, "", self.nrm("print", path, status=3)), repr(text))
+            self.assertEqual((status, err, out.partition("\n")[0] + "\n"),
+                             (3, "", self.nrm("print", path, status=3)), repr(text))
             self.want_in(out.splitlines()[2], advice)
         self.assertEqual(self.ran("explain", self.file("one.csv", TWO_VERSIONS[3][0]))[0].count("refused row"), 1)
         self.assertEqual(self.ran("explain", self.file("one.csv", TWO_VERSIONS[4][0]))[0].count("refused row"), 1)
         self.assertEqual(self.ran("explain", self.file("one.csv", TWO_VERSIONS[6][0]))[0].count("refused row"), 1)
 
     def test_tells_a_padded_row_once(self) -> None:
-        out = self.ran("explain", self.file("padded.csv", "periods,1,1\nleg,A,5\nproduct,P,5,A,,,\nproduct,,5,A\nproduct,,5,A\n"))[0]
-        self.assertEqual(re.findall("^    line (.*)", out, re.M), [f"3, field {it}, leg {it - 3}: ''" for it in (5, 6, 7)] +
+        out = self.ran("explain",
+                       self.file("padded.csv",
+                                 "periods,1,1\nleg,A,5\nproduct,P,5,A,,,\nproduct,,5,A\nproduct,,5,A\n"))[0]
+        self.assertEqual(re.findall("^    line (.*)", out, re.M),
+                         [f"3, field {it}, leg {it - 3}: ''" for it in (5, 6, 7)] +
                          ["4, field 2, the name: ''", "5, field 2, the name: ''"])
 
     def test_takes_a_row_for_the_kind_that_it_seems_to_be(self) -> None:
         """So that no other row is told for its fault."""
         out, _, status = self.ran("explain", self.file("kinds.csv", KINDS_SPELT_OTHERWISE))
-        self.assertEqual(re.findall("^refused row (.*)", out, re.M), ["1 why 1 kind", "2 why 1 kind", "3 why 1 kind", "4 why 1 kind", "5 why 1 kind",
-                                                                      "6 why 1 kind", "8 why 1 kind", "9 why 1 kind"])
-        self.assertEqual(re.findall("^        (.{12})", out, re.M), ["a file has n", "a file has n", "write period", "write leg, i", "write leg, i",
+        self.assertEqual(re.findall("^refused row (.*)", out, re.M),
+                         ["1 why 1 kind", "2 why 1 kind", "3 why 1 kind", "4 why 1 kind", "5 why 1 kind",
+                          "6 why 1 kind", "8 why 1 kind", "9 why 1 kind"])
+        self.assertEqual(re.findall("^        (.{12})", out, re.M),
+                         ["a file has n", "a file has n", "write period", "write leg, i", "write leg, i",
                                                         "it is none o", "the fields a", "write leg, i"])
         out = self.ran("explain", self.file("heads.csv", "Period,Legs\nleg,A,5\nproduct,P,5,A\n"))[0]
         self.assertEqual(re.findall("^refused row (.*)", out, re.M), ["1 why 1 kind"])
@@ -235,7 +254,8 @@ class ExplainedRows(PlaceTest):
             at = sorted(draw.sample([it for it, row in enumerate(rows) if row[0] == "demand"], draw.randint(1, 12)))
             made = [spoilt(row, draw) if it in at else row for it, row in enumerate(rows)]
             path = self.file("spoilt.csv", text_of(made))
-            told = [str(it) for refusal in refusals_of(Path(path).read_bytes()) for it in refusal.lines() if it.startswith("refused")]
+            told = [str(it) for refusal in refusals_of(Path(path).read_bytes()) for it in refusal.lines()
+                    if it.startswith("refused")]
             self.assertEqual([int(it.split()[2]) for it in told], [it + 1 for it in at])
             if seed < 10:
                 self.assertEqual(told[0] + "\n", self.nrm("print", path, status=3))
@@ -247,7 +267,8 @@ class ExplainedRows(PlaceTest):
         for _ in range(2000):
             data = spoilt_anywhere(draw.choice(files), draw)
             self.assertEqual([row.fields for row in rows_of(data)],
-                             [[it.decode("utf-8", "backslashreplace") for it in row] for row in reference.rows_of(data)], repr(data))
+                             [[it.decode("utf-8", "backslashreplace") for it in row]
+                              for row in reference.rows_of(data)], repr(data))
             try:
                 reference.network_of(data)
                 wanted = None

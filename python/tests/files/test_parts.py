@@ -23,11 +23,14 @@ class Parts(PlaceTest):
         files = sorted((self.folder / "parts").glob("part-*.csv"))
         parts = [Network.read(it) for it in files]
         self.assertEqual(sorted(sorted(it.legs) for it in parts), sorted(map(sorted, legs)))
-        self.assertEqual(sorted(text for it in files for text in it.read_text().splitlines() if not text.startswith("periods")),
+        self.assertEqual(sorted(text for it in files for text in it.read_text().splitlines()
+                                if not text.startswith("periods")),
                          sorted(text for text in text_of(rows).splitlines() if not text.startswith("periods")))
         with open(self.folder / "parts" / "parts.csv", encoding="ascii") as file:
             self.assertEqual(sorted(tuple(row) for row in csv.reader(file)),
-                             sorted([("product", "file"), *[(product, path.name) for path, it in zip(files, parts) for product in it.products]]))
+                             sorted([("product", "file"),
+                                     *[(product, path.name) for path, it in zip(files, parts)
+                                       for product in it.products]]))
         for it in files:
             self.nrm("print", it)
 
@@ -35,7 +38,8 @@ class Parts(PlaceTest):
         rows, _ = made_timetable(random.Random(4), [5, 9, 1, 7])
         path = self.file("timetable.csv", text_of(rows))
         self.told("split", path, "parts")
-        self.assertEqual(sum(value_of(self, it) for it in (self.folder / "parts").glob("part-*.csv")), value_of(self, path))
+        self.assertEqual(sum(value_of(self, it) for it in (self.folder / "parts").glob("part-*.csv")),
+                         value_of(self, path))
 
     def test_names_what_is_of_an_earlier_run(self) -> None:
         for sizes, wanted in (([2, 3, 4], []), ([2, 3], ["part-3.csv"]), ([2, 3, 1], [])):
@@ -53,12 +57,16 @@ class Parts(PlaceTest):
 
     def test_keeps_the_version_authorised_seats_and_refunds(self) -> None:
         self.told("split", self.file("second.csv", SECOND), "parts")
-        self.assertEqual(sorted(it.name for it in (self.folder / "parts").glob("part-*.csv")), ["part-1.csv", "part-2.csv"])
+        self.assertEqual(sorted(it.name for it in (self.folder / "parts").glob("part-*.csv")),
+                         ["part-1.csv", "part-2.csv"])
         rows = {it: (self.folder / "parts" / it).read_text().splitlines() for it in ("part-1.csv", "part-2.csv")}
-        self.assertEqual(rows["part-1.csv"], ["periods,2,2,2", "leg,AB,3,5,300,90", "leg,BC,9,2", "product,AC,500,AB,BC", "product,AB,200,AB",
-                                              "product,BC,120,BC", "refund,AC,0", "refund,AB,33", "demand,AC,1,1,2", "demand,AB,1,5,0",
-                                              "demand,AB,2,4,3", "demand,BC,1,6,1"])
+        self.assertEqual(rows["part-1.csv"],
+                         ["periods,2,2,2", "leg,AB,3,5,300,90", "leg,BC,9,2", "product,AC,500,AB,BC",
+                          "product,AB,200,AB",
+                          "product,BC,120,BC", "refund,AC,0", "refund,AB,33", "demand,AC,1,1,2", "demand,AB,1,5,0",
+                          "demand,AB,2,4,3", "demand,BC,1,6,1"])
         self.assertEqual(rows["part-2.csv"], ["periods,2,2,2", "leg,CD,4,4,80", "product,CD,90,CD", "demand,CD,2,0,3"])
         parts = [self.folder / "parts" / it for it in rows]
         self.assertEqual(sum(value_of(self, it) for it in parts), value_of(self, "second.csv"))
-        self.assertEqual("".join(self.nrm("print", it) for it in parts), "".join("\n".join(it) + "\n" for it in rows.values()))
+        self.assertEqual("".join(self.nrm("print", it) for it in parts),
+                         "".join("\n".join(it) + "\n" for it in rows.values()))

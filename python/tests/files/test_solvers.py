@@ -66,8 +66,10 @@ class Solvers(PlaceTest):
     def test_makes_a_certificate_of_a_solution(self) -> None:
         network, solution = self.file("thirds.csv", WITH_THIRDS), self.file("solution", WRITTEN_BY_GLPSOL)
         made = self.told("lp", network, "--solution", solution)
-        self.assertEqual(made.splitlines(), ["value 403/3", *[f"product {it} 1/3" for it in ("ABC", "ABD", "ACD", "BCD")], "leg A 97/3", "leg B 103/3",
-                                             "leg C 100/3", "leg D 103/3", "leg IDLE 0/1"])
+        self.assertEqual(made.splitlines(),
+                         ["value 403/3", *[f"product {it} 1/3" for it in ("ABC", "ABD", "ACD", "BCD")], "leg A 97/3",
+                          "leg B 103/3",
+                          "leg C 100/3", "leg D 103/3", "leg IDLE 0/1"])
         path = self.file("certificate", made)
         self.assertEqual(self.nrm("check", network, path), "optimal\n")
         self.assertEqual(self.told("audit", network, path).splitlines()[-1], "optimal")
@@ -75,14 +77,18 @@ class Solvers(PlaceTest):
         self.stopped("lp", other, "--solution", solution, says="the solution of another network")
         for wrong in (WRITTEN_BY_GLPSOL.replace("f f", "i i"), WRITTEN_BY_GLPSOL.replace("bas 4", "bas 5"), "", "s\n"):
             self.stopped("lp", network, "--solution", self.file("wrong", wrong), says="isn't an optimal one")
-        self.stopped("lp", network, "--solution", self.file("wrong", WRITTEN_BY_GLPSOL.replace("0.6", "many")), says="has a line that")
+        self.stopped("lp", network, "--solution", self.file("wrong", WRITTEN_BY_GLPSOL.replace("0.6", "many")),
+                     says="has a line that")
         self.stopped("lp", network, "--solution", "", says="No such file")
 
     def test_has_the_authorised_seats_as_caps(self) -> None:
-        """The same program as of a file of version 1 with as many seats; the certificate is one for the authorised seats alone."""
+        """The same program as of a file of version 1 with as many seats; the certificate is one for the authorised
+        seats alone."""
         rows = [row.fields for row in rows_of(WITH_THIRDS.encode())]
-        second = [[*row, 2] if row[0] == "periods" else [*row[:2], 7, *row[2:]] if row[0] == "leg" else row for row in rows]
-        first, second = self.file("first.csv", WITH_THIRDS), self.file("second.csv", text_of([*second, ["refund", "ABC", 5]]))
+        second = [[*row, 2] if row[0] == "periods" else [*row[:2], 7, *row[2:]] if row[0] == "leg" else row
+                  for row in rows]
+        first, second = self.file("first.csv",
+                                  WITH_THIRDS), self.file("second.csv", text_of([*second, ["refund", "ABC", 5]]))
         self.assertEqual(self.told("lp", second), self.told("lp", first))
         solution = self.file("solution", WRITTEN_BY_GLPSOL)
         path = self.file("certificate", self.told("lp", second, "--solution", solution))
@@ -102,20 +108,24 @@ class Solvers(PlaceTest):
         self.assertEqual(self.told("lp", few, "--solution", self.file("solution", zeros)),
                          "value 7/1\nproduct P 1/1\nproduct Q 0/1\nleg A 0/1\nleg B 0/1\n")
         for old, new, sentence in (("p4", "p5", "isn't an optimal one"), ("l4", "l6", "isn't an optimal one"),
-                                   ("status OPTIMAL", "status UNSOLVED", "isn't an optimal one"), ("806", "807", "another network"),
+                                   ("status OPTIMAL", "status UNSOLVED", "isn't an optimal one"),
+                                   ("806", "807", "another network"),
                                    ("97/3", "97/0", "has a line that"), ("97/3", "many", "has a line that")):
             wrong = self.file("wrong", WRITTEN_BY_ESOLVER.replace(old, new))
             self.stopped("lp", network, "--solution", wrong, says=sentence)
 
     def test_takes_decimals_for_the_fractions_that_they_stand_for(self) -> None:
-        for numerator, denominator in [(2, 3), (1, 7), (299_998, 3), (99_999_998, 7), (31_968, 1), (5, 4096), (0, 1), (1234, 997)]:
+        for numerator, denominator in [(2, 3), (1, 7), (299_998, 3), (99_999_998, 7), (31_968, 1), (5, 4096), (0, 1),
+                                       (1234, 997)]:
             self.assertEqual(simplest(f"{numerator / denominator:.15g}"), Fraction(numerator, denominator))
         self.assertEqual(simplest("-1e-17"), 0)
 
     def test_makes_certificates_of_what_solvers_find(self) -> None:
         paths = [*sorted(EXAMPLES.glob("*/network.csv")), self.file("thirds.csv", WITH_THIRDS),
-                 *[self.file(f"made-{it}.csv", text_of(made_timetable(random.Random(it), [6, 9])[0])) for it in range(4)]]
-        for words in (["glpsol", "--exact", "--lp", "program.lp", "-w", "solution"], ["esolver", "-O", "solution", "program.lp"]):
+                 *[self.file(f"made-{it}.csv", text_of(made_timetable(random.Random(it), [6, 9])[0]))
+                   for it in range(4)]]
+        for words in (["glpsol", "--exact", "--lp", "program.lp", "-w", "solution"],
+                      ["esolver", "-O", "solution", "program.lp"]):
             if not shutil.which(words[0]):
                 print(f"{words[0]} isn't installed: no certificate made of what it finds")
                 continue

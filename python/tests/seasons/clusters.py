@@ -1,4 +1,5 @@
-"""What tests of many seasons have in common: the command as a process, schedulers with workers, and the rows that one process makes."""
+"""What tests of many seasons have in common: the command as a process, schedulers with workers, and the rows that one
+process makes."""
 from __future__ import annotations
 
 import contextlib
@@ -53,9 +54,11 @@ class Cluster:
 
 
 @contextlib.contextmanager
-def dask(folder: Path, name: str, *words: str, env: Mapping[str, str] | None = None) -> Iterator[subprocess.Popen[bytes]]:
+def dask(folder: Path, name: str, *words: str,
+         env: Mapping[str, str] | None = None) -> Iterator[subprocess.Popen[bytes]]:
     """A process of Dask, a scheduler or a worker, killed at the end."""
-    command = [sys.executable, "-m", f"distributed.cli.dask_{name}", "--scheduler-file", str(folder / "scheduler.json"), *words]
+    command = [sys.executable, "-m", f"distributed.cli.dask_{name}", "--scheduler-file",
+               str(folder / "scheduler.json"), *words]
     without_nrm = {variable: it for variable, it in (env or os.environ).items() if variable != "PYTHONPATH"}
     with open(folder / "dask.log", "ab") as log:
         process = subprocess.Popen(command, stdout=log, stderr=log, cwd=folder, env=without_nrm)
@@ -68,12 +71,16 @@ def dask(folder: Path, name: str, *words: str, env: Mapping[str, str] | None = N
 
 @contextlib.contextmanager
 def cluster(folder: Path, paths: Sequence[str | None] = (None, None), keys: Sequence[str] = ()) -> Iterator[Cluster]:
-    """A scheduler with a worker for each of some paths on which it finds programs, or for each None. No worker can import `nrm`."""
-    words = ["--nthreads", "1", "--no-nanny", "--no-dashboard", "--host", "127.0.0.1", "--local-directory", str(folder), *keys]
+    """A scheduler with a worker for each of some paths on which it finds programs, or for each None. No worker can
+    import `nrm`."""
+    words = ["--nthreads", "1", "--no-nanny", "--no-dashboard", "--host", "127.0.0.1", "--local-directory",
+             str(folder), *keys]
     with contextlib.ExitStack() as stack:
-        scheduler = stack.enter_context(dask(folder, "scheduler", "--host", "127.0.0.1", "--port", "0", "--no-dashboard", *keys))
+        scheduler = stack.enter_context(dask(folder, "scheduler", "--host", "127.0.0.1", "--port", "0",
+                                             "--no-dashboard", *keys))
         wait_for((folder / "scheduler.json").exists, "the scheduler")
-        workers = [stack.enter_context(dask(folder, "worker", *words, env={**os.environ, "PATH": path or os.environ["PATH"]}))
+        workers = [stack.enter_context(dask(folder, "worker", *words,
+                                            env={**os.environ, "PATH": path or os.environ["PATH"]}))
                    for path in paths]
         log = folder / "dask.log"
         wait_for(lambda: log.read_text(errors="replace").count("Registered to") >= len(workers), "a worker")
@@ -109,7 +116,8 @@ def listening_ports(group: int) -> list[int]:
             for it in Path(f"/proc/{process}/fd").iterdir():
                 sockets.add(os.readlink(it))
     rows = [line.split() for name in ("tcp", "tcp6") for line in Path(f"/proc/net/{name}").read_text().splitlines()[1:]]
-    return sorted({int(row[1].rpartition(":")[2], 16) for row in rows if row[3] == "0A" and f"socket:[{row[9]}]" in sockets})
+    return sorted({int(row[1].rpartition(":")[2], 16) for row in rows if row[3] == "0A"
+                   and f"socket:[{row[9]}]" in sockets})
 
 
 class SimulateTest(PlaceTest):
@@ -126,7 +134,8 @@ class SimulateTest(PlaceTest):
 
     def slow(self) -> list[str]:
         """Words that run the program after a while."""
-        return ["sh", self.file("slow", 'sleep 0.02\nexec %s "$@"\n' % " ".join(f"'{it}'" for it in self.program.words))]
+        return ["sh",
+                self.file("slow", 'sleep 0.02\nexec %s "$@"\n' % " ".join(f"'{it}'" for it in self.program.words))]
 
     def rows_there(self, name: str) -> list[str]:
         """The rows that a run has kept so far."""

@@ -1,4 +1,5 @@
-"""No worker matters: one that is killed, stopped, of another account, or with another program or package; and a run that is cut goes on."""
+"""No worker matters: one that is killed, stopped, of another account, or with another program or package; and a run
+that is cut goes on."""
 from __future__ import annotations
 
 import contextlib
@@ -13,7 +14,8 @@ from pathlib import Path
 from harness import SOURCES
 from nrm.seasons.drawing import Settings
 from nrm.seasons.rows import PACKAGE
-from seasons.clusters import (LOG, SECONDS, SimulateTest, by_one_process, cluster, has_group, listening_ports, needs_dask,
+from seasons.clusters import (LOG, SECONDS, SimulateTest, by_one_process, cluster, has_group,
+                              listening_ports, needs_dask,
                               processes_of, takes_long, wait_for)
 
 STRANGER = """
@@ -53,7 +55,8 @@ class Clusters(SimulateTest):
 
     def is_of_the_seasons(self, name: str) -> bool:
         """Whether the rows that a run has kept are those that one process makes."""
-        return set(self.rows_there(name)) <= set(by_one_process(self.program, LOG, Settings(), 60).splitlines(keepends=True))
+        return set(self.rows_there(name)) <= set(by_one_process(self.program, LOG, Settings(),
+                                                                60).splitlines(keepends=True))
 
     def test_a_killed_worker_loses_nothing(self) -> None:
         with cluster(self.folder) as made:
@@ -88,7 +91,8 @@ class Clusters(SimulateTest):
     def test_a_cluster_is_asked_by_keys_of_files(self) -> None:
         import distributed  # here, since it may not be there
         keys = distributed.Security.temporary()
-        files = [self.file(f"{name}.pem", text) for name, text in (("ca", keys.tls_ca_file), ("mine", keys.tls_client_cert),
+        files = [self.file(f"{name}.pem", text)
+                 for name, text in (("ca", keys.tls_ca_file), ("mine", keys.tls_client_cert),
                                                                     ("key", keys.tls_client_key))]
         other = self.file("other.pem", distributed.Security.temporary().tls_client_key)
         options = ("--tls-ca-file", "--tls-cert", "--tls-key")
@@ -144,14 +148,16 @@ class OwnWorkers(SimulateTest):
         asked_at = time.monotonic()
         os.killpg(run.pid, signal.SIGINT)
         err = run.communicate(timeout=SECONDS)[1].decode()
-        self.assertEqual((run.returncode, "Traceback" in err, time.monotonic() - asked_at < 30), (-signal.SIGINT, False, True), err)
+        self.assertEqual((run.returncode, "Traceback" in err, time.monotonic() - asked_at < 30),
+                         (-signal.SIGINT, False, True), err)
         self.assertTrue(0 < len(self.rows_there("cut")) < 3 * 400, "in the middle")
         wait_for(lambda: not has_group(run.pid), "the end of its processes")
         with open(self.folder / "cut" / "network-seasons.part", "a") as file:
             file.write("399,first,1")  # as a write that was cut
         for count in (60, 80):
             self.simulated(LOG, "--seasons", count, "--workers", 1, "--out", "cut")
-            self.assertEqual(self.whole("cut"), by_one_process(self.program, LOG, Settings(), count), f"{count} seasons")
+            self.assertEqual(self.whole("cut"), by_one_process(self.program, LOG, Settings(), count),
+                             f"{count} seasons")
         words = [LOG, "--out", "cut", *self.with_program, "--seasons"]
         self.stopped("simulate", *words, 70, says="has more seasons than the 70 that are asked for")
         self.stopped("simulate", *words, 90, "--seed", 2, says="another run, which differs in: seed")
@@ -175,8 +181,10 @@ class OwnWorkers(SimulateTest):
             self.wait_for_rows("own", run)
             ports = listening_ports(run.pid)
             self.assertGreaterEqual(len(ports), 2, f"the ports of a scheduler and a worker: {ports}")
-            done = subprocess.run([sys.executable, "-B", "-c", STRANGER, *map(str, ports)], cwd="/", env={"HOME": "/nonexistent"},
-                                  user=65534, group=65534, extra_groups=[], capture_output=True, text=True, timeout=SECONDS)
+            done = subprocess.run([sys.executable, "-B", "-c", STRANGER, *map(str, ports)], cwd="/",
+                                  env={"HOME": "/nonexistent"},
+                                  user=65534, group=65534, extra_groups=[], capture_output=True, text=True,
+                                  timeout=SECONDS)
             self.assertEqual((done.stdout.splitlines(), run.poll()), (["refused"] * 2 * len(ports), None), done.stderr)
         finally:
             with contextlib.suppress(ProcessLookupError):

@@ -1,4 +1,5 @@
-"""Seasons are drawn from the histories: their means, their order, what is cancelled, and that seats change no request."""
+"""Seasons are drawn from the histories: their means, their order, what is cancelled, and that seats change no
+request."""
 from __future__ import annotations
 
 import csv
@@ -30,7 +31,8 @@ class Drawn(unittest.TestCase):
             network, count = Network.read(name), 400
             for demand in DEMANDS:
                 settings = Settings(demand=demand, parties=((1, 80), (2, 15), (4, 5)))
-                drawn = [self.seats_drawn(network, drawn_season(network, settings, generator(1, "test", it))) for it in range(count)]
+                drawn = [self.seats_drawn(network, drawn_season(network, settings, generator(1, "test", it)))
+                         for it in range(count)]
                 for product, by_period in network.mean_demand.items():
                     for period, mean in enumerate(by_period):
                         values = [it.get((product, period), 0) for it in drawn]
@@ -65,7 +67,8 @@ class Drawn(unittest.TestCase):
         text = bytes_in(SEASON).decode()
         other = re.sub("leg,VIE-LHR-2,48,50,.*", "leg,VIE-LHR-2,48,30", text)
         self.assertNotEqual(text, other)
-        found = [identity(Network.of(rows)) for rows in (rows_in(text), rows_in(other), rows_in(text.replace(",430,", ",431,")))]
+        found = [identity(Network.of(rows))
+                 for rows in (rows_in(text), rows_in(other), rows_in(text.replace(",430,", ",431,")))]
         self.assertEqual((found[0] == found[1], found[0] == found[2]), (True, False))
 
 
@@ -99,8 +102,10 @@ class Played(PlaceTest):
                     for booked_at in season.cancellations.get(at, ()):
                         self.assertLessEqual(booked_at, at, "a cancellation before its booking")
                         if booked_at in numbers:
-                            cancelled += session.reply(f"cancel {numbers[booked_at]}".encode()).startswith(b"cancelled ")
+                            cancelled += session.reply(f"cancel {numbers[booked_at]}".encode()).startswith(
+                                b"cancelled ")
                 last = session.reply(b"hindsight").decode().split()
-                self.assertEqual((found.bound, found.revenue, found.withheld), (Fraction(last[1]), int(last[3]), int(last[5])),
+                self.assertEqual((found.bound, found.revenue, found.withheld),
+                                 (Fraction(last[1]), int(last[3]), int(last[5])),
                                  f"season {number} {mode}")
         self.assertGreater(cancelled, 10)

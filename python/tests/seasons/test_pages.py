@@ -1,4 +1,5 @@
-"""Pages stand alone, and show in a browser; pictures are the same bytes each time; what isn't there for them is told."""
+"""Pages stand alone, and show in a browser; pictures are the same bytes each time; what isn't there for them is
+told."""
 from __future__ import annotations
 
 import html.parser
@@ -43,7 +44,8 @@ class Pages(SimulateTest):
     @unittest.skipUnless(is_there("jinja2") and is_there("matplotlib"), "there is no jinja2 or no matplotlib")
     def test_pages_stand_alone(self) -> None:
         self.told_of_eight("page", env=None)
-        self.told("season", LOG, EXAMPLES / "log" / "commands.txt", "--out", "page", *self.with_program, env=None, timeout=SECONDS)
+        self.told("season", LOG, EXAMPLES / "log" / "commands.txt", "--out", "page", *self.with_program, env=None,
+                  timeout=SECONDS)
         for name in ("simulate", "season"):
             path = self.folder / "page" / f"{name}.html"
             text = path.read_text()
@@ -54,7 +56,8 @@ class Pages(SimulateTest):
             ids = [it["id"] for _, it in page.tags if "id" in it]
             self.assertEqual(len(ids), len(set(ids)), f"{name}: names on the page")
             for it in page.all("svg"):
-                self.assertEqual((it.get("role"), set(str(it["aria-labelledby"]).split()) <= set(ids)), ("img", True), name)
+                self.assertEqual((it.get("role"), set(str(it["aria-labelledby"]).split()) <= set(ids)),
+                                 ("img", True), name)
             self.assertEqual({it.get("scope") for it in page.all("th")}, {"col", "row"}, name)
             self.assertEqual(len(page.all("caption")), len(page.all("table")), name)
             self.want_in(text, 'name="viewport"')
@@ -65,8 +68,10 @@ class Pages(SimulateTest):
         chromium = shutil.which("chromium")
         for width in (1200, 390) if chromium else ():
             picture = self.folder / f"{path.stem}-{width}.png"
-            subprocess.run([str(chromium), "--headless", "--no-sandbox", "--disable-gpu", f"--user-data-dir={self.folder}/chromium",
-                            f"--window-size={width},900", f"--screenshot={picture}", path.as_uri()], capture_output=True, timeout=SECONDS)
+            subprocess.run([str(chromium), "--headless", "--no-sandbox", "--disable-gpu",
+                            f"--user-data-dir={self.folder}/chromium",
+                            f"--window-size={width},900", f"--screenshot={picture}", path.as_uri()],
+                           capture_output=True, timeout=SECONDS)
             self.assertTrue(picture.exists() and picture.stat().st_size > 5000, f"{path.name} at {width}")
 
     @unittest.skipUnless(is_there("matplotlib"), "there is no matplotlib (Debian's package is python3-matplotlib)")

@@ -23,7 +23,8 @@ class Told(SimulateTest):
         by_mode = {mode: [it for it in rows if it["mode"] == mode] for mode in MODES}
         for mode, own in by_mode.items():
             self.assertEqual([int(it["season"]) for it in own], list(range(12)), mode)
-            means = [sum(int(it[name]) for it in own) / 12 for name in ("revenue", "withheld", "denied", "empty", "earned")]
+            means = [sum(int(it[name]) for it in own) / 12
+                     for name in ("revenue", "withheld", "denied", "empty", "earned")]
             share = sum(int(it["revenue"]) for it in own) / sum(float(it["bound"]) for it in own)
             texts = [f"{means[0]:,.1f}", f"{means[1]:,.1f}", f"{means[2]:.2f}", f"{means[3]:.2f}", f"{means[4]:,.1f}",
                      f"{spread([int(it['earned']) for it in own]):,.1f}", f"{100 * share:.2f}", "%"]
@@ -48,14 +49,19 @@ class Told(SimulateTest):
             self.assertTrue(int(row[f"shown {leg.name}"]) <= int(row[f"booked {leg.name}"]) <= leg.authorised, leg)
 
     def test_seats_and_thresholds_change_no_request(self) -> None:
-        """So that networks are compared on the same seasons; and of those that differ in authorised seats the best is told."""
+        """So that networks are compared on the same seasons; and of those that differ in authorised seats the best is
+        told."""
         text = Path(SEASON).read_text()
-        paths = [self.file(f"with-{it}.csv", re.sub("leg,VIE-LHR-2,48,50,.*", f"leg,VIE-LHR-2,48,{it}", text)) for it in (30, 52)]
-        out = self.simulated(*paths, "--seasons", 6, "--workers", 2, "--out", "two", "--show", "0.9", "--denied-cost", "500",
+        paths = [self.file(f"with-{it}.csv", re.sub("leg,VIE-LHR-2,48,50,.*", f"leg,VIE-LHR-2,48,{it}", text))
+                 for it in (30, 52)]
+        out = self.simulated(*paths, "--seasons", 6, "--workers", 2, "--out", "two", "--show", "0.9",
+                             "--denied-cost", "500",
                              "--modes", "first")
-        rows = [list(csv.DictReader((self.folder / "two" / f"with-{it}-seasons.csv").read_text().splitlines())) for it in (30, 52)]
+        rows = [list(csv.DictReader((self.folder / "two" / f"with-{it}-seasons.csv").read_text().splitlines()))
+                for it in (30, 52)]
         for a, b in zip(*rows):
-            self.assertEqual([a[it] for it in a if it.startswith("asked ")], [b[it] for it in b if it.startswith("asked ")])
+            self.assertEqual([a[it] for it in a if it.startswith("asked ")],
+                             [b[it] for it in b if it.startswith("asked ")])
         self.want_in(out, "Under first, by the authorised seats of VIE-LHR-2")
         self.assertRegex(out, re.compile(r"^  52 .* most$", re.M))
 

@@ -12,11 +12,13 @@ from nrm.telling.libraries import is_there
 
 class Courses(PlaceTest):
     def words(self, example: str, *more: object) -> list[object]:
-        return [EXAMPLES / example / "network.csv", EXAMPLES / example / "commands.txt", "--out", "pictures", *more, *self.with_program]
+        return [EXAMPLES / example / "network.csv", EXAMPLES / example / "commands.txt", "--out", "pictures", *more,
+                *self.with_program]
 
     def test_tells_what_the_documents_show(self) -> None:
         out = self.told("season", *self.words("log"))
-        self.want_in(out, "  period 2   1080   630   300   1080\n  period 3   1240  1270   620   1530\n  end        1240  2110  2840   2920\n")
+        self.want_in(out, "  period 2   1080   630   300   1080\n  period 3   1240  1270   620   1530\n  end        "
+                          "1240  2110  2840   2920\n")
         self.want_in(out, "  ZRH-VIE      110       320       320  320\n")
         decimal = self.told("season", *self.words("log", "--decimal"))
         self.want_in(decimal, "  end        1240  2110  2840  2920.00\n")
@@ -47,32 +49,40 @@ class Courses(PlaceTest):
         self.assertTrue(found[0] == found[1])
 
     def test_tells_what_was_withheld(self) -> None:
-        """And counts the seats that are left by the authorised ones. 33 in 100 of 800 are 264, and AC gives back nothing."""
+        """And counts the seats that are left by the authorised ones. 33 in 100 of 800 are 264, and AC gives back
+        nothing."""
         network, stream = self.file("second.csv", SECOND), self.file("stream", "".join(f"{it}\n" for it in OF_REFUNDS))
         out = self.told("season", network, stream, "--out", "pictures", "--leg", "AB", *self.with_program)
-        withheld = out.partition("Withheld of the bookings that were cancelled, in currency units\n\n")[2].partition("\n\n")[0]
+        withheld = out.partition("Withheld of the bookings that were cancelled, in currency units\n\n")[
+            2].partition("\n\n")[0]
         last = reference_replies("first", SECOND, [*OF_REFUNDS, "hindsight"])[-1].split()
         self.assertEqual([it.split() for it in withheld.splitlines()][1], ["opening", "0", "0", "0"])
-        self.assertEqual([it.split()[:3] for it in withheld.splitlines()][2:], [["period", "2", "536"], ["end", last[5], withheld.split()[-2]]])
+        self.assertEqual([it.split()[:3] for it in withheld.splitlines()][2:],
+                         [["period", "2", "536"], ["end", last[5], withheld.split()[-2]]])
         self.want_in(out, "Seats of AB, 3 seats, 5 authorised, under first: sold, left\n")
         self.want_in(out, "\n  opening      0     5\n")
         plain, season = (self.told("season", *self.words(it)) for it in ("log", "season"))
         self.assertEqual(("Withheld" in plain, "authorised" in plain), (False, False))
-        self.want_in(season, "  period 4    736   736   736\n  end        1149  1149  1149\n")  # of 1530 that were paid for seven bookings
-        self.want_in(season, "Seats of VIE-LHR-2, 48 seats, 50 authorised, under davn: sold, left, and protected for buckets\n")
+        # of 1530 that were paid for seven bookings
+        self.want_in(season, "  period 4    736   736   736\n  end        1149  1149  1149\n")
+        self.want_in(season, "Seats of VIE-LHR-2, 48 seats, 50 authorised, under davn: sold, left, and protected for "
+                             "buckets\n")
 
     def test_deals_replies_to_their_lines(self) -> None:
         """A stream that asks for plans and legs itself, and has lines that are bad."""
         lines = (EXAMPLES / "log" / "commands.txt").read_text().splitlines()
         mixed = [it for line in lines for it in (line, "plan", "leg ZRH-VIE", "hindsight", "x", "leg NONE")]
         words = ["--out", "pictures", *self.with_program]
-        plain, more = (self.told("season", EXAMPLES / "log" / "network.csv", self.file("stream", "\n".join(it) + "\n"), *words)
+        plain, more = (self.told("season", EXAMPLES / "log" / "network.csv",
+                                 self.file("stream", "\n".join(it) + "\n"), *words)
                        for it in (lines, mixed))
         self.assertEqual(plain.partition("Revenue")[2], more.partition("Revenue")[2])
 
     def test_says_what_isnt_made_and_which_python_may_have_it(self) -> None:
-        for libraries, wanted in ((["matplotlib"], "no pictures, since "), (["matplotlib", "jinja2"], "no pictures and no page, since ")):
+        for libraries, wanted in ((["matplotlib"], "no pictures, since "),
+                                  (["matplotlib", "jinja2"], "no pictures and no page, since ")):
             err = self.ran("season", *self.words("log"), env=self.blind(*libraries)).err
-            self.want_in(err, f"nrm-tools season: {wanted}{sys.executable}, the Python that was asked, has no {' and no '.join(libraries)}; ")
+            self.want_in(err, f"nrm-tools season: {wanted}{sys.executable}, the Python that was asked, has no "
+                              f"{' and no '.join(libraries)}; ")
             for library in libraries:
                 self.want_in(err, f"python3-{library}")

@@ -29,7 +29,8 @@ class Groupings(PlaceTest):
         out = self.told("thresholds", network, 2, "--out", "made.csv", *program)
         self.assertEqual(out.splitlines()[3:], ["  leg  cuts  centres   cost  for a seat",
                                                 "  AB    400  500 150  1,200        21.4",
-                                                "  BC    500   500 80      0         0.0", "  all                 1,200        11.5", "", "made.csv"])
+                                                "  BC    500   500 80      0         0.0",
+                                                "  all                 1,200        11.5", "", "made.csv"])
         wanted = network.read_text().replace("AB,10,300,100", "AB,10,400").replace("BC,10,300,100", "BC,10,500")
         self.assertEqual((self.folder / "made.csv").read_text(), wanted)
         self.want_in(self.nrm("plan", "davn", "made.csv"), "nest AB ABL 150/1 2\n")
@@ -39,7 +40,8 @@ class Groupings(PlaceTest):
         path, program = self.file("network.csv", FARES_OF_LEGS), self.with_program
         for groups, cuts in ((1, ""), (2, ",400"), (3, ",500,400"), (10, ",500,400")):
             out = self.told("thresholds", path, groups, "--out", path, *program)
-            self.assertEqual((self.folder / "network.csv").read_text(), FARES_OF_LEGS.replace("AB,9,8,700,1", f"AB,9,8{cuts}"))
+            self.assertEqual((self.folder / "network.csv").read_text(),
+                             FARES_OF_LEGS.replace("AB,9,8,700,1", f"AB,9,8{cuts}"))
             self.want_in(out, "\nno product uses IDLE\n")
         self.want_in(self.nrm("print", path), "leg,AB,9,8,500,400\n")
 
@@ -48,11 +50,14 @@ class Groupings(PlaceTest):
         out, err, status = self.ran("thresholds", *words)
         self.assertEqual((err.startswith("nrm-tools thresholds: no pictures, since "), status), (True, 0), err)
         self.assertEqual(out.partition("The fares on AB\n")[2].splitlines()[1:6],
-                         ["  group  fare  seats  centre", "  1       500      4     400", "  1       400      6     400",
+                         ["  group  fare  seats  centre", "  1       500      4     400",
+                          "  1       400      6     400",
                           "  2       150     10     150", ""])
 
     @unittest.skipUnless(is_there("matplotlib"), "there is no matplotlib (Debian's package is python3-matplotlib)")
     def test_are_drawn(self) -> None:
         words = [self.file("network.csv", FARES_OF_LEGS), 2, "--pictures", "pictures", *self.with_program]
-        self.want_in(self.told("thresholds", *words, env=os.environ), "\npictures/thresholds.png\npictures/thresholds.svg\n")
-        self.assertEqual(sorted(it.name for it in (self.folder / "pictures").iterdir()), ["thresholds.png", "thresholds.svg"])
+        self.want_in(self.told("thresholds", *words, env=os.environ),
+                     "\npictures/thresholds.png\npictures/thresholds.svg\n")
+        self.assertEqual(sorted(it.name for it in (self.folder / "pictures").iterdir()),
+                         ["thresholds.png", "thresholds.svg"])

@@ -62,7 +62,8 @@ class Pages(unittest.TestCase):
         names = [value for name, value in read.attributes if name == "id"]
         self.assertEqual((len(names), len(set(names))), (6, 6))
         self.assertEqual([value for name, value in read.attributes if name == "href"], ["#picture-1-a", "#picture-2-a"])
-        self.assertEqual([value for name, value in read.attributes if name in ("width", "height", "viewbox")], ["0 0 9 8"] * 2)
+        self.assertEqual([value for name, value in read.attributes if name in ("width", "height", "viewbox")],
+                         ["0 0 9 8"] * 2)
         self.assertNotIn("old", read.text)
 
     def test_a_page_takes_nothing_from_elsewhere(self) -> None:

@@ -13,4 +13,5 @@ class Tables(unittest.TestCase):
         self.assertEqual(table.text(), "Title\n\n        first     b\n  name      7\n  n       5/2  long\n")
 
     def test_decimals_stand_in_the_place_of_fractions_alone(self) -> None:
-        self.assertEqual(Table("", [], [["n", Fraction(1, 3), 7, None]], decimal=True).cells(), [["n", "0.33", "7", ""]])
+        self.assertEqual(Table("", [], [["n", Fraction(1, 3), 7, None]], decimal=True).cells(),
+                         [["n", "0.33", "7", ""]])

@@ -8,17 +8,17 @@ With the package installed, or its folder on Python's path, as by `PYTHONPATH=py
             answer = desk.book("HJ-Q", 2)
             if isinstance(answer, Sold): ..
 
-`Desk(path)` asks the controller of `nrm-tools desks` through its Unix socket, or through TCP if it is given a pair of host and
-port; `Desk.start(program, mode, file)` runs a program of its own. What one is asked for that has no such meaning, as a party of 0,
-is a ValueError, and nothing is sent. The answers:
+`Desk(path)` asks the controller of `nrm-tools desks` through its Unix socket, or through TCP if it is given a pair of
+host and port; `Desk.start(program, mode, file)` runs a program of its own. What one is asked for that has no such
+meaning, as a party of 0, is a ValueError, and nothing is sent. The answers:
 
     book          Sold, NoLeg, NoFare, Unknown        cancel      Cancelled, Unknown
     reoptimise    Optimised, Overflow, Unknown        leg         Leg, Unknown
     plan          Plan                                hindsight   Hindsight, Overflow
 
-Each can also be Memory, and `book` and `cancel` Store, where the program keeps bookings in a store: then nothing has changed, and
-the line may be sent again. Money is in whole currency units; values, prices and bounds are exact fractions, `fractions.Fraction`.
-May use: nrm.limits, nrm.network, nrm.replies.
+Each can also be Memory, and `book` and `cancel` Store, where the program keeps bookings in a store: then nothing has
+changed, and the line may be sent again. Money is in whole currency units; values, prices and bounds are exact
+fractions, `fractions.Fraction`. May use: nrm.limits, nrm.network, nrm.replies.
 """
 from __future__ import annotations
 
@@ -31,10 +31,12 @@ from typing import NoReturn, Sequence, Tuple, Type, Union, cast
 
 from nrm.limits import LAST_BOOKING, LAST_PERIOD, MOST_PARTY
 from nrm.network import NAME, Network
-from nrm.replies import (Answer, Cancelled, Hindsight, Leg, Memory, NoAnswer, NoFare, NoLeg, Optimised, Overflow, Plan, Sold,
+from nrm.replies import (Answer, Cancelled, Hindsight, Leg, Memory, NoAnswer, NoFare, NoLeg, Optimised,
+                         Overflow, Plan, Sold,
                          Store, Unknown, answer_of, whole_replies)
 
-__all__ = ["Answer", "Cancelled", "Desk", "DeskError", "Ended", "Hindsight", "Late", "Leg", "Memory", "Network", "NoFare",
+__all__ = ["Answer", "Cancelled", "Desk", "DeskError", "Ended", "Hindsight", "Late", "Leg", "Memory",
+           "Network", "NoFare",
            "NoLeg", "Optimised", "Overflow", "Plan", "Sold", "Store", "Strange", "Unknown"]
 SECONDS = 10.0
 PIECE = 65_536
@@ -53,13 +55,14 @@ class DeskError(Exception):
 
 
 class Late(DeskError):
-    """The answer didn't come in time, or the connection. The desk asks no more, since it would take a late answer for that to
-    another line: as after each of these errors but a Strange answer, whoever goes on connects anew. The controller doesn't tell a
-    desk what became of a line: the journal does."""
+    """The answer didn't come in time, or the connection. The desk asks no more, since it would take a late answer for
+    that to another line: as after each of these errors but a Strange answer, whoever goes on connects anew. The
+    controller doesn't tell a desk what became of a line: the journal does."""
 
 
 class Ended(DeskError):
-    """The controller has ended, or the connection: with the program's exit status, if that is known, and what was told of it."""
+    """The controller has ended, or the connection: with the program's exit status, if that is known, and what was told
+    of it."""
 
     def __init__(self, why: str, status: int | None = None) -> None:
         super().__init__(why if status is None else f"{why}: the program ended with status {status}")
@@ -83,7 +86,8 @@ class Desk:
 
     def __init__(self, place: Place, network: Path | Network | None = None, seconds: float = SECONDS) -> None:
         try:
-            made = socket.create_connection(place, seconds) if isinstance(place, tuple) else unix_connection(place, seconds)
+            made = socket.create_connection(place,
+                                            seconds) if isinstance(place, tuple) else unix_connection(place, seconds)
         except (TimeoutError, socket.timeout):  # which isn't one under Python 3.9
             raise Late(f"{place}: no connection in {seconds} seconds")
         except (OSError, OverflowError) as fault:
@@ -94,8 +98,8 @@ class Desk:
 
     @classmethod
     def start(cls, program: Sequence[str], mode: str, file: Path, *words: object, seconds: float = SECONDS) -> Desk:
-        """A desk with a program of its own, as `Desk.start(["nrm", "run"], "bid", "network.csv")`; of one that keeps its bookings
-        the store is a further word. It has ended at the end of the desk."""
+        """A desk with a program of its own, as `Desk.start(["nrm", "run"], "bid", "network.csv")`; of one that keeps
+        its bookings the store is a further word. It has ended at the end of the desk."""
         desk = cls.__new__(cls)
         ours, theirs = socket.socketpair()
         with theirs:
@@ -130,7 +134,8 @@ class Desk:
 
     def book(self, product: str, party: int) -> Sold | NoLeg | NoFare | Unknown | Memory | Store:
         """Asks for seats for a party, 1 to 999, on each leg of a product."""
-        answer = self.ask(f"book {a_name(product)} {a_number(party, 1, MOST_PARTY)}", Sold, NoLeg, NoFare, Unknown, Memory, Store)
+        answer = self.ask(f"book {a_name(product)} {a_number(party, 1, MOST_PARTY)}", Sold, NoLeg, NoFare, Unknown,
+                          Memory, Store)
         return cast(Union[Sold, NoLeg, NoFare, Unknown, Memory, Store], answer)
 
     def cancel(self, number: int) -> Cancelled | Unknown | Memory | Store:
@@ -156,9 +161,9 @@ class Desk:
         return cast(Union[Hindsight, Overflow, Memory], self.ask("hindsight", Hindsight, Overflow, Memory))
 
     def available(self, product: str) -> int:
-        """The largest party, at most 999, of which a `book` would be sold now, and 0 if none would be; a KeyError for a product
-        that the network file hasn't. It is worked out from `plan` and `leg`, so that no booking is made and hindsight remembers
-        nothing. Others who ask meanwhile can change it."""
+        """The largest party, at most 999, of which a `book` would be sold now, and 0 if none would be; a KeyError for a
+        product that the network file hasn't. It is worked out from `plan` and `leg`, so that no booking is made and
+        hindsight remembers nothing. Others who ask meanwhile can change it."""
         if not self.network:
             raise ValueError("the desk was given no network file, and the program doesn't tell the legs of a product")
         if not isinstance(self.network, Network):
@@ -187,8 +192,8 @@ class Desk:
         return answer
 
     def reply(self, line: str) -> bytes:
-        """The reply to a line, as the program writes it. An empty line is sent behind it: its reply shows that the other is
-        whole."""
+        """The reply to a line, as the program writes it. An empty line is sent behind it: its reply shows that the
+        other is whole."""
         if "\n" in line:
             raise ValueError("a line feed in a line")
         if self.fault:
@@ -249,7 +254,8 @@ class Desk:
 
 
 def unix_connection(path: Path, seconds: float) -> socket.socket:
-    """A connection to a Unix socket. While so many wait there that no more may, it is tried again; a TimeoutError at the end."""
+    """A connection to a Unix socket. While so many wait there that no more may, it is tried again; a TimeoutError at
+    the end."""
     connection, deadline = socket.socket(socket.AF_UNIX), time.monotonic() + seconds
     try:
         while True:

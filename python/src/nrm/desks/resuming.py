@@ -1,7 +1,7 @@
 """Going on after a cut: where the replies that were kept end, and a session made again up to there.
 
-A line that was answered `memory` changed nothing, and may be answered otherwise another time, so it is never given again.
-May use: nrm, nrm.program, nrm.replies.
+A line that was answered `memory` changed nothing, and may be answered otherwise another time, so it is never given
+again. May use: nrm, nrm.program, nrm.replies.
 """
 from __future__ import annotations
 
@@ -28,15 +28,16 @@ STANDARD_INPUT = 0
 
 @dataclass(frozen=True)
 class Kept:
-    """What a session left: the network file, the mode, the file of the stream so far, and that of the replies that were kept."""
+    """What a session left: the network file, the mode, the file of the stream so far, and that of the replies that were
+    kept."""
     network: str
     mode: str
     stream: str
     replies: str
 
     def see_that_its_files_can_be_read(self) -> None:
-        """A Stop, or what the system says, for one that isn't there or can't be read. Stream and replies are read more than
-        once, which a FIFO can't be; and that would wait for who writes into it."""
+        """A Stop, or what the system says, for one that isn't there or can't be read. Stream and replies are read more
+        than once, which a FIFO can't be; and that would wait for who writes into it."""
         os.stat(self.network)
         for path in (self.stream, self.replies):
             if stat.S_ISFIFO(os.stat(path).st_mode):
@@ -81,7 +82,8 @@ class Place:
 
 def parted(number: int, kept: bytes, reply: bytes) -> Stop:
     """A Stop for a reply that was kept and isn't what the program answers."""
-    return Stop(f"line {number}: {kept.decode('latin-1')!r} was kept, and the program answers {reply.decode('latin-1')!r}")
+    return Stop(f"line {number}: {kept.decode('latin-1')!r} was kept, and the program answers "
+                f"{reply.decode('latin-1')!r}")
 
 
 def place_to_go_on_at(kept: Kept, program: Program) -> Place:
@@ -106,8 +108,8 @@ def place_to_go_on_at(kept: Kept, program: Program) -> Place:
 
 
 def go_on(kept: Kept, program: Program, before: int) -> int:
-    """Answers the lines of standard input as the session does that has answered those before a line of the stream, and gives the
-    status."""
+    """Answers the lines of standard input as the session does that has answered those before a line of the stream, and
+    gives the status."""
     session = Stream(program, kept.mode, kept.network, kept.lines_again(before), source=STANDARD_INPUT)
     for number, reply in enumerate(itertools.islice(kept.replies_kept(), before - 1), 1):
         if CHANGED_SOMETHING.match(reply) and (again := session.output.read(len(reply))) != reply:

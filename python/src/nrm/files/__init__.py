@@ -1,4 +1,5 @@
-"""What is made of files alone, without the program: faults explained, certificates, timetables cut, other solvers' files, names.
+"""What is made of files alone, without the program: faults explained, certificates, timetables cut, other solvers'
+files, names.
 
 May use: nothing.
 """

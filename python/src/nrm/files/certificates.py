@@ -1,4 +1,5 @@
-"""Every line of a certificate file that is refused, and how to mend it. Of those that the program refuses the first is the program's.
+"""Every line of a certificate file that is refused, and how to mend it. Of those that the program refuses the first is
+the program's.
 
 May use: nrm.files.mending, nrm.limits, nrm.network.
 """

@@ -1,4 +1,5 @@
-"""Every row of a network file that is refused: which fields are at fault, and how to mend them. The first is the program's.
+"""Every row of a network file that is refused: which fields are at fault, and how to mend them. The first is the
+program's.
 
 May use: nrm.files.mending, nrm.files.names, nrm.limits, nrm.network.
 """
@@ -8,14 +9,17 @@ import difflib
 from dataclasses import dataclass
 from typing import Collection, Iterator, Mapping, Sequence
 
-from nrm.files.mending import (OF_VERSION_2, SHAPES, how_to_mend_a_kind, how_to_mend_a_name, how_to_mend_a_number, how_to_mend_a_range,
+from nrm.files.mending import (OF_VERSION_2, SHAPES, how_to_mend_a_kind, how_to_mend_a_name, how_to_mend_a_number,
+                               how_to_mend_a_range,
                                is_no_csv, is_refund, kind_meant, shown)
 from nrm.files.names import fitting
-from nrm.limits import (MOST_DEMAND, MOST_FARE, MOST_HISTORIES, MOST_LEGS, MOST_NETWORK_BYTES, MOST_PERIODS, MOST_PRODUCTS, MOST_REFUND,
+from nrm.limits import (MOST_DEMAND, MOST_FARE, MOST_HISTORIES, MOST_LEGS, MOST_NETWORK_BYTES, MOST_PERIODS,
+                        MOST_PRODUCTS, MOST_REFUND,
                         MOST_SEATS)
 from nrm.network import NAME, WHOLE, Row, rows_of
 
-WORDS = {1: "kind", 2: "order", 3: "fields", 4: "many", 5: "name", 6: "number", 7: "range", 8: "twice", 9: "missing", 10: "thresholds",
+WORDS = {1: "kind", 2: "order", 3: "fields", 4: "many", 5: "name", 6: "number", 7: "range", 8: "twice", 9: "missing",
+         10: "thresholds",
          11: "sum", 12: "empty", 13: "size"}
 
 
@@ -29,8 +33,8 @@ class Fault:
 
 @dataclass(frozen=True)
 class Refusal:
-    """A row that is refused, with its faults, in a file of some version; the first is the one that the program tells. Where the file
-    as a whole is refused, the row has no fields."""
+    """A row that is refused, with its faults, in a file of some version; the first is the one that the program tells.
+    Where the file as a whole is refused, the row has no fields."""
     row: Row
     faults: Sequence[Fault]
     version: int
@@ -96,12 +100,14 @@ class Explanation:
         """The histories and the periods, or None where the row that says them doesn't say them well."""
         fields = self.first_periods.fields if self.first_periods else []
         limits = (MOST_HISTORIES, MOST_PERIODS)
-        if len(fields) < 3 or not all(WHOLE.fullmatch(it) and 1 <= value_of(it) <= most for it, most in zip(fields[1:], limits)):
+        if len(fields) < 3 or not all(WHOLE.fullmatch(it) and 1 <= value_of(it) <= most
+                                      for it, most in zip(fields[1:], limits)):
             return None, None
         return int(fields[1]), int(fields[2])
 
     def version_meant(self) -> int:
-        """The version that the row of periods says, or seems to be meant to say where it is padded with commas or says 1."""
+        """The version that the row of periods says, or seems to be meant to say where it is padded with commas or says
+        1."""
         if not self.first_periods:
             return 2 if any(is_refund(row) for row in self.rows) else 1
         return 1 if "".join(self.first_periods.fields[3:]).strip() in ("", "1") else 2
@@ -142,25 +148,29 @@ class Explanation:
             return [fault]
         faults = [*faulty_names(row), *self.faulty_numbers(row)]
         at_fault = {it.field for it in faults}
-        faults += [it for some in (self.taken_names(row), self.missing_names(row)) for it in some if it.field not in at_fault]
+        faults += [it for some in (self.taken_names(row), self.missing_names(row)) for it in some
+                   if it.field not in at_fault]
         return faults or list(self.faulty_lists(row))
 
     def fault_of_shape(self, row: Row) -> Fault | None:
         """Why a row has not the form of one, or stands where it can't."""
         kind, count = row.fields[0], len(row.fields)
         if kind not in SHAPES or kind == "refund" and (self.version == 1 or row.number == 1):
-            return Fault(1, 0, self.how_to_mend_a_refund(row) or how_to_mend_a_kind(row.fields, not self.known_rows, self.version))
-        if kind != "periods" and not self.known_rows and not (self.first_periods and self.first_periods.number < row.number):
+            return Fault(1, 0, self.how_to_mend_a_refund(row)
+                         or how_to_mend_a_kind(row.fields, not self.known_rows, self.version))
+        if kind != "periods" and not self.known_rows and not (self.first_periods
+                                                              and self.first_periods.number < row.number):
             return Fault(2, 0, self.how_to_begin())
         if kind == "periods" and self.first_periods and row is not self.first_periods:
-            return Fault(2, 0, f"line {self.first_periods.line} is the row of periods, and a file has one: delete this one")
+            return Fault(2, 0,
+                         f"line {self.first_periods.line} is the row of periods, and a file has one: delete this one")
         allowed = self.counts_allowed(kind)
         if count not in allowed:
             return Fault(3, None, self.how_to_mend_a_count(row, count, allowed))
         most = {"leg": MOST_LEGS, "product": MOST_PRODUCTS}.get(kind)
         if most and len(self.made(kind)) >= most:
-            return Fault(4, None, f"a file takes {most} rows of this kind: `nrm-tools split` cuts a timetable into files, where it falls "
-                                  "apart into legs that no product joins")
+            return Fault(4, None, f"a file takes {most} rows of this kind: `nrm-tools split` cuts a timetable into "
+                                  "files, where it falls apart into legs that no product joins")
         return None
 
     def made(self, kind: str) -> Mapping[str, int]:
@@ -171,7 +181,8 @@ class Explanation:
         """How many fields a row of some kind may have."""
         demand = [3 + self.periods] if self.periods else range(4, 3 + MOST_PERIODS + 1)
         counts: Mapping[str, Collection[int]] = {
-            "periods": [3, 4], "leg": range(self.first_threshold, self.first_threshold + 10), "product": range(4, 8), "refund": [3],
+            "periods": [3, 4], "leg": range(self.first_threshold, self.first_threshold + 10), "product": range(4, 8),
+            "refund": [3],
             "demand": demand}
         return counts[kind]
 
@@ -186,8 +197,8 @@ class Explanation:
             return None
         if self.version == 2 or not self.first_periods:
             return self.how_to_begin()
-        return (f"a file of version 1 has no refunds: make it version 2, with ,2 at the end of line {self.first_periods.line} and behind "
-                "the seats of each leg its authorised seats; or delete the line")
+        return ("a file of version 1 has no refunds: make it version 2, with ,2 at the end of line "
+                f"{self.first_periods.line} and behind the seats of each leg its authorised seats; or delete the line")
 
     def how_to_mend_a_count(self, row: Row, count: int, allowed: Collection[int]) -> str:
         """What is said of a row that has too few fields, or too many."""
@@ -218,7 +229,8 @@ class Explanation:
             return [(1, 1, MOST_HISTORIES), (2, 1, MOST_PERIODS), *[(at, 2, 2) for at in range(3, count)]]
         if kind == "leg":
             first = self.first_threshold
-            return [*[(at, 0, MOST_SEATS) for at in range(2, first)], *[(at, 1, MOST_FARE) for at in range(first, count)]]
+            return [*[(at, 0, MOST_SEATS) for at in range(2, first)],
+                    *[(at, 1, MOST_FARE) for at in range(first, count)]]
         if kind == "product":
             return [(2, 1, MOST_FARE)]
         if kind == "refund":
@@ -244,7 +256,8 @@ class Explanation:
     def missing_names(self, row: Row) -> Iterator[Fault]:
         """The fields that name what no row above makes."""
         kind, name, *rest = row.fields
-        named = list(enumerate(row.fields))[3:] if kind == "product" else [(1, name)] if kind in ("refund", "demand") else []
+        named = list(enumerate(row.fields))[3:] if kind == "product" else [(1, name)] if kind in ("refund",
+                                                                                                  "demand") else []
         what, made = ("leg", self.legs) if kind == "product" else ("product", self.products)
         for at, wanted in named:
             if wanted not in made:
@@ -258,19 +271,21 @@ class Explanation:
         if name.isdigit() and kind == "leg":
             return "no row makes a leg of this name; is it the end of a fare with a thousands mark? Write the fare in digits alone"
         close = [it for it in made if fitting(it) == fitting(name)] or difflib.get_close_matches(name, made, 1)
-        return f"no row makes a {kind} of this name" + (f"; is it {close[0]} of line {made[close[0]]}?" if close else ": add it above")
+        return f"no row makes a {kind} of this name" + (f"; is it {close[0]} of line {made[close[0]]}?" if close
+                                                        else ": add it above")
 
     def faulty_lists(self, row: Row) -> Iterator[Fault]:
         """What is wrong with the numbers of a row together, each of them being right."""
         if row.fields[0] == "leg":
             for at in range(self.first_threshold + 1, len(row.fields)):
                 if int(row.fields[at]) >= int(row.fields[at - 1]):
-                    yield Fault(10, at, f"thresholds fall: it is to be below {row.fields[at - 1]}{self.hint_of_authorised(row, at)}")
+                    yield Fault(10, at,
+                                f"thresholds fall: it is to be below {row.fields[at - 1]}{self.hint_of_authorised(row, at)}")
         if row.fields[0] == "demand":
             seats = sum(map(int, row.fields[3:]))
             if seats > MOST_DEMAND:
-                yield Fault(11, None, f"the seats of the row are {seats} together, and {MOST_DEMAND} is the most: split the product "
-                                      "in two")
+                yield Fault(11, None, f"the seats of the row are {seats} together, and {MOST_DEMAND} is the most: "
+                                      "split the product in two")
 
     def hint_of_authorised(self, row: Row, at: int) -> str:
         """What more is said of a second threshold above the first, which may be meant as authorised seats."""
@@ -291,7 +306,7 @@ def faulty_names(row: Row) -> Iterator[Fault]:
 def refusals_of(data: bytes) -> list[Refusal]:
     """The refusals of a network file's bytes."""
     if len(data) > MOST_NETWORK_BYTES:
-        fault = Fault(13, None, f"it has more than {MOST_NETWORK_BYTES} bytes: leave out rows of demand that are 0, and quotes; "
-                                "`nrm-tools split` cuts a timetable into files")
+        fault = Fault(13, None, f"it has more than {MOST_NETWORK_BYTES} bytes: leave out rows of demand that are 0, "
+                                "and quotes; `nrm-tools split` cuts a timetable into files")
         return [of_no_row(0, fault, 1)]
     return list(Explanation(list(rows_of(data))).refusals())

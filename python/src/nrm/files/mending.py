@@ -12,9 +12,11 @@ from nrm.files.names import fitting
 from nrm.network import Row
 
 SHAPES = {"periods": "periods,HISTORIES,PERIODS", "leg": "leg,NAME,SEATS and up to 9 thresholds",
-          "product": "product,NAME,FARE and 1 to 4 legs", "demand": "demand,PRODUCT,HISTORY and a number for each period",
+          "product": "product,NAME,FARE and 1 to 4 legs", "demand": "demand,PRODUCT,HISTORY and a number for each "
+                                                                    "period",
           "refund": "refund,PRODUCT,PERCENTAGE"}
-OF_VERSION_2 = {**SHAPES, "periods": "periods,HISTORIES,PERIODS,2", "leg": "leg,NAME,SEATS,AUTHORISED and up to 9 thresholds"}
+OF_VERSION_2 = {**SHAPES, "periods": "periods,HISTORIES,PERIODS,2", "leg": "leg,NAME,SEATS,AUTHORISED and up to 9 "
+                                                                           "thresholds"}
 MOST_TEXT = 60  # that is shown of a field
 
 

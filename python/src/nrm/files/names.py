@@ -20,8 +20,8 @@ def fitting(text: str) -> str:
 
 
 def named(texts: Iterable[str], known: Mapping[str, str] | None = None) -> dict[str, str]:
-    """A name for each of some texts: itself where it is one, else one that fits, and each a name of its own. Names that are
-    known already, of these texts and of others, stay as they are."""
+    """A name for each of some texts: itself where it is one, else one that fits, and each a name of its own. Names that
+    are known already, of these texts and of others, stay as they are."""
     every, names = list(texts), dict(known or {})
     names.update({it: it for it in every if it not in names and NAME.fullmatch(it) and it not in names.values()})
     for text in every:

@@ -89,8 +89,8 @@ class Cut:
 
     def too_large(self, part: Part) -> Iterator[str]:
         """What is told of a part that no file takes."""
-        yield (f"too large: {len(part.legs)} legs and {len(part.products)} products, and a file takes {MOST_LEGS} and {MOST_PRODUCTS}; "
-               "not written")
+        yield (f"too large: {len(part.legs)} legs and {len(part.products)} products, and a file takes {MOST_LEGS} and "
+               f"{MOST_PRODUCTS}; not written")
         yield f"    its legs: {' '.join(part.legs)}"
         found = holding(part, self.legs_of)
         if found:
@@ -100,4 +100,5 @@ class Cut:
     def of_earlier_runs(self) -> Iterator[str]:
         """Which parts in the folder are of another timetable."""
         there = glob.glob(os.path.join(glob.escape(self.folder), "part-*.csv"))
-        yield from (f"{path}: not of this timetable; it was there before" for path in sorted({*there} - {*self.written}))
+        yield from (f"{path}: not of this timetable; it was there before"
+                    for path in sorted({*there} - {*self.written}))

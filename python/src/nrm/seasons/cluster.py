@@ -1,7 +1,9 @@
-"""Who plays many seasons: Dask's workers on this machine or of a scheduler elsewhere, what they are sent and how long one waits.
+"""Who plays many seasons: Dask's workers on this machine or of a scheduler elsewhere, what they are sent and how long
+one waits.
 
-They are sent this package, and what they give is taken only where the package and the program there are those here, to the byte.
-It needs Dask: who plays asks for `distributed` first. May use: nrm, nrm.program, nrm.seasons.drawing, nrm.seasons.rows.
+They are sent this package, and what they give is taken only where the package and the program there are those here, to
+the byte. It needs Dask: who plays asks for `distributed` first. May use: nrm, nrm.program, nrm.seasons.drawing,
+nrm.seasons.rows.
 """
 from __future__ import annotations
 
@@ -89,12 +91,13 @@ class Progress:
 
 
 def temporary_keys() -> Keys:
-    """Keys of this run alone, in memory, without which nobody is answered by the scheduler and the workers that it starts."""
+    """Keys of this run alone, in memory, without which nobody is answered by the scheduler and the workers that it
+    starts."""
     try:
         return distributed.Security.temporary()
     except ImportError:
-        raise Stop(f"{sys.executable} can't make keys for the workers; `apt-get install python3-cryptography` installs what "
-                   "it takes")
+        raise Stop(f"{sys.executable} can't make keys for the workers; `apt-get install python3-cryptography` installs "
+                   "what it takes")
 
 
 def keys_of(workers: Workers, address: str) -> Keys:
@@ -106,7 +109,8 @@ def keys_of(workers: Workers, address: str) -> Keys:
     for path in workers.tls:
         bytes_in(path, 1)
     authority, certificate, key = workers.tls
-    return distributed.Security(tls_ca_file=authority, tls_client_cert=certificate, tls_client_key=key, require_encryption=True)
+    return distributed.Security(tls_ca_file=authority, tls_client_cert=certificate, tls_client_key=key,
+                                require_encryption=True)
 
 
 def client_of(workers: Workers, address: str) -> Client:
@@ -130,10 +134,12 @@ def cluster(workers: Workers) -> Iterator[Client]:
             yield client
         return
     with tempfile.TemporaryDirectory() as folder:
-        before = signal.signal(signal.SIGINT, signal.SIG_IGN)  # the workers inherit it: Ctrl-C is for this process to deal with
+        # the workers inherit it: Ctrl-C is for this process to deal with
+        before = signal.signal(signal.SIGINT, signal.SIG_IGN)
         try:
             keys = temporary_keys()
-            local = distributed.LocalCluster(n_workers=workers.count or len(os.sched_getaffinity(0)), threads_per_worker=1,
+            local = distributed.LocalCluster(n_workers=workers.count or len(os.sched_getaffinity(0)),
+                                             threads_per_worker=1,
                                              processes=True, dashboard_address=None, silence_logs=logging.CRITICAL,
                                              local_directory=folder, protocol="tls://", security=keys)
         finally:
@@ -160,7 +166,8 @@ def within(seconds: float, work: Callable[..., Told], *words: object) -> Told:
 
 
 def zipped(folder: str, package: dict[str, bytes]) -> str:
-    """A zip of a package, of a name that no worker knows, since Dask puts a name that one knows behind those that came later."""
+    """A zip of a package, of a name that no worker knows, since Dask puts a name that one knows behind those that came
+    later."""
     path = os.path.join(folder, f"nrm-{uuid.uuid4()}.zip")
     with zipfile.ZipFile(path, "w", zipfile.ZIP_DEFLATED) as file:
         file.writestr("before_nrm.py", BEFORE_NRM)
@@ -175,8 +182,8 @@ def send_package(client: Client, patience: float) -> None:
         try:
             within(patience, client.upload_file, zipped(folder, PACKAGE))
         except concurrent.futures.TimeoutError:
-            raise Stop(f"the workers don't take the tools within {patience} s: is one stopped? --patience sets how long it may "
-                       "take")
+            raise Stop(f"the workers don't take the tools within {patience} s: is one stopped? --patience sets how "
+                       "long it may take")
         except Exception as fault:  # whatever Dask has met there
             raise Stop(f"the workers don't take the tools: {type(fault).__name__}, {fault}")
 
@@ -208,16 +215,17 @@ class Waiting:
         """Tells, once, that nothing has come back for a while, and stops where it is too long."""
         passed = time.monotonic() - self.since
         if passed > self.patience:
-            raise Stop(f"no seasons have come back for {self.patience} s: is a worker stopped, lost or slow? --patience sets how "
-                       "long they are waited for; with --out the seasons that were done are kept, and the same line goes on from "
-                       "there")
+            raise Stop(f"no seasons have come back for {self.patience} s: is a worker stopped, lost or slow? "
+                       "--patience sets how long they are waited for; with --out the seasons that were done are kept, "
+                       "and the same line goes on from there")
         if passed > self.late and not self.is_told:
             self.is_told = True
             self.tell(f"no seasons have come back for {self.late:g} s; they are waited for up to {self.patience} s")
 
 
 def batch_told(told: object, here: Maker) -> Batch:
-    """The batch that a worker gave; a Stop where it wasn't played, or not by the program and the package of this machine."""
+    """The batch that a worker gave; a Stop where it wasn't played, or not by the program and the package of this
+    machine."""
     if not isinstance(told, dict):
         fault = told[1] if isinstance(told, tuple) else told
         if isinstance(fault, concurrent.futures.CancelledError):
@@ -226,9 +234,11 @@ def batch_told(told: object, here: Maker) -> Batch:
     batch = Batch.told(told)
     by = batch.maker
     if by.package != here.package:
-        raise Stop(f"a worker on {by.machine} has other tools: their checksum there is {by.package}, and here {here.package}")
+        raise Stop(f"a worker on {by.machine} has other tools: their checksum there is {by.package}, and here "
+                   f"{here.package}")
     if by.program not in (None, here.program):
-        raise Stop(f"a worker on {by.machine} has another program: its checksum there is {by.program}, and here {here.program}")
+        raise Stop(f"a worker on {by.machine} has another program: its checksum there is {by.program}, and here "
+                   f"{here.program}")
     if batch.why:
         raise Stop(batch.why)
     return batch

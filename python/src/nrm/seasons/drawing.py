@@ -1,8 +1,8 @@
 """Seasons that are drawn from the histories of a network.
 
-All numbers are drawn by Python's own generator, from the seed, what the network file says of products and demand, and the number of
-the season: so a season is the same wherever and whenever it is drawn, and the same on two networks that differ in their legs' seats
-or thresholds alone. May use: nrm.network, nrm.replies.
+All numbers are drawn by Python's own generator, from the seed, what the network file says of products and demand, and
+the number of the season: so a season is the same wherever and whenever it is drawn, and the same on two networks that
+differ in their legs' seats or thresholds alone. May use: nrm.network, nrm.replies.
 """
 from __future__ import annotations
 
@@ -102,7 +102,8 @@ def identity(network: Network) -> str:
 
 @functools.lru_cache(NETWORKS_REMEMBERED)
 def network_in(source: bytes) -> tuple[Network, str]:
-    """The network of a file's bytes, and its identity; nobody may change it, since a process plays many batches of its seasons."""
+    """The network of a file's bytes, and its identity; nobody may change it, since a process plays many batches of its
+    seasons."""
     network = Network.of(rows_of(source))
     return network, identity(network)
 
@@ -113,7 +114,8 @@ def generator(seed: int, of_network: str, number: int) -> random.Random:
 
 
 def poisson(mean: float, draw: random.Random) -> int:
-    """A number drawn from the Poisson distribution: by how many factors the product of uniform numbers falls below e to the -mean."""
+    """A number drawn from the Poisson distribution: by how many factors the product of uniform numbers falls below e to
+    the -mean."""
     drawn = 0
     while mean > 0:
         step = min(mean, LARGEST_STEP)
@@ -136,12 +138,16 @@ def drawn_demand(network: Network, demand: str, draw: random.Random) -> tuple[in
         return history, seats_asked_for(network, history)
     if demand == "independent":
         none = (0,) * network.periods
-        return None, {name: it.demand.get(draw.randint(1, network.histories), none) for name, it in network.products.items()}
-    return None, {product: [poisson(mean, draw) for mean in by_period] for product, by_period in network.mean_demand.items()}
+        return None, {name: it.demand.get(draw.randint(1, network.histories), none)
+                      for name, it in network.products.items()}
+    return None, {product: [poisson(mean, draw) for mean in by_period]
+                  for product, by_period in network.mean_demand.items()}
 
 
-def lines_for(product: str, seats: int, sizes: Sequence[int], weights: Sequence[float], draw: random.Random) -> list[str]:
-    """The requests for a product's seats in a period, as lines, each of a party; the last one is cut to the seats that are left."""
+def lines_for(product: str, seats: int, sizes: Sequence[int], weights: Sequence[float],
+              draw: random.Random) -> list[str]:
+    """The requests for a product's seats in a period, as lines, each of a party; the last one is cut to the seats that
+    are left."""
     if sizes == (1,):
         return [f"book {product} 1"] * seats
     lines = []
@@ -162,7 +168,8 @@ def request_of(line: str) -> tuple[str, int] | None:
 
 
 def mixed(lines: Sequence[str], draw: random.Random) -> list[str]:
-    """The lines in an order that is drawn, each as likely: by numbers drawn for them, in half the time of Python's `shuffle`."""
+    """The lines in an order that is drawn, each as likely: by numbers drawn for them, in half the time of Python's
+    `shuffle`."""
     return [lines[at] for at in sorted(range(len(lines)), key=[draw.random() for _ in lines].__getitem__)]
 
 
@@ -199,7 +206,8 @@ def drawn_season(network: Network, settings: Settings, draw: random.Random) -> D
 
 
 def history_again(network: Network, history: int, draw: random.Random) -> DrawnSeason:
-    """A history as a season: its requests, a seat each, in the order of the periods, and shuffled within each period."""
+    """A history as a season: its requests, a seat each, in the order of the periods, and shuffled within each
+    period."""
     seats, lines = seats_asked_for(network, history), list[str]()
     for period in range(network.periods):
         if period:

@@ -34,16 +34,17 @@ class Picture:
 
 def about(seasons: int, settings: Settings, results: Mapping[str, Results]) -> Iterator[str]:
     """What was done, in sentences."""
-    parties = [f"{size} with weight {weight}" if len(settings.parties) > 1 else str(size) for size, weight in settings.parties]
+    parties = [f"{size} with weight {weight}" if len(settings.parties) > 1 else str(size)
+               for size, weight in settings.parties]
     yield (f"{seasons:,} seasons, drawn by seed {settings.seed}. Demand: {DEMAND_IN_WORDS[settings.demand]}. "
            f"Order in a period: {settings.order}. Parties: {', '.join(parties)}.")
     if settings.cancel:
-        yield (f"Each booking was cancelled with probability {settings.cancel:g}. The bound counts all requests, cancelled ones "
-               "too, and bounds the revenue of the bookings that stand; what is withheld is beside it.")
+        yield (f"Each booking was cancelled with probability {settings.cancel:g}. The bound counts all requests, "
+               "cancelled ones too, and bounds the revenue of the bookings that stand; what is withheld is beside it.")
     if settings.show is not None:
-        yield (f"Each seat booked at the end was taken with probability {settings.show:g}. Denied are seats taken beyond the "
-               f"physical seats of their leg, at {settings.denied_cost:,} each; empty are physical seats that nobody took. The "
-               "bound knows of neither.")
+        yield (f"Each seat booked at the end was taken with probability {settings.show:g}. Denied are seats taken "
+               f"beyond the physical seats of their leg, at {settings.denied_cost:,} each; empty are physical seats "
+               "that nobody took. The bound knows of neither.")
     if settings.leave_out:
         yield "Plans were made without the history that was played."
     yield f"Seasons whose revenue is above the bound: {sum(it.above_bound for it in results.values())}."
@@ -57,7 +58,8 @@ def pictures(study: Study) -> Iterator[Picture]:
     found = study.authorised()
     if found:
         yield of_authorised(study, *found)
-    spans = [(study.named(name, mode), mode, it.shares(mode)) for name, it in study.results.items() for mode in it.modes]
+    spans = [(study.named(name, mode), mode, it.shares(mode)) for name, it in study.results.items()
+             for mode in it.modes]
     if all(values for _, _, values in spans) and len(spans) <= MOST_SPANS:
         yield of_shares(spans)
     if not found and len(study.results) <= MOST_HISTOGRAMS:
@@ -72,16 +74,17 @@ def of_shares(spans: Sequence[tuple[str, str, list[float]]]) -> Picture:
     """The share of the bound in the seasons of each mode."""
     from nrm.telling import charts
     means = "; ".join(f"{name} {sum(values) / len(values):.1f}" for name, _, values in spans[:MOST_MEANS])
-    words = ("From the 5th to the 95th of a hundred seasons thin, from the 25th to the 75th thick, the mark at the mean, in per "
-             f"cent: {means}")
+    words = ("From the 5th to the 95th of a hundred seasons thin, from the 25th to the 75th thick, the mark at the "
+             f"mean, in per cent: {means}")
     return Picture("shares", "Share of the bound by mode", words, lambda: charts.spans(spans, "share of the bound, %"))
 
 
 def of_differences(name: str, title: str, mode: str, values: Sequence[int]) -> Picture:
     """By how much a mode is ahead of another, season by season."""
     from nrm.telling import charts
-    words = (f"Differences from {min(values):,} to {max(values):,}, on the mean {sum(values) / len(values):,.1f}, which the "
-             f"broken line shows; {mode} is ahead in {sum(v > 0 for v in values):,} of {len(values):,} seasons, which are blue")
+    words = (f"Differences from {min(values):,} to {max(values):,}, on the mean {sum(values) / len(values):,.1f}, "
+             f"which the broken line shows; {mode} is ahead in {sum(v > 0 for v in values):,} of {len(values):,} "
+             "seasons, which are blue")
     return Picture(name, title, words, lambda: charts.histogram(values, "currency units", "seasons"))
 
 
@@ -89,11 +92,13 @@ def of_authorised(study: Study, leg: str, names: Mapping[int, str]) -> Picture:
     """What each mode earns less than with the authorised seats that are its best."""
     from nrm.telling import charts
     less = {mode: study.less_than_most(mode, names) for mode in study.settings.modes}
-    courses = [(mode, [(float(seats), -it.mean if it else 0.0, it.half() if it else 0.0) for seats, it in by_seats.items()])
+    courses = [(mode,
+                [(float(seats), -it.mean if it else 0.0, it.half() if it else 0.0) for seats, it in by_seats.items()])
                for mode, by_seats in less.items()]
-    tops = "; ".join(f"under {mode} at {seats}" for mode, by_seats in less.items() for seats, it in by_seats.items() if not it)
-    words = ("What a season brings beside the authorised seats that earn most in each mode, with its 95 per cent interval. "
-             f"Most is earned {tops}")
+    tops = "; ".join(f"under {mode} at {seats}" for mode, by_seats in less.items()
+                     for seats, it in by_seats.items() if not it)
+    words = ("What a season brings beside the authorised seats that earn most in each mode, with its 95 per cent "
+             f"interval. Most is earned {tops}")
     return Picture("authorised", f"What is earned by the authorised seats of {leg}", words,
                    lambda: charts.courses(courses, f"authorised seats of {leg}", "beside the most, currency units"))
 

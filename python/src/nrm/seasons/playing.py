@@ -18,7 +18,8 @@ from nrm.limits import LAST_BOOKING
 from nrm.network import Network, text_of
 from nrm.program import Dialogue, Program
 from nrm.replies import Answer, Hindsight, NoAnswer, Overflow, Sold, answer_of
-from nrm.seasons.drawing import (DrawnSeason, Requests, Settings, by_product, drawn_season, generator, history_again, network_in,
+from nrm.seasons.drawing import (DrawnSeason, Requests, Settings, by_product, drawn_season, generator,
+                                 history_again, network_in,
                                  request_of)
 
 SECOND_LETTER = operator.itemgetter(1)  # it tells the replies `ok`, `no` and `memory` from each other and the rest
@@ -122,7 +123,8 @@ def booking_of(mode: str, reply: bytes) -> int:
 
 def replies_with_cancellations(program: Program, mode: str, path: str, season: DrawnSeason,
                                clock: Clock) -> tuple[list[bytes], set[int]]:
-    """The replies to the lines of a season, without those to its cancellations, and the lines whose bookings were cancelled."""
+    """The replies to the lines of a season, without those to its cancellations, and the lines whose bookings were
+    cancelled."""
     with clock:
         playing = Cancelling(season, Dialogue(program, mode, path))
     try:
@@ -152,8 +154,8 @@ def letters_of(mode: str, season: DrawnSeason, replies: list[bytes]) -> bytearra
     except IndexError:
         letters = bytearray()
     if len(letters) != len(season.lines) or OF_MEMORY in letters:
-        raise Stop(f"what `run {mode}` answers to {len(season.lines)} lines is no outcome: is memory short, or is that another "
-                   "program?")
+        raise Stop(f"what `run {mode}` answers to {len(season.lines)} lines is no outcome: is memory short, or is that "
+                   "another program?")
     return letters
 
 
@@ -175,7 +177,8 @@ def played(network: Network, season: DrawnSeason, program: Program, mode: str, p
     booked = season.tally(stand) if cancelled else sales
     revenue = sum([network.products[it.product].fare * it.party * it.count for it in booked])
     if last and last.revenue != revenue:
-        raise Stop(f"`run {mode}` has a revenue of {last.revenue}, and its replies one of {revenue}: is that another program?")
+        raise Stop(f"`run {mode}` has a revenue of {last.revenue}, and its replies one of {revenue}: is that another "
+                   "program?")
     return Outcome(revenue, last.withheld if last else 0, last.bound if last else None,
                    by_leg(network, ((it.product, it.party * it.count) for it in booked)),
                    shown_of(network, season, stand), refused_of(season, sales))
@@ -188,7 +191,8 @@ def refused_of(season: DrawnSeason, sales: Iterable[Requests]) -> dict[str, int]
 
 
 def shown_of(network: Network, season: DrawnSeason, stand: bytearray) -> dict[str, int] | None:
-    """The seats that are taken at departure, by leg, of the bookings of chosen lines; None if departures aren't played."""
+    """The seats that are taken at departure, by leg, of the bookings of chosen lines; None if departures aren't
+    played."""
     if not season.shows:
         return None
     lines = itertools.compress(zip(season.lines, season.shows), stand)
@@ -226,12 +230,13 @@ class Player:
     def outcomes(self, season: DrawnSeason, clock: Clock | None = None) -> dict[str, Outcome]:
         """The outcome of a season in each mode."""
         path = self.path_without(season.history if self.settings.leave_out else None)
-        return {mode: played(self.network, season, self.program, mode, path, clock or Clock()) for mode in self.settings.modes}
+        return {mode: played(self.network, season, self.program, mode, path, clock or Clock())
+                for mode in self.settings.modes}
 
 
 def replayed(player: Player) -> Iterator[tuple[int, Fraction, list[int]]]:
-    """Each history of a network in its turn, played as the season that is to come and left out of the plans: its number,
-    its bound, and the revenue of each mode."""
+    """Each history of a network in its turn, played as the season that is to come and left out of the plans: its
+    number, its bound, and the revenue of each mode."""
     modes = player.settings.modes
     for history in range(1, player.network.histories + 1):
         outcomes = player.outcomes(history_again(player.network, history, random.Random(player.settings.seed)))

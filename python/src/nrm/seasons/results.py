@@ -171,7 +171,8 @@ class Study:
     def earnings_of(self, it: Results, mode: str) -> list[Cell]:
         """What a mode earns on the mean, behind its name."""
         return [amount(it.mean(mode, "revenue")), *([amount(it.mean(mode, "withheld"))] if self.cancels else []),
-                *self.departures(it, mode), *([amount(it.mean(mode, "earned"))] if self.cancels or self.departs else []),
+                *self.departures(it, mode),
+                *([amount(it.mean(mode, "earned"))] if self.cancels or self.departs else []),
                 amount(Estimate.of(it.earned[mode]).error), f"{100 * it.share(mode):.2f} %"]
 
     def departures(self, it: Results, mode: str) -> list[str]:
@@ -184,8 +185,11 @@ class Study:
         for name, it in self.results.items():
             for mode, other in it.pairs():
                 differences = it.differences(mode, other)
-                mean, ahead, behind = Estimate.of(differences), sum(d > 0 for d in differences), sum(d < 0 for d in differences)
-                rows.append([self.named(name, f"{mode} less {other}"), amount(mean.mean), amount(mean.error), *mean.ends(),
+                mean, ahead, behind = Estimate.of(differences), sum(d > 0
+                                                                    for d in differences), sum(d < 0
+                                                                                               for d in differences)
+                rows.append([self.named(name, f"{mode} less {other}"), amount(mean.mean), amount(mean.error),
+                             *mean.ends(),
                              per_cent(ahead, it.seasons), per_cent(behind, it.seasons)])
         return Table("What a mode earns more than another on the same requests, in currency units a season",
                      ["", "mean", "standard error", "from, at 95 %", "to", "ahead in", "behind in"], rows)
@@ -209,17 +213,20 @@ class Study:
         asked = {product: it.sums[it.modes[0]][f"asked {product}"] for product in products}
         rows: list[list[Cell]] = [
             [product, products[product].fare, f"{asked[product] / it.seasons:.2f}",
-             *(per_cent(it.sums[mode][f"refused {product}"], asked[product]) for mode in it.modes)] for product in products]
+             *(per_cent(it.sums[mode][f"refused {product}"], asked[product]) for mode in it.modes)]
+             for product in products]
         return Table(f"{self.of(name)}Requests for each product in a season, and the share of them that was refused",
                      ["product", "fare", "requests", *it.modes], rows)
 
     # Networks that differ in authorised seats alone
 
     def authorised(self) -> tuple[str, dict[int, str]] | None:
-        """The leg whose authorised seats alone differ between the networks, and the names of these by its seats; else None."""
+        """The leg whose authorised seats alone differ between the networks, and the names of these by its seats; else
+        None."""
         networks = list(self.networks.values())
         alike = len({str([row[:3] + row[4:] if row[0] == "leg" else row for row in it.rows()]) for it in networks}) == 1
-        legs = [leg for leg in networks[0].legs if len({it.legs[leg].authorised for it in networks}) > 1] if alike else []
+        legs = [leg for leg in networks[0].legs
+                if len({it.legs[leg].authorised for it in networks}) > 1] if alike else []
         if len(legs) != 1 or any(it.version != 2 for it in networks):
             return None
         return legs[0], dict(sorted((it.legs[legs[0]].authorised, name) for name, it in self.networks.items()))
@@ -232,7 +239,8 @@ class Study:
                 for seats, values in earned.items()}
 
     def by_authorised_seats(self, leg: str, names: Mapping[int, str]) -> Iterator[Table]:
-        """What each mode earns by the authorised seats of the leg, and how far that is from the most, season by season."""
+        """What each mode earns by the authorised seats of the leg, and how far that is from the most, season by
+        season."""
         for mode in self.settings.modes:
             rows: list[list[Cell]] = []
             for seats, less in self.less_than_most(mode, names).items():
@@ -240,5 +248,6 @@ class Study:
                 ends: list[Cell] = [amount(less.mean), *less.ends()] if less else ["most", None, None]
                 rows.append([str(seats), *self.departures(it, mode), amount(it.mean(mode, "earned")), *ends])
             yield Table(f"Under {mode}, by the authorised seats of {leg}, in currency units a season",
-                        ["authorised", *(["denied", "empty"] if self.departs else []), "earned", "less than the most by",
+                        ["authorised", *(["denied", "empty"] if self.departs else []), "earned",
+                         "less than the most by",
                          "from, at 95 %", "to"], rows)

@@ -1,7 +1,8 @@
-"""The rows that many seasons make: of a batch, which says who has played it, and of a network, kept in a folder as they come.
+"""The rows that many seasons make: of a batch, which says who has played it, and of a network, kept in a folder as they
+come.
 
-A batch is played by this machine or another, so it comes with the checksums of the program and of this package there, and who
-asked for it compares. May use: nrm, nrm.network, nrm.program, nrm.seasons.drawing, nrm.seasons.playing.
+A batch is played by this machine or another, so it comes with the checksums of the program and of this package there,
+and who asked for it compares. May use: nrm, nrm.network, nrm.program, nrm.seasons.drawing, nrm.seasons.playing.
 """
 from __future__ import annotations
 
@@ -42,9 +43,12 @@ OF_PACKAGE = (".py", ".html")
 def heads(network: Network, settings: Settings) -> list[str]:
     """The names of the columns of a row."""
     departs = settings.show is not None
-    return ["season", "mode", "history", "requests", "bound", "revenue", "withheld", *(["denied", "empty"] if departs else []),
-            "earned", *(f"booked {leg}" for leg in network.legs), *(f"shown {leg}" for leg in (network.legs if departs else ())),
-            *(f"asked {product}" for product in network.products), *(f"refused {product}" for product in network.products)]
+    return ["season", "mode", "history", "requests", "bound", "revenue", "withheld",
+            *(["denied", "empty"] if departs else []),
+            "earned", *(f"booked {leg}" for leg in network.legs),
+            *(f"shown {leg}" for leg in (network.legs if departs else ())),
+            *(f"asked {product}" for product in network.products),
+            *(f"refused {product}" for product in network.products)]
 
 
 def rows_of_season(network: Network, settings: Settings, number: int, season: DrawnSeason,
@@ -56,9 +60,12 @@ def rows_of_season(network: Network, settings: Settings, number: int, season: Dr
         boardings = [it.denied(network), it.empty(network)] if settings.show is not None else []
         cost = settings.denied_cost * boardings[0] if boardings else 0
         bound = "" if it.bound is None else f"{float(it.bound):.4f}"
-        yield ",".join([str(number), mode, str(season.history or ""), str(sum(season.asked.values())), bound, str(it.revenue),
-                        str(it.withheld), *map(str, boardings), str(it.revenue + it.withheld - cost), *numbers(it.booked, legs),
-                        *(numbers(it.shown or {}, legs) if boardings else ()), *asked_for, *numbers(it.refused, products)]) + "\n"
+        yield ",".join([str(number), mode, str(season.history or ""), str(sum(season.asked.values())), bound,
+                        str(it.revenue),
+                        str(it.withheld), *map(str, boardings), str(it.revenue + it.withheld - cost),
+                        *numbers(it.booked, legs),
+                        *(numbers(it.shown or {}, legs) if boardings else ()), *asked_for,
+                        *numbers(it.refused, products)]) + "\n"
 
 
 def numbers(counts: Mapping[str, int], names: Sequence[str]) -> list[str]:
@@ -99,7 +106,8 @@ class Maker:
 
 
 def maker(program: Program) -> Maker:
-    """Who plays seasons here; the program's checksum is that of the file that its first word names, or of all that are named."""
+    """Who plays seasons here; the program's checksum is that of the file that its first word names, or of all that are
+    named."""
     first = shutil.which(program.words[0])
     if not first:
         raise Stop(f"`{program.words[0]}` can't be run: it isn't there, or not on the path")
@@ -126,8 +134,8 @@ def sum_of_file(path: str, _: tuple[int, ...]) -> str:
 
 @dataclass(frozen=True)
 class Batch:
-    """Seasons that were played: their rows, the time it took, and of that the time in the program, in seconds; or why not. And by
-    whom."""
+    """Seasons that were played: their rows, the time it took, and of that the time in the program, in seconds; or why
+    not. And by whom."""
     rows: str = ""
     seasons: int = 0
     seconds: float = 0.0
@@ -146,7 +154,8 @@ class Batch:
 
 @contextlib.contextmanager
 def no_collector() -> Iterator[None]:
-    """Leaves out Python's search for garbage in cycles, of which none is made here: it takes some per cent of the time."""
+    """Leaves out Python's search for garbage in cycles, of which none is made here: it takes some per cent of the
+    time."""
     was_on = gc.isenabled()
     gc.disable()
     try:
@@ -157,7 +166,8 @@ def no_collector() -> Iterator[None]:
 
 
 def play_batch(source: bytes, settings: Settings, words: Sequence[str], numbers: Iterable[int]) -> dict[str, Any]:
-    """The fields of the batch of some seasons on the network of a file's bytes, as plain as another package reads them."""
+    """The fields of the batch of some seasons on the network of a file's bytes, as plain as another package reads
+    them."""
     return dataclasses.asdict(batch_of(source, settings, words, list(numbers)))
 
 
@@ -188,8 +198,8 @@ def batch_of(source: bytes, settings: Settings, words: Sequence[str], numbers: S
 class Seasons:
     """The seasons of a network: which are wanted, and the rows of those that are done.
 
-    Rows are added to a file as they come, NAME-seasons.part, and at the end they are put in the order of the seasons into
-    NAME-seasons.csv. What both have is kept when a run goes on.
+    Rows are added to a file as they come, NAME-seasons.part, and at the end they are put in the order of the seasons
+    into NAME-seasons.csv. What both have is kept when a run goes on.
     """
 
     def __init__(self, name: str, path: str, settings: Settings, wanted: int, folder: str) -> None:

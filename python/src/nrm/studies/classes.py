@@ -1,7 +1,7 @@
 """The classes of one leg by itself: what is kept from each by the optimum and by EMSR-b, and what each earns.
 
-The optimum is that of `nrm dp`; EMSR-b's protections are those of `nrm plan davn` on a network of the leg and its classes alone.
-May use: nrm, nrm.limits, nrm.network, nrm.program, nrm.replies, nrm.telling.tables.
+The optimum is that of `nrm dp`; EMSR-b's protections are those of `nrm plan davn` on a network of the leg and its
+classes alone. May use: nrm, nrm.limits, nrm.network, nrm.program, nrm.replies, nrm.telling.tables.
 """
 from __future__ import annotations
 
@@ -34,7 +34,8 @@ class FareClass:
 
 
 class Policy:
-    """How many seats are kept from each class, the highest fare first, and what is earned so, from each number of seats."""
+    """How many seats are kept from each class, the highest fare first, and what is earned so, from each number of
+    seats."""
 
     def __init__(self, kept: Sequence[int], classes: Sequence[FareClass], seats: int) -> None:
         self.kept, self.values = list(kept), values(kept, classes, seats)
@@ -49,14 +50,16 @@ def values(kept: Sequence[int], classes: Sequence[FareClass], seats: int) -> lis
     for keep, it in zip(kept, classes):
         often = Counter(it.demand)
         sold = [{asked: min(asked, max(0, left - keep)) for asked in often} for left in range(seats + 1)]
-        earned = [sum(times * (ways * it.fare * sold[left][asked] + earned[left - sold[left][asked]]) for asked, times in often.items())
+        earned = [sum(times * (ways * it.fare * sold[left][asked] + earned[left - sold[left][asked]])
+                      for asked, times in often.items())
                   for left in range(seats + 1)]
         ways *= len(it.demand)
     return [Fraction(it, ways) for it in earned]
 
 
 class LegAlone:
-    """A leg of a network by itself: its rows and those of the products on it alone, the seats, the classes and the optimum."""
+    """A leg of a network by itself: its rows and those of the products on it alone, the seats, the classes and the
+    optimum."""
 
     def __init__(self, path: str, leg: str, program: Program) -> None:
         network, rows = Network.read(path), fields_in(path)
@@ -73,7 +76,8 @@ class LegAlone:
         self.classes, self.optimal = program.told(functools.partial(self.optimum, network), "dp", path, leg)
 
     def optimum(self, network: Network, lines: list[str]) -> tuple[list[FareClass], Policy]:
-        """The classes and the protections by the lines of `nrm dp`; a ValueError where these don't earn the value told."""
+        """The classes and the protections by the lines of `nrm dp`; a ValueError where these don't earn the value
+        told."""
         told, histories = leg_value_of(self.name, lines), range(1, network.histories + 1)
         products = [network.products[name] for name, _ in told.classes]
         classes = [FareClass(it.name, it.fare, tuple(map(it.demand_in, histories))) for it in products]
@@ -87,7 +91,8 @@ class LegAlone:
         return self.optimal.values[-1]
 
     def file(self) -> str:
-        """The text of a network file of this leg and its classes alone, with a threshold at each fare but the lowest."""
+        """The text of a network file of this leg and its classes alone, with a threshold at each fare but the
+        lowest."""
         fares = sorted({it.fare for it in self.classes}, reverse=True)
         return text_of(with_thresholds(self.rows, {self.name: fares[:-1]}))
 
@@ -124,6 +129,6 @@ def remarks(leg: LegAlone, emsr: Policy) -> list[str]:
         found.append(f"products that use {leg.name} and other legs, which have no part in this: {leg.others}")
     lowest = leg.classes[-1].fare
     if emsr.kept[-1] and not any(any(it.demand) for it in leg.classes if it.fare == lowest):
-        found.append(f"nobody asked at {lowest}, the lowest fare: so `nrm` takes the last bucket's fare as 0, and EMSR-b keeps the more "
-                     "from it")
+        found.append(f"nobody asked at {lowest}, the lowest fare: so `nrm` takes the last bucket's fare as 0, and "
+                     "EMSR-b keeps the more from it")
     return found

@@ -1,9 +1,11 @@
-"""The course of one season in the three modes: a stream with looks put in, what each mode answers, and the tables and the page of it.
+"""The course of one season in the three modes: a stream with looks put in, what each mode answers, and the tables and
+the page of it.
 
-HOW REPLIES ARE TOLD APART. Before the first line, behind each line `reoptimise K` of a period that the network has, and behind the last
-line, the lines `plan`, `leg LEG` for each leg, and `hindsight` are put into the stream. None of them changes what any other line is
-answered. Each line has one reply, so the replies are dealt out to the lines in order, and those to the lines put in are taken away.
-May use: nrm, nrm.network, nrm.program, nrm.replies, nrm.telling.page, nrm.telling.tables.
+HOW REPLIES ARE TOLD APART. Before the first line, behind each line `reoptimise K` of a period that the network has, and
+behind the last line, the lines `plan`, `leg LEG` for each leg, and `hindsight` are put into the stream. None of them
+changes what any other line is answered. Each line has one reply, so the replies are dealt out to the lines in order,
+and those to the lines put in are taken away. May use: nrm, nrm.network, nrm.program, nrm.replies, nrm.telling.page,
+nrm.telling.tables.
 """
 from __future__ import annotations
 
@@ -25,7 +27,8 @@ UNFIT = "the replies don't fit the lines"
 
 @dataclass(frozen=True)
 class Asked:
-    """A line that is given to the program, the number of the stream's line that it is or follows, and whether it was put in."""
+    """A line that is given to the program, the number of the stream's line that it is or follows, and whether it was
+    put in."""
     number: int
     line: str
     is_put_in: bool
@@ -57,8 +60,8 @@ class LookedAt:
 
 @dataclass
 class Point:
-    """What is told at one place of a season, behind a line of the stream: the plan in force, the seats sold, and the bound with the
-    revenue and what was withheld, if there is one."""
+    """What is told at one place of a season, behind a line of the stream: the plan in force, the seats sold, and the
+    bound with the revenue and what was withheld, if there is one."""
     number: int
     plan: Plan
     sold: dict[str, int] = field(default_factory=dict)
@@ -143,14 +146,16 @@ class Season:
 
     @classmethod
     def played(cls, path: str, stream_path: str, leg: str | None, program: Program) -> Season:
-        """The season of a network file and a stream at two paths, on one leg, or on the one of which most seats were asked for."""
+        """The season of a network file and a stream at two paths, on one leg, or on the one of which most seats were
+        asked for."""
         network = Network.read(path)
         stream = LookedAt(bytes_in(stream_path), network)
         leg = leg or leg_most_asked_for(network, stream)
         if leg not in network.legs:
             raise Stop(f"there is no leg {leg}")
         data = stream.data()
-        return cls(network, stream, leg, [Course(mode, network, stream, leg, program.replies(mode, path, data)) for mode in MODES])
+        return cls(network, stream, leg,
+                   [Course(mode, network, stream, leg, program.replies(mode, path, data)) for mode in MODES])
 
 
 def leg_most_asked_for(network: Network, stream: LookedAt) -> str:
@@ -172,10 +177,12 @@ def tables(season: Season, decimal: bool = False) -> Iterator[Table]:
     courses, names, network = season.courses, season.stream.names(), season.network
     revenues: list[list[Cell]] = [[name, *[it.points[at].revenue() for it in courses], courses[0].points[at].bound()]
                                   for at, name in enumerate(names)]
-    yield Table("Revenue of the bookings that stand, and the bound of hindsight, in currency units", ["", *MODES, "bound"], revenues,
+    yield Table("Revenue of the bookings that stand, and the bound of hindsight, in currency units",
+                ["", *MODES, "bound"], revenues,
                 decimal)
     if min(it.refund for it in network.products.values()) < 100:
-        withheld: list[list[Cell]] = [[name, *[it.points[at].withheld() for it in courses]] for at, name in enumerate(names)]
+        withheld: list[list[Cell]] = [[name, *[it.points[at].withheld() for it in courses]]
+                                      for at, name in enumerate(names)]
         yield Table("Withheld of the bookings that were cancelled, in currency units", ["", *MODES], withheld, decimal)
     for it in courses[1:]:
         prices: list[list[Cell]] = [[leg, *[point.plan.prices[leg] for point in it.points]] for leg in network.legs]
@@ -184,7 +191,8 @@ def tables(season: Season, decimal: bool = False) -> Iterator[Table]:
         yield seats_table(season, it, decimal)
     requests: list[list[Cell]] = [[name, asked, *[it.refused[name] for it in courses]]
                                   for name, asked in courses[0].asked.items() if asked]
-    yield Table("Requests for each product, and how many of them were refused", ["product", "requests", *MODES], requests, decimal)
+    yield Table("Requests for each product, and how many of them were refused", ["product", "requests", *MODES],
+                requests, decimal)
 
 
 def seats_table(season: Season, course: Course, decimal: bool) -> Table:
@@ -195,7 +203,8 @@ def seats_table(season: Season, course: Course, decimal: bool) -> Table:
         [name, point.sold[leg.name], leg.authorised - point.sold[leg.name], *point.plan.protections.get(leg.name, ())]
         for name, point in zip(season.stream.names(), course.points)]
     levels = [f"for 1 to {b}" if b > 1 else "for 1" for b in range(1, len(rows[0]) - 2)]
-    return Table(f"Seats of {leg.name}{authorised} under {course.mode}: sold, left{', and protected for buckets' if levels else ''}",
+    return Table(f"Seats of {leg.name}{authorised} under {course.mode}: sold, "
+                 f"left{', and protected for buckets' if levels else ''}",
                  ["", "sold", "left", *levels], rows, decimal)
 
 
@@ -207,13 +216,13 @@ def abouts(season: Season) -> dict[str, tuple[str, str]]:
     courses, leg = season.courses, season.leg
     last = ", ".join(f"{it.mode} {it.points[-1].revenue():,}" for it in courses if it.points[-1].revenue() is not None)
     refused = ", ".join(f"{it.mode} {sum(it.refused.values()):,}" for it in courses)
-    return {"bid-prices": ("Bid prices", "The bid price of each leg over the season, under bid and under davn; the tables have each "
-                           "number."),
-            "seats": (f"The seats of {leg}", "In each mode the seats sold, those left, and those protected by bucket, behind each line. "
-                      f"Sold at the end: {', '.join(f'{it.mode} {it.course[-1]}' for it in courses)}."),
+    return {"bid-prices": ("Bid prices", "The bid price of each leg over the season, under bid and under davn; the "
+                           "tables have each number."),
+            "seats": (f"The seats of {leg}", "In each mode the seats sold, those left, and those protected by bucket, "
+                      f"behind each line. Sold at the end: {', '.join(f'{it.mode} {it.course[-1]}' for it in courses)}."),
             "revenue": ("Revenue", f"The revenue of each mode beside the bound of hindsight. At the end: {last}."),
-            "refused": ("Refusals", f"Of each product the share of its requests that was refused. In all were refused: {refused}, "
-                        f"of {sum(courses[0].asked.values()):,}.")}
+            "refused": ("Refusals", "Of each product the share of its requests that was refused. In all were refused: "
+                        f"{refused}, of {sum(courses[0].asked.values()):,}.")}
 
 
 def page(season: Season, told: Sequence[Table], pictures: Sequence[str]) -> str:

@@ -10,11 +10,13 @@ from matplotlib.lines import Line2D
 from matplotlib.patches import Patch
 
 from nrm.studies.course import Course, Season
-from nrm.telling.figures import (BLACK, BLUE, GREEN, ORANGE, PURPLE, SETTINGS, SHADE, SKY, VERMILLION, YELLOW, Axes, Figure,
+from nrm.telling.figures import (BLACK, BLUE, GREEN, ORANGE, PURPLE, SETTINGS, SHADE, SKY, VERMILLION, YELLOW,
+                                 Axes, Figure,
                                  in_amounts, label, panels, style)
 
 Look = tuple[str, str]  # a colour and a hatch
-BANDS: list[Look] = [(VERMILLION, "////"), (ORANGE, "----"), (GREEN, "\\\\\\\\"), (YELLOW, "||||"), (PURPLE, "xxxx"), (SKY, "++++"),
+BANDS: list[Look] = [(VERMILLION, "////"), (ORANGE, "----"), (GREEN, "\\\\\\\\"), (YELLOW, "||||"), (PURPLE, "xxxx"),
+                     (SKY, "++++"),
                      (VERMILLION, "----"), (ORANGE, "////"), (GREEN, "||||")]
 SOLD, OPEN, CLOSED = (BLUE, ""), ("#FFFFFF", ""), ("#BBBBBB", "")
 SEATS_LINE: dict[str, Any] = {"color": BLACK, "linewidth": 1.3, "linestyle": "--", "clip_on": False}
@@ -49,7 +51,8 @@ def bid_prices(season: Season) -> Figure:
     """The bid price of each leg, under the modes that have prices."""
     legs, priced = season.network.legs, season.courses[1:]
     figure, axes = panels(len(legs), 5, 1.25 if len(legs) > 5 else 2, 1)
-    titles = {it.name: f"{it.name}, {it.authorised} {'seats' if it.authorised == it.seats else 'authorised'}" for it in legs.values()}
+    titles = {it.name: f"{it.name}, {it.authorised} {'seats' if it.authorised == it.seats else 'authorised'}"
+              for it in legs.values()}
     size = SETTINGS["axes.titlesize"] * min(1, WIDEST_TITLE / max(map(len, titles.values())))
     for axis, leg in zip(axes, legs):
         mark_plans(axis, season)
@@ -59,13 +62,14 @@ def bid_prices(season: Season) -> Figure:
         axis.set_title(titles[leg], fontsize=size)
     most = max(1.0, *[float(price) for it in priced for point in it.points for price in point.plan.prices.values()])
     axes[0].set_ylim(-0.05 * most, 1.05 * most)
-    label(figure, LINE, "bid price, currency units", [*[Line2D([], [], **style(it.mode)) for it in priced], plan_mark()])
+    label(figure, LINE, "bid price, currency units",
+          [*[Line2D([], [], **style(it.mode)) for it in priced], plan_mark()])
     return figure
 
 
 def bands(course: Course, authorised: int) -> tuple[list[int], list[tuple[int, ...]]]:
-    """A leg's authorised seats behind each line that changes them, with the numbers of these lines: from the top those protected
-    for bucket 1, for buckets 1 and 2, and so on, then those left to all, then those sold."""
+    """A leg's authorised seats behind each line that changes them, with the numbers of these lines: from the top those
+    protected for bucket 1, for buckets 1 and 2, and so on, then those left to all, then those sold."""
     levels: Sequence[int] = ()
     points, numbers, found = list(course.points), list[int](), list[list[int]]()
     for number, sold in enumerate(course.course):
@@ -80,8 +84,8 @@ def bands(course: Course, authorised: int) -> tuple[list[int], list[tuple[int, .
 
 
 def seats(season: Season) -> Figure:
-    """The authorised seats of a leg in each mode: sold, left, and of those left, protected by bucket; and a line at its seats
-    where these are fewer, or more, of which some are not authorised."""
+    """The authorised seats of a leg in each mode: sold, left, and of those left, protected by bucket; and a line at its
+    seats where these are fewer, or more, of which some are not authorised."""
     leg, courses = season.network.legs[season.leg], season.courses
     looks = BANDS[:len(leg.thresholds)]
     marks = [] if leg.authorised == leg.seats else [Line2D([], [], **SEATS_LINE, label=f"the leg's {leg.seats} seats")]
@@ -95,8 +99,10 @@ def seats(season: Season) -> Figure:
             axis.axhspan(leg.authorised, max(leg.authorised, leg.seats), facecolor=CLOSED[0], linewidth=0)
         axis.set_title(f"{leg.name} under {it.mode}")
         axis.margins(x=0, y=0)
-    kept = [patch(look, f"left, protected for bucket{f's 1 to {b}' if b > 1 else ' 1'}") for b, look in enumerate(looks, 1)]
-    label(figure, LINE, "seats", [patch(SOLD, "sold"), patch(OPEN, "left, not protected"), *kept, *marks, plan_mark()], 3)
+    kept = [patch(look, f"left, protected for bucket{f's 1 to {b}' if b > 1 else ' 1'}")
+            for b, look in enumerate(looks, 1)]
+    label(figure, LINE, "seats", [patch(SOLD, "sold"), patch(OPEN, "left, not protected"), *kept, *marks, plan_mark()],
+          3)
     return figure
 
 
@@ -106,7 +112,8 @@ def draw_bands(axis: Axes, course: Course, authorised: int, looks: Sequence[Look
     top = [authorised] * len(numbers)
     for (colour, hatch), band in zip([*looks[:len(found) - 2], OPEN, SOLD], found):
         bottom = [a - b for a, b in zip(top, band)]
-        axis.fill_between(numbers, bottom, top, step="post", facecolor=colour, hatch=hatch, edgecolor=BLACK, linewidth=0)
+        axis.fill_between(numbers, bottom, top, step="post", facecolor=colour, hatch=hatch, edgecolor=BLACK,
+                          linewidth=0)
         top = bottom
     axis.plot(numbers, found[-1], drawstyle="steps-post", color=BLACK, linewidth=0.8)
 

@@ -31,7 +31,8 @@ class Grouping:
 
     def table(self) -> Table:
         """The fares with their groups, the seats that were asked for at each, and the centres."""
-        rows = [[self.group(fare), fare, seats, self.cuts.centres[self.group(fare) - 1]] for fare, seats in self.asked.items()]
+        rows = [[self.group(fare), fare, seats, self.cuts.centres[self.group(fare) - 1]]
+                for fare, seats in self.asked.items()]
         return Table(f"The fares on {self.leg}", ["group", "fare", "seats", "centre"], rows)
 
 
@@ -51,7 +52,8 @@ def groupings(path: str, network: Network, groups: int, program: Program) -> Ite
 
 
 def grouping(leg: str, asked: dict[int, int], lines: Sequence[str]) -> Grouping:
-    """The grouping of a leg by the lines of `nrm cuts`; a ValueError where they name a fare that isn't one of the leg's."""
+    """The grouping of a leg by the lines of `nrm cuts`; a ValueError where they name a fare that isn't one of the
+    leg's."""
     cuts = cuts_of(leg, lines)
     if not {*cuts.thresholds, *cuts.centres} <= asked.keys():
         raise ValueError(leg)
@@ -66,7 +68,8 @@ def table_of(found: Sequence[Grouping], groups: int) -> Table:
         rows.append([it.leg, thresholds, centres, *costs(it.cuts.cost, it.seats())])
     if len(found) > 1:
         rows.append(["all", "", "", *costs(sum(it.cuts.cost for it in found), sum(it.seats() for it in found))])
-    return Table(f"The fares on each leg in {groups} groups at most", ["leg", "cuts", "centres", "cost", "for a seat"], rows)
+    return Table(f"The fares on each leg in {groups} groups at most",
+                 ["leg", "cuts", "centres", "cost", "for a seat"], rows)
 
 
 def costs(cost: int, seats: int) -> list[Cell]:

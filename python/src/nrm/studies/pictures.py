@@ -15,11 +15,13 @@ from nrm.telling.figures import BLACK, BLUE, SHADE, VERMILLION, Axes, Figure, in
 
 CENTRE: dict[str, Any] = {"color": VERMILLION, "marker": "^", "linestyle": "", "clip_on": False, "zorder": 3}
 CUT: dict[str, Any] = {"color": BLACK, "linewidth": 0.7, "linestyle": (0, (3, 2))}
-OPTIMUM, EMSR = ({"color": BLUE, "linestyle": "-"}, "s", "optimum"), ({"color": VERMILLION, "linestyle": "--"}, "^", "EMSR-b")
+OPTIMUM, EMSR = ({"color": BLUE, "linestyle": "-"}, "s",
+                 "optimum"), ({"color": VERMILLION, "linestyle": "--"}, "^", "EMSR-b")
 
 
 def thresholds(groupings: Sequence[Grouping]) -> Figure:
-    """The fares on each leg, as high as the seats that were asked for, in their groups, with the cuts and the centres."""
+    """The fares on each leg, as high as the seats that were asked for, in their groups, with the cuts and the
+    centres."""
     figure, axes = panels(len(groupings), 3, 1.35, 1, across=0.3, share_x=False, share_y=False)
     for axis, it in zip(axes, groupings):
         draw_fares(axis, it)
@@ -51,14 +53,16 @@ def draw_fares(axis: Axes, it: Grouping) -> None:
 
 
 def optimum(classes: Sequence[FareClass], optimal: Policy, emsr: Policy) -> Figure:
-    """The mean revenue from each number of seats, what the last of them adds, and the seats that are kept from each class."""
+    """The mean revenue from each number of seats, what the last of them adds, and the seats that are kept from each
+    class."""
     figure, (value, price, kept) = panels(3, 1, 1.9, 1, left=1.35, share_y=False)
     looks = [(optimal, OPTIMUM), (emsr, EMSR)]
     for (policy, (look, mark, _)), shift in zip(looks, (-0.12, 0.12)):
         means = [float(it) for it in policy.values]
         value.plot(range(len(means)), means, **look)
         price.plot(range(1, len(means)), [b - a for a, b in zip(means, means[1:])], **look, drawstyle="steps-mid")
-        kept.plot(policy.kept, [at + shift for at in range(len(classes))], color=look["color"], linestyle="", marker=mark, clip_on=False)
+        kept.plot(policy.kept, [at + shift for at in range(len(classes))], color=look["color"], linestyle="",
+                  marker=mark, clip_on=False)
     value.set_title("mean revenue of a history from so many seats, currency units")
     price.set_title("bid price: what the last of so many seats adds, currency units")
     kept.set_title("seats that are kept from each class")

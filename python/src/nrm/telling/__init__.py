@@ -1,4 +1,4 @@
-"""How what was found is told: tables of text, pictures by matplotlib, pages of HTML by jinja2, and a sentence where one isn't there.
+"""How what was found is told: tables of text, pictures by matplotlib, pages of HTML by jinja2, or what is missing.
 
 May use: nothing.
 """

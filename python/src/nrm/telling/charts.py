@@ -1,4 +1,4 @@
-"""Charts of many numbers, drawn narrow so that their text can be read on a phone: a histogram, spans, and courses with intervals.
+"""Charts of many numbers, narrow so that their text can be read on a phone: a histogram, spans, courses with intervals.
 
 May use: nrm.telling.figures.
 """
@@ -48,8 +48,8 @@ def histogram(values: Sequence[int], across: str, up: str) -> Figure:
 
 
 def spans(named: Sequence[tuple[str, str, Sequence[float]]], across: str) -> Figure:
-    """For each name with its look and its sorted values: from the 5th to the 95th of a hundred thin, from the 25th to the 75th
-    thick, and a mark at the mean."""
+    """For each name with its look and its sorted values: from the 5th to the 95th of a hundred thin, from the 25th
+    to the 75th thick, and a mark at the mean."""
     figure, axis = chart(0.6 + ROW * len(named), across, "")
     for at, (_, look, values) in enumerate(named):
         colour, mark, _ = STYLES[look]

@@ -1,7 +1,7 @@
-"""What all pictures have in common: panels with a legend below, colours with marks, and files that are the same each time.
+"""What all pictures have in common: panels with a legend below, colours with marks, files that are the same each time.
 
-Colours are those of Okabe and Ito, which colour-blind readers tell apart; each has a mark, a dash or a hatch of its own too. It needs
-matplotlib: who draws asks `nrm.telling.libraries` first. May use: nrm.
+Colours are those of Okabe and Ito, which colour-blind readers tell apart; each has a mark, a dash or a hatch of its own
+too. It needs matplotlib: who draws asks `nrm.telling.libraries` first. May use: nrm.
 """
 from __future__ import annotations
 
@@ -17,20 +17,22 @@ import matplotlib.pyplot as pyplot  # noqa: E402, behind the choice of what draw
 
 BLACK, ORANGE, SKY, GREEN, YELLOW, BLUE, VERMILLION, PURPLE = (
     "#000000", "#E69F00", "#56B4E9", "#009E73", "#F0E442", "#0072B2", "#D55E00", "#CC79A7")
-STYLES = {"first": (ORANGE, "o", ":"), "bid": (BLUE, "s", "-"), "davn": (VERMILLION, "^", "--"), "bound": (BLACK, "D", "-.")}
+STYLES = {"first": (ORANGE, "o", ":"), "bid": (BLUE, "s", "-"), "davn": (VERMILLION, "^", "--"),
+          "bound": (BLACK, "D", "-.")}
 SHADE = "#EEEEEE"
 AMOUNTS = "{x:,.0f}"
 WIDTH = 8.3  # inches of 100 dots: as wide as a page of a repository
-SETTINGS: dict[str, Any] = {"svg.hashsalt": "nrm", "svg.fonttype": "none", "font.size": 8.5, "axes.titlesize": 8.5,
-            "axes.spines.top": False, "axes.spines.right": False,
-            "hatch.linewidth": 0.5, "lines.markersize": 4.5, "lines.linewidth": 1.3, "legend.frameon": False, "figure.dpi": 100}
+SETTINGS: dict[str, Any] = {
+    "svg.hashsalt": "nrm", "svg.fonttype": "none", "font.size": 8.5, "axes.titlesize": 8.5, "axes.spines.top": False,
+    "axes.spines.right": False, "hatch.linewidth": 0.5, "lines.markersize": 4.5, "lines.linewidth": 1.3,
+    "legend.frameon": False, "figure.dpi": 100}
 WITHOUT_DATE: dict[str, dict[str, Any]] = {"png": {"Software": None}, "svg": {"Date": None, "Creator": None}}
 Figure = Any  # matplotlib has no types
 Axes = Any
 
 
-def panels(count: int, columns: int, height: float, legend: int, left: float = 0.65, across: float = 0.25, share_x: bool = True,
-           share_y: bool = True) -> tuple[Figure, list[Axes]]:
+def panels(count: int, columns: int, height: float, legend: int, left: float = 0.65, across: float = 0.25,
+           share_x: bool = True, share_y: bool = True) -> tuple[Figure, list[Axes]]:
     """A figure with that many panels, each of a height in inches, and room below for so many rows of a legend."""
     columns = min(columns, count)
     rows = -(-count // columns)
@@ -72,7 +74,7 @@ def in_few_numbers(axis: Any) -> None:
 
 def written(figures: Iterable[tuple[str, Callable[[], Figure]]], folder: str,
             kinds: Iterable[str] = tuple(WITHOUT_DATE)) -> Iterator[str]:
-    """Writes figures as they are made, each with its name, in files of these kinds, and gives the paths of the files."""
+    """Writes figures as they are made, each with its name, in files of these kinds, and gives the paths of these."""
     make_folder(folder)
     with matplotlib.rc_context(SETTINGS):
         for name, make in figures:

@@ -1,4 +1,4 @@
-"""A page of HTML that stands alone: headings, text, tables and pictures in one file, without scripts or links elsewhere.
+"""A page of HTML that stands alone: headings, text, tables and pictures in one file, without scripts or links.
 
 It is made for a wide and a narrow screen, for paper and for a reader that speaks: tables have heads and a caption,
 pictures a title and a description, and what is wider than the screen moves in a box of its own. jinja2 makes it of

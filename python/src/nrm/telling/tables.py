@@ -17,7 +17,7 @@ def text_of_cell(value: Cell, decimal: bool) -> str:
 
 @dataclass(frozen=True)
 class Table:
-    """A table: its title, the heads of its columns, and rows of numbers, names or nothing. The first column names the rows."""
+    """A table: its title, the heads of its columns, and rows of numbers, names or nothing, the name of each first."""
     title: str
     heads: Sequence[str]
     rows: Sequence[Sequence[Cell]]
@@ -31,9 +31,8 @@ class Table:
         """The table as lines of text, its columns to the right but for the first."""
         rows = [list(self.heads), *self.cells()]
         widths = [max(map(len, column)) for column in zip(*rows)]
-        lines = ("  ".join([f"  {row[0]:<{widths[0]}}", *[f"{it:>{width}}" for it, width in zip(row[1:], widths[1:])]]).rstrip()
-                 for row in rows)
-        return "\n".join([self.title, "", *lines, ""])
+        aligned = [[name.ljust(widths[0]), *map(str.rjust, rest, widths[1:])] for name, *rest in rows]
+        return "\n".join([self.title, "", *[f"  {'  '.join(it)}".rstrip() for it in aligned], ""])
 
     def show(self) -> None:
         """Prints the table behind an empty line."""

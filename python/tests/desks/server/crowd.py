@@ -2,11 +2,11 @@
 
     python3 -m desks.server.crowd PATH ROUND AT LINES LOG
 
-is a part of the crowd at a socket. The journal is given to one run of the program, and its replies are dealt out again: each
-client must have got exactly the replies to its own lines, in its order, and each line of the journal must be one that a client
-sent. That is decided from the journal alone: most lines name the client that sends them, by its product or in a line that is
-`bad`, and between two of these stands at most one that doesn't; which of those is whose is a matching. The seats that are sold
-are counted anew.
+is a part of the crowd at a socket. The journal is given to one run of the program, and its replies are dealt out again:
+each client must have got exactly the replies to its own lines, in its order, and each line of the journal must be one
+that a client sent. That is decided from the journal alone: most lines name the client that sends them, by its product
+or in a line that is `bad`, and between two of these stands at most one that doesn't; which of those is whose is a
+matching. The seats that are sold are counted anew.
 """
 from __future__ import annotations
 
@@ -64,7 +64,8 @@ class Asker(threading.Thread):
         self.sold, self.left, self.waits, self.is_over = [], b"", 0, False
 
     def note(self, kind: bytes, lines: Sequence[bytes]) -> None:
-        os.write(self.log, b"".join(b"%s %d %d %s\n" % (kind, self.client, self.round, it.replace(b"\n", b"|")) for it in lines))
+        os.write(self.log,
+                 b"".join(b"%s %d %d %s\n" % (kind, self.client, self.round, it.replace(b"\n", b"|")) for it in lines))
 
     def run(self) -> None:
         try:
@@ -84,7 +85,8 @@ class Asker(threading.Thread):
         rare = [b"plan", b"hindsight", b"reoptimise %d" % draw.randint(1, 3)]
         shared = draw.choice([[], [], [], [b"cancel %d" % number], [b"cancel %d" % number],
                               [b"leg " + draw.choice(LEGS).encode() if draw.randrange(4) else draw.choice(rare)]])
-        own = b"book P%d %d" % (self.client, draw.choice([0, 1, 1, 2, 3, 7])) if draw.randrange(3) else b"tag %d" % self.client
+        own = b"book P%d %d" % (self.client,
+                                draw.choice([0, 1, 1, 2, 3, 7])) if draw.randrange(3) else b"tag %d" % self.client
         if shared[:1] in ([b"plan"], [b"leg AB"], [b"leg BC"], [b"leg CD"]):
             own = b"tag %d" % self.client  # its reply shows that the text is whole
         return [*shared, own]
@@ -120,8 +122,10 @@ def worker(path: str, round_: int, at: int, lines: int, log_path: str) -> None:
 
 def begin_crowd(server: Server, folder: Path, round_: int, lines: int) -> list[subprocess.Popen[bytes]]:
     """Has the crowd ask, in processes of its own, so many lines of each client."""
-    words, variables = [sys.executable, "-m", __name__, str(server.path), str(round_)], {**os.environ, "PYTHONPATH": str(SOURCES)}
-    return [subprocess.Popen([*words, str(at), str(lines), str(folder / f"log-{round_}-{at}")], cwd=TESTS, env=variables)
+    words, variables = [sys.executable, "-m", __name__, str(server.path),
+                        str(round_)], {**os.environ, "PYTHONPATH": str(SOURCES)}
+    return [subprocess.Popen([*words, str(at), str(lines), str(folder / f"log-{round_}-{at}")], cwd=TESTS,
+                             env=variables)
             for at in range(WORKERS)]
 
 
@@ -154,12 +158,14 @@ def parts_in(folder: Path) -> dict[tuple[int, int], Part]:
             found = re.fullmatch(rb"([SR]) (\d+) (\d+) (.*)", line)
             if found and not found[4].startswith(b"closed "):
                 part = parts[int(found[2]), int(found[3])]
-                (part.lines.append(found[4]) if found[1] == b"S" else part.replies.append(found[4].replace(b"|", b"\n")))
+                (part.lines.append(found[4]) if found[1] == b"S"
+                 else part.replies.append(found[4].replace(b"|", b"\n")))
     return parts
 
 
 def accounted(folder: Path, program: Program, mode: str, network: Path, journal: Path) -> int:
-    """Sees that the journal is just what the clients sent, with the replies that they got, and gives how many lines it has."""
+    """Sees that the journal is just what the clients sent, with the replies that they got, and gives how many lines it
+    has."""
     data = journal.read_bytes()
     lines = data.split(b"\n")[:-1]
     told = program.replies(mode, str(network), data)
@@ -174,7 +180,8 @@ def accounted(folder: Path, program: Program, mode: str, network: Path, journal:
     parts = parts_in(folder)
     for (client, round_), part in sorted(parts.items()):
         jobs_of(client, part, places_of(own[client], lines, client, round_), lines, told, jobs)
-    want(sum(map(len, own.values())), sum(1 for at, line in enumerate(lines) if OWN.match(line)), "the lines with a client")
+    want(sum(map(len, own.values())), sum(1 for at, line in enumerate(lines) if OWN.match(line)),
+         "the lines with a client")
     matched(jobs, shared, lines, told)
     seats_counted(network, lines, told)
     return len(lines)
@@ -191,7 +198,8 @@ def places_of(places: list[int], lines: list[bytes], client: int, round_: int) -
 
 
 def jobs_of(client: int, part: Part, places: list[int], lines: list[bytes], told: list[bytes], jobs: Jobs) -> None:
-    """Sees that a client's own lines stand in the journal in their order, with its replies, and notes its other lines."""
+    """Sees that a client's own lines stand in the journal in their order, with its replies, and notes its other
+    lines."""
     sent = [(line, reply) for line, reply in part.pairs() if OWN.match(line)]
     want([lines[at] for at in places], [line for line, _ in sent[:len(places)]], f"client {client}'s own lines")
     if len(sent) > len(places) and sent[len(places)][1] is not None:
@@ -210,7 +218,8 @@ def jobs_of(client: int, part: Part, places: list[int], lines: list[bytes], told
 
 
 def matched(jobs: Jobs, shared: list[int], lines: list[bytes], told: list[bytes]) -> None:
-    """Sees that each line of the journal that can be anybody's is somebody's, and that each of these that must be in it is."""
+    """Sees that each line of the journal that can be anybody's is somebody's, and that each of these that must be in it
+    is."""
     places = defaultdict(list)
     for at in shared:
         places[lines[at]].append(at)
@@ -228,7 +237,8 @@ def matched(jobs: Jobs, shared: list[int], lines: list[bytes], told: list[bytes]
 
 
 def pairs_in(fits: list[list[int]]) -> int:
-    """How many can have each one of what fits it, by augmenting paths: those that fit but one another are changed for others."""
+    """How many can have each one of what fits it, by augmenting paths: those that fit but one another are changed for
+    others."""
     taken = {}
     return sum(placed(fits, taken, at) for at in range(len(fits)))
 

@@ -1,4 +1,5 @@
-"""Many more clients than may come, who come anew as soon as they are cut off, and how long one that is there waits meanwhile.
+"""Many more clients than may come, who come anew as soon as they are cut off, and how long one that is there waits
+meanwhile.
 
     python3 -m desks.server.storms PATH COUNT SECONDS
 
@@ -32,9 +33,9 @@ def few_files(count: int) -> Callable[[], object]:
 
 
 def waits_of(connection: socket.socket, seconds: float) -> list[float]:
-    """How long a client that is there waits for each reply, while it asks now and then for some seconds. What three processes,
-    which take part in a reply, wait for the machine itself is taken off: it is three times what a pause takes longer than it
-    should."""
+    """How long a client that is there waits for each reply, while it asks now and then for some seconds. What three
+    processes, which take part in a reply, wait for the machine itself is taken off: it is three times what a pause
+    takes longer than it should."""
     waits, deadline = [], time.monotonic() + seconds
     while time.monotonic() < deadline:
         begun = time.monotonic()
@@ -46,16 +47,19 @@ def waits_of(connection: socket.socket, seconds: float) -> list[float]:
 
 
 def answered_soon(waits: list[float]) -> None:
-    """Sees that replies came within a tenth of a second; of a hundred five may be late, on a machine that does other work too."""
+    """Sees that replies came within a tenth of a second; of a hundred five may be late, on a machine that does other
+    work too."""
     if len(waits) < 20 or waits[len(waits) * 95 // 100] > 0.1:
-        raise AssertionError(f"each reply within a tenth of a second, and not {len(waits)} replies, the last within {waits[-5:]}")
+        raise AssertionError(f"each reply within a tenth of a second, and not {len(waits)} replies, the last within "
+                             f"{waits[-5:]}")
 
 
 def told_now_and_then(server: Server, since: float) -> None:
     """Sees that what is told on standard error is no more than a line a second, and no traceback."""
     told, seconds = server.told(), time.monotonic() - since
     if "Traceback" in told or told.count("\n") > seconds + 3:
-        raise AssertionError(f"a line a second in {seconds:.1f} seconds, and not {told.count(chr(10))} lines: {told[:600]!r}")
+        raise AssertionError(f"a line a second in {seconds:.1f} seconds, and not {told.count(chr(10))} lines: "
+                             f"{told[:600]!r}")
 
 
 def storm(path: str, count: int, seconds: float) -> bool:

@@ -1,4 +1,5 @@
-"""Those who stand in the way of others are cut off or wait alone, and each gets the replies to its own lines in order."""
+"""Those who stand in the way of others are cut off or wait alone, and each gets the replies to its own lines in
+order."""
 from __future__ import annotations
 
 import contextlib
@@ -65,7 +66,8 @@ class Connections(ServerTest):
     def test_who_asks_for_long_work_waits_alone(self) -> None:
         """Of lines that take long the program gets one of a client at a time, so that another's come between them."""
         journal = self.folder / "journal"
-        with self.hub_server(journal=journal, mode="bid") as server, server.connect() as busy, server.connect() as other:
+        with self.hub_server(journal=journal,
+                             mode="bid") as server, server.connect() as busy, server.connect() as other:
             busy.sendall(b"reoptimise 1\n" * 300)
             answers(busy, b"", 1)
             self.assertEqual(answers(other, b"book HJ-Q 1\n", 1), [b"ok 1\n"], "another's reply")
@@ -98,7 +100,8 @@ class Connections(ServerTest):
 
     def test_who_has_said_all_is_answered(self) -> None:
         """The end of what a client says leaves its replies to come; half a line at the end is nothing."""
-        stream, wanted = (EXAMPLES / "hub" / "commands.txt").read_bytes(), (EXAMPLES / "hub" / "replies.txt").read_bytes()
+        stream, wanted = (EXAMPLES / "hub" / "commands.txt").read_bytes(), (
+            EXAMPLES / "hub" / "replies.txt").read_bytes()
         with self.hub_server() as server, server.connect() as connection:
             connection.sendall(stream + b"book HJ-Q 1")
             connection.shutdown(socket.SHUT_WR)
@@ -106,7 +109,8 @@ class Connections(ServerTest):
             server.end()
 
     def test_lines_that_are_taken_are_answered_at_the_end(self) -> None:
-        """Also those that the pipe to the program hasn't taken, since it is slow: they have more bytes than it holds."""
+        """Also those that the pipe to the program hasn't taken, since it is slow: they have more bytes than it
+        holds."""
         journal, words = self.folder / "journal", self.stub("nrm", {}, pause=0.01)
         with self.server(words, journal=journal) as server, server.connect() as connection:
             connection.sendall((b"x" * 900 + b"\n") * 150)

@@ -106,7 +106,8 @@ class Journals(ServerTest):
         with self.hub_server(journal=disk / "journal", before=enter) as server:
             told = self.full_disk(server)
             self.want_in(server.told(), "No space left")
-        self.assertEqual((self.folder / "disk.kept").read_bytes().count(b"\n"), len(told), "as many lines as were answered")
+        self.assertEqual((self.folder / "disk.kept").read_bytes().count(b"\n"), len(told),
+                         "as many lines as were answered")
 
     def test_half_a_number_is_cut_off(self) -> None:
         """What a full disk, or a kill, left of a number isn't joined with the next, which would be another line's."""
@@ -121,7 +122,8 @@ class Journals(ServerTest):
             self.want_in(server.told(), "journal.void: File too large")
         numbers = void.read_text()
         self.assertEqual(numbers, "".join(f"{it}\n" for it in range(1, numbers.count("\n") + 1)), "whole numbers")
-        self.assertEqual(told, b"store\n" * numbers.count("\n") + b"closed journal\n", "one to each line that is left out")
+        self.assertEqual(told, b"store\n" * numbers.count("\n") + b"closed journal\n",
+                         "one to each line that is left out")
         with void.open("a") as file:
             file.write("3")
         with self.server(words, journal=journal) as server, server.connect() as connection:
@@ -144,7 +146,8 @@ class Journals(ServerTest):
         """A line that was acknowledged would be left out."""
         journal, void = self.folder / "journal", self.folder / "journal.void"
         journal.write_bytes(b"book A 1\nbook A 1\nbook A 1\n")
-        for numbers, line in [("4\n", 1), ("2\n1\n", 2), ("2\n2\n", 2), ("1\n" + "9" * 4301 + "\n", 2), ("x\n", 1), ("1\n\n", 2),
+        for numbers, line in [("4\n", 1), ("2\n1\n", 2), ("2\n2\n", 2), ("1\n" + "9" * 4301 + "\n", 2), ("x\n", 1),
+                              ("1\n\n", 2),
                               ("01\n", 1), ("1\xb2\n", 1), ("0\n", 1)]:
             void.write_text(numbers)
             with self.server(self.stub("nrm", {}), journal=journal, status=1) as server:
@@ -188,9 +191,11 @@ class Journals(ServerTest):
             other.sendall(b"book A 2\n")
             time.sleep(pause)
             os.kill(server.program(), signal.SIGKILL)
-            self.assertEqual([all_from(it)[-19:] for it in (one, other)], [b"closed program 137\n"] * 2, "what both are told")
+            self.assertEqual([all_from(it)[-19:] for it in (one, other)], [b"closed program 137\n"] * 2,
+                             "what both are told")
             server.end(137, sent=None)
-            self.assertEqual(server.told().splitlines()[-1], f"{TOLD}the program ended with status 137", "the last line")
+            self.assertEqual(server.told().splitlines()[-1], f"{TOLD}the program ended with status 137",
+                             "the last line")
             self.assertEqual("Traceback" in server.told(), False, server.told())
 
     def test_a_program_may_die_while_lines_are_written(self) -> None:
@@ -211,7 +216,8 @@ class Journals(ServerTest):
         (self.folder / "journal.void").symlink_to(fifo)
         (self.folder / "journal").touch()
         words = ["--socket", self.folder / "socket", "--", *self.stub("nrm", {})]
-        for journal, path in [(fifo, fifo), ("/dev/null", "/dev/null"), (self.folder / "journal", self.folder / "journal.void")]:
+        for journal, path in [(fifo, fifo), ("/dev/null", "/dev/null"),
+                              (self.folder / "journal", self.folder / "journal.void")]:
             self.assertEqual(self.stopped("desks", "--journal", journal, *words), f"{TOLD}{path} is no plain file\n")
 
     def test_a_torn_line_is_dropped(self) -> None:
@@ -222,26 +228,30 @@ class Journals(ServerTest):
             self.want_in(server.told(), "4 lines given again, of 4")
             with server.connect() as connection:
                 self.assertEqual(answers(connection, b"cancel 2\n", 1), [b"cancelled 2 10800\n"], "the session goes on")
-            words = ["--socket", self.folder / "other", "--journal", journal, "--", *self.program.words, "run", "first", HUB]
+            words = ["--socket", self.folder / "other", "--journal", journal, "--", *self.program.words, "run",
+                     "first", HUB]
             self.assertEqual(self.stopped("desks", *words), f"{TOLD}{journal} is the journal of another run\n")
             server.end()
-        self.assertEqual(journal.read_bytes(), b"book HJ-Q 1\nplan\nleg HAM-FRA\nbook HJ-Q 40\ncancel 2\n", "the journal")
+        self.assertEqual(journal.read_bytes(), b"book HJ-Q 1\nplan\nleg HAM-FRA\nbook HJ-Q 40\ncancel 2\n",
+                         "the journal")
 
     def test_lines_are_on_the_disk_before_the_program_has_them(self) -> None:
-        """A library counts the bytes of the journal at each fsync that succeeds; a program in place of the controller looks at
-        each line."""
+        """A library counts the bytes of the journal at each fsync that succeeds; a program in place of the controller
+        looks at each line."""
         if not preload.is_there():
             self.skipTest(f"when lines are on the disk wasn't tried: {preload.WANTING}")
         journal, flushed, watcher = self.folder / "journal", self.folder / "flushed", self.folder / "watcher"
         flushed.write_text("0")
         watcher.write_text(WATCHER.format(flushed=str(flushed)))
-        variables = {"LD_PRELOAD": preload.built(FLUSHES, self.folder), "JOURNAL": str(journal), "FLUSHED": str(flushed)}
+        variables = {"LD_PRELOAD": preload.built(FLUSHES, self.folder), "JOURNAL": str(journal),
+                     "FLUSHED": str(flushed)}
         words = [sys.executable, str(watcher)]
         with self.server(words, journal=journal, variables=variables) as server, server.connect() as one, \
                 server.connect() as other:
             for count in range(1, 40):
                 one.sendall(b"book A 1\n" * count)
-                self.assertEqual(answers(other, b"cancel 1\n" * count, count), [b"unknown\n"] * count, "another's replies")
+                self.assertEqual(answers(other, b"cancel 1\n" * count, count), [b"unknown\n"] * count,
+                                 "another's replies")
                 self.assertEqual(answers(one, b"", count), [b"unknown\n"] * count, "the replies")
             server.end()
         self.assertEqual(int(flushed.read_text()), journal.stat().st_size, "the bytes on the disk")

@@ -1,4 +1,5 @@
-"""How a server begins and ends: a program that can't begin, or doesn't answer, bookings that are there already, and mistakes."""
+"""How a server begins and ends: a program that can't begin, or doesn't answer, bookings that are there already, and
+mistakes."""
 from __future__ import annotations
 
 import os
@@ -20,7 +21,8 @@ class Serving(ServerTest):
             self.assertEqual(all_from(connection), b"closed program 137\n", "what a client is told")
             server.end(137, sent=None)
             self.want_in(server.told(), "hasn't answered for 2 seconds, and is ended")
-        closes = self.script("closes", "import os, time\ninput()\nos.write(1, b'bad\\n')\nos.close(1)\ntime.sleep(1000)\n")
+        closes = self.script("closes",
+                             "import os, time\ninput()\nos.write(1, b'bad\\n')\nos.close(1)\ntime.sleep(1000)\n")
         with self.server([closes], "--slow", "1") as server:
             server.end(137, sent=None)
 
@@ -54,7 +56,8 @@ class Serving(ServerTest):
         for words, status, told in [
                 (["--help"], 0, ""), ([], 2, "usage: nrm-tools desks"), (run, 2, "neither --socket nor --listen"),
                 (place, 2, "usage: "),
-                ([*place, "--clients", "0", *run], 2, "--clients"), ([*place, "--longest", "4096", *run], 2, "--longest"),
+                ([*place, "--clients", "0", *run], 2, "--clients"),
+                ([*place, "--longest", "4096", *run], 2, "--longest"),
                 ([*place, "--idle", "-1", *run], 2, "--idle"), ([*place, "--clients", "99999999", *run], 1, "ulimit"),
                 ([*place, "--journal", str(folder), *run], 1, f"{TOLD}{folder}: "),
                 ([*place, "--journal", str(folder / "none" / "journal"), *run], 1, "No such file"),

@@ -93,8 +93,8 @@ class Client(asyncio.BufferedProtocol):
         return True  # the replies are still to be sent
 
     def take(self) -> None:
-        """Has as many lines given to the program as may be asked at a time; after one that can take long no other before its
-        reply."""
+        """Has as many lines given to the program as may be asked at a time; after one that can take long no other
+        before its reply."""
         room = 0 if self.is_working or self.full_since or not self.transport else MOST_ASKED - self.asked
         if room > 0 and (stop := self.left.rfind(b"\n") + 1):
             if stop > room and self.left.count(b"\n", 0, stop) > room:
@@ -111,7 +111,8 @@ class Client(asyncio.BufferedProtocol):
             self.look_at_what_is_left()
 
     def look_at_what_is_left(self) -> None:
-        """Sees that it begins with no line that is too long, and reads no more while a piece waits, so that memory is bounded."""
+        """Sees that it begins with no line that is too long, and reads no more while a piece waits, so that memory is
+        bounded."""
         longest = self.hub.limits.longest
         if len(self.left) > longest and self.left.find(b"\n", 0, longest + 1) < 0:
             self.leave("long")
@@ -182,10 +183,11 @@ class Client(asyncio.BufferedProtocol):
         self.go_on()
 
     def look(self, now: float) -> None:
-        """Cuts it off if it has been silent, in the middle of a line, or not taking its replies for too long at a time. What it
-        did last is known to the second."""
+        """Cuts it off if it has been silent, in the middle of a line, or not taking its replies for too long at a time.
+        What it did last is known to the second."""
         limits = self.hub.limits
-        if now - (self.full_since or (self.since if not self.transport or self.transport.is_closing() else now)) > limits.slow:
+        if now - (self.full_since
+                  or (self.since if not self.transport or self.transport.is_closing() else now)) > limits.slow:
             self.cut_off()
         elif self.asked or self.why:
             return

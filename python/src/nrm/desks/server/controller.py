@@ -14,7 +14,7 @@ import threading
 from typing import Iterable, Iterator, Sequence
 
 from nrm import Stop
-from nrm.program import PIECE, end_of
+from nrm.program import PIECE
 from nrm.replies import whole_replies
 
 AT_ONCE = select.PIPE_BUF  # a pipe takes so many bytes whole or not at all
@@ -25,8 +25,8 @@ TEXT_LINE = re.compile(rb"^(?:plan|leg [A-Z0-9-]{1,12})\r?\n", re.MULTILINE)  # 
 
 
 def with_marks(data: bytes) -> bytes:
-    """Whole lines with an empty one behind each whose reply may have several lines: its reply `bad` shows that the other is
-    whole."""
+    """Whole lines with an empty one behind each whose reply may have several lines: its reply `bad` shows that the
+    other is whole."""
     return TEXT_LINE.sub(rb"\g<0>\n", data)
 
 
@@ -62,11 +62,13 @@ class Controller:
                                             start_new_session=True)
         except OSError as fault:
             raise Stop(f"{words[0]}: {fault.strerror}")
-        self.pipe = end_of(self.process.stdin)
-        self.input, self.output = self.pipe.fileno(), end_of(self.process.stdout).fileno()
+        assert self.process.stdin and self.process.stdout
+        self.pipe = self.process.stdin
+        self.input, self.output = self.pipe.fileno(), self.process.stdout.fileno()
 
     def ask_all(self, lines: Iterable[bytes], count: int) -> bytes:
-        """Gives it so many lines before there are clients, and an empty one, and waits for all replies. Gives the last line's."""
+        """Gives it so many lines before there are clients, and an empty one, and waits for all replies. Gives the last
+        line's."""
         threading.Thread(target=self.feed, args=(lines,), daemon=True).start()
         answered, last = 0, [b"", b""]
         while answered <= count and (piece := self.heard()):

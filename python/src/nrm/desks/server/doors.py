@@ -34,7 +34,8 @@ class SocketPath:
         self.lock = self.locked()
 
     def locked(self) -> io.FileIO:
-        """The file of the lock. One that its run took away when it ended isn't the one that is there now, and is opened anew."""
+        """The file of the lock. One that its run took away when it ended isn't the one that is there now, and is opened
+        anew."""
         for _ in range(MOST_TRIES):
             file = opened(self.lock_path, os.O_CREAT | os.O_NOFOLLOW)
             if not is_locked(file):
@@ -51,7 +52,8 @@ class SocketPath:
         return False
 
     def listener(self, mode: int) -> socket.socket:
-        """A socket that is bound to the path. One that nobody listens on is left from a run that was killed, and goes."""
+        """A socket that is bound to the path. One that nobody listens on is left from a run that was killed, and
+        goes."""
         self.see_that_it_is_free()
         listener = socket.socket(socket.AF_UNIX)
         before = os.umask(0o177)
@@ -81,7 +83,8 @@ class SocketPath:
             raise Stop(f"another process listens on {self.path}")
 
     def unlink(self) -> None:
-        """Takes the socket away, if it is the one that was bound. That is still open, so that no other has its inode."""
+        """Takes the socket away, if it is the one that was bound. That is still open, so that no other has its
+        inode."""
         if self.bound and self.is_there(self.path, self.bound):
             os.unlink(self.path)
         self.bound = None
@@ -108,7 +111,8 @@ def tcp_socket(place: str, is_beyond_allowed: bool) -> socket.socket:
     try:
         family, kind, protocol, _, address = socket.getaddrinfo(host.strip("[]"), int(port), type=socket.SOCK_STREAM)[0]
         if not is_loopback(str(address[0])) and not is_beyond_allowed:
-            raise Stop(f"--listen {place} is beyond this machine's loopback range, and there is no --beyond-this-machine", 2)
+            raise Stop(f"--listen {place} is beyond this machine's loopback range, and there is no "
+                       "--beyond-this-machine", 2)
         listener = socket.socket(family, kind, protocol)
         listener.setsockopt(socket.SOL_SOCKET, socket.SO_REUSEADDR, 1)
         listener.bind(address)
@@ -120,8 +124,8 @@ def tcp_socket(place: str, is_beyond_allowed: bool) -> socket.socket:
 
 
 class Door:
-    """A socket that listens. It takes a few clients at a time, and rests after a round of those that are turned away, so that a
-    crowd of them doesn't keep others waiting."""
+    """A socket that listens. It takes a few clients at a time, and rests after a round of those that are turned away,
+    so that a crowd of them doesn't keep others waiting."""
 
     def __init__(self, hub: Hub, listener: socket.socket) -> None:
         self.hub, self.listener = hub, listener

@@ -1,7 +1,8 @@
-"""What stands between the clients and the program: lines that wait, lines that were given, and who waits for which reply.
+"""What stands between the clients and the program: lines that wait, lines that were given, and who waits for which
+reply.
 
-May use: nrm, nrm.desks.server, nrm.desks.server.connections, nrm.desks.server.controller, nrm.desks.server.journal, nrm.program,
-nrm.replies.
+May use: nrm, nrm.desks.server, nrm.desks.server.connections, nrm.desks.server.controller, nrm.desks.server.journal,
+nrm.program, nrm.replies.
 """
 from __future__ import annotations
 
@@ -21,14 +22,16 @@ from nrm.desks.server.journal import Journal, Lines
 from nrm.program import PIECE
 from nrm.replies import whole_replies
 
-SOON = 0.0002  # the seconds in which most replies are there: to wait for them so is faster than another round of the loop
+# the seconds in which most replies are there: to wait for them so is faster than another round of the loop
+SOON = 0.0002
 JOURNAL_FAULT = 74
 CHANGED_NOTHING = (b"memory\n", b"store\n")
 Batch = Sequence[Tuple[Client, bytes, int]]  # who sent which lines, and how many
 
 
 class Hub:
-    """What stands between the clients and the program: lines that wait, lines that were given, and who waits for which reply."""
+    """What stands between the clients and the program: lines that wait, lines that were given, and who waits for which
+    reply."""
 
     def __init__(self, controller: Controller, journal: Journal | None, limits: Limits) -> None:
         self.loop = cast(asyncio.BaseEventLoop, asyncio.get_running_loop())
@@ -57,8 +60,9 @@ class Hub:
     # Lines
 
     def take(self, client: Client, lines: bytes, count: int) -> None:
-        """Takes lines of a client: they are given to the program with all others that come in this round, and at once if there is
-        no other client and no reply is being dealt: the next replies mustn't be dealt before those that are left."""
+        """Takes lines of a client: they are given to the program with all others that come in this round, and at once
+        if there is no other client and no reply is being dealt: the next replies mustn't be dealt before those that are
+        left."""
         client.asked += count
         self.waiting.append((client, lines, count))
         if self.is_due:
@@ -182,8 +186,8 @@ class Hub:
         self.end_if_done()
 
     def tell(self, client: Client, replies: list[bytes]) -> None:
-        """Sends replies to who asked. A client one of whose replies must not be sent is left, since the next would be taken for
-        it."""
+        """Sends replies to who asked. A client one of whose replies must not be sent is left, since the next would be
+        taken for it."""
         sent = self.to_be_sent(self.journal, replies) if self.journal else replies
         if sent:
             client.answer(sent)
@@ -191,9 +195,9 @@ class Hub:
             client.close("journal")
 
     def to_be_sent(self, journal: Journal, replies: list[bytes]) -> list[bytes]:
-        """Has the journal leave out the lines that changed nothing, before their replies are sent. Gives all replies, or those
-        before the first of these if it can't: a line whose reply was sent would be given again, and could change something
-        then."""
+        """Has the journal leave out the lines that changed nothing, before their replies are sent. Gives all replies,
+        or those before the first of these if it can't: a line whose reply was sent would be given again, and could
+        change something then."""
         first = self.answered + 1
         self.answered += len(replies)
         if not any(it in replies for it in CHANGED_NOTHING):
@@ -267,11 +271,12 @@ class Hub:
         self.unread, self.turned_away, self.no_more = 0, 0, None
 
     def look_at_the_program(self) -> None:
-        """Ends a program that hasn't answered for too long. Seconds are counted, so that none is in which this process was
-        stopped."""
+        """Ends a program that hasn't answered for too long. Seconds are counted, so that none is in which this process
+        was stopped."""
         self.silent += 1
         if self.silent == math.ceil(self.limits.slow) + 1:
-            log(f"the program hasn't answered for {self.limits.slow:g} seconds; after {self.limits.answer:g} it is ended")
+            log(f"the program hasn't answered for {self.limits.slow:g} seconds; after {self.limits.answer:g} it is "
+                "ended")
         if self.silent == math.ceil(self.limits.answer) + 1:
             log(f"the program hasn't answered for {self.limits.answer:g} seconds, and is ended")
             self.controller.kill()

@@ -1,4 +1,5 @@
-"""The journal: each line is on the disk before the program gets it, and beside it are the numbers of those that changed nothing.
+"""The journal: each line is on the disk before the program gets it, and beside it are the numbers of those that changed
+nothing.
 
 Both are plain files, and those that are made are for their owner alone. May use: nrm.
 """
@@ -43,8 +44,8 @@ def is_locked(file: io.FileIO) -> bool:
 
 
 class Lines:
-    """A file of whole lines. Those that are added are on the disk once they are written; what can't be written whole is taken out
-    again, and if that fails too, nothing more is written."""
+    """A file of whole lines. Those that are added are on the disk once they are written; what can't be written whole is
+    taken out again, and if that fails too, nothing more is written."""
 
     def __init__(self, path: str, more: int = os.O_CREAT) -> None:
         self.path, self.file = path, opened(path, more)
@@ -52,11 +53,13 @@ class Lines:
         self.size = self.count = self.torn = 0  # as `look` finds them
 
     def begin(self) -> None:
-        """Looks at what it has, cuts off what stands behind its last line feed, and sees that its name is on the disk."""
+        """Looks at what it has, cuts off what stands behind its last line feed, and sees that its name is on the
+        disk."""
         self.size, self.count, self.torn = self.look()
         if self.torn:
             self.cut()
-        folder = os.open(os.path.dirname(os.path.realpath(self.path)), os.O_RDONLY)  # that of the file, and not of a link to it
+        # that of the file, and not of a link to it
+        folder = os.open(os.path.dirname(os.path.realpath(self.path)), os.O_RDONLY)
         try:
             os.fsync(folder)
         finally:
@@ -100,8 +103,8 @@ class Lines:
 
 
 class Journal(Lines):
-    """The lines that were given to the program, in their order, and beside them the numbers of those that changed nothing. Nobody
-    else writes to it meanwhile."""
+    """The lines that were given to the program, in their order, and beside them the numbers of those that changed
+    nothing. Nobody else writes to it meanwhile."""
 
     def __init__(self, path: str) -> None:
         super().__init__(path)
@@ -124,15 +127,16 @@ class Journal(Lines):
             for at, line in enumerate(file, 1):
                 number = int(line) if LINE_NUMBER.fullmatch(line, 0, len(line) - 1) else 0
                 if not last < number <= self.count:
-                    raise Stop(f"{self.void_path}: line {at} isn't the number of a next one of the {self.count} lines of "
-                               f"{self.path}: is it another journal's?")
+                    raise Stop(f"{self.void_path}: line {at} isn't the number of a next one of the {self.count} lines "
+                               f"of {self.path}: is it another journal's?")
                 yield (last := number)
 
     def again(self, wanted: bytes) -> Iterator[bytes]:
         """The lines that are given again: those that may have changed something, all or those that begin with the words
         wanted."""
         with open(self.path, "rb") as file:
-            yield from (line for number, line in enumerate(file, 1) if number not in self.void and line.startswith(wanted))
+            yield from (line for number, line in enumerate(file, 1) if number not in self.void
+                        and line.startswith(wanted))
 
     def leave_out(self, numbers: Iterable[int]) -> None:
         """Remembers lines that changed nothing."""

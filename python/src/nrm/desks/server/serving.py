@@ -1,4 +1,5 @@
-"""A server from its beginning to its end: the journal's lines are given again, clients are taken, and a status is given.
+"""A server from its beginning to its end: the journal's lines are given again, clients are taken, and a status is
+given.
 
 May use: nrm, nrm.desks.server, nrm.desks.server.connections, nrm.desks.server.controller, nrm.desks.server.doors,
 nrm.desks.server.hub, nrm.desks.server.journal.
@@ -38,7 +39,8 @@ class Places:
 
 @dataclass(frozen=True)
 class Server:
-    """The words of the program, where clients come, the journal's file, which of its lines are given again, and the limits."""
+    """The words of the program, where clients come, the journal's file, which of its lines are given again, and the
+    limits."""
     words: Sequence[str]
     places: Places
     journal: str | None = None
