@@ -1,5 +1,4 @@
-"""Every line of a certificate file that is refused, and how to mend it. Of those that the program refuses the first is
-the program's.
+"""Every line of a certificate file that is refused, and how to mend it. The first that is told is the program's.
 
 May use: nrm.files.mending, nrm.limits, nrm.network.
 """
@@ -11,7 +10,7 @@ from fractions import Fraction
 from math import lcm
 from typing import Collection, Iterator, Mapping, Sequence
 
-from nrm.files.mending import is_no_text, shown
+from nrm.files.mending import NO_TEXT, is_no_text, shown
 from nrm.limits import GREATEST_NUMBER, MOST_CERTIFICATE_BYTES, SIZE_LIMIT
 from nrm.network import Network
 
@@ -32,18 +31,21 @@ def faults_of_certificate(data: bytes, network: Network) -> Iterator[tuple[str, 
         what, _, last = text.rpartition(" ")
         found = FRACTION.fullmatch(last)
         if what not in wanted or what in given or not found:
-            yield f"refused certificate line {number}", f"line {number}: {shown(text)}: {how_to_mend_a_line(text, wanted, given)}"
+            advice = how_to_mend_a_line(text, wanted, given)
+            yield f"refused certificate line {number}", f"line {number}: {shown(text)}: {advice}"
             if is_no_text(text):
                 return  # what is wrong with the file as a whole is told once
             tried.add(line_meant(text, wanted)[0])
         elif any(len(it) > MOST_DIGITS or int(it) > GREATEST_NUMBER for it in found.groups()):
-            yield f"refused certificate line {number} large", f"line {number}: {shown(text)}: no number is above {GREATEST_NUMBER}"
+            advice = f"no number is above {GREATEST_NUMBER}"
+            yield f"refused certificate line {number} large", f"line {number}: {shown(text)}: {advice}"
             given[what] = None
         else:
             given[what] = Fraction(*map(int, found.groups()))
     for what in wanted:
         if what not in given and what not in tried:
-            yield f"refused certificate no {what}", f"there is no line `{what}` with a fraction: add `{what} 0/1` if it is 0"
+            advice = f"there is no line `{what}` with a fraction: add `{what} 0/1` if it is 0"
+            yield f"refused certificate no {what}", advice
     whole = {what: number for what, number in given.items() if number is not None}
     if whole.keys() >= set(wanted) and is_too_fine(whole, network):
         yield "refused certificate too fine", "its fractions have no common denominator below 2^48: use simpler ones"
@@ -60,7 +62,7 @@ def line_meant(text: str, wanted: Collection[str]) -> tuple[str | None, str]:
 def how_to_mend_a_line(text: str, wanted: Sequence[str], given: Collection[str]) -> str:
     """What is said of a line that is refused."""
     if is_no_text(text):
-        return "it is UTF-16, or no text: save it as UTF-8, or `iconv -f UTF-16 -t UTF-8 FILE > NEW`"
+        return NO_TEXT
     if not text.strip() or text.startswith("#"):
         return "a certificate has no blank lines and no remarks: delete the line"
     if text.startswith(("nest ", "protect ")):

@@ -9,13 +9,11 @@ import difflib
 from dataclasses import dataclass
 from typing import Collection, Iterator, Mapping, Sequence
 
-from nrm.files.mending import (OF_VERSION_2, SHAPES, how_to_mend_a_kind, how_to_mend_a_name, how_to_mend_a_number,
-                               how_to_mend_a_range,
-                               is_no_csv, is_refund, kind_meant, shown)
+from nrm.files.mending import (OF_VERSION_2, SHAPES, WITHOUT_PADDING, how_to_mend_a_kind, how_to_mend_a_name,
+                               how_to_mend_a_number, how_to_mend_a_range, is_no_csv, is_refund, kind_meant, shown)
 from nrm.files.names import fitting
-from nrm.limits import (MOST_DEMAND, MOST_FARE, MOST_HISTORIES, MOST_LEGS, MOST_NETWORK_BYTES, MOST_PERIODS,
-                        MOST_PRODUCTS, MOST_REFUND,
-                        MOST_SEATS)
+from nrm.limits import (MOST_DEMAND, MOST_FARE, MOST_HISTORIES, MOST_LEGS, MOST_LEGS_OF_A_PRODUCT, MOST_NETWORK_BYTES,
+                        MOST_PERIODS, MOST_PRODUCTS, MOST_REFUND, MOST_SEATS, MOST_THRESHOLDS)
 from nrm.network import NAME, WHOLE, Row, rows_of
 
 WORDS = {1: "kind", 2: "order", 3: "fields", 4: "many", 5: "name", 6: "number", 7: "range", 8: "twice", 9: "missing",
@@ -62,10 +60,10 @@ def name_of_field(kind: str, at: int, version: int) -> str:
     """What stands in a field of a row of some kind."""
     authorised = ["the authorised seats"] if version == 2 else []
     names = {"periods": ["the histories", "the periods", "the version"],
-             "leg": ["the name", "the seats", *authorised, *[f"threshold {it}" for it in range(1, 10)]],
-             "product": ["the name", "the fare", *[f"leg {it}" for it in range(1, 5)]],
+             "leg": ["the name", "the seats", *authorised, *[f"threshold {it + 1}" for it in range(MOST_THRESHOLDS)]],
+             "product": ["the name", "the fare", *[f"leg {it + 1}" for it in range(MOST_LEGS_OF_A_PRODUCT)]],
              "refund": ["the product", "the percentage"],
-             "demand": ["the product", "the history", *[f"period {it}" for it in range(1, MOST_PERIODS + 1)]]}
+             "demand": ["the product", "the history", *[f"period {it + 1}" for it in range(MOST_PERIODS)]]}
     return ["the kind", *names.get(kind, [])][at]
 
 
@@ -79,9 +77,7 @@ class Explanation:
 
     def __init__(self, rows: Sequence[Row]) -> None:
         self.rows = rows
-        self.legs: dict[str, int] = {}
-        self.products: dict[str, int] = {}
-        self.refunds: dict[str, int] = {}
+        self.made: dict[str, dict[str, int]] = {"leg": {}, "product": {}, "refund": {}}
         self.demands: dict[tuple[str, str], int] = {}
         spelt = (row for row in rows if row.fields[0] == "periods")
         meant = (row for row in rows if kind_meant(row.fields[0]) == "periods")
@@ -99,15 +95,13 @@ class Explanation:
     def sizes(self) -> tuple[int | None, int | None]:
         """The histories and the periods, or None where the row that says them doesn't say them well."""
         fields = self.first_periods.fields if self.first_periods else []
-        limits = (MOST_HISTORIES, MOST_PERIODS)
-        if len(fields) < 3 or not all(WHOLE.fullmatch(it) and 1 <= value_of(it) <= most
-                                      for it, most in zip(fields[1:], limits)):
+        limited = zip(fields[1:], (MOST_HISTORIES, MOST_PERIODS))
+        if len(fields) < 3 or not all(WHOLE.fullmatch(it) and 1 <= value_of(it) <= most for it, most in limited):
             return None, None
         return int(fields[1]), int(fields[2])
 
     def version_meant(self) -> int:
-        """The version that the row of periods says, or seems to be meant to say where it is padded with commas or says
-        1."""
+        """The version that the row of periods says, or seems to be meant to say where it has more commas or says 1."""
         if not self.first_periods:
             return 2 if any(is_refund(row) for row in self.rows) else 1
         return 1 if "".join(self.first_periods.fields[3:]).strip() in ("", "1") else 2
@@ -121,8 +115,8 @@ class Explanation:
             if faults and is_no_csv(row.fields[0]):
                 return  # what is wrong with the file as a whole is told once
             self.take(row)
-        for kind, made in (("leg", self.legs), ("product", self.products)):
-            if not made:
+        for kind in ("leg", "product"):
+            if not self.made[kind]:
                 fault = Fault(12, None, f"there is no row {self.shapes[kind]}: add one")
                 yield of_no_row(len(self.rows) + 1, fault, self.version)
                 return
@@ -132,12 +126,8 @@ class Explanation:
         word, *rest = row.fields
         self.known_rows += word in SHAPES
         kind = kind_meant(word)  # one that is spelt otherwise makes its name known too
-        if kind == "leg" and rest:
-            self.legs.setdefault(rest[0], row.line)
-        elif kind == "product" and rest:
-            self.products.setdefault(rest[0], row.line)
-        elif kind == "refund" and rest:
-            self.refunds.setdefault(rest[0], row.line)
+        if kind in self.made and rest:
+            self.made[kind].setdefault(rest[0], row.line)
         elif kind == "demand" and len(rest) > 1:
             self.demands.setdefault((rest[0], rest[1]), row.line)
 
@@ -148,48 +138,41 @@ class Explanation:
             return [fault]
         faults = [*faulty_names(row), *self.faulty_numbers(row)]
         at_fault = {it.field for it in faults}
-        faults += [it for some in (self.taken_names(row), self.missing_names(row)) for it in some
-                   if it.field not in at_fault]
-        return faults or list(self.faulty_lists(row))
+        of_names = [*self.taken_names(row), *self.missing_names(row)]
+        return faults + [it for it in of_names if it.field not in at_fault] or list(self.faulty_lists(row))
 
     def fault_of_shape(self, row: Row) -> Fault | None:
         """Why a row has not the form of one, or stands where it can't."""
-        kind, count = row.fields[0], len(row.fields)
+        kind, count, periods = row.fields[0], len(row.fields), self.first_periods
         if kind not in SHAPES or kind == "refund" and (self.version == 1 or row.number == 1):
-            return Fault(1, 0, self.how_to_mend_a_refund(row)
-                         or how_to_mend_a_kind(row.fields, not self.known_rows, self.version))
-        if kind != "periods" and not self.known_rows and not (self.first_periods
-                                                              and self.first_periods.number < row.number):
+            of_kind = how_to_mend_a_kind(row.fields, not self.known_rows, self.version)
+            return Fault(1, 0, self.how_to_mend_a_refund(row) or of_kind)
+        if kind != "periods" and not self.known_rows and not (periods and periods.number < row.number):
             return Fault(2, 0, self.how_to_begin())
-        if kind == "periods" and self.first_periods and row is not self.first_periods:
-            return Fault(2, 0,
-                         f"line {self.first_periods.line} is the row of periods, and a file has one: delete this one")
+        if kind == "periods" and periods and row is not periods:
+            return Fault(2, 0, f"line {periods.line} is the row of periods, and a file has one: delete this one")
         allowed = self.counts_allowed(kind)
         if count not in allowed:
             return Fault(3, None, self.how_to_mend_a_count(row, count, allowed))
         most = {"leg": MOST_LEGS, "product": MOST_PRODUCTS}.get(kind)
-        if most and len(self.made(kind)) >= most:
+        if most and len(self.made[kind]) >= most:
             return Fault(4, None, f"a file takes {most} rows of this kind: `nrm-tools split` cuts a timetable into "
                                   "files, where it falls apart into legs that no product joins")
         return None
 
-    def made(self, kind: str) -> Mapping[str, int]:
-        """The names that rows of some kind have made, with their lines; none of a kind that makes none."""
-        return {"leg": self.legs, "product": self.products}.get(kind, {})
-
     def counts_allowed(self, kind: str) -> Collection[int]:
         """How many fields a row of some kind may have."""
-        demand = [3 + self.periods] if self.periods else range(4, 3 + MOST_PERIODS + 1)
         counts: Mapping[str, Collection[int]] = {
-            "periods": [3, 4], "leg": range(self.first_threshold, self.first_threshold + 10), "product": range(4, 8),
-            "refund": [3],
-            "demand": demand}
+            "periods": [3, 4], "refund": [3], "product": range(4, 4 + MOST_LEGS_OF_A_PRODUCT),
+            "leg": range(self.first_threshold, self.first_threshold + MOST_THRESHOLDS + 1),
+            "demand": [3 + self.periods] if self.periods else range(4, 4 + MOST_PERIODS)}
         return counts[kind]
 
     def how_to_begin(self) -> str:
         """What is said of a row above the row of periods."""
-        there = f"move up line {self.first_periods.line}" if self.first_periods else f"add {self.shapes['periods']} above"
-        return f"the row of periods comes first: {there}"
+        if self.first_periods:
+            return f"the row of periods comes first: move up line {self.first_periods.line}"
+        return f"the row of periods comes first: add {self.shapes['periods']} above"
 
     def how_to_mend_a_refund(self, row: Row) -> str | None:
         """What is said of a row of a refund where there can be none; nothing where it is no such row."""
@@ -207,9 +190,10 @@ class Explanation:
         if row.fields[0] == "leg" and count == 3:
             wanted += f", since line {self.first_periods.line} says version 2" if self.first_periods else ""
         if row.fields[0] == "demand" and self.periods:
-            wanted = f"it has {count} fields, and takes {3 + self.periods}: demand,PRODUCT,HISTORY and {self.periods} numbers"
+            wanted = (f"it has {count} fields, and takes {3 + self.periods}: "
+                      f"demand,PRODUCT,HISTORY and {self.periods} numbers")
         if filled in allowed and not row.fields[-1]:
-            return f"{wanted}; a spreadsheet padded it with commas: sed 's/,*\\r*$//' FILE > NEW"
+            return f"{wanted}; a spreadsheet padded it with commas: {WITHOUT_PADDING}"
         return wanted
 
     def faulty_numbers(self, row: Row) -> Iterator[Fault]:
@@ -229,8 +213,7 @@ class Explanation:
             return [(1, 1, MOST_HISTORIES), (2, 1, MOST_PERIODS), *[(at, 2, 2) for at in range(3, count)]]
         if kind == "leg":
             first = self.first_threshold
-            return [*[(at, 0, MOST_SEATS) for at in range(2, first)],
-                    *[(at, 1, MOST_FARE) for at in range(first, count)]]
+            return [(at, *((0, MOST_SEATS) if at < first else (1, MOST_FARE))) for at in range(2, count)]
         if kind == "product":
             return [(2, 1, MOST_FARE)]
         if kind == "refund":
@@ -240,11 +223,11 @@ class Explanation:
     def taken_names(self, row: Row) -> Iterator[Fault]:
         """The fields whose names were made before, and may be made once."""
         kind, name, *rest = row.fields
-        made = self.made(kind)
-        if name in made:
-            yield Fault(8, 1, f"line {made[name]} has made it: choose another name, or delete one of the two")
-        if kind == "refund" and name in self.refunds:
-            yield Fault(8, 1, f"line {self.refunds[name]} has the refund of {shown(name)}: delete one of the two")
+        line = self.made.get(kind, {}).get(name)
+        if line and kind == "refund":
+            yield Fault(8, 1, f"line {line} has the refund of {shown(name)}: delete one of the two")
+        elif line:
+            yield Fault(8, 1, f"line {line} has made it: choose another name, or delete one of the two")
         if kind == "product":
             for at, leg in enumerate(rest[1:], 3):
                 if leg in row.fields[3:at]:
@@ -255,32 +238,31 @@ class Explanation:
 
     def missing_names(self, row: Row) -> Iterator[Fault]:
         """The fields that name what no row above makes."""
-        kind, name, *rest = row.fields
-        named = list(enumerate(row.fields))[3:] if kind == "product" else [(1, name)] if kind in ("refund",
-                                                                                                  "demand") else []
-        what, made = ("leg", self.legs) if kind == "product" else ("product", self.products)
-        for at, wanted in named:
-            if wanted not in made:
-                yield Fault(9, at, self.how_to_find(wanted, what, made))
+        kind, count = row.fields[0], len(row.fields)
+        what = "leg" if kind == "product" else "product"
+        for at in {"product": range(3, count), "refund": [1], "demand": [1]}.get(kind, []):
+            if row.fields[at] not in self.made[what]:
+                yield Fault(9, at, self.how_to_find(row.fields[at], what))
 
-    def how_to_find(self, name: str, kind: str, made: Mapping[str, int]) -> str:
+    def how_to_find(self, name: str, kind: str) -> str:
         """What is said of a name that isn't there."""
-        below = self.lines_of_names[kind].get(name)
-        if below:
+        if below := self.lines_of_names[kind].get(name):
             return f"line {below}, below, makes it: move that line up"
         if name.isdigit() and kind == "leg":
-            return "no row makes a leg of this name; is it the end of a fare with a thousands mark? Write the fare in digits alone"
+            return ("no row makes a leg of this name; is it the end of a fare with a thousands mark? "
+                    "Write the fare in digits alone")
+        made = self.made[kind]
         close = [it for it in made if fitting(it) == fitting(name)] or difflib.get_close_matches(name, made, 1)
-        return f"no row makes a {kind} of this name" + (f"; is it {close[0]} of line {made[close[0]]}?" if close
-                                                        else ": add it above")
+        found = f"; is it {close[0]} of line {made[close[0]]}?" if close else ": add it above"
+        return f"no row makes a {kind} of this name{found}"
 
     def faulty_lists(self, row: Row) -> Iterator[Fault]:
         """What is wrong with the numbers of a row together, each of them being right."""
         if row.fields[0] == "leg":
             for at in range(self.first_threshold + 1, len(row.fields)):
-                if int(row.fields[at]) >= int(row.fields[at - 1]):
-                    yield Fault(10, at,
-                                f"thresholds fall: it is to be below {row.fields[at - 1]}{self.hint_of_authorised(row, at)}")
+                if int(row.fields[at]) >= int(before := row.fields[at - 1]):
+                    hint = self.hint_of_authorised(row, at)
+                    yield Fault(10, at, f"thresholds fall: it is to be below {before}{hint}")
         if row.fields[0] == "demand":
             seats = sum(map(int, row.fields[3:]))
             if seats > MOST_DEMAND:
@@ -292,7 +274,8 @@ class Explanation:
         first = row.fields[self.first_threshold]
         if self.version == 2 or at != 4 or int(first) > MOST_SEATS or not self.first_periods:
             return ""
-        return f"; if {first} are authorised seats, the file is to be of version 2, with ,2 at the end of line {self.first_periods.line}"
+        return (f"; if {first} are authorised seats, the file is to be of version 2, "
+                f"with ,2 at the end of line {self.first_periods.line}")
 
 
 def faulty_names(row: Row) -> Iterator[Fault]:

@@ -11,13 +11,16 @@ from typing import Sequence
 from nrm.files.names import fitting
 from nrm.network import Row
 
-SHAPES = {"periods": "periods,HISTORIES,PERIODS", "leg": "leg,NAME,SEATS and up to 9 thresholds",
-          "product": "product,NAME,FARE and 1 to 4 legs", "demand": "demand,PRODUCT,HISTORY and a number for each "
-                                                                    "period",
-          "refund": "refund,PRODUCT,PERCENTAGE"}
-OF_VERSION_2 = {**SHAPES, "periods": "periods,HISTORIES,PERIODS,2", "leg": "leg,NAME,SEATS,AUTHORISED and up to 9 "
-                                                                           "thresholds"}
+SHAPES = {
+    "periods": "periods,HISTORIES,PERIODS", "leg": "leg,NAME,SEATS and up to 9 thresholds",
+    "product": "product,NAME,FARE and 1 to 4 legs", "refund": "refund,PRODUCT,PERCENTAGE",
+    "demand": "demand,PRODUCT,HISTORY and a number for each period"}
+OF_VERSION_2 = {**SHAPES, "periods": "periods,HISTORIES,PERIODS,2",
+                "leg": "leg,NAME,SEATS,AUTHORISED and up to 9 thresholds"}
 MOST_TEXT = 60  # that is shown of a field
+NO_TEXT = "it is UTF-16, or no text: save it as UTF-8, or `iconv -f UTF-16 -t UTF-8 FILE > NEW`"
+WITHOUT_PADDING = r"sed 's/,*\r*$//' FILE > NEW"
+NOTHING_THERE = f"is wanted; where the row ends in commas, `{WITHOUT_PADDING}` takes them away"
 
 
 def shown(text: str) -> str:
@@ -54,13 +57,14 @@ def how_to_mend_a_kind(fields: Sequence[str], is_above_all: bool, version: int) 
     if text.startswith("PK\x03"):
         return "it is a spreadsheet's own file (.xlsx, .ods): save it as CSV, with commas and in UTF-8"
     if is_no_text(text):
-        return "it is UTF-16, or no text: save it as UTF-8, or `iconv -f UTF-16 -t UTF-8 FILE > NEW`"
+        return NO_TEXT
     if re.match(rf"({'|'.join(SHAPES)}) *[;\t|]", text):
-        return "the fields are kept apart by another sign: save it with commas, or `tr ';' ',' < FILE > NEW`, with '\\t' for tabs"
+        return ("the fields are kept apart by another sign: save it with commas, or `tr ';' ',' < FILE > NEW`, "
+                r"with '\t' for tabs")
     if "\ufeff" in text:
         return "there is a byte order mark that isn't at the start of the file, or twice: delete it"
     if not any(fields):
-        return "the row is empty: delete it, or `sed 's/,*\\r*$//' FILE > NEW`, since a blank line is no row"
+        return f"the row is empty: delete it, or `{WITHOUT_PADDING}`, since a blank line is no row"
     if kind == text.strip().lower():
         return f"write {kind}, in lower case and without blanks"
     if text.startswith("#"):
@@ -74,7 +78,7 @@ def how_to_mend_a_kind(fields: Sequence[str], is_above_all: bool, version: int) 
 def how_to_mend_a_name(text: str) -> str:
     """What is said of a name that has not the form of one."""
     if not text:
-        return "a name is wanted; where the row ends in commas, `sed 's/,*\\r*$//' FILE > NEW` takes them away"
+        return f"a name {NOTHING_THERE}"
     return f"a name has 1 to 12 of A-Z, 0-9 and -: write {fitting(text)}, here and wherever it is named"
 
 
@@ -82,13 +86,14 @@ def how_to_mend_a_number(text: str, kind: str) -> str:
     """What is said of a number in a row of some kind that isn't a whole one in digits."""
     digits = text.strip()
     if not digits:
-        return "a number is wanted; where the row ends in commas, `sed 's/,*\\r*$//' FILE > NEW` takes them away"
+        return f"a number {NOTHING_THERE}"
     if re.fullmatch(r"[0-9]+", digits):
         return f"write {shown(digits.lstrip('0') or '0')}, without blanks and without a 0 in front"
     if re.fullmatch(r"[0-9]{1,3}([,.' \u00a0\u2019\u202f][0-9]{3})+", digits):
         return f"write digits alone: {shown(re.sub('[^0-9]', '', digits))}, if the mark is for thousands"
     if re.fullmatch(r"[0-9]+[.,][0-9]*", digits):
-        return f"write a whole number, {'a percentage' if kind == 'refund' else 'fares in whole currency units'}: round it"
+        what = "a percentage" if kind == "refund" else "fares in whole currency units"
+        return f"write a whole number, {what}: round it"
     found = re.fullmatch(r"[^0-9]*([0-9]+)[^0-9]*", digits)
     if found and not digits.startswith("-"):
         return f"write digits alone: {shown(found[1].lstrip('0') or '0')}"

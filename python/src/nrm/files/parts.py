@@ -74,7 +74,8 @@ class Cut:
                 elif part.products:
                     name = self.write_part(part)
                     list_of_products.write(text_of([[it, name] for it in part.products]))
-                    yield f"{self.written[-1]}: legs {len(part.legs)}, the first {part.legs[0]}; products {len(part.products)}"
+                    yield (f"{self.written[-1]}: legs {len(part.legs)}, the first {part.legs[0]}; "
+                           f"products {len(part.products)}")
                 else:
                     yield f"no product: the leg {part.legs[0]} is in no file"
         yield from self.of_earlier_runs()
@@ -89,8 +90,8 @@ class Cut:
 
     def too_large(self, part: Part) -> Iterator[str]:
         """What is told of a part that no file takes."""
-        yield (f"too large: {len(part.legs)} legs and {len(part.products)} products, and a file takes {MOST_LEGS} and "
-               f"{MOST_PRODUCTS}; not written")
+        yield (f"too large: {len(part.legs)} legs and {len(part.products)} products, "
+               f"and a file takes {MOST_LEGS} and {MOST_PRODUCTS}; not written")
         yield f"    its legs: {' '.join(part.legs)}"
         found = holding(part, self.legs_of)
         if found:
@@ -100,5 +101,5 @@ class Cut:
     def of_earlier_runs(self) -> Iterator[str]:
         """Which parts in the folder are of another timetable."""
         there = glob.glob(os.path.join(glob.escape(self.folder), "part-*.csv"))
-        yield from (f"{path}: not of this timetable; it was there before"
-                    for path in sorted({*there} - {*self.written}))
+        for path in sorted({*there} - {*self.written}):
+            yield f"{path}: not of this timetable; it was there before"

@@ -23,7 +23,8 @@ def legs_in(network: Network) -> dict[str, int]:
 def linear_program(network: Network) -> Iterator[str]:
     """The lines of the program."""
     numbers = {it: f"p{number}" for number, it in enumerate(network.products, 1)}
-    yield f"\\ All {network.histories} histories together: a history's mean value is the value divided by {network.histories}."
+    count = network.histories
+    yield f"\\ All {count} histories together: a history's mean value is the value divided by {count}."
     yield "maximize"
     yield " fares:"
     yield from (f"  + {it.fare} {numbers[it.name]}  \\ {it.name}" for it in network.products.values())
@@ -31,7 +32,7 @@ def linear_program(network: Network) -> Iterator[str]:
     for leg, number in legs_in(network).items():
         yield f" l{number}:  \\ {leg}"
         yield from (f"  + {numbers[it.name]}" for it in network.products_on(leg))
-        yield f"  <= {network.histories * network.legs[leg].authorised}"
+        yield f"  <= {count * network.legs[leg].authorised}"
     yield "bounds"
     yield from (f" 0 <= {numbers[it.name]} <= {it.demand_in_all()}" for it in network.products.values())
     yield "end"
@@ -69,9 +70,9 @@ class Solution:
 
     def is_none(self) -> Stop:
         """A Stop for a file that is no solution of the program."""
-        return Stop("the solution isn't an optimal one, as `glpsol -w` or `esolver -O` writes it, of a program with "
-                    f"{len(self.legs)} legs and {len(self.products)} products; --interior and integer programs give "
-                    "none that is exact")
+        return Stop("the solution isn't an optimal one, as `glpsol -w` or `esolver -O` writes it, "
+                    f"of a program with {len(self.legs)} legs and {len(self.products)} products; "
+                    "--interior and integer programs give none that is exact")
 
     def of_glpsol(self, text: str) -> tuple[Fraction, list[Fraction], list[Fraction]]:
         """The numbers that `glpsol -w` wrote: those of rows and columns in their order."""
@@ -81,8 +82,8 @@ class Solution:
                 found.setdefault(words[0] if words else "", []).append(words[1:])
         if [it[:5] for it in found["s"]] != [["bas", str(len(self.legs)), str(len(self.products)), "f", "f"]]:
             raise self.is_none()
-        return number_in(found["s"][0][5]), [simplest(it[2])
-                                             for it in found["j"]], [simplest(it[3]) for it in found["i"]]
+        seats, prices = [simplest(it[2]) for it in found["j"]], [simplest(it[3]) for it in found["i"]]
+        return number_in(found["s"][0][5]), seats, prices
 
     def of_esolver(self, text: str) -> tuple[Fraction, list[Fraction], list[Fraction]]:
         """The numbers that `esolver -O` wrote: under each title those that aren't 0, by their names."""
@@ -90,23 +91,23 @@ class Solution:
         under: dict[str, dict[str, str]] = {}
         for title, part in zip(parts[::2], parts[1::2]):
             under[title] = dict(re.findall(r"^(\w+) = (.*)$", part, re.M))
-        seats, prices = under["VARS"], under.get("PI", {})
-        products, legs = [f"p{number}"
-                          for number, _ in enumerate(self.products, 1)], [f"l{number}" for number in self.legs.values()]
+        seats = dict.fromkeys([f"p{number}" for number, _ in enumerate(self.products, 1)], "0")
+        prices = dict.fromkeys([f"l{number}" for number in self.legs.values()], "0")
         value = re.search(r"^status OPTIMAL\n\s*Value = (\S+)$", head, re.M)
-        if not value or not (seats.keys() <= set(products) and prices.keys() <= set(legs)):
+        if not value or not (under["VARS"].keys() <= seats.keys() and under.get("PI", {}).keys() <= prices.keys()):
             raise self.is_none()
-        return number_in(value[1]), [number_in(seats.get(it, "0"))
-                                     for it in products], [number_in(prices.get(it, "0")) for it in legs]
+        seats.update(under["VARS"])
+        prices.update(under.get("PI", {}))
+        return number_in(value[1]), [*map(number_in, seats.values())], [*map(number_in, prices.values())]
 
 
 def certificate(network: Network, solution: Solution) -> Iterator[str]:
     """The lines of the certificate of a solution."""
     value = sum((it.fare * solution.seats[it.name] for it in network.products.values()), Fraction(0))
     if abs(value - solution.value) > Fraction(1, 10**9) * max(Fraction(1), value):
-        raise Stop(f"the seats bring {float(value)} at the fares, and the solver has the value "
-                   f"{float(solution.value)}: it is the solution of another network, or its decimals are too few to "
-                   "say which fractions they stand for")
+        raise Stop(f"the seats bring {float(value)} at the fares, and the solver has the value {float(solution.value)}: "
+                   "it is the solution of another network, or its decimals are too few to say which fractions they "
+                   "stand for")
     yield f"value {written(value / network.histories)}"
     yield from (f"product {it} {written(seats / network.histories)}" for it, seats in solution.seats.items())
     yield from (f"leg {leg} {written(solution.price.get(leg, Fraction(0)))}" for leg in network.legs)
