@@ -159,8 +159,7 @@ class Product:
 
 @dataclass(frozen=True)
 class Network:
-    """What a network file says: its version, 1 or 2, the numbers of histories and periods, legs and products by
-    name."""
+    """What a network file says: its version, the numbers of histories and periods, the legs and products by name."""
     version: int
     histories: int
     periods: int

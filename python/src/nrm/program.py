@@ -103,8 +103,7 @@ class Program:
 
     @classmethod
     def found(cls, words: Sequence[str] | None = None) -> Program:
-        """The program of some words, else that of the checkout or release that this file is of, else that on the
-        path."""
+        """The program of some words, else that of this file's checkout or release, else that on the path."""
         if words:
             there = shutil.which(words[0])
             found = program_behind(os.path.abspath(there)) if there else words[0]

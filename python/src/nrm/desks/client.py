@@ -61,8 +61,7 @@ class Late(DeskError):
 
 
 class Ended(DeskError):
-    """The controller has ended, or the connection: with the program's exit status, if that is known, and what was told
-    of it."""
+    """The controller has ended, or the connection: with the exit status, if known, and what was told of it."""
 
     def __init__(self, why: str, status: int | None = None) -> None:
         super().__init__(why if status is None else f"{why}: the program ended with status {status}")
@@ -192,8 +191,7 @@ class Desk:
         return answer
 
     def reply(self, line: str) -> bytes:
-        """The reply to a line, as the program writes it. An empty line is sent behind it: its reply shows that the
-        other is whole."""
+        """The reply to a line, as the program writes it: whole once the reply to an empty line behind it is there."""
         if "\n" in line:
             raise ValueError("a line feed in a line")
         if self.fault:
@@ -254,8 +252,7 @@ class Desk:
 
 
 def unix_connection(path: Path, seconds: float) -> socket.socket:
-    """A connection to a Unix socket. While so many wait there that no more may, it is tried again; a TimeoutError at
-    the end."""
+    """A connection to a Unix socket, tried again while so many wait that no more may; a TimeoutError at the end."""
     connection, deadline = socket.socket(socket.AF_UNIX), time.monotonic() + seconds
     try:
         while True:

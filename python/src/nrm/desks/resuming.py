@@ -28,8 +28,7 @@ STANDARD_INPUT = 0
 
 @dataclass(frozen=True)
 class Kept:
-    """What a session left: the network file, the mode, the file of the stream so far, and that of the replies that were
-    kept."""
+    """What a session left: the network file, the mode, the file of the stream so far, that of the replies kept."""
     network: str
     mode: str
     stream: str
@@ -108,8 +107,7 @@ def place_to_go_on_at(kept: Kept, program: Program) -> Place:
 
 
 def go_on(kept: Kept, program: Program, before: int) -> int:
-    """Answers the lines of standard input as the session does that has answered those before a line of the stream, and
-    gives the status."""
+    """Answers standard input as the session does that has answered the lines before one, and gives the status."""
     session = Stream(program, kept.mode, kept.network, kept.lines_again(before), source=STANDARD_INPUT)
     for number, reply in enumerate(itertools.islice(kept.replies_kept(), before - 1), 1):
         if CHANGED_SOMETHING.match(reply) and (again := session.output.read(len(reply))) != reply:

@@ -1,5 +1,4 @@
-"""What is made of files alone, without the program: faults explained, certificates, timetables cut, other solvers'
-files, names.
+"""What is made of files alone, without the program: faults explained, timetables cut, other solvers' files, names.
 
 May use: nothing.
 """

@@ -1,5 +1,4 @@
-"""Every row of a network file that is refused: which fields are at fault, and how to mend them. The first is the
-program's.
+"""Every row of a network file that is refused: which fields are at fault, and how to mend them.
 
 May use: nrm.files.mending, nrm.files.names, nrm.limits, nrm.network.
 """

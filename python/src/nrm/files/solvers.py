@@ -105,9 +105,9 @@ def certificate(network: Network, solution: Solution) -> Iterator[str]:
     """The lines of the certificate of a solution."""
     value = sum((it.fare * solution.seats[it.name] for it in network.products.values()), Fraction(0))
     if abs(value - solution.value) > Fraction(1, 10**9) * max(Fraction(1), value):
-        raise Stop(f"the seats bring {float(value)} at the fares, and the solver has the value {float(solution.value)}: "
-                   "it is the solution of another network, or its decimals are too few to say which fractions they "
-                   "stand for")
+        raise Stop(f"the seats bring {float(value)} at the fares, and the solver has the value "
+                   f"{float(solution.value)}: it is the solution of another network, "
+                   "or its decimals are too few to say which fractions they stand for")
     yield f"value {written(value / network.histories)}"
     yield from (f"product {it} {written(seats / network.histories)}" for it, seats in solution.seats.items())
     yield from (f"leg {leg} {written(solution.price.get(leg, Fraction(0)))}" for leg in network.legs)

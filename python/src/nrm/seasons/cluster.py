@@ -1,5 +1,4 @@
-"""Who plays many seasons: Dask's workers on this machine or of a scheduler elsewhere, what they are sent and how long
-one waits.
+"""Who plays many seasons: Dask's workers here or of a scheduler elsewhere, what they get and how long one waits.
 
 They are sent this package, and what they give is taken only where the package and the program there are those here, to
 the byte. It needs Dask: who plays asks for `distributed` first. May use: nrm, nrm.program, nrm.seasons.drawing,
@@ -73,7 +72,8 @@ class Progress:
         """Tells that so many seasons more are done."""
         self.done += count
         rate = (self.done - self.before) / max(0.001, time.monotonic() - self.begun)
-        told = f"{self.done:,} of {self.wanted:,} seasons, {rate:,.0f} a second, {(self.wanted - self.done) / rate:,.0f} s left"
+        left = (self.wanted - self.done) / rate
+        told = f"{self.done:,} of {self.wanted:,} seasons, {rate:,.0f} a second, {left:,.0f} s left"
         if self.is_bar:
             full = 30 * self.done // self.wanted
             print(f"\r[{'#' * full}{'.' * (30 - full)}] {told}\x1b[K", end="", file=sys.stderr, flush=True)
@@ -91,8 +91,7 @@ class Progress:
 
 
 def temporary_keys() -> Keys:
-    """Keys of this run alone, in memory, without which nobody is answered by the scheduler and the workers that it
-    starts."""
+    """Keys of this run alone, in memory: without them neither the scheduler nor a worker that it starts answers."""
     try:
         return distributed.Security.temporary()
     except ImportError:
@@ -138,10 +137,10 @@ def cluster(workers: Workers) -> Iterator[Client]:
         before = signal.signal(signal.SIGINT, signal.SIG_IGN)
         try:
             keys = temporary_keys()
-            local = distributed.LocalCluster(n_workers=workers.count or len(os.sched_getaffinity(0)),
-                                             threads_per_worker=1,
-                                             processes=True, dashboard_address=None, silence_logs=logging.CRITICAL,
-                                             local_directory=folder, protocol="tls://", security=keys)
+            local = distributed.LocalCluster(
+                n_workers=workers.count or len(os.sched_getaffinity(0)), threads_per_worker=1, processes=True,
+                dashboard_address=None, silence_logs=logging.CRITICAL, local_directory=folder, protocol="tls://",
+                security=keys)
         finally:
             signal.signal(signal.SIGINT, before)
         with local, distributed.Client(local, security=keys) as client:
@@ -166,8 +165,7 @@ def within(seconds: float, work: Callable[..., Told], *words: object) -> Told:
 
 
 def zipped(folder: str, package: dict[str, bytes]) -> str:
-    """A zip of a package, of a name that no worker knows, since Dask puts a name that one knows behind those that came
-    later."""
+    """A zip of a package, of a name that no worker knows: Dask puts one that it knows behind those that came later."""
     path = os.path.join(folder, f"nrm-{uuid.uuid4()}.zip")
     with zipfile.ZipFile(path, "w", zipfile.ZIP_DEFLATED) as file:
         file.writestr("before_nrm.py", BEFORE_NRM)
@@ -224,8 +222,7 @@ class Waiting:
 
 
 def batch_told(told: object, here: Maker) -> Batch:
-    """The batch that a worker gave; a Stop where it wasn't played, or not by the program and the package of this
-    machine."""
+    """The batch that a worker gave; a Stop where it wasn't played, or by another program or package."""
     if not isinstance(told, dict):
         fault = told[1] if isinstance(told, tuple) else told
         if isinstance(fault, concurrent.futures.CancelledError):
@@ -233,12 +230,10 @@ def batch_told(told: object, here: Maker) -> Batch:
         raise Stop(f"a worker gave no seasons: {type(fault).__name__}{f', {fault}' if str(fault) else ''}")
     batch = Batch.told(told)
     by = batch.maker
-    if by.package != here.package:
-        raise Stop(f"a worker on {by.machine} has other tools: their checksum there is {by.package}, and here "
-                   f"{here.package}")
-    if by.program not in (None, here.program):
-        raise Stop(f"a worker on {by.machine} has another program: its checksum there is {by.program}, and here "
-                   f"{here.program}")
+    for what, there, ours in (("other tools: their", by.package, here.package),
+                              ("another program: its", by.program or here.program, here.program)):
+        if there != ours:
+            raise Stop(f"a worker on {by.machine} has {what} checksum there is {there}, and here {ours}")
     if batch.why:
         raise Stop(batch.why)
     return batch

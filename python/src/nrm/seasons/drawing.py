@@ -13,7 +13,7 @@ import math
 import random
 from collections import Counter
 from dataclasses import dataclass, field
-from typing import Iterable, Mapping, Sequence
+from typing import Callable, Iterable, Mapping, Sequence
 
 from nrm.network import Network, rows_of, text_of
 from nrm.replies import MODES
@@ -102,8 +102,7 @@ def identity(network: Network) -> str:
 
 @functools.lru_cache(NETWORKS_REMEMBERED)
 def network_in(source: bytes) -> tuple[Network, str]:
-    """The network of a file's bytes, and its identity; nobody may change it, since a process plays many batches of its
-    seasons."""
+    """The network of a file's bytes, and its identity; nobody may change it, since many batches share it."""
     network = Network.of(rows_of(source))
     return network, identity(network)
 
@@ -114,8 +113,7 @@ def generator(seed: int, of_network: str, number: int) -> random.Random:
 
 
 def poisson(mean: float, draw: random.Random) -> int:
-    """A number drawn from the Poisson distribution: by how many factors the product of uniform numbers falls below e to
-    the -mean."""
+    """A number of the Poisson distribution: how many uniform numbers it takes to multiply below e to the -mean."""
     drawn = 0
     while mean > 0:
         step = min(mean, LARGEST_STEP)
@@ -137,17 +135,15 @@ def drawn_demand(network: Network, demand: str, draw: random.Random) -> tuple[in
         history = draw.randint(1, network.histories)
         return history, seats_asked_for(network, history)
     if demand == "independent":
-        none = (0,) * network.periods
-        return None, {name: it.demand.get(draw.randint(1, network.histories), none)
-                      for name, it in network.products.items()}
-    return None, {product: [poisson(mean, draw) for mean in by_period]
-                  for product, by_period in network.mean_demand.items()}
+        none, every = (0,) * network.periods, network.products.items()
+        return None, {name: it.demand.get(draw.randint(1, network.histories), none) for name, it in every}
+    means = network.mean_demand.items()
+    return None, {product: [poisson(mean, draw) for mean in by_period] for product, by_period in means}
 
 
 def lines_for(product: str, seats: int, sizes: Sequence[int], weights: Sequence[float],
               draw: random.Random) -> list[str]:
-    """The requests for a product's seats in a period, as lines, each of a party; the last one is cut to the seats that
-    are left."""
+    """The requests for a product's seats in a period, as lines, each of a party; the last is cut to the seats left."""
     if sizes == (1,):
         return [f"book {product} 1"] * seats
     lines = []
@@ -168,26 +164,32 @@ def request_of(line: str) -> tuple[str, int] | None:
 
 
 def mixed(lines: Sequence[str], draw: random.Random) -> list[str]:
-    """The lines in an order that is drawn, each as likely: by numbers drawn for them, in half the time of Python's
-    `shuffle`."""
+    """The lines in an order that is drawn, each as likely, in half the time of Python's `shuffle`."""
     return [lines[at] for at in sorted(range(len(lines)), key=[draw.random() for _ in lines].__getitem__)]
 
 
 def ordered(network: Network, seats: SeatsAskedFor, settings: Settings, draw: random.Random) -> list[str]:
     """The lines of a stream, period after period, each in the order of the settings."""
-    lines: list[str] = []
     sizes, weights = zip(*settings.parties)
-    for period in range(network.periods):
-        if period:
-            lines.append(f"reoptimise {period + 1}")
-        now: list[str] = []
+
+    def requests_in(period: int) -> list[str]:
+        lines: list[str] = []
         for product, by_period in seats.items():
             if by_period[period]:
-                now += lines_for(product, by_period[period], sizes, weights, draw)
-        now = mixed(now, draw)
+                lines += lines_for(product, by_period[period], sizes, weights, draw)
+        lines = mixed(lines, draw)
         if settings.order == "low-first":
-            now.sort(key=lambda line: network.products[line.split(" ")[1]].fare)
-        lines += now
+            lines.sort(key=lambda line: network.products[line.split(" ")[1]].fare)
+        return lines
+
+    return stream_of(network, requests_in)
+
+
+def stream_of(network: Network, requests_in: Callable[[int], list[str]]) -> list[str]:
+    """The lines of a stream, from the requests in each period: before each but the first a new plan, then the bound."""
+    lines = requests_in(0)
+    for period in range(1, network.periods):
+        lines += [f"reoptimise {period + 1}", *requests_in(period)]
     return [*lines, "hindsight"]
 
 
@@ -206,13 +208,12 @@ def drawn_season(network: Network, settings: Settings, draw: random.Random) -> D
 
 
 def history_again(network: Network, history: int, draw: random.Random) -> DrawnSeason:
-    """A history as a season: its requests, a seat each, in the order of the periods, and shuffled within each
-    period."""
-    seats, lines = seats_asked_for(network, history), list[str]()
-    for period in range(network.periods):
-        if period:
-            lines.append(f"reoptimise {period + 1}")
-        requests = [f"book {product} 1" for product, by_period in seats.items() for _ in range(by_period[period])]
-        draw.shuffle(requests)
-        lines += requests
-    return DrawnSeason(history, [*lines, "hindsight"])
+    """A history as a season: its requests, a seat each, in the order of the periods and shuffled within each."""
+    seats = seats_asked_for(network, history)
+
+    def requests_in(period: int) -> list[str]:
+        lines = [f"book {product} 1" for product, by_period in seats.items() for _ in range(by_period[period])]
+        draw.shuffle(lines)
+        return lines
+
+    return DrawnSeason(history, stream_of(network, requests_in))

@@ -92,9 +92,8 @@ def of_authorised(study: Study, leg: str, names: Mapping[int, str]) -> Picture:
     """What each mode earns less than with the authorised seats that are its best."""
     from nrm.telling import charts
     less = {mode: study.less_than_most(mode, names) for mode in study.settings.modes}
-    courses = [(mode,
-                [(float(seats), -it.mean if it else 0.0, it.half() if it else 0.0) for seats, it in by_seats.items()])
-               for mode, by_seats in less.items()]
+    courses = [(mode, [(float(seats), *((-it.mean, it.half()) if it else (0.0, 0.0))) for seats, it in found.items()])
+               for mode, found in less.items()]
     tops = "; ".join(f"under {mode} at {seats}" for mode, by_seats in less.items()
                      for seats, it in by_seats.items() if not it)
     words = ("What a season brings beside the authorised seats that earn most in each mode, with its 95 per cent "

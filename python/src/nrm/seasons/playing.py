@@ -123,8 +123,7 @@ def booking_of(mode: str, reply: bytes) -> int:
 
 def replies_with_cancellations(program: Program, mode: str, path: str, season: DrawnSeason,
                                clock: Clock) -> tuple[list[bytes], set[int]]:
-    """The replies to the lines of a season, without those to its cancellations, and the lines whose bookings were
-    cancelled."""
+    """The replies to a season's lines, without those to its cancellations, and which lines' bookings were cancelled."""
     with clock:
         playing = Cancelling(season, Dialogue(program, mode, path))
     try:
@@ -191,8 +190,7 @@ def refused_of(season: DrawnSeason, sales: Iterable[Requests]) -> dict[str, int]
 
 
 def shown_of(network: Network, season: DrawnSeason, stand: bytearray) -> dict[str, int] | None:
-    """The seats that are taken at departure, by leg, of the bookings of chosen lines; None if departures aren't
-    played."""
+    """The seats that chosen lines' bookings take at departure, by leg; None if departures aren't played."""
     if not season.shows:
         return None
     lines = itertools.compress(zip(season.lines, season.shows), stand)

@@ -221,8 +221,7 @@ class Study:
     # Networks that differ in authorised seats alone
 
     def authorised(self) -> tuple[str, dict[int, str]] | None:
-        """The leg whose authorised seats alone differ between the networks, and the names of these by its seats; else
-        None."""
+        """The leg whose authorised seats alone differ between the networks, and their names by these; else None."""
         networks = list(self.networks.values())
         alike = len({str([row[:3] + row[4:] if row[0] == "leg" else row for row in it.rows()]) for it in networks}) == 1
         legs = [leg for leg in networks[0].legs
@@ -239,8 +238,7 @@ class Study:
                 for seats, values in earned.items()}
 
     def by_authorised_seats(self, leg: str, names: Mapping[int, str]) -> Iterator[Table]:
-        """What each mode earns by the authorised seats of the leg, and how far that is from the most, season by
-        season."""
+        """What each mode earns by the authorised seats of the leg, and how far that is from the most."""
         for mode in self.settings.modes:
             rows: list[list[Cell]] = []
             for seats, less in self.less_than_most(mode, names).items():

@@ -1,5 +1,4 @@
-"""The rows that many seasons make: of a batch, which says who has played it, and of a network, kept in a folder as they
-come.
+"""The rows that many seasons make: of a batch, which says who has played it, and of a network, kept as they come.
 
 A batch is played by this machine or another, so it comes with the checksums of the program and of this package there,
 and who asked for it compares. May use: nrm, nrm.network, nrm.program, nrm.seasons.drawing, nrm.seasons.playing.
@@ -106,8 +105,7 @@ class Maker:
 
 
 def maker(program: Program) -> Maker:
-    """Who plays seasons here; the program's checksum is that of the file that its first word names, or of all that are
-    named."""
+    """Who plays seasons here; the program's checksum is that of the file, or of all files, that its words name."""
     first = shutil.which(program.words[0])
     if not first:
         raise Stop(f"`{program.words[0]}` can't be run: it isn't there, or not on the path")
@@ -134,8 +132,7 @@ def sum_of_file(path: str, _: tuple[int, ...]) -> str:
 
 @dataclass(frozen=True)
 class Batch:
-    """Seasons that were played: their rows, the time it took, and of that the time in the program, in seconds; or why
-    not. And by whom."""
+    """Seasons that were played: their rows, the seconds that took, those in the program, and by whom; or why not."""
     rows: str = ""
     seasons: int = 0
     seconds: float = 0.0
@@ -154,8 +151,7 @@ class Batch:
 
 @contextlib.contextmanager
 def no_collector() -> Iterator[None]:
-    """Leaves out Python's search for garbage in cycles, of which none is made here: it takes some per cent of the
-    time."""
+    """Leaves out Python's search for garbage in cycles, which takes some per cent of the time: none is made here."""
     was_on = gc.isenabled()
     gc.disable()
     try:
@@ -166,8 +162,7 @@ def no_collector() -> Iterator[None]:
 
 
 def play_batch(source: bytes, settings: Settings, words: Sequence[str], numbers: Iterable[int]) -> dict[str, Any]:
-    """The fields of the batch of some seasons on the network of a file's bytes, as plain as another package reads
-    them."""
+    """The fields of the batch of some seasons on a network file's bytes, as plain as another package reads them."""
     return dataclasses.asdict(batch_of(source, settings, words, list(numbers)))
 
 

@@ -1,5 +1,4 @@
-"""What is worked out of one network with the program's help: groups of fares, a leg by itself, a season in the three
-modes.
+"""What is worked out of one network with the program: groups of fares, a leg by itself, a season in three modes.
 
 May use: nothing.
 """

@@ -34,8 +34,7 @@ class FareClass:
 
 
 class Policy:
-    """How many seats are kept from each class, the highest fare first, and what is earned so, from each number of
-    seats."""
+    """How many seats are protected from each class, the highest fare first, and what each number of seats earns so."""
 
     def __init__(self, kept: Sequence[int], classes: Sequence[FareClass], seats: int) -> None:
         self.kept, self.values = list(kept), values(kept, classes, seats)
@@ -58,8 +57,7 @@ def values(kept: Sequence[int], classes: Sequence[FareClass], seats: int) -> lis
 
 
 class LegAlone:
-    """A leg of a network by itself: its rows and those of the products on it alone, the seats, the classes and the
-    optimum."""
+    """A leg by itself: its rows and those of the products on it alone, the seats, the classes and the optimum."""
 
     def __init__(self, path: str, leg: str, program: Program) -> None:
         network, rows = Network.read(path), fields_in(path)
@@ -76,8 +74,7 @@ class LegAlone:
         self.classes, self.optimal = program.told(functools.partial(self.optimum, network), "dp", path, leg)
 
     def optimum(self, network: Network, lines: list[str]) -> tuple[list[FareClass], Policy]:
-        """The classes and the protections by the lines of `nrm dp`; a ValueError where these don't earn the value
-        told."""
+        """The classes and the protections by the lines of `nrm dp`; a ValueError where they don't earn what is told."""
         told, histories = leg_value_of(self.name, lines), range(1, network.histories + 1)
         products = [network.products[name] for name, _ in told.classes]
         classes = [FareClass(it.name, it.fare, tuple(map(it.demand_in, histories))) for it in products]
@@ -91,8 +88,7 @@ class LegAlone:
         return self.optimal.values[-1]
 
     def file(self) -> str:
-        """The text of a network file of this leg and its classes alone, with a threshold at each fare but the
-        lowest."""
+        """The text of a network file of this leg and its classes, with a threshold at each fare but the lowest."""
         fares = sorted({it.fare for it in self.classes}, reverse=True)
         return text_of(with_thresholds(self.rows, {self.name: fares[:-1]}))
 

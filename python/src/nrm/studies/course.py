@@ -1,11 +1,7 @@
-"""The course of one season in the three modes: a stream with looks put in, what each mode answers, and the tables and
-the page of it.
+"""The course of one season in the three modes: a stream with looks put in, what each mode answers, tables and page.
 
-HOW REPLIES ARE TOLD APART. Before the first line, behind each line `reoptimise K` of a period that the network has, and
-behind the last line, the lines `plan`, `leg LEG` for each leg, and `hindsight` are put into the stream. None of them
-changes what any other line is answered. Each line has one reply, so the replies are dealt out to the lines in order,
-and those to the lines put in are taken away. May use: nrm, nrm.network, nrm.program, nrm.replies, nrm.telling.page,
-nrm.telling.tables.
+How the replies to the lines put in are told apart is said by the manual of the command `season`.
+May use: nrm, nrm.network, nrm.program, nrm.replies, nrm.telling.page, nrm.telling.tables.
 """
 from __future__ import annotations
 
@@ -27,8 +23,7 @@ UNFIT = "the replies don't fit the lines"
 
 @dataclass(frozen=True)
 class Asked:
-    """A line that is given to the program, the number of the stream's line that it is or follows, and whether it was
-    put in."""
+    """A line that the program is given, the number of the stream's line that it is or follows, and if it was put in."""
     number: int
     line: str
     is_put_in: bool
@@ -61,23 +56,13 @@ class LookedAt:
 @dataclass
 class Point:
     """What is told at one place of a season, behind a line of the stream: the plan in force, the seats sold, and the
-    bound with the revenue and what was withheld, if there is one."""
+    bound with the revenue and what was withheld, or None of these three where the bound's program is too large."""
     number: int
     plan: Plan
     sold: dict[str, int] = field(default_factory=dict)
-    hindsight: Hindsight | None = None
-
-    def bound(self) -> Fraction | None:
-        """The bound of hindsight; None if its program is too large."""
-        return self.hindsight.bound if self.hindsight else None
-
-    def revenue(self) -> int | None:
-        """The revenue of the bookings that stand; None where there is no bound."""
-        return self.hindsight.revenue if self.hindsight else None
-
-    def withheld(self) -> int | None:
-        """What was withheld of those that were cancelled; None where there is no bound."""
-        return self.hindsight.withheld if self.hindsight else None
+    bound: Fraction | None = None
+    revenue: int | None = None
+    withheld: int | None = None
 
 
 class Course:
@@ -103,8 +88,10 @@ class Course:
         if asked.line == "plan" and isinstance(answer, Plan):
             self.points.append(Point(asked.number, answer))
         elif asked.line == "hindsight":
-            self.points[-1].hindsight = answer if isinstance(answer, Hindsight) else None
-            if self.points[-1].sold != self.sold:
+            point = self.points[-1]
+            if isinstance(answer, Hindsight):
+                point.bound, point.revenue, point.withheld = answer.bound, answer.revenue, answer.withheld
+            if point.sold != self.sold:
                 raise NoAnswer(UNFIT)
         elif isinstance(answer, Leg):
             self.points[-1].sold[answer.name] = answer.sold
@@ -146,8 +133,7 @@ class Season:
 
     @classmethod
     def played(cls, path: str, stream_path: str, leg: str | None, program: Program) -> Season:
-        """The season of a network file and a stream at two paths, on one leg, or on the one of which most seats were
-        asked for."""
+        """The season of the files at two paths, on one leg, or on the one of which most seats were asked for."""
         network = Network.read(path)
         stream = LookedAt(bytes_in(stream_path), network)
         leg = leg or leg_most_asked_for(network, stream)
@@ -175,13 +161,12 @@ def leg_most_asked_for(network: Network, stream: LookedAt) -> str:
 def tables(season: Season, decimal: bool = False) -> Iterator[Table]:
     """The tables of a season."""
     courses, names, network = season.courses, season.stream.names(), season.network
-    revenues: list[list[Cell]] = [[name, *[it.points[at].revenue() for it in courses], courses[0].points[at].bound()]
+    revenues: list[list[Cell]] = [[name, *[it.points[at].revenue for it in courses], courses[0].points[at].bound]
                                   for at, name in enumerate(names)]
     yield Table("Revenue of the bookings that stand, and the bound of hindsight, in currency units",
-                ["", *MODES, "bound"], revenues,
-                decimal)
+                ["", *MODES, "bound"], revenues, decimal)
     if min(it.refund for it in network.products.values()) < 100:
-        withheld: list[list[Cell]] = [[name, *[it.points[at].withheld() for it in courses]]
+        withheld: list[list[Cell]] = [[name, *[it.points[at].withheld for it in courses]]
                                       for at, name in enumerate(names)]
         yield Table("Withheld of the bookings that were cancelled, in currency units", ["", *MODES], withheld, decimal)
     for it in courses[1:]:
@@ -214,15 +199,17 @@ def seats_table(season: Season, course: Course, decimal: bool) -> Table:
 def abouts(season: Season) -> dict[str, tuple[str, str]]:
     """What each picture shows, in words, for those who can't see it."""
     courses, leg = season.courses, season.leg
-    last = ", ".join(f"{it.mode} {it.points[-1].revenue():,}" for it in courses if it.points[-1].revenue() is not None)
+    sold = ", ".join(f"{it.mode} {it.course[-1]}" for it in courses)
+    last = ", ".join(f"{it.mode} {it.points[-1].revenue:,}" for it in courses if it.points[-1].revenue is not None)
     refused = ", ".join(f"{it.mode} {sum(it.refused.values()):,}" for it in courses)
-    return {"bid-prices": ("Bid prices", "The bid price of each leg over the season, under bid and under davn; the "
-                           "tables have each number."),
-            "seats": (f"The seats of {leg}", "In each mode the seats sold, those left, and those protected by bucket, "
-                      f"behind each line. Sold at the end: {', '.join(f'{it.mode} {it.course[-1]}' for it in courses)}."),
-            "revenue": ("Revenue", f"The revenue of each mode beside the bound of hindsight. At the end: {last}."),
-            "refused": ("Refusals", "Of each product the share of its requests that was refused. In all were refused: "
-                        f"{refused}, of {sum(courses[0].asked.values()):,}.")}
+    return {
+        "bid-prices": ("Bid prices", "The bid price of each leg over the season, under bid and under davn; the tables "
+                       "have each number."),
+        "seats": (f"The seats of {leg}", "In each mode the seats sold, those left, and those protected by bucket, "
+                  f"behind each line. Sold at the end: {sold}."),
+        "revenue": ("Revenue", f"The revenue of each mode beside the bound of hindsight. At the end: {last}."),
+        "refused": ("Refusals", "Of each product the share of its requests that was refused. In all were refused: "
+                    f"{refused}, of {sum(courses[0].asked.values()):,}.")}
 
 
 def page(season: Season, told: Sequence[Table], pictures: Sequence[str]) -> str:

@@ -128,9 +128,9 @@ def revenue(season: Season) -> Figure:
     figure, (axis,) = panels(1, 1, 2.8, 2, left=0.85)
     mark_plans(axis, season)
     first = season.courses[0].points
-    last, handles = first[-1].bound(), []
-    courses: dict[str, list[tuple[int, Any]]] = {"bound": [(point.number, point.bound()) for point in first]}
-    courses.update({it.mode: [(point.number, point.revenue()) for point in it.points] for it in season.courses})
+    last, handles = first[-1].bound, []
+    courses: dict[str, list[tuple[int, Any]]] = {"bound": [(point.number, point.bound) for point in first]}
+    courses.update({it.mode: [(point.number, point.revenue) for point in it.points] for it in season.courses})
     for name, course in courses.items():
         drawn = [(number, float(amount)) for number, amount in course if amount is not None]
         share = f", at the end {100 * drawn[-1][1] / float(last):.0f} % of it" if last and name != "bound" else ""

@@ -52,8 +52,7 @@ def groupings(path: str, network: Network, groups: int, program: Program) -> Ite
 
 
 def grouping(leg: str, asked: dict[int, int], lines: Sequence[str]) -> Grouping:
-    """The grouping of a leg by the lines of `nrm cuts`; a ValueError where they name a fare that isn't one of the
-    leg's."""
+    """The grouping of a leg by the lines of `nrm cuts`; a ValueError where they name a fare that the leg hasn't."""
     cuts = cuts_of(leg, lines)
     if not {*cuts.thresholds, *cuts.centres} <= asked.keys():
         raise ValueError(leg)

@@ -20,8 +20,7 @@ OPTIMUM, EMSR = ({"color": BLUE, "linestyle": "-"}, "s",
 
 
 def thresholds(groupings: Sequence[Grouping]) -> Figure:
-    """The fares on each leg, as high as the seats that were asked for, in their groups, with the cuts and the
-    centres."""
+    """The fares on each leg, as high as the seats asked for, in their groups, with the cuts and the centres."""
     figure, axes = panels(len(groupings), 3, 1.35, 1, across=0.3, share_x=False, share_y=False)
     for axis, it in zip(axes, groupings):
         draw_fares(axis, it)
@@ -53,8 +52,7 @@ def draw_fares(axis: Axes, it: Grouping) -> None:
 
 
 def optimum(classes: Sequence[FareClass], optimal: Policy, emsr: Policy) -> Figure:
-    """The mean revenue from each number of seats, what the last of them adds, and the seats that are kept from each
-    class."""
+    """The mean revenue from each number of seats, what the last one adds, and the seats protected from each class."""
     figure, (value, price, kept) = panels(3, 1, 1.9, 1, left=1.35, share_y=False)
     looks = [(optimal, OPTIMUM), (emsr, EMSR)]
     for (policy, (look, mark, _)), shift in zip(looks, (-0.12, 0.12)):

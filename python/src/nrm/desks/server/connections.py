@@ -93,8 +93,7 @@ class Client(asyncio.BufferedProtocol):
         return True  # the replies are still to be sent
 
     def take(self) -> None:
-        """Has as many lines given to the program as may be asked at a time; after one that can take long no other
-        before its reply."""
+        """Has as many lines given as may be asked at a time; after one that can take long no other before its reply."""
         room = 0 if self.is_working or self.full_since or not self.transport else MOST_ASKED - self.asked
         if room > 0 and (stop := self.left.rfind(b"\n") + 1):
             if stop > room and self.left.count(b"\n", 0, stop) > room:
@@ -111,8 +110,7 @@ class Client(asyncio.BufferedProtocol):
             self.look_at_what_is_left()
 
     def look_at_what_is_left(self) -> None:
-        """Sees that it begins with no line that is too long, and reads no more while a piece waits, so that memory is
-        bounded."""
+        """Sees that it begins with no line that is too long, and reads no more while a piece waits."""
         longest = self.hub.limits.longest
         if len(self.left) > longest and self.left.find(b"\n", 0, longest + 1) < 0:
             self.leave("long")

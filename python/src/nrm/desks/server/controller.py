@@ -25,8 +25,7 @@ TEXT_LINE = re.compile(rb"^(?:plan|leg [A-Z0-9-]{1,12})\r?\n", re.MULTILINE)  # 
 
 
 def with_marks(data: bytes) -> bytes:
-    """Whole lines with an empty one behind each whose reply may have several lines: its reply `bad` shows that the
-    other is whole."""
+    """Whole lines, an empty one behind each whose reply may have several: its reply `bad` shows the other whole."""
     return TEXT_LINE.sub(rb"\g<0>\n", data)
 
 
@@ -67,8 +66,7 @@ class Controller:
         self.input, self.output = self.pipe.fileno(), self.process.stdout.fileno()
 
     def ask_all(self, lines: Iterable[bytes], count: int) -> bytes:
-        """Gives it so many lines before there are clients, and an empty one, and waits for all replies. Gives the last
-        line's."""
+        """Gives it so many lines before there are clients, and an empty one, and waits. Gives the last line's reply."""
         threading.Thread(target=self.feed, args=(lines,), daemon=True).start()
         answered, last = 0, [b"", b""]
         while answered <= count and (piece := self.heard()):

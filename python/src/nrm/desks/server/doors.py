@@ -34,8 +34,7 @@ class SocketPath:
         self.lock = self.locked()
 
     def locked(self) -> io.FileIO:
-        """The file of the lock. One that its run took away when it ended isn't the one that is there now, and is opened
-        anew."""
+        """The file of the lock. One that its run took away as it ended isn't the one that is there: it tries anew."""
         for _ in range(MOST_TRIES):
             file = opened(self.lock_path, os.O_CREAT | os.O_NOFOLLOW)
             if not is_locked(file):
@@ -52,8 +51,7 @@ class SocketPath:
         return False
 
     def listener(self, mode: int) -> socket.socket:
-        """A socket that is bound to the path. One that nobody listens on is left from a run that was killed, and
-        goes."""
+        """A socket that is bound to the path. One that nobody listens on is left from a killed run, and goes."""
         self.see_that_it_is_free()
         listener = socket.socket(socket.AF_UNIX)
         before = os.umask(0o177)
@@ -83,8 +81,7 @@ class SocketPath:
             raise Stop(f"another process listens on {self.path}")
 
     def unlink(self) -> None:
-        """Takes the socket away, if it is the one that was bound. That is still open, so that no other has its
-        inode."""
+        """Takes the socket away if it is the one that was bound, which is still open: so no other has its inode."""
         if self.bound and self.is_there(self.path, self.bound):
             os.unlink(self.path)
         self.bound = None

@@ -1,5 +1,4 @@
-"""What stands between the clients and the program: lines that wait, lines that were given, and who waits for which
-reply.
+"""What stands between the clients and the program: lines that wait, lines that were given, and who waits for a reply.
 
 May use: nrm, nrm.desks.server, nrm.desks.server.connections, nrm.desks.server.controller, nrm.desks.server.journal,
 nrm.program, nrm.replies.
@@ -30,8 +29,7 @@ Batch = Sequence[Tuple[Client, bytes, int]]  # who sent which lines, and how man
 
 
 class Hub:
-    """What stands between the clients and the program: lines that wait, lines that were given, and who waits for which
-    reply."""
+    """Takes lines of clients, gives them to the program, and deals its replies."""
 
     def __init__(self, controller: Controller, journal: Journal | None, limits: Limits) -> None:
         self.loop = cast(asyncio.BaseEventLoop, asyncio.get_running_loop())
@@ -271,9 +269,8 @@ class Hub:
         self.unread, self.turned_away, self.no_more = 0, 0, None
 
     def look_at_the_program(self) -> None:
-        """Ends a program that hasn't answered for too long. Seconds are counted, so that none is in which this process
-        was stopped."""
-        self.silent += 1
+        """Ends a program that hasn't answered for too long."""
+        self.silent += 1  # a second: so none counts in which this process was stopped
         if self.silent == math.ceil(self.limits.slow) + 1:
             log(f"the program hasn't answered for {self.limits.slow:g} seconds; after {self.limits.answer:g} it is "
                 "ended")

@@ -1,5 +1,4 @@
-"""The journal: each line is on the disk before the program gets it, and beside it are the numbers of those that changed
-nothing.
+"""The journal: each line is on the disk before the program gets it, with the numbers of those that changed nothing.
 
 Both are plain files, and those that are made are for their owner alone. May use: nrm.
 """
@@ -53,8 +52,7 @@ class Lines:
         self.size = self.count = self.torn = 0  # as `look` finds them
 
     def begin(self) -> None:
-        """Looks at what it has, cuts off what stands behind its last line feed, and sees that its name is on the
-        disk."""
+        """Looks at what it has, cuts off what is behind its last line feed, and sees that its name is on the disk."""
         self.size, self.count, self.torn = self.look()
         if self.torn:
             self.cut()
@@ -132,8 +130,7 @@ class Journal(Lines):
                 yield (last := number)
 
     def again(self, wanted: bytes) -> Iterator[bytes]:
-        """The lines that are given again: those that may have changed something, all or those that begin with the words
-        wanted."""
+        """The lines that are given again: those that may have changed something and begin with some words."""
         with open(self.path, "rb") as file:
             yield from (line for number, line in enumerate(file, 1) if number not in self.void
                         and line.startswith(wanted))

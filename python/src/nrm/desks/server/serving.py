@@ -1,5 +1,4 @@
-"""A server from its beginning to its end: the journal's lines are given again, clients are taken, and a status is
-given.
+"""A server from beginning to end: the journal's lines are given again, clients are taken, and a status is given.
 
 May use: nrm, nrm.desks.server, nrm.desks.server.connections, nrm.desks.server.controller, nrm.desks.server.doors,
 nrm.desks.server.hub, nrm.desks.server.journal.
@@ -39,8 +38,7 @@ class Places:
 
 @dataclass(frozen=True)
 class Server:
-    """The words of the program, where clients come, the journal's file, which of its lines are given again, and the
-    limits."""
+    """The words of the program, where clients come, the journal, which of its lines are given again, and the limits."""
     words: Sequence[str]
     places: Places
     journal: str | None = None
@@ -60,20 +58,30 @@ class Server:
             if journal:
                 give_again(controller, journal, self.again or again_of(self.words))
             listeners += [path.listener(places.rights)] if path else []
-            return asyncio.run(serve(Made(controller, journal, listeners, path, self.limits)))
+            return asyncio.run(self.serve(controller, journal, listeners, path))
         finally:
             if path:
                 path.leave()
 
-
-@dataclass(frozen=True)
-class Made:
-    """What stands before the first client comes."""
-    controller: Controller
-    journal: Journal | None
-    listeners: Sequence[socket.socket]
-    path: SocketPath | None
-    limits: Limits
+    async def serve(self, controller: Controller, journal: Journal | None, listeners: Sequence[socket.socket],
+                    path: SocketPath | None) -> int:
+        """Takes clients until the program ends, and gives the status."""
+        hub = Hub(controller, journal, self.limits)
+        for name in (signal.SIGTERM, signal.SIGINT, signal.SIGHUP):
+            hub.loop.add_signal_handler(name, hub.stop)
+        doors = [Door(hub, it) for it in listeners]
+        hub.look()
+        status = await hub.ended
+        if path:
+            path.unlink()
+        for door in doors:
+            door.close()
+        stop_at = hub.loop.time() + self.limits.slow
+        while hub.clients and hub.loop.time() < stop_at:
+            await asyncio.sleep(0.02)  # what was answered is still to be sent
+        if hub.fault:
+            log(hub.fault)
+        return status
 
 
 def allow_files(count: int) -> None:
@@ -106,22 +114,3 @@ def give_again(controller: Controller, journal: Journal, again: str) -> None:
     if journal.count:
         log(f"{count} lines given again, of {journal.count} in {journal.path}")
 
-
-async def serve(made: Made) -> int:
-    """Takes clients until the program ends, and gives the status."""
-    hub = Hub(made.controller, made.journal, made.limits)
-    for name in (signal.SIGTERM, signal.SIGINT, signal.SIGHUP):
-        hub.loop.add_signal_handler(name, hub.stop)
-    doors = [Door(hub, it) for it in made.listeners]
-    hub.look()
-    status = await hub.ended
-    if made.path:
-        made.path.unlink()
-    for door in doors:
-        door.close()
-    stop_at = hub.loop.time() + made.limits.slow
-    while hub.clients and hub.loop.time() < stop_at:
-        await asyncio.sleep(0.02)  # what was answered is still to be sent
-    if hub.fault:
-        log(hub.fault)
-    return status
