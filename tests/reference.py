@@ -896,30 +896,43 @@ def is_groups(word):
     return bool(WHOLE.fullmatch(word.encode())) and len(word) <= 2 and 1 <= int(word) <= MOST_GROUPS
 
 
+def is_mode(word):
+    return word in ("first", "bid", "davn")
+
+
+def is_any(_):
+    return True
+
+
+def checked(path, certificate):
+    """The texts of a check."""
+    network = network_in(path)
+    certificate = certificate_of(network, bytes_of(certificate, "refused certificate no file"))
+    if wrong := verdict(Program.to_come(network), certificate):
+        raise Ended(wrong, 1)
+    return [b"optimal\n"]
+
+
+COMMANDS = {  # by the first word: what each of the others must be, and the texts that are written
+    "run": ([is_mode, is_any], lambda mode, path: replies(Session(network_in(path), mode))),
+    "plan": ([is_mode, is_any], lambda mode, path: [Session(network_in(path), mode).plan()]),
+    "check": ([is_any, is_any], checked),
+    "print": ([is_any], lambda path: [canonical(network_in(path))]),
+    "gen": ([is_mode, is_number], lambda mode, number: [summary(mode, int(number))]),
+    "cuts": ([is_any, is_name, is_groups],
+             lambda path, leg, groups: [cuts_text(network_in(path), leg.encode(), int(groups))]),
+    "dp": ([is_any, is_name], lambda path, leg: [dp_text(network_in(path), leg.encode())]),
+    "stream": ([is_mode, is_any, is_any, is_any],
+               lambda mode, path, seed, count: [made_stream(Session(network_in(path), mode), int(seed), int(count))])}
+
+
 def told(words):
     """The texts that are written, one after the other, where all is done."""
-    match words:
-        case ["run", "first" | "bid" | "davn" as mode, path]:
-            return replies(Session(network_in(path), mode))
-        case ["plan", "first" | "bid" | "davn" as mode, path]:
-            return [Session(network_in(path), mode).plan()]
-        case ["check", path, certificate]:
-            network = network_in(path)
-            certificate = certificate_of(network, bytes_of(certificate, "refused certificate no file"))
-            if wrong := verdict(Program.to_come(network), certificate):
-                raise Ended(wrong, 1)
-            return [b"optimal\n"]
-        case ["print", path]:
-            return [canonical(network_in(path))]
-        case ["gen", "first" | "bid" | "davn" as mode, number] if is_number(number):
-            return [summary(mode, int(number))]
-        case ["cuts", path, leg, groups] if is_name(leg) and is_groups(groups):
-            return [cuts_text(network_in(path), leg.encode(), int(groups))]
-        case ["dp", path, leg] if is_name(leg):
-            return [dp_text(network_in(path), leg.encode())]
-        case ["stream", "first" | "bid" | "davn" as mode, path, seed, count]:
-            return [made_stream(Session(network_in(path), mode), int(seed), int(count))]
-    raise Ended(USAGE, 2)
+    verb, *rest = words or [""]
+    wanted, texts = COMMANDS.get(verb, ([], None))
+    if not texts or len(rest) != len(wanted) or not all(fits(word) for fits, word in zip(wanted, rest)):
+        raise Ended(USAGE, 2)
+    return texts(*rest)
 
 
 def words_given():
@@ -945,6 +958,8 @@ def put(text):
 
 
 def main():
+    if hasattr(sys, "set_int_max_str_digits"):
+        sys.set_int_max_str_digits(0)  # a field may have more digits than Python reads of its own accord
     try:
         for text in told(words_given()):
             put(text)

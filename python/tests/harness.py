@@ -14,16 +14,18 @@ import sys
 import tempfile
 import unittest
 from pathlib import Path
-from typing import NamedTuple
+from typing import Callable, NamedTuple, TypeVar
 
 from nrm import Stop
 from nrm.program import Program
+from nrm.telling.libraries import is_there
 
 TOP = Path(__file__).resolve().parents[2]
 EXAMPLES, SOURCES = TOP / "examples", TOP / "python" / "src"
 SECONDS = 60
 MOST_SHOWN = 600
 BLINDED = ("matplotlib", "jinja2")
+Test = TypeVar("Test")
 
 
 @functools.lru_cache(None)
@@ -36,6 +38,13 @@ def program() -> Program:
         if given:
             raise
         raise unittest.SkipTest(str(why))
+
+
+def needs(*libraries: str) -> Callable[[Test], Test]:
+    """Has a test skipped where one of some libraries isn't there."""
+    without = [it for it in libraries if not is_there(it)]
+    names, packages = " and no ".join(without), " and ".join(f"python3-{it}" for it in without)
+    return unittest.skipIf(without, f"there is no {names} (Debian has {packages})")
 
 
 class Done(NamedTuple):

@@ -4,6 +4,8 @@ from __future__ import annotations
 import random
 from typing import Iterable, Sequence
 
+import reference
+
 FEW = "periods,2,1\nleg,A,1\nproduct,P,5,A\n"
 SECOND = """periods,2,2,2
 leg,AB,3,5,300,90
@@ -43,6 +45,5 @@ def made_timetable(draw: random.Random, parts: Sequence[int]) -> tuple[list[list
 
 def reference_replies(mode: str, network: str, lines: Iterable[str]) -> list[str]:
     """What `tests/reference.py` answers."""
-    import reference  # here, since it takes a later Python than the package does
     session = reference.Session(reference.network_of(network.encode()), mode)
     return [session.reply(line.encode()).decode() for line in lines]

@@ -46,6 +46,9 @@ def is_sold(desk: Desk, product: str, party: int) -> bool:
     return isinstance(desk.book(product, party), Sold)
 
 
+OWN_TIMEOUT = socket.timeout  # of the Python that runs, which is a TimeoutError from 3.10 on
+
+
 class OldTimeout(OSError):
     """What a socket raises under Python 3.9 when its time is over: no TimeoutError."""
 
@@ -70,7 +73,7 @@ class OldSocket(socket.socket):
 def old_timeouts() -> Iterator[None]:
     try:
         yield
-    except TimeoutError as over:
+    except (TimeoutError, OWN_TIMEOUT) as over:
         raise OldTimeout(*over.args)
 
 

@@ -10,6 +10,7 @@ import unittest
 from fractions import Fraction
 from typing import Sequence
 
+import reference
 from harness import PlaceTest
 from nrm import bytes_in
 from nrm.network import Network, Row, rows_of
@@ -88,7 +89,6 @@ class Played(PlaceTest):
 
     def test_cancellations_are_of_bookings_that_stand(self) -> None:
         """By the program that was written apart, `tests/reference.py`, asked line by line."""
-        import reference  # here, since it takes a later Python than the package does
         network, settings, cancelled = Network.read(LOG), Settings(cancel=0.4, parties=((1, 1), (3, 1))), 0
         for number in range(6):
             season = drawn_season(network, settings, random.Random(number))

@@ -1,36 +1,16 @@
-"""Pages stand alone, and show in a browser; pictures are the same bytes each time; what isn't there for them is
-told."""
+"""Pages stand alone, and show in a browser; pictures are the same bytes each time; what is missing is told."""
 from __future__ import annotations
 
-import html.parser
 import re
 import shutil
-import subprocess
-import unittest
 from pathlib import Path
 
-from harness import EXAMPLES
+from elements import Elements
+from harness import EXAMPLES, needs
 from nrm.seasons.drawing import Settings
-from nrm.telling.libraries import is_there
 from seasons.clusters import LOG, SECONDS, SimulateTest, by_one_process, needs_dask
 
 PICTURES = {"shares", "differences-bid-first", "differences-davn-first", "differences-davn-bid"}
-
-
-class Reader(html.parser.HTMLParser):
-    """What a page is made of."""
-
-    def __init__(self, text: str) -> None:
-        super().__init__()
-        self.tags: list[tuple[str, dict[str, str | None]]] = []
-        self.feed(text)
-
-    def handle_starttag(self, tag: str, attributes: list[tuple[str, str | None]]) -> None:
-        self.tags.append((tag, dict(attributes)))
-
-    def all(self, name: str) -> list[dict[str, str | None]]:
-        """The attributes of each element of a name."""
-        return [attributes for tag, attributes in self.tags if tag == name]
 
 
 @needs_dask
@@ -41,7 +21,7 @@ class Pages(SimulateTest):
         self.file(f"{name}/network-seasons.csv", by_one_process(self.program, LOG, Settings(), 8))
         return self.simulated(LOG, "--seasons", 8, "--out", name, **more)
 
-    @unittest.skipUnless(is_there("jinja2") and is_there("matplotlib"), "there is no jinja2 or no matplotlib")
+    @needs("matplotlib", "jinja2")
     def test_pages_stand_alone(self) -> None:
         self.told_of_eight("page", env=None)
         self.told("season", LOG, EXAMPLES / "log" / "commands.txt", "--out", "page", *self.with_program, env=None,
@@ -49,11 +29,11 @@ class Pages(SimulateTest):
         for name in ("simulate", "season"):
             path = self.folder / "page" / f"{name}.html"
             text = path.read_text()
-            page = Reader(text)
+            page = Elements(text)
             found = page.all("html"), len(page.all("h1")), page.all("script"), len(page.all("svg"))
             self.assertEqual(found, ([{"lang": "en"}], 1, [], 4), name)
             self.assertEqual(re.findall(r"""(?:src|href)=["'](?!#)[^"']*|@import|url\((?!#)""", text), [], name)
-            ids = [it["id"] for _, it in page.tags if "id" in it]
+            ids = page.values("id")
             self.assertEqual(len(ids), len(set(ids)), f"{name}: names on the page")
             for it in page.all("svg"):
                 self.assertEqual((it.get("role"), set(str(it["aria-labelledby"]).split()) <= set(ids)),
@@ -64,17 +44,18 @@ class Pages(SimulateTest):
             self.open(path)
 
     def open(self, path: Path) -> None:
-        """Opens a page in Chromium, if that is there, wide and narrow, and sees that it draws something."""
-        chromium = shutil.which("chromium")
-        for width in (1200, 390) if chromium else ():
-            picture = self.folder / f"{path.stem}-{width}.png"
-            subprocess.run([str(chromium), "--headless", "--no-sandbox", "--disable-gpu",
-                            f"--user-data-dir={self.folder}/chromium",
-                            f"--window-size={width},900", f"--screenshot={picture}", path.as_uri()],
-                           capture_output=True, timeout=SECONDS)
-            self.assertTrue(picture.exists() and picture.stat().st_size > 5000, f"{path.name} at {width}")
+        """Opens a page in Chromium, wide and narrow, and sees that it draws something."""
+        for width in (1200, 390):
+            with self.subTest(f"{path.name} at {width}"):
+                if not shutil.which("chromium"):
+                    self.skipTest("no page was opened: there is no Chromium (Debian's package is chromium)")
+                picture = self.folder / f"{path.stem}-{width}.png"
+                self.finished("chromium", "--headless", "--no-sandbox", "--disable-gpu", f"--window-size={width},900",
+                              f"--user-data-dir={self.folder}/chromium", f"--screenshot={picture}", path.as_uri(),
+                              timeout=SECONDS)
+                self.assertTrue(picture.exists() and picture.stat().st_size > 5000, path.name)
 
-    @unittest.skipUnless(is_there("matplotlib"), "there is no matplotlib (Debian's package is python3-matplotlib)")
+    @needs("matplotlib")
     def test_pictures_are_the_same_bytes_each_time(self) -> None:
         found = []
         for name in ("one", "two"):

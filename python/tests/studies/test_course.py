@@ -3,9 +3,8 @@ from __future__ import annotations
 
 import os
 import sys
-import unittest
 
-from harness import EXAMPLES, PlaceTest
+from harness import BLINDED, EXAMPLES, PlaceTest, needs
 from made import OF_REFUNDS, SECOND, reference_replies
 from nrm.telling.libraries import is_there
 
@@ -24,7 +23,7 @@ class Courses(PlaceTest):
         self.want_in(decimal, "  end        1240  2110  2840  2920.00\n")
         self.assertNotIn("/", decimal, "fractions in decimals")
 
-    @unittest.skipUnless(is_there("jinja2"), "there is no jinja2 (Debian's package is python3-jinja2)")
+    @needs("jinja2")
     def test_a_page_has_the_tables_and_the_pictures_that_there_are(self) -> None:
         path = self.folder / "pictures" / "season.html"
         out = self.told("season", *self.words("log"), env=os.environ)
@@ -38,7 +37,7 @@ class Courses(PlaceTest):
         self.want_in(page, '<tr><th scope="row">end</th><td>1240</td><td>2110</td><td>2840</td><td>2920.00</td></tr>')
         self.assertEqual(page.count("<svg "), 0)
 
-    @unittest.skipUnless(is_there("matplotlib"), "there is no matplotlib (Debian's package is python3-matplotlib)")
+    @needs("matplotlib")
     def test_pictures_are_the_same_bytes_again(self) -> None:
         found = []
         for _ in range(2):
@@ -79,10 +78,11 @@ class Courses(PlaceTest):
         self.assertEqual(plain.partition("Revenue")[2], more.partition("Revenue")[2])
 
     def test_says_what_isnt_made_and_which_python_may_have_it(self) -> None:
-        for libraries, wanted in ((["matplotlib"], "no pictures, since "),
-                                  (["matplotlib", "jinja2"], "no pictures and no page, since ")):
-            err = self.ran("season", *self.words("log"), env=self.blind(*libraries)).err
-            self.want_in(err, f"nrm-tools season: {wanted}{sys.executable}, the Python that was asked, has no "
-                              f"{' and no '.join(libraries)}; ")
-            for library in libraries:
+        for blinded in (["matplotlib"], ["matplotlib", "jinja2"]):
+            err = self.ran("season", *self.words("log"), env=self.blind(*blinded)).err
+            without = [it for it in BLINDED if it in blinded or not is_there(it)]
+            made = "no pictures and no page" if len(without) > 1 else "no pictures"
+            self.want_in(err, f"nrm-tools season: {made}, since {sys.executable}, the Python that was asked, has no "
+                              f"{' and no '.join(without)}; ")
+            for library in without:
                 self.want_in(err, f"python3-{library}")

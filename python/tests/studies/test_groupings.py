@@ -2,10 +2,8 @@
 from __future__ import annotations
 
 import os
-import unittest
 
-from harness import EXAMPLES, PlaceTest
-from nrm.telling.libraries import is_there
+from harness import EXAMPLES, PlaceTest, needs
 
 FARES_OF_LEGS = """periods,2,2,2
 leg,AB,9,8,700,1
@@ -54,7 +52,7 @@ class Groupings(PlaceTest):
                           "  1       400      6     400",
                           "  2       150     10     150", ""])
 
-    @unittest.skipUnless(is_there("matplotlib"), "there is no matplotlib (Debian's package is python3-matplotlib)")
+    @needs("matplotlib")
     def test_are_drawn(self) -> None:
         words = [self.file("network.csv", FARES_OF_LEGS), 2, "--pictures", "pictures", *self.with_program]
         self.want_in(self.told("thresholds", *words, env=os.environ),

@@ -29,9 +29,11 @@ def lacks(libraries: Sequence[str]) -> str:
     """A sentence that says that this Python lacks some libraries, and which of Debian's packages have them."""
     names, packages = " and no ".join(KNOWN_AS.get(it, it) for it in libraries), [f"python3-{it}" for it in libraries]
     if is_debians():
-        return f"{sys.executable} has no {names}; `apt-get install {' '.join(packages)}` installs what is missing"
-    return (f"{sys.executable}, the Python that was asked, has no {names}; Debian's {' and '.join(packages)} "
-            f"{'are' if len(packages) > 1 else 'is'} for {DEBIANS_PYTHON}: NRM_PYTHON={DEBIANS_PYTHON} nrm-tools ..")
+        advice = f"`apt-get install {' '.join(packages)}` installs what is missing"
+    else:
+        advice = (f"Debian's {' and '.join(packages)} {'are' if len(packages) > 1 else 'is'} for {DEBIANS_PYTHON}: "
+                  f"NRM_PYTHON={DEBIANS_PYTHON} nrm-tools ..")
+    return f"{sys.executable}, the Python that was asked, has no {names}; {advice}"
 
 
 def missing(libraries: Sequence[str]) -> str:
