@@ -12,6 +12,7 @@ import shlex
 import subprocess
 import sys
 import tempfile
+import time
 import unittest
 from pathlib import Path
 from typing import Callable, NamedTuple, TypeVar
@@ -45,6 +46,15 @@ def needs(*libraries: str) -> Callable[[Test], Test]:
     without = [it for it in libraries if not is_there(it)]
     names, packages = " and no ".join(without), " and ".join(f"python3-{it}" for it in without)
     return unittest.skipIf(without, f"there is no {names} (Debian has {packages})")
+
+
+def wait_for(condition: Callable[[], object], what: str, seconds: float = SECONDS) -> None:
+    """Waits for something, but not for long."""
+    until = time.monotonic() + seconds
+    while not condition():
+        if time.monotonic() > until:
+            raise AssertionError(f"{what} doesn't come")
+        time.sleep(0.01)
 
 
 class Done(NamedTuple):

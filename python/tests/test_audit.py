@@ -1,5 +1,4 @@
-"""The auditor's command, which shares nothing with the program, on the certificates of the cases and of other
-solvers."""
+"""The auditor's command, which shares nothing with the program, on certificates of the cases and of other solvers."""
 from __future__ import annotations
 
 import re
@@ -93,9 +92,7 @@ class Audits(PlaceTest):
     def test_the_command_is_that_file(self) -> None:
         words = EXAMPLES / "certificate" / "network.csv", EXAMPLES / "certificate" / "certificate.txt"
         told = self.told("audit", *words)
-        self.assertEqual(told,
-                         subprocess.run([sys.executable, audit.__file__, *words], stdout=subprocess.PIPE,
-                                        text=True).stdout)
+        self.assertEqual(told, self.finished(sys.executable, audit.__file__, *words).out)
         self.assertEqual(told.splitlines()[-1], "optimal")
 
     def test_of_each_network_that_a_case_prints_is_read_what_is_read_of_the_canonical_one(self) -> None:
@@ -119,5 +116,5 @@ class Audits(PlaceTest):
             for (name, _, value), found in zip(wanted, pool.map(lambda it: solved(it[1]), wanted)):
                 self.assertIsNotNone(found, f"{name}: glpsol found no optimal value")
                 histories, total = found
-                self.assertLessEqual(abs(total - histories * value),
-                                     Fraction(1, 10**9) * max(1, histories * value), name)
+                wanted_total = histories * value
+                self.assertLessEqual(abs(total - wanted_total), Fraction(1, 10**9) * max(1, wanted_total), name)

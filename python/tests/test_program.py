@@ -4,12 +4,11 @@ from __future__ import annotations
 
 import os
 import shutil
-import subprocess
 import sys
 import tempfile
 from pathlib import Path
 
-from harness import EXAMPLES, SOURCES, PlaceTest
+from harness import EXAMPLES, SOURCES, Done, PlaceTest
 from nrm import Stop
 from nrm.program import Dialogue, Program, Stream
 
@@ -41,20 +40,16 @@ class Finding(PlaceTest):
         return str(path)
 
     def asked(self, path: str, *words: str, name: str = "thresholds",
-              asks: tuple[str, ...] = (NETWORK, "2")) -> tuple[str, str, int]:
-        """What a command tells that runs the program, such as the lines of `nrm cuts`, which no program here
-        answers."""
-        done = subprocess.run([sys.executable, self.top / "python" / "src", name, *asks, *words], cwd=self.folder,
-                              env={**os.environ, "PATH": path}, capture_output=True, text=True)
+              asks: tuple[str, ...] = (NETWORK, "2")) -> Done:
+        """What a command tells that runs the program, as by lines of `nrm cuts`, which no program here answers."""
+        tools = self.top / "python" / "src"
+        done = self.finished(sys.executable, tools, name, *asks, *words, env={**os.environ, "PATH": path})
         self.assertFalse((self.folder / "building").exists(), "something was built")
-        return done.stdout, done.stderr, done.returncode
+        return done
 
     def version(self, path: str) -> str:
         """The program that `--version` tells, which is the one that commands run."""
-        done = subprocess.run([sys.executable, self.top / "python" / "src", "--version"], cwd=self.folder,
-                              env={**os.environ, "PATH": path}, capture_output=True, text=True)
-        self.assertFalse((self.folder / "building").exists(), "something was built")
-        return done.stdout.splitlines()[1]
+        return self.asked(path, name="--version", asks=()).out.splitlines()[1]
 
     def test_the_built_program_is_taken_unless_it_is_older_than_its_sources(self) -> None:
         other = self.executable(self.folder / "bin" / "nrm", ANSWERS.format("other"))
@@ -149,7 +144,8 @@ class Runs(PlaceTest):
 
     def test_a_run_that_fails_is_told_with_its_status_and_its_line(self) -> None:
         refused = self.file("refused.csv", "periods,1,1\nleg,a,1\n")
-        sentence = f"`run bid {refused}` ended with status 3: refused row 2 why 5 name; `nrm-tools explain` tells every row of a network"
+        sentence = (f"`run bid {refused}` ended with status 3: refused row 2 why 5 name; "
+                    "`nrm-tools explain` tells every row of a network")
         for run in (lambda: self.program.replies("bid", refused, b""),
                     lambda: self.program.replies_of_a_line("bid", refused, b"")):
             with self.assertRaises(Stop) as stop:
@@ -169,6 +165,4 @@ class Runs(PlaceTest):
 
     def test_the_checksum_is_that_of_the_file(self) -> None:
         found = Program((sys.executable,)).checksum()
-        self.assertEqual(found,
-                         subprocess.run(["sha256sum", sys.executable], capture_output=True,
-                                        text=True).stdout.split()[0])
+        self.assertEqual(found, self.finished("sha256sum", sys.executable).out.split()[0])

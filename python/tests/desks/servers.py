@@ -1,19 +1,18 @@
-"""What the tests of desks stand on: a server on a journal, over the program or over one in its place, and clients that
-ask it."""
+"""What the tests of desks stand on: a server, over the program or over one in its place, and clients that ask it."""
 from __future__ import annotations
 
 import contextlib
+import errno
 import os
 import resource
 import signal
 import socket
 import subprocess
 import sys
-import time
 from pathlib import Path
 from typing import Callable, Mapping, Sequence, TypeVar
 
-from harness import EXAMPLES, SECONDS, SOURCES, PlaceTest
+from harness import EXAMPLES, SECONDS, SOURCES, PlaceTest, wait_for
 from nrm.replies import whole_replies
 
 HUB = str(EXAMPLES / "hub" / "network.csv")
@@ -32,26 +31,25 @@ class Server:
     """A run of the command in a folder, or of other words that come to run it."""
 
     def __init__(self, folder: Path, words: Sequence[str], *options: str, path: Path | None = None,
-                 journal: object = None,
-                 limit: Callable[[], object] | None = None, status: int | None = None,
-                 variables: Mapping[str, str] | None = None,
-                 before: Sequence[str] = ()) -> None:
+                 journal: object = None, limit: Callable[[], object] | None = None, status: int | None = None,
+                 variables: Mapping[str, str] | None = None, before: Sequence[str] = ()) -> None:
         self.path, self.err = path or folder / "socket", folder / "told"
         options = (*options, *(["--journal", str(journal)] if journal else []))
+        words = [*before, *DESKS, "--socket", str(self.path), *options, "--", *words]
         with open(self.err, "w") as told:
-            self.process = subprocess.Popen([*before, *DESKS, "--socket", str(self.path), *options, "--", *words],
-                                            stderr=told,
-                                            preexec_fn=limit, env={**os.environ, **(variables or {})})
+            self.process = subprocess.Popen(words, stderr=told, preexec_fn=limit,
+                                            env={**os.environ, **(variables or {})})
         if status is None:
             self.wait_until_it_listens()
 
     def wait_until_it_listens(self) -> None:
-        deadline = time.monotonic() + SECONDS
-        while "listening on" not in self.told():
-            if self.process.poll() is not None or time.monotonic() > deadline:
-                self.process.kill()
-                raise AssertionError(f"the server does not listen: {self.told()}")
-            time.sleep(0.01)
+        try:
+            wait_for(lambda: "listening on" in self.told() or self.process.poll() is not None, "a server")
+            assert "listening on" in self.told()
+        except AssertionError:
+            self.process.kill()
+            self.process.wait()
+            raise AssertionError(f"the server does not listen: {self.told()}")
 
     def told(self) -> str:
         return self.err.read_text()
@@ -61,15 +59,15 @@ class Server:
         return child_of(self.process.pid)
 
     def connect(self) -> socket.socket:
-        made, deadline = socket.socket(socket.AF_UNIX), time.monotonic() + SECONDS
+        made = socket.socket(socket.AF_UNIX)
         made.settimeout(SECONDS)
-        while True:
-            try:
-                made.connect(str(self.path))
-                return made
-            except BlockingIOError:  # so many wait to be taken that no more may
-                assert time.monotonic() < deadline, "no connection"
-                time.sleep(0.01)
+        wait_for(lambda: made.connect_ex(str(self.path)) != errno.EAGAIN, "a place among those who wait to be taken")
+        try:
+            made.getpeername()
+        except OSError:  # it isn't connected
+            made.close()
+            raise
+        return made
 
     def end(self, status: int = 0, sent: int | None = signal.SIGTERM) -> None:
         """Ends it, and waits for it."""

@@ -2,10 +2,9 @@
 from __future__ import annotations
 
 import os
-import subprocess
 import sys
 
-from harness import EXAMPLES, SECONDS, SOURCES, PlaceTest
+from harness import EXAMPLES, SOURCES, PlaceTest
 from made import OF_REFUNDS, SECOND, reference_replies
 from nrm.replies import MODES
 
@@ -24,11 +23,12 @@ class Resuming(PlaceTest):
     def test_goes_on_with_a_live_sender(self) -> None:
         """The commands of `docs/operating.md`, after a cut at each of some bytes of the replies."""
         hub = EXAMPLES / "hub"
-        lines, replies = (hub / "commands.txt").read_bytes().splitlines(keepends=True), (
-            hub / "replies.txt").read_bytes()
+        lines = (hub / "commands.txt").read_bytes().splitlines(keepends=True)
+        replies = (hub / "replies.txt").read_bytes()
         script = """
             told=$("$PYTHON" "$TOOLS" resume "$HUB" first stream replies --program "$@")
-            line=$(echo "$told" | sed 's/.*line \\([0-9]*\\);.*/\\1/'); size=$(echo "$told" | sed 's/.*; \\([0-9]*\\) bytes.*/\\1/')
+            line=$(echo "$told" | sed 's/.*line \\([0-9]*\\);.*/\\1/')
+            size=$(echo "$told" | sed 's/.*; \\([0-9]*\\) bytes.*/\\1/')
             head -c "$size" replies > whole
             { tail -n +"$line" stream; cat later | tee -a stream; } |
                 "$PYTHON" "$TOOLS" resume "$HUB" first stream replies --go-on --program "$@" >> whole 2> told
@@ -38,11 +38,9 @@ class Resuming(PlaceTest):
             self.file("later", b"".join(lines[-5:]))
             self.file("replies", replies[:at])
             names = {"PYTHON": sys.executable, "TOOLS": str(SOURCES), "HUB": str(hub / "network.csv")}
-            done = subprocess.run(["bash", "-c", script, "bash", *self.program.words], cwd=self.folder,
-                                  env={**os.environ, **names},
-                                  timeout=SECONDS)
+            done = self.finished("bash", "-c", script, "bash", *self.program.words, env={**os.environ, **names})
             found = [(self.folder / it).read_bytes() for it in ("whole", "stream")]
-            self.assertEqual((done.returncode, *found), (0, replies, b"".join(lines)), f"cut at {at}")
+            self.assertEqual((done.status, *found), (0, replies, b"".join(lines)), f"cut at {at}")
 
     def test_a_fifo_is_refused(self) -> None:
         """It would wait for who writes into it, and can't be read again."""

@@ -88,10 +88,10 @@ FAULTS_TOLD_OF_VERSION_2 = [  # the row, the cause, the field, and a part of the
     (16, "1 kind", "field 1, the kind: fare", "none of periods, leg, product, refund and demand")]
 
 TWO_VERSIONS = [  # a file, and the first advice
-    ("periods,1,1\nleg,AB,9,12,300,100\nproduct,P,5,AB\n", "if 12 are authorised seats, the file is to be of version "
-                                                             "2, with ,2 at the end of line 1"),
-    ("periods,1,1\nleg,AB,9\nproduct,P,5,AB\nrefund,P,50\n", "a file of version 1 has no refunds: make it version 2, "
-                                                               "with ,2 at the end of line 1"),
+    ("periods,1,1\nleg,AB,9,12,300,100\nproduct,P,5,AB\n",
+     "if 12 are authorised seats, the file is to be of version 2, with ,2 at the end of line 1"),
+    ("periods,1,1\nleg,AB,9\nproduct,P,5,AB\nrefund,P,50\n",
+     "a file of version 1 has no refunds: make it version 2, with ,2 at the end of line 1"),
     ("periods,1,1\nleg,AB,9\nproduct,P,5,AB\nRefund,P,50\n", "a file of version 1 has no refunds"),
     ("periods,1,1,1\nleg,AB,9\nproduct,P,5,AB\n", "it is to be 2, or left out for version 1"),
     ("periods,1,1,\nleg,AB,9\nproduct,P,5,AB\n", "a number is wanted; where the row ends in commas"),
@@ -120,10 +120,9 @@ def files_of(case):
     words = [it.decode("utf-8", "surrogateescape") for it in case.words]
     if case.program == "nrm_kept":
         return words[1:2]
-    places = {"print": slice(1, None), "check": slice(1, None), "run": slice(2, None), "plan": slice(2, None),
-              "cuts": slice(1, 2),
-              "dp": slice(1, 2)}
-    return words[places[words[0]]] if words and words[0] in places else []
+    begin, end = {"print": (1, None), "check": (1, None), "run": (2, None), "plan": (2, None), "cuts": (1, 2),
+                  "dp": (1, 2)}.get(words[0] if words else "", (0, 0))
+    return words[begin:end]
 
 
 def explained(case, folder):
@@ -159,9 +158,8 @@ def spoilt_anywhere(data, draw):
     """The bytes of a file with some of them changed, left out or put in."""
     for _ in range(draw.randint(1, 4)):
         at = draw.randrange(len(data) + 1)
-        put = draw.choice([b"", b"", b",", b'"', b"\n", b"\r\n", b"\r", b"0", b"9", b"999", b"a", b"A", b" ",
-                           b"\xef\xbb\xbf", b"\xff",
-                           b"\nleg,", b"\nproduct,", b"\nrefund,", b",2", b"refund"])
+        put = draw.choice([b"", b"", b",", b'"', b"\n", b"\r\n", b"\r", b"0", b"9", b"999", b"a", b"A", b" ", b",2",
+                           b"\xef\xbb\xbf", b"\xff", b"\nleg,", b"\nproduct,", b"\nrefund,", b"refund"])
         data = data[:at] + put + data[at + draw.choice([0, 0, 1, 1, 2, 9]):]
     return data
 
@@ -196,8 +194,8 @@ class ExplainedRows(PlaceTest):
             self.want_in(entry, f"refused row {row} why {why}\n    line {line}{f', {field}' if field else ''}\n")
             self.want_in(entry, advice)
         self.want_in(entries[6], "    line 8, field 5, leg 2: ZRH-VIE\n        the product has this leg already")
-        out = self.ran("explain",
-                       self.file("few.csv", "periods,33,17\nleg,AB,3,9,9\nproduct,P,5,AB\ndemand,P,1,1000\n"))[0]
+        few = self.file("few.csv", "periods,33,17\nleg,AB,3,9,9\nproduct,P,5,AB\ndemand,P,1,1000\n")
+        out = self.ran("explain", few).out
         for wanted in ("field 2, the histories: 33", "field 3, the periods: 17", "field 5, threshold 2: 9",
                        "field 4, period 1: 1000"):
             self.want_in(out, f", {wanted}\n")
@@ -216,36 +214,31 @@ class ExplainedRows(PlaceTest):
         for text, advice in TWO_VERSIONS:
             path = self.file("versions.csv", text)
             out, err, status = self.ran("explain", path)
-            self.assertEqual((status, err, out.partition("\n")[0] + "\n"),
-                             (3, "", self.nrm("print", path, status=3)), repr(text))
+            told = err, status, out.partition("\n")[0] + "\n"
+            self.assertEqual(told, ("", 3, self.nrm("print", path, status=3)), repr(text))
             self.want_in(out.splitlines()[2], advice)
-        self.assertEqual(self.ran("explain", self.file("one.csv", TWO_VERSIONS[3][0]))[0].count("refused row"), 1)
-        self.assertEqual(self.ran("explain", self.file("one.csv", TWO_VERSIONS[4][0]))[0].count("refused row"), 1)
-        self.assertEqual(self.ran("explain", self.file("one.csv", TWO_VERSIONS[6][0]))[0].count("refused row"), 1)
+        for at in (3, 4, 6):
+            self.assertEqual(self.ran("explain", self.file("one.csv", TWO_VERSIONS[at][0])).out.count("refused row"), 1)
 
     def test_tells_a_padded_row_once(self) -> None:
-        out = self.ran("explain",
-                       self.file("padded.csv",
-                                 "periods,1,1\nleg,A,5\nproduct,P,5,A,,,\nproduct,,5,A\nproduct,,5,A\n"))[0]
+        text = "periods,1,1\nleg,A,5\nproduct,P,5,A,,,\nproduct,,5,A\nproduct,,5,A\n"
+        out = self.ran("explain", self.file("padded.csv", text)).out
         self.assertEqual(re.findall("^    line (.*)", out, re.M),
-                         [f"3, field {it}, leg {it - 3}: ''" for it in (5, 6, 7)] +
-                         ["4, field 2, the name: ''", "5, field 2, the name: ''"])
+                         [*[f"3, field {it}, leg {it - 3}: ''" for it in (5, 6, 7)],
+                          "4, field 2, the name: ''", "5, field 2, the name: ''"])
 
     def test_takes_a_row_for_the_kind_that_it_seems_to_be(self) -> None:
         """So that no other row is told for its fault."""
         out, _, status = self.ran("explain", self.file("kinds.csv", KINDS_SPELT_OTHERWISE))
         self.assertEqual(re.findall("^refused row (.*)", out, re.M),
-                         ["1 why 1 kind", "2 why 1 kind", "3 why 1 kind", "4 why 1 kind", "5 why 1 kind",
-                          "6 why 1 kind", "8 why 1 kind", "9 why 1 kind"])
+                         [f"{it} why 1 kind" for it in (1, 2, 3, 4, 5, 6, 8, 9)])
         self.assertEqual(re.findall("^        (.{12})", out, re.M),
                          ["a file has n", "a file has n", "write period", "write leg, i", "write leg, i",
-                                                        "it is none o", "the fields a", "write leg, i"])
-        out = self.ran("explain", self.file("heads.csv", "Period,Legs\nleg,A,5\nproduct,P,5,A\n"))[0]
-        self.assertEqual(re.findall("^refused row (.*)", out, re.M), ["1 why 1 kind"])
-        out = self.ran("explain", self.file("heads.csv", "Period,Legs\nperiods,1,1\nleg,A,5\nproduct,P,5,A\n"))[0]
-        self.assertEqual(re.findall("^refused row (.*)", out, re.M), ["1 why 1 kind"])
-        out = self.ran("explain", self.file("heads.csv", "Leg,Name\nleg,A,5\nproduct,P,5,A\n"))[0]
-        self.assertEqual(re.findall("^refused row (.*)", out, re.M), ["1 why 1 kind", "2 why 2 order"])
+                          "it is none o", "the fields a", "write leg, i"])
+        for heads, wanted in (("Period,Legs\n", ["1 why 1 kind"]), ("Period,Legs\nperiods,1,1\n", ["1 why 1 kind"]),
+                              ("Leg,Name\n", ["1 why 1 kind", "2 why 2 order"])):
+            out = self.ran("explain", self.file("heads.csv", f"{heads}leg,A,5\nproduct,P,5,A\n")).out
+            self.assertEqual(re.findall("^refused row (.*)", out, re.M), wanted)
 
     def test_tells_the_spoilt_rows_and_no_others(self) -> None:
         rows = [it.fields for it in rows_of((EXAMPLES / "season" / "network.csv").read_bytes())]
@@ -266,9 +259,8 @@ class ExplainedRows(PlaceTest):
         refused, draw = Counter(), random.Random(9)
         for _ in range(2000):
             data = spoilt_anywhere(draw.choice(files), draw)
-            self.assertEqual([row.fields for row in rows_of(data)],
-                             [[it.decode("utf-8", "backslashreplace") for it in row]
-                              for row in reference.rows_of(data)], repr(data))
+            rows = [[it.decode("utf-8", "backslashreplace") for it in row] for row in reference.rows_of(data)]
+            self.assertEqual([row.fields for row in rows_of(data)], rows, repr(data))
             try:
                 reference.network_of(data)
                 wanted = None

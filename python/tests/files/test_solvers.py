@@ -4,7 +4,6 @@ from __future__ import annotations
 import random
 import shutil
 from fractions import Fraction
-from pathlib import Path
 
 from harness import EXAMPLES, PlaceTest
 from made import made_timetable
@@ -81,20 +80,18 @@ class Solvers(PlaceTest):
         self.stopped("lp", network, "--solution", "", says="No such file")
 
     def test_has_the_authorised_seats_as_caps(self) -> None:
-        """The same program as of a file of version 1 with as many seats; the certificate is one for the authorised
-        seats alone."""
+        """The program is that of a file of version 1 with as many seats, and the certificate one for these alone."""
         rows = [row.fields for row in rows_of(WITH_THIRDS.encode())]
-        second = [[*row, 2] if row[0] == "periods" else [*row[:2], 7, *row[2:]] if row[0] == "leg" else row
-                  for row in rows]
-        first, second = self.file("first.csv",
-                                  WITH_THIRDS), self.file("second.csv", text_of([*second, ["refund", "ABC", 5]]))
+        rows = [[*row, 2] if row[0] == "periods" else [*row[:2], 7, *row[2:]] if row[0] == "leg" else row
+                for row in rows]
+        first = self.file("first.csv", WITH_THIRDS)
+        second = self.file("second.csv", text_of([*rows, ["refund", "ABC", 5]]))
         self.assertEqual(self.told("lp", second), self.told("lp", first))
         solution = self.file("solution", WRITTEN_BY_GLPSOL)
         path = self.file("certificate", self.told("lp", second, "--solution", solution))
         self.assertEqual(self.nrm("check", second, path), "optimal\n")
         self.assertEqual(self.told("audit", second, path).splitlines()[-1], "optimal")
-        seven = self.file("seven.csv", text_of([row[:3] if row[0] in ("periods", "leg") else row for row in map(
-            list, (row.fields for row in rows_of(Path(second).read_bytes()))) if row[0] != "refund"]))
+        seven = self.file("seven.csv", text_of(row[:3] if row[0] in ("periods", "leg") else row for row in rows))
         self.assertEqual(self.nrm("check", seven, path, status=1), "wrong leg A\n")
         self.assertEqual(self.ran("audit", seven, path)[0].splitlines()[-1], "wrong leg A")
 
@@ -103,7 +100,8 @@ class Solvers(PlaceTest):
         made = self.told("lp", network, "--solution", solution)
         self.assertEqual(made, self.told("lp", network, "--solution", self.file("other", WRITTEN_BY_GLPSOL)))
         few = self.file("few.csv", "periods,1,1\nleg,A,2\nleg,B,5\nproduct,P,7,A,B\nproduct,Q,5,A\ndemand,P,1,1\n")
-        zeros = "status OPTIMAL\n\tValue = 7\nVARS:\np1 = 1\nREDUCED COST:\np1 = 7\np2 = 5\nPI:\nSLACK:\nl1 = 1\nl2 = 4\n"
+        zeros = ("status OPTIMAL\n\tValue = 7\nVARS:\np1 = 1\nREDUCED COST:\np1 = 7\np2 = 5\nPI:\nSLACK:\n"
+                 "l1 = 1\nl2 = 4\n")
         self.assertEqual(self.told("lp", few, "--solution", self.file("solution", zeros)),
                          "value 7/1\nproduct P 1/1\nproduct Q 0/1\nleg A 0/1\nleg B 0/1\n")
         for old, new, sentence in (("p4", "p5", "isn't an optimal one"), ("l4", "l6", "isn't an optimal one"),

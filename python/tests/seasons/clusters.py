@@ -3,17 +3,18 @@ process makes."""
 from __future__ import annotations
 
 import contextlib
+import functools
 import importlib.util
 import os
 import re
 import subprocess
 import sys
-import time
 import unittest
 from dataclasses import dataclass
 from pathlib import Path
-from typing import Callable, Iterator, Mapping, Sequence
+from typing import Iterator, Mapping, Sequence
 
+import harness
 from harness import EXAMPLES, PlaceTest
 from nrm import bytes_in
 from nrm.network import Network
@@ -36,13 +37,7 @@ def by_one_process(program: Program, network: str, settings: Settings, count: in
     return ",".join(heads(Network.read(network), settings)) + "\n" + batch.rows
 
 
-def wait_for(condition: Callable[[], object], what: str) -> None:
-    """Waits for something, but not for long."""
-    until = time.monotonic() + SECONDS
-    while not condition():
-        if time.monotonic() > until:
-            raise AssertionError(f"{what} doesn't come")
-        time.sleep(0.01)
+wait_for = functools.partial(harness.wait_for, seconds=SECONDS)
 
 
 @dataclass(frozen=True)

@@ -1,12 +1,10 @@
-"""No worker matters: one that is killed, stopped, of another account, or with another program or package; and a run
-that is cut goes on."""
+"""No worker matters: one killed, stopped, of another account, of another program or package; a cut run goes on."""
 from __future__ import annotations
 
 import contextlib
 import hashlib
 import os
 import signal
-import subprocess
 import sys
 import time
 from pathlib import Path
@@ -14,9 +12,8 @@ from pathlib import Path
 from harness import SOURCES
 from nrm.seasons.drawing import Settings
 from nrm.seasons.rows import PACKAGE
-from seasons.clusters import (LOG, SECONDS, SimulateTest, by_one_process, cluster, has_group,
-                              listening_ports, needs_dask,
-                              processes_of, takes_long, wait_for)
+from seasons.clusters import (LOG, SECONDS, SimulateTest, by_one_process, cluster, has_group, listening_ports,
+                              needs_dask, processes_of, takes_long, wait_for)
 
 STRANGER = """
 import logging, os, sys
@@ -24,8 +21,9 @@ import distributed
 logging.disable(logging.CRITICAL)
 for port in sys.argv[1:]:
     for kind, keys in (("tcp", None), ("tls", distributed.Security.temporary())):
+        more = {"security": keys} if keys else {}
         try:
-            with distributed.Client(f"{kind}://127.0.0.1:{port}", timeout=3, **({"security": keys} if keys else {})) as client:
+            with distributed.Client(f"{kind}://127.0.0.1:{port}", timeout=3, **more) as client:
                 print("ran as", client.run_on_scheduler(os.getuid), flush=True)
         except (OSError, ValueError):
             print("refused", flush=True)
@@ -55,8 +53,8 @@ class Clusters(SimulateTest):
 
     def is_of_the_seasons(self, name: str) -> bool:
         """Whether the rows that a run has kept are those that one process makes."""
-        return set(self.rows_there(name)) <= set(by_one_process(self.program, LOG, Settings(),
-                                                                60).splitlines(keepends=True))
+        rows = by_one_process(self.program, LOG, Settings(), 60).splitlines(keepends=True)
+        return set(self.rows_there(name)) <= set(rows)
 
     def test_a_killed_worker_loses_nothing(self) -> None:
         with cluster(self.folder) as made:
@@ -91,9 +89,8 @@ class Clusters(SimulateTest):
     def test_a_cluster_is_asked_by_keys_of_files(self) -> None:
         import distributed  # here, since it may not be there
         keys = distributed.Security.temporary()
-        files = [self.file(f"{name}.pem", text)
-                 for name, text in (("ca", keys.tls_ca_file), ("mine", keys.tls_client_cert),
-                                                                    ("key", keys.tls_client_key))]
+        texts = {"ca": keys.tls_ca_file, "mine": keys.tls_client_cert, "key": keys.tls_client_key}
+        files = [self.file(f"{name}.pem", text) for name, text in texts.items()]
         other = self.file("other.pem", distributed.Security.temporary().tls_client_key)
         options = ("--tls-ca-file", "--tls-cert", "--tls-key")
         with cluster(self.folder, [None], [it for pair in zip(options, files) for it in pair]) as made:
@@ -131,8 +128,8 @@ class Clusters(SimulateTest):
                 run = self.begun(LOG, "--seasons", 400, "--out", name, "--cluster", made.address, program=self.slow())
                 self.wait_for_rows(name, run)
                 words = [sys.executable, "-c", SENDER, made.address, "seasons/rows.py", self.file("rows.py", other)]
-                subprocess.run(words, check=True, capture_output=True, timeout=SECONDS, cwd=self.folder,
-                               env={**os.environ, "PYTHONPATH": str(SOURCES)})
+                sent = self.finished(*words, timeout=SECONDS, env={**os.environ, "PYTHONPATH": str(SOURCES)})
+                self.assertEqual(sent.status, 0, sent.err)
                 self.told_by_a_line(run, "has other tools: their checksum there is ")
 
 
@@ -181,11 +178,9 @@ class OwnWorkers(SimulateTest):
             self.wait_for_rows("own", run)
             ports = listening_ports(run.pid)
             self.assertGreaterEqual(len(ports), 2, f"the ports of a scheduler and a worker: {ports}")
-            done = subprocess.run([sys.executable, "-B", "-c", STRANGER, *map(str, ports)], cwd="/",
-                                  env={"HOME": "/nonexistent"},
-                                  user=65534, group=65534, extra_groups=[], capture_output=True, text=True,
-                                  timeout=SECONDS)
-            self.assertEqual((done.stdout.splitlines(), run.poll()), (["refused"] * 2 * len(ports), None), done.stderr)
+            done = self.finished(sys.executable, "-B", "-c", STRANGER, *ports, cwd="/", env={"HOME": "/nonexistent"},
+                                 user=65534, group=65534, extra_groups=[], timeout=SECONDS)
+            self.assertEqual((done.out.splitlines(), run.poll()), (["refused"] * 2 * len(ports), None), done.err)
         finally:
             with contextlib.suppress(ProcessLookupError):
                 os.killpg(run.pid, signal.SIGKILL)

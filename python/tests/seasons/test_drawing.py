@@ -1,5 +1,4 @@
-"""Seasons are drawn from the histories: their means, their order, what is cancelled, and that seats change no
-request."""
+"""Seasons are drawn from the histories: means, order, what is cancelled, and that seats change no request."""
 from __future__ import annotations
 
 import csv
@@ -102,10 +101,9 @@ class Played(PlaceTest):
                     for booked_at in season.cancellations.get(at, ()):
                         self.assertLessEqual(booked_at, at, "a cancellation before its booking")
                         if booked_at in numbers:
-                            cancelled += session.reply(f"cancel {numbers[booked_at]}".encode()).startswith(
-                                b"cancelled ")
+                            reply = session.reply(f"cancel {numbers[booked_at]}".encode())
+                            cancelled += reply.startswith(b"cancelled ")
                 last = session.reply(b"hindsight").decode().split()
-                self.assertEqual((found.bound, found.revenue, found.withheld),
-                                 (Fraction(last[1]), int(last[3]), int(last[5])),
-                                 f"season {number} {mode}")
+                wanted = Fraction(last[1]), int(last[3]), int(last[5])
+                self.assertEqual((found.bound, found.revenue, found.withheld), wanted, f"season {number} {mode}")
         self.assertGreater(cancelled, 10)

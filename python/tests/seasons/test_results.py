@@ -49,14 +49,12 @@ class Told(SimulateTest):
             self.assertTrue(int(row[f"shown {leg.name}"]) <= int(row[f"booked {leg.name}"]) <= leg.authorised, leg)
 
     def test_seats_and_thresholds_change_no_request(self) -> None:
-        """So that networks are compared on the same seasons; and of those that differ in authorised seats the best is
-        told."""
+        """So networks are compared on the same seasons; and of those with other authorised seats the best is told."""
         text = Path(SEASON).read_text()
         paths = [self.file(f"with-{it}.csv", re.sub("leg,VIE-LHR-2,48,50,.*", f"leg,VIE-LHR-2,48,{it}", text))
                  for it in (30, 52)]
         out = self.simulated(*paths, "--seasons", 6, "--workers", 2, "--out", "two", "--show", "0.9",
-                             "--denied-cost", "500",
-                             "--modes", "first")
+                             "--denied-cost", "500", "--modes", "first")
         rows = [list(csv.DictReader((self.folder / "two" / f"with-{it}-seasons.csv").read_text().splitlines()))
                 for it in (30, 52)]
         for a, b in zip(*rows):

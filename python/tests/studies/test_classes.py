@@ -2,7 +2,6 @@
 from __future__ import annotations
 
 import os
-import subprocess
 import sys
 
 from harness import EXAMPLES, PlaceTest
@@ -38,13 +37,15 @@ class Classes(PlaceTest):
                           "Mean revenue of a history, in currency units", "", "            revenue     share",
                           "  optimum  1,075.00", "  EMSR-b   1,050.00  97.674 %", "",
                           "products that use X and other legs, which have no part in this: 1"])
-        second = THREE_CLASSES.replace("periods,4,1",
-                                       "periods,4,1,2").replace("leg,X,3", "leg,X,9,3").replace("leg,Y,2", "leg,Y,2,2")
+        second = THREE_CLASSES
+        for old, new in (("periods,4,1", "periods,4,1,2"), ("leg,X,3", "leg,X,9,3"), ("leg,Y,2", "leg,Y,2,2")):
+            second = second.replace(old, new)
         self.assertEqual(self.told("optimum", self.file("second.csv", second), "X", *self.with_program), out)
 
     def test_keeps_nothing_from_a_class_at_the_same_fare(self) -> None:
         """Classes of one fare share a bucket, which has a mean of their demand."""
-        network = "periods,1,1\nleg,X,5\nproduct,A,100,X\nproduct,B,300,X\nproduct,C,100,X\ndemand,A,1,9\ndemand,B,1,2\n"
+        network = ("periods,1,1\nleg,X,5\nproduct,A,100,X\nproduct,B,300,X\nproduct,C,100,X\n"
+                   "demand,A,1,9\ndemand,B,1,2\n")
         out = self.told("optimum", self.file("network.csv", network), "X", *self.with_program)
         self.assertEqual(out.splitlines()[4:7],
                          ["  B       300         2.00        0       0", "  A       100         9.00        2       2",
@@ -58,8 +59,7 @@ class Classes(PlaceTest):
                 *[["product", f"P{it}", 5, "X"] for it in range(11)]]
         path, program = self.file("many.csv", text_of(many)), self.with_program
         for leg, wanted in (("X", "the products whose only leg is X are 11, and it takes 1 to 10"),
-                            ("Y", "only leg is Y are 0, and"),
-                            ("Z", "there is no leg Z")):
+                            ("Y", "only leg is Y are 0, and"), ("Z", "there is no leg Z")):
             self.stopped("optimum", path, leg, *program, says=wanted)
         few = self.file("few.csv", text_of([it for it in many if it[1] not in ("P0", "OVER")]))
         out = self.told("optimum", few, "X", *program)  # ten, at one fare, for which nobody asked
@@ -68,11 +68,9 @@ class Classes(PlaceTest):
     def test_tells_the_textbook_example(self) -> None:
         for name, optimum, emsr in (("first", "0 17 43 73", "0 17 50 83"), ("second", "0 10 54 98", "0 10 53 95")):
             path = EXAMPLES / "textbook" / f"{name}.csv"
-            made = subprocess.run([sys.executable, "-B", EXAMPLES / "textbook" / "make.py", name],
-                                  stdout=subprocess.PIPE).stdout
-            self.assertEqual(made, path.read_bytes())
-            out = self.told("optimum", path, "AB", "--out", "pictures", "--program", *self.program.words,
-                            env=os.environ)
+            made = self.finished(sys.executable, "-B", EXAMPLES / "textbook" / "make.py", name).out
+            self.assertEqual(made, path.read_text())
+            out = self.told("optimum", path, "AB", "--out", "pictures", *self.with_program, env=os.environ)
             rows = [it.split() for it in out.splitlines()[4:8]]
             self.assertEqual([" ".join(it) for it in zip(*rows)][3:], [optimum, emsr])
             self.assertEqual((self.folder / "pictures").exists(), "pictures/optimum.svg\n" in out)

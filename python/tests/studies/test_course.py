@@ -48,12 +48,11 @@ class Courses(PlaceTest):
         self.assertTrue(found[0] == found[1])
 
     def test_tells_what_was_withheld(self) -> None:
-        """And counts the seats that are left by the authorised ones. 33 in 100 of 800 are 264, and AC gives back
-        nothing."""
+        """And counts the seats left by the authorised ones. 33 in 100 of 800 are 264; AC gives back nothing."""
         network, stream = self.file("second.csv", SECOND), self.file("stream", "".join(f"{it}\n" for it in OF_REFUNDS))
         out = self.told("season", network, stream, "--out", "pictures", "--leg", "AB", *self.with_program)
-        withheld = out.partition("Withheld of the bookings that were cancelled, in currency units\n\n")[
-            2].partition("\n\n")[0]
+        withheld = out.partition("Withheld of the bookings that were cancelled, in currency units\n\n")[2]
+        withheld = withheld.partition("\n\n")[0]
         last = reference_replies("first", SECOND, [*OF_REFUNDS, "hindsight"])[-1].split()
         self.assertEqual([it.split() for it in withheld.splitlines()][1], ["opening", "0", "0", "0"])
         self.assertEqual([it.split()[:3] for it in withheld.splitlines()][2:],
@@ -72,9 +71,8 @@ class Courses(PlaceTest):
         lines = (EXAMPLES / "log" / "commands.txt").read_text().splitlines()
         mixed = [it for line in lines for it in (line, "plan", "leg ZRH-VIE", "hindsight", "x", "leg NONE")]
         words = ["--out", "pictures", *self.with_program]
-        plain, more = (self.told("season", EXAMPLES / "log" / "network.csv",
-                                 self.file("stream", "\n".join(it) + "\n"), *words)
-                       for it in (lines, mixed))
+        streams = [self.file(f"stream-{len(it)}", "\n".join(it) + "\n") for it in (lines, mixed)]
+        plain, more = (self.told("season", EXAMPLES / "log" / "network.csv", it, *words) for it in streams)
         self.assertEqual(plain.partition("Revenue")[2], more.partition("Revenue")[2])
 
     def test_says_what_isnt_made_and_which_python_may_have_it(self) -> None:

@@ -64,8 +64,8 @@ class Asker(threading.Thread):
         self.sold, self.left, self.waits, self.is_over = [], b"", 0, False
 
     def note(self, kind: bytes, lines: Sequence[bytes]) -> None:
-        os.write(self.log,
-                 b"".join(b"%s %d %d %s\n" % (kind, self.client, self.round, it.replace(b"\n", b"|")) for it in lines))
+        head = b"%s %d %d" % (kind, self.client, self.round)
+        os.write(self.log, b"".join(b"%s %s\n" % (head, it.replace(b"\n", b"|")) for it in lines))
 
     def run(self) -> None:
         try:
@@ -85,10 +85,10 @@ class Asker(threading.Thread):
         rare = [b"plan", b"hindsight", b"reoptimise %d" % draw.randint(1, 3)]
         shared = draw.choice([[], [], [], [b"cancel %d" % number], [b"cancel %d" % number],
                               [b"leg " + draw.choice(LEGS).encode() if draw.randrange(4) else draw.choice(rare)]])
-        own = b"book P%d %d" % (self.client,
-                                draw.choice([0, 1, 1, 2, 3, 7])) if draw.randrange(3) else b"tag %d" % self.client
-        if shared[:1] in ([b"plan"], [b"leg AB"], [b"leg BC"], [b"leg CD"]):
-            own = b"tag %d" % self.client  # its reply shows that the text is whole
+        own, party = b"tag %d" % self.client, draw.choice([0, 1, 1, 2, 3, 7])
+        # behind a text a reply shows that it is whole
+        if draw.randrange(3) and shared[:1] not in ([b"plan"], [b"leg AB"], [b"leg BC"], [b"leg CD"]):
+            own = b"book P%d %d" % (self.client, party)
         return [*shared, own]
 
     def say(self, lines: Sequence[bytes]) -> None:
@@ -122,11 +122,10 @@ def worker(path: str, round_: int, at: int, lines: int, log_path: str) -> None:
 
 def begin_crowd(server: Server, folder: Path, round_: int, lines: int) -> list[subprocess.Popen[bytes]]:
     """Has the crowd ask, in processes of its own, so many lines of each client."""
-    words, variables = [sys.executable, "-m", __name__, str(server.path),
-                        str(round_)], {**os.environ, "PYTHONPATH": str(SOURCES)}
-    return [subprocess.Popen([*words, str(at), str(lines), str(folder / f"log-{round_}-{at}")], cwd=TESTS,
-                             env=variables)
-            for at in range(WORKERS)]
+    variables = {**os.environ, "PYTHONPATH": str(SOURCES)}
+    words = [sys.executable, "-m", __name__, str(server.path), str(round_)]
+    each = [[*words, str(at), str(lines), str(folder / f"log-{round_}-{at}")] for at in range(WORKERS)]
+    return [subprocess.Popen(it, cwd=TESTS, env=variables) for it in each]
 
 
 def end_crowd(workers: Sequence[subprocess.Popen[bytes]]) -> None:
@@ -158,8 +157,7 @@ def parts_in(folder: Path) -> dict[tuple[int, int], Part]:
             found = re.fullmatch(rb"([SR]) (\d+) (\d+) (.*)", line)
             if found and not found[4].startswith(b"closed "):
                 part = parts[int(found[2]), int(found[3])]
-                (part.lines.append(found[4]) if found[1] == b"S"
-                 else part.replies.append(found[4].replace(b"|", b"\n")))
+                (part.lines if found[1] == b"S" else part.replies).append(found[4].replace(b"|", b"\n"))
     return parts
 
 

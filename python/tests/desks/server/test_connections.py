@@ -1,5 +1,4 @@
-"""Those who stand in the way of others are cut off or wait alone, and each gets the replies to its own lines in
-order."""
+"""Those who stand in the way of others are cut off or wait alone, and each gets its own replies in order."""
 from __future__ import annotations
 
 import contextlib
@@ -7,7 +6,7 @@ import socket
 import time
 
 from desks.servers import ServerTest, all_from, answers
-from harness import EXAMPLES, SECONDS
+from harness import EXAMPLES, wait_for
 
 COUNTER = """import sys
 at = 0
@@ -30,18 +29,15 @@ class Connections(ServerTest):
                 self.assertEqual(answers(other, b"book HJ-Q 1\n" * 300, 300)[0], b"ok 1\n", "another's reply")
                 if time.monotonic() - begun > 5:
                     self.fail("the others to notice nothing")
-                deadline = time.monotonic() + 10
-                while "didn't take their replies" not in server.told():
-                    if time.monotonic() > deadline:
-                        self.fail(f"with {options} it is cut off")
-                    time.sleep(0.05)
+                wait_for(lambda: "didn't take their replies" in server.told(), f"the end of it with {options}", 10)
                 self.assertEqual(answers(other, b"cancel 1\n", 1), [b"cancelled 1 270\n"], "another's reply")
                 server.end()
 
     def test_who_goes_beyond_a_limit_is_told(self) -> None:
         options = ["--slow", "1", "--idle", "2", "--clients", "3", "--longest", "500"]
         with self.hub_server(*options) as server:
-            with server.connect() as half, server.connect() as idle, server.connect() as other, server.connect() as fourth:
+            with server.connect() as half, server.connect() as idle, server.connect() as other, \
+                    server.connect() as fourth:
                 self.assertEqual(all_from(fourth), b"closed clients\n", "more than may come")
                 half.sendall(b"book HJ-Q 1\nbook HJ-Q 4")
                 self.assertEqual(all_from(half), b"ok 1\nclosed half\n", "half a line")
@@ -66,8 +62,8 @@ class Connections(ServerTest):
     def test_who_asks_for_long_work_waits_alone(self) -> None:
         """Of lines that take long the program gets one of a client at a time, so that another's come between them."""
         journal = self.folder / "journal"
-        with self.hub_server(journal=journal,
-                             mode="bid") as server, server.connect() as busy, server.connect() as other:
+        running = self.hub_server(journal=journal, mode="bid")
+        with running as server, server.connect() as busy, server.connect() as other:
             busy.sendall(b"reoptimise 1\n" * 300)
             answers(busy, b"", 1)
             self.assertEqual(answers(other, b"book HJ-Q 1\n", 1), [b"ok 1\n"], "another's reply")
@@ -100,8 +96,7 @@ class Connections(ServerTest):
 
     def test_who_has_said_all_is_answered(self) -> None:
         """The end of what a client says leaves its replies to come; half a line at the end is nothing."""
-        stream, wanted = (EXAMPLES / "hub" / "commands.txt").read_bytes(), (
-            EXAMPLES / "hub" / "replies.txt").read_bytes()
+        stream, wanted = ((EXAMPLES / "hub" / it).read_bytes() for it in ("commands.txt", "replies.txt"))
         with self.hub_server() as server, server.connect() as connection:
             connection.sendall(stream + b"book HJ-Q 1")
             connection.shutdown(socket.SHUT_WR)
@@ -114,9 +109,7 @@ class Connections(ServerTest):
         journal, words = self.folder / "journal", self.stub("nrm", {}, pause=0.01)
         with self.server(words, journal=journal) as server, server.connect() as connection:
             connection.sendall((b"x" * 900 + b"\n") * 150)
-            deadline = time.monotonic() + SECONDS
-            while journal.read_bytes().count(b"\n") < 100 and time.monotonic() < deadline:
-                time.sleep(0.01)
+            wait_for(lambda: journal.read_bytes().count(b"\n") >= 100, "a hundred lines")
             server.process.terminate()
             told = all_from(connection).splitlines()
             server.end(sent=None)

@@ -11,7 +11,7 @@ from typing import Sequence
 
 from desks.server.crowd import CLIENTS, accounted, begin_crowd, crowd_file, end_crowd, parts_in
 from desks.servers import Server, ServerTest
-from harness import SECONDS
+from harness import wait_for
 
 CRASH_SEED = 7
 
@@ -33,10 +33,7 @@ def crash(server: Server, what: str, workers: Sequence[subprocess.Popen[bytes]])
 
 def wait_until_gone(process: int) -> None:
     """Waits until the program has ended, as it must with the server."""
-    deadline = time.monotonic() + SECONDS
-    while Path(f"/proc/{process}").exists():
-        assert time.monotonic() < deadline, "the program doesn't end with the server"
-        time.sleep(0.01)
+    wait_for(lambda: not Path(f"/proc/{process}").exists(), "the program's end with the server")
 
 
 class Crowd(ServerTest):
@@ -61,9 +58,7 @@ class Crowd(ServerTest):
                     count = before.count(b"\n")
                     self.want_in(server.told(), f"{count} lines given again, of {count} in {journal}")
                 workers = begin_crowd(server, self.folder, round_, 200)
-                deadline = time.monotonic() + SECONDS
-                while journal.stat().st_size < len(before) + 1_000 and time.monotonic() < deadline:
-                    time.sleep(0.02)
+                wait_for(lambda: journal.stat().st_size >= len(before) + 1_000, "more of the journal")
                 time.sleep(draw.uniform(0, 0.5))
                 program_id = server.program()
                 server.end(crash(server, what, workers), sent=None)

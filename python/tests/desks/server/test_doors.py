@@ -18,7 +18,7 @@ from pathlib import Path
 from desks.server import storms
 from desks.server.storms import allow_connections, answered_soon, few_files, told_now_and_then, waits_of
 from desks.servers import DESKS, HUB, TESTS, TOLD, Server, ServerTest, all_from, answers
-from harness import SECONDS, SOURCES
+from harness import SECONDS, SOURCES, wait_for
 from nrm.desks.client import Desk, Late, Sold
 
 SLOW_UNLINK = """import os, time
@@ -206,7 +206,5 @@ class Doors(ServerTest):
         for host, is_beyond in [("[::ffff:127.0.0.1]", False), ("[::1]", False), ("[::ffff:10.1.2.3]", True),
                                 ("[::]", True)]:
             with self.server(words[1:], "--listen", f"{host}:0", status=2) as server:
-                deadline = time.monotonic() + SECONDS
-                while not server.told() and time.monotonic() < deadline:
-                    time.sleep(0.01)
+                wait_for(server.told, "what it tells")
                 self.assertEqual("is beyond this machine" in server.told(), is_beyond, f"{host}: {server.told()}")

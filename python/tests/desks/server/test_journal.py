@@ -147,8 +147,7 @@ class Journals(ServerTest):
         journal, void = self.folder / "journal", self.folder / "journal.void"
         journal.write_bytes(b"book A 1\nbook A 1\nbook A 1\n")
         for numbers, line in [("4\n", 1), ("2\n1\n", 2), ("2\n2\n", 2), ("1\n" + "9" * 4301 + "\n", 2), ("x\n", 1),
-                              ("1\n\n", 2),
-                              ("01\n", 1), ("1\xb2\n", 1), ("0\n", 1)]:
+                              ("1\n\n", 2), ("01\n", 1), ("1\xb2\n", 1), ("0\n", 1)]:
             void.write_text(numbers)
             with self.server(self.stub("nrm", {}), journal=journal, status=1) as server:
                 server.end(1, sent=None)

@@ -1,5 +1,4 @@
-"""How a server begins and ends: a program that can't begin, or doesn't answer, bookings that are there already, and
-mistakes."""
+"""How a server begins and ends: a program that can't begin or doesn't answer, bookings there already, mistakes."""
 from __future__ import annotations
 
 import os
@@ -21,9 +20,8 @@ class Serving(ServerTest):
             self.assertEqual(all_from(connection), b"closed program 137\n", "what a client is told")
             server.end(137, sent=None)
             self.want_in(server.told(), "hasn't answered for 2 seconds, and is ended")
-        closes = self.script("closes",
-                             "import os, time\ninput()\nos.write(1, b'bad\\n')\nos.close(1)\ntime.sleep(1000)\n")
-        with self.server([closes], "--slow", "1") as server:
+        closes = "import os, time\ninput()\nos.write(1, b'bad\\n')\nos.close(1)\ntime.sleep(1000)\n"
+        with self.server([self.script("closes", closes)], "--slow", "1") as server:
             server.end(137, sent=None)
 
     def test_bookings_that_are_kept_are_not_made_twice(self) -> None:
@@ -43,8 +41,8 @@ class Serving(ServerTest):
         for words, status, told in [
                 ([*self.program.words, "run", "first", str(self.folder / "bad.csv")], 3, "refused row 2"),
                 ([*self.program.words, "run", "second", "x"], 2, "usage: nrm"),
-                ([str(self.folder / "none")], 1, "No such file"),
-                (["false"], 1, "ended with status 1"), (["true"], 1, "ended with status 0")]:
+                ([str(self.folder / "none")], 1, "No such file"), (["false"], 1, "ended with status 1"),
+                (["true"], 1, "ended with status 0")]:
             with self.server(words, status=status) as server:
                 server.end(status, sent=None)
                 self.assertEqual(told in server.told() and "Traceback" not in server.told(), True, server.told())
@@ -55,8 +53,7 @@ class Serving(ServerTest):
         run, place = ["--", *self.stub("nrm", {})], ["--socket", str(folder / "socket")]
         for words, status, told in [
                 (["--help"], 0, ""), ([], 2, "usage: nrm-tools desks"), (run, 2, "neither --socket nor --listen"),
-                (place, 2, "usage: "),
-                ([*place, "--clients", "0", *run], 2, "--clients"),
+                (place, 2, "usage: "), ([*place, "--clients", "0", *run], 2, "--clients"),
                 ([*place, "--longest", "4096", *run], 2, "--longest"),
                 ([*place, "--idle", "-1", *run], 2, "--idle"), ([*place, "--clients", "99999999", *run], 1, "ulimit"),
                 ([*place, "--journal", str(folder), *run], 1, f"{TOLD}{folder}: "),
