@@ -3,19 +3,17 @@
 
     bench/bookings.py [PROGRAM]
 
-`nrm run first` on 64 legs of 999 seats and 256 products, one leg each. A stream books one seat at a time until so many bookings
-stand, and then goes on with lines of one kind: a booking and the cancellation of the oldest one, in turn, the same with one from
-the middle, or reports of legs. The cost of a line is the time that they add to the bookings alone, divided by their number; of
-each stream the least of nine runs, which take turns.
+`nrm run first` on 64 legs of 999 seats and 256 products, one leg each. A stream books one seat at a time until so many
+bookings stand, and then goes on with lines of one kind: a booking and the cancellation of the oldest one, in turn, the
+same with one from the middle, or reports of legs. The cost of a line is the time that they add to the bookings alone,
+divided by their number; of each stream the least of nine runs, which take turns.
 """
+import functools
 import os
-import subprocess
-import sys
 import tempfile
-import time
 
 import networks
-from running import built, end, parser
+from running import built, end, least_of, timed, words_of
 
 RUNS = 9
 STANDING = [100, 10_000, 60_000]
@@ -28,7 +26,8 @@ def book(at):
 
 
 def turns(standing, before=0):
-    """The cancellation of the booking that has so many of those that stand before it, and the booking of the next product."""
+    """The cancellation of the booking that has so many of those that stand before it, and the booking of the next
+    product."""
     for at in range(LINES // 2):
         yield f"cancel {before + at + 1}"
         yield book(standing + at)
@@ -46,21 +45,15 @@ def reports(_):
 KINDS = {"book, cancel the oldest": turns, "book, cancel one from the middle": middle_turns, "leg": reports}
 
 
-def timed(program, folder, path):
+def answered(program, folder, path):
     with open(path, "rb") as given:
-        begun = time.perf_counter()
-        subprocess.run([program, "run", "first", "NETWORK"], cwd=folder, stdin=given, stdout=subprocess.DEVNULL, check=True)
-        return time.perf_counter() - begun
+        return timed([program, "run", "first", "NETWORK"], cwd=folder, stdin=given)
 
 
 def main():
-    words = parser(__doc__)
-    words.add_argument("program", nargs="?")
-    program = built(words.parse_args().program)
-    legs = [(f"L{n:02}", 999) for n in range(LEGS)]
-    products = [(f"P{j:03}", 100 + j, [f"L{j % LEGS:02}"]) for j in range(PRODUCTS)]
+    program = built(words_of(__doc__).program)
     with tempfile.TemporaryDirectory() as folder:
-        networks.Network(1, 1, legs, products, {}).write(os.path.join(folder, "NETWORK"))
+        networks.wide().write(os.path.join(folder, "NETWORK"))
         streams = {}
         for standing in STANDING:
             for kind in [None, *KINDS]:
@@ -68,8 +61,8 @@ def main():
                 streams[standing, kind] = path
                 with open(path, "w") as file:
                     print(*map(book, range(standing)), *(KINDS[kind](standing) if kind else ()), sep="\n", file=file)
-        rounds = [{key: timed(program, folder, path) for key, path in streams.items()} for _ in range(RUNS)]
-        least = {key: min(times[key] for times in rounds) for key in streams}
+        runs = {key: functools.partial(answered, program, folder, path) for key, path in streams.items()}
+        least = least_of(runs, RUNS)
         for kind in KINDS:
             for standing in STANDING:
                 cost = (least[standing, kind] - least[standing, None]) / LINES

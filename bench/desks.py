@@ -3,12 +3,13 @@
 
     bench/desks.py [PROGRAM] [--disk FOLDER] [--memory FOLDER] [--rounds N]
 
-Clients ask one line each and wait for its reply before they ask the next: 1, 10 and 1,000 of them, and 1 that sends 100 lines ahead. The
-lines book and cancel on a network of 20 legs and 120 products, in mode `bid`; each reply is one line. They go through it without a
-journal, with one on a disk, in FOLDER of --disk, by default the current one, and with one on a RAM disk, in FOLDER of --memory, by
-default /dev/shm; and, in turn with these, to an echo of asyncio that sends back each piece as it came, and does nothing else. Of each
-the most lines a second of N rounds is told, by default 3, and how many times as long as the echo it takes. Then 10,000 lines a second
-are sent by 100 clients, whatever the replies do, and it is told within how long half of the lines are answered, and 99 of 100.
+Clients ask one line each and wait for its reply before they ask the next: 1, 10 and 1,000 of them, and 1 that sends 100
+lines ahead. The lines book and cancel on a network of 20 legs and 120 products, in mode `bid`; each reply is one line.
+They go through it without a journal, with one on a disk, in FOLDER of --disk, by default the current one, and with one
+on a RAM disk, in FOLDER of --memory, by default /dev/shm; and, in turn with these, to an echo of asyncio that sends
+back each piece as it came, and does nothing else. Of each the most lines a second of N rounds is told, by default 3,
+and how many times as long as the echo it takes. Then 10,000 lines a second are sent by 100 clients, whatever the
+replies do, and it is told within how long half of the lines are answered, and 99 of 100.
 """
 import asyncio
 import contextlib
@@ -24,12 +25,13 @@ from pathlib import Path
 
 import networks
 from nrm import Stop
-from running import built, end, parser
+from running import built, end, words_of
 
 TOP = Path(__file__).resolve().parent.parent
 
 SECONDS = 60
-CROWDS = [(1, 1, 5_000), (10, 1, 20_000), (1000, 1, 40_000), (1, 100, 100_000)]  # the clients, lines ahead of replies, lines
+# the clients, lines ahead of replies, lines
+CROWDS = [(1, 1, 5_000), (10, 1, 20_000), (1000, 1, 40_000), (1, 100, 100_000)]
 RATE, RATE_CLIENTS, RATE_LINES = 10_000, 100, 20_000
 
 
@@ -185,21 +187,20 @@ def tell(runs, lines, folders, rounds):
     for clients, ahead, count in CROWDS:
         found = best(runs, lambda path: asked(path, clients, ahead, lines[:count]), folders, rounds)
         print(f"{clients:,} clients, {ahead} ahead: " + ", ".join(
-            f"{name} {count / seconds:,.0f} lines/s ({seconds / found['echo']:.2f})" for name, seconds in found.items()), flush=True)
+            f"{name} {count / seconds:,.0f} lines/s ({seconds / found['echo']:.2f})"
+            for name, seconds in found.items()), flush=True)
     marks = [RATE_LINES // 2, RATE_LINES * 99 // 100]
-    found = best(runs, lambda path: [it[at] for it in [latencies(path, lines[:RATE_LINES])] for at in marks], folders, rounds)
+    found = best(runs, lambda path: [it[at] for it in [latencies(path, lines[:RATE_LINES])] for at in marks],
+                 folders, rounds)
     print(f"{RATE:,} lines a second, 50th and 99th of 100: " + ", ".join(
         f"{name} {took[0] * 1e3:.2f} and {took[1] * 1e3:.2f} ms" for name, took in found.items()), flush=True)
 
 
 def main():
-    words = parser(__doc__)
-    words.add_argument("program", nargs="?")
-    words.add_argument("--disk", metavar="FOLDER", default=".")
-    words.add_argument("--memory", metavar="FOLDER", default="/dev/shm")
-    words.add_argument("--rounds", type=int, default=3, metavar="N")
-    words.add_argument("--echo", metavar="PATH", help="is the echo, on this socket")
-    given = words.parse_args()
+    given = words_of(__doc__, disk={"metavar": "FOLDER", "default": "."},
+                     rounds={"type": int, "default": 3, "metavar": "N"},
+                     memory={"metavar": "FOLDER", "default": "/dev/shm"},
+                     echo={"metavar": "PATH", "help": "is the echo, on this socket"})
     if given.echo:
         return asyncio.run(echo(given.echo))
     network = networks.hub()

@@ -1,16 +1,18 @@
 #!/usr/bin/env python3
-"""How many bookings and cancellations a second `nrm_kept` keeps, beside the same rows put in and taken out by Python's `sqlite3`.
+"""How many bookings and cancellations a second `nrm_kept` keeps, beside the same rows put in and taken out by Python's
+`sqlite3`.
 
     bench/kept.py [PROGRAM] [--folder FOLDER] [--lines N]
 
-A stream books a seat and cancels a booking in turn, on 64 legs of 999 seats and 256 products, so that each line changes the store; 100
-bookings stand. It is sent in one piece, and line by line with each reply awaited. `sqlite3` does the same inserts and deletes in WAL mode,
-each in a transaction of its own with synchronous=FULL. The store is in FOLDER, which is a temporary one where it isn't given, and in
-/dev/shm, a disk in memory. Of each the best of three runs, which take turns; N lines, 2,000 where it isn't given, and ten times as many in
-memory. Then, where there is `strace`, how often each forces a file to the disk and writes to it for each line.
+A stream books a seat and cancels a booking in turn, on 64 legs of 999 seats and 256 products, so that each line changes
+the store; 100 bookings stand. It is sent in one piece, and line by line with each reply awaited. `sqlite3` does the
+same inserts and deletes in WAL mode, each in a transaction of its own with synchronous=FULL. The store is in FOLDER,
+which is a temporary one where it isn't given, and in /dev/shm, a disk in memory. Of each the best of three runs, which
+take turns; N lines, 2,000 where it isn't given, and ten times as many in memory. Then, where there is `strace`, how
+often each forces a file to the disk and writes to it for each line.
 """
-import collections
 import contextlib
+import functools
 import os
 import shutil
 import sqlite3
@@ -21,17 +23,18 @@ import time
 
 import networks
 from nrm import Stop
-from running import built, end, parser
+from running import built, calls_in, end, least_of, words_of
 
 RUNS, LINES, STANDING, TRACED = 3, 2_000, 100, 400
-LEGS, PRODUCTS = 64, 256
+PRODUCTS = 256
+CALLS = ["pwrite64", "pread64", "fsync", "fdatasync", "ftruncate", "fcntl", "read", "write"]
 MEMORY = "/dev/shm"
 TABLE = "CREATE TABLE kept (number INTEGER PRIMARY KEY, product TEXT NOT NULL, party INTEGER NOT NULL) STRICT"
 
 
 def changes(count):
-    """The bookings that stand, and then a cancellation of the oldest one and a booking in turn: each a number to take out or none,
-    and a product to book."""
+    """The bookings that stand, and then a cancellation of the oldest one and a booking in turn: each a number to take
+    out or none, and a product to book."""
     yield from ((None, f"P{at % PRODUCTS:03}") for at in range(STANDING))
     for at in range(count // 2):
         yield at + 1, None
@@ -90,10 +93,10 @@ def timed(run, folder, count):
 
 
 def tell_times(name, runs, folder, count):
-    rounds = [{it: timed(run, folder, count) for it, run in runs.items()} for _ in range(RUNS)]
-    least = {it: min(times[it] for times in rounds) for it in runs}
+    least = least_of({it: functools.partial(timed, run, folder, count) for it, run in runs.items()}, RUNS)
     for it, seconds in least.items():
-        print(f"on {name}, {it}: {(count + STANDING) / seconds:,.0f} lines a second ({seconds / least['sqlite3']:.2f})", flush=True)
+        print(f"on {name}, {it}: {(count + STANDING) / seconds:,.0f} lines a second ({seconds / least['sqlite3']:.2f})",
+              flush=True)
 
 
 def tell_calls(program, network, folder):
@@ -104,7 +107,8 @@ def tell_calls(program, network, folder):
     runs = {"nrm_kept": [program, "first", network], "sqlite3": [sys.executable, os.path.abspath(__file__), "--alone"]}
     for name, words in runs.items():
         few, many = (calls(words, folder, count) for count in (0, TRACED))
-        told = {call: (many[call] - few[call]) / TRACED for call in sorted(many) if many[call] - few[call] > TRACED / 50}
+        told = {call: (many[call] - few[call]) / TRACED for call in sorted(many)
+                if many[call] - few[call] > TRACED / 50}
         print(f"{name}, for each line: " + ", ".join(f"{number:.2f} {call}" for call, number in told.items()))
 
 
@@ -112,30 +116,22 @@ def calls(words, folder, count):
     """How often a run makes each call that is about a store."""
     with tempfile.TemporaryDirectory(dir=folder) as place:
         told, store = os.path.join(place, "CALLS"), os.path.join(place, "STORE")
-        trace = "trace=pwrite64,pread64,fsync,fdatasync,ftruncate,fcntl,read,write"
+        trace = ["strace", "-f", "-c", "-o", told, "-e", f"trace={','.join(CALLS)}"]
         text = "".join(lines(count)).encode() if "--alone" not in words else b""
         more = [store, str(count)] if "--alone" in words else [store]
-        subprocess.run(["strace", "-f", "-c", "-o", told, "-e", trace, *words, *more], input=text, stdout=subprocess.DEVNULL, check=True)
-        with open(told) as table:
-            rows = [row.split() for row in table]
-    return collections.Counter({row[-1]: int(row[3]) for row in rows if row and row[-1] in trace.replace("=", ",").split(",")})
+        subprocess.run([*trace, *words, *more], input=text, stdout=subprocess.DEVNULL, check=True)
+        return calls_in(told, CALLS)
 
 
 def main():
     if sys.argv[1:2] == ["--alone"]:  # what is traced of `sqlite3`
         by_sqlite(sys.argv[2], int(sys.argv[3]))
         return
-    words = parser(__doc__)
-    words.add_argument("program", nargs="?")
-    words.add_argument("--folder")
-    words.add_argument("--lines", type=int, default=LINES)
-    given = words.parse_args()
+    given = words_of(__doc__, folder={}, lines={"type": int, "default": LINES})
     program = built(given.program, "nrm_kept")
-    legs = [(f"L{n:02}", 999) for n in range(LEGS)]
-    products = [(f"P{j:03}", 100 + j, [f"L{j % LEGS:02}"]) for j in range(PRODUCTS)]
     with tempfile.TemporaryDirectory() as folder:
         network = os.path.join(folder, "NETWORK")
-        networks.Network(1, 1, legs, products, {}).write(network)
+        networks.wide().write(network)
         tell_times("a file", ways(program, network), given.folder, given.lines)
         if os.path.isdir(MEMORY):
             tell_times("a disk in memory", ways(program, network), MEMORY, 10 * given.lines)

@@ -3,27 +3,25 @@
 
     bench/kinds.py [PROGRAM ..] [--only WORD]
 
-Each is run under `valgrind --tool=callgrind`, which counts the instructions of the program and of its libraries. Of a line it is what
-many lines of its kind add to the same stream without them, by their number; of a job, all that the process does. With several programs
-each has a column. With --only the rows are those whose text has the word.
+Each is run under `valgrind --tool=callgrind`, which counts the instructions of the program and of its libraries. Of a
+line it is what many lines of its kind add to the same stream without them, by their number; of a job, all that the
+process does. With several programs each has a column. With --only the rows are those whose text has the word.
 """
 import contextlib
 import os
 import re
 import shutil
 import subprocess
-import sys
 import tempfile
 
 import mixed
 import networks
 from nrm import Stop
-from running import built, end, parser
+from running import built, end, words_of
 
 LINES = 20_000
 MIXED_LINES = 40_000
 SOLVES = 10
-SEATS = 999
 
 
 def instructions(words, stream):
@@ -39,19 +37,15 @@ def instructions(words, stream):
     return int(found.group(1))
 
 
-def wide():
-    """64 legs of 999 seats and 256 products of one leg each, so that tens of thousands of bookings can stand."""
-    legs = [(f"L{n:02}", SEATS) for n in range(64)]
-    return networks.Network(1, 1, legs, [(f"P{j:03}", 100 + j, [f"L{j % 64:02}"]) for j in range(256)], {})
-
-
 def booked(count):
     return [f"book P{at % 256:03} 1" for at in range(count)]
 
 
 def cancelled(standing, first):
-    """So many bookings, and then in turn the cancellation of one and a booking more: of the oldest, or from a place on."""
-    return [line for at in range(LINES // 2) for line in (f"cancel {first + at + 1}", f"book P{(standing + at) % 256:03} 1")]
+    """So many bookings, and then in turn the cancellation of one and a booking more: of the oldest, or from a place
+    on."""
+    return [line for at in range(LINES // 2)
+            for line in (f"cancel {first + at + 1}", f"book P{(standing + at) % 256:03} 1")]
 
 
 class Bench:
@@ -60,7 +54,7 @@ class Bench:
     def __init__(self, folder, programs):
         self.programs = programs
         self.files = {}
-        for name, network in ("hub", networks.hub()), ("limits", networks.limits()), ("wide", wide()):
+        for name, network in ("hub", networks.hub()), ("limits", networks.limits()), ("wide", networks.wide()):
             self.files[name] = os.path.join(folder, name)
             network.write(self.files[name])
         self.newlines = os.path.join(folder, "newlines")
@@ -71,7 +65,8 @@ class Bench:
     def line(self, network, before, more, mode="first"):
         """Of one line: what these add behind those before them."""
         words = ["run", mode, self.files[network]]
-        return [(instructions([it, *words], before + more) - instructions([it, *words], before)) / len(more) for it in self.programs]
+        return [(instructions([it, *words], before + more) - instructions([it, *words], before)) / len(more)
+                for it in self.programs]
 
     def mix(self, network, mode):
         key = network, mode
@@ -84,9 +79,9 @@ class Bench:
         """Of a whole process, in millions."""
         return [instructions([it, *words], []) / 1e6 for it in self.programs]
 
-    def solves(self, mode):
-        """Of one `reoptimise`, in millions."""
-        return [count / 1e6 for count in self.line("limits", [], ["reoptimise 1"] * SOLVES, mode)]
+    def solves(self, mode, before=(), line="reoptimise 1"):
+        """Of one line that solves a program, in millions."""
+        return [count / 1e6 for count in self.line("limits", list(before), [line] * SOLVES, mode)]
 
 
 def rows(bench):
@@ -97,8 +92,9 @@ def rows(bench):
     yield "a request that a leg refuses", lambda: bench.line("hub", full, ["book I01 4"] * LINES)
     yield "a request for an unknown product", lambda: bench.line("hub", [], ["book NONE 1"] * LINES)
     for standing in 100, 10_000, 60_000:
-        yield f"cancel the oldest and book, {standing:,} standing", lambda n=standing: bench.line("wide", booked(n), cancelled(n, 0))
-        yield f"cancel from the middle and book, {standing:,} standing", lambda n=standing: bench.line("wide", booked(n), cancelled(n, n // 2))
+        for place, first in ("the oldest", 0), ("from the middle", standing // 2):
+            yield (f"cancel {place} and book, {standing:,} standing",
+                   lambda n=standing, at=first: bench.line("wide", booked(n), cancelled(n, at)))
     yield "hub: `leg`", lambda: bench.line("hub", full, ["leg I01"] * LINES)
     yield "a bad line", lambda: bench.line("hub", [], ["status"] * LINES)
     for network in "hub", "limits":
@@ -106,7 +102,7 @@ def rows(bench):
             yield f"{network}, {mode}: a mix that cancels any booking", lambda n=network, m=mode: bench.mix(n, m)
     for mode in "bid", "davn":
         yield f"limits, {mode}: `reoptimise`, millions", lambda m=mode: bench.solves(m)
-    yield "limits: `hindsight`, millions", lambda: [it / 1e6 for it in bench.line("limits", bench_requests(), ["hindsight"] * SOLVES)]
+    yield "limits: `hindsight`, millions", lambda: bench.solves("first", bench_requests(), "hindsight")
     yield "limits: `plan first`, millions", lambda: bench.job("plan", "first", limits)
     yield "limits: `plan bid`, millions", lambda: bench.job("plan", "bid", limits)
     yield "limits: `print`, millions", lambda: bench.job("print", limits)
@@ -121,13 +117,10 @@ def bench_requests():
 
 
 def main():
-    words = parser(__doc__)
-    words.add_argument("programs", nargs="*")
-    words.add_argument("--only", default="")
-    given = words.parse_args()
+    given = words_of(__doc__, "*", only={"default": ""})
     if not shutil.which("valgrind"):
         raise Stop("there is no valgrind here; Debian has it in the package of that name")
-    programs = [built(it) for it in given.programs] or [built(None)]
+    programs = [built(it) for it in given.program] or [built(None)]
     with tempfile.TemporaryDirectory() as folder, contextlib.suppress(KeyboardInterrupt):
         bench = Bench(folder, programs)
         for text, count in rows(bench):

@@ -1,5 +1,5 @@
-"""A stream in which each cancellation is of a booking that stands, any of them: made in talk with the program, in the mode that will
-answer it, since which requests are accepted, and under which numbers, is the program's to say."""
+"""A stream in which each cancellation is of a booking that stands, any of them: made in talk with the program, in the
+mode that will answer it, since which requests are accepted, and under which numbers, is the program's to say."""
 import random
 import subprocess
 
@@ -18,8 +18,8 @@ class Talk:
         return self.process.stdout.readline().decode()
 
     def send(self, lines):
-        """Sends lines, reads a reply to each, and notes the bookings that were made. What is left of the text of a leg is read over with
-        the next reply."""
+        """Sends lines, reads a reply to each, and notes the bookings that were made. What is left of the text of a leg
+        is read over with the next reply."""
         self.process.stdin.write("".join(line + "\n" for line in lines).encode())
         self.process.stdin.flush()
         for line in lines:
@@ -36,8 +36,8 @@ class Talk:
 
 
 def mixed(program, mode, file, network, count, seed=3):
-    """`count` lines: of 100 some 70 book, 25 cancel any booking that stands, 4 ask for a leg, and one is bad or names nothing; at each
-    quarter the plan is made anew."""
+    """`count` lines: of 100 some 70 book, 25 cancel any booking that stands, 4 ask for a leg, and one is bad or names
+    nothing; at each quarter the plan is made anew."""
     draw, talk = random.Random(seed), Talk(program, mode, file)
     products, legs = [name for name, _, _ in network.products], [name for name, _ in network.legs]
 

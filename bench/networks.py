@@ -22,8 +22,15 @@ def limits():
     return network(draw, 32, 16, legs, products, 9)
 
 
+def wide():
+    """64 legs of 999 seats and 256 products of one leg each, so that tens of thousands of bookings can stand."""
+    legs = [(f"L{n:02}", 999) for n in range(64)]
+    return Network(1, 1, legs, [(f"P{j:03}", 100 + j, [f"L{j % 64:02}"]) for j in range(256)], {})
+
+
 def long_path():
-    """A program whose path is long, 3,816 pivots: 64 legs of 100 seats, and 256 products over four legs with at most 9 seats each."""
+    """A program whose path is long, 3,816 pivots: 64 legs of 100 seats, and 256 products over four legs with at most 9
+    seats each."""
     legs = [(f"L{n:02}", 100) for n in range(64)]
     products = []
     for j in range(256):
@@ -42,13 +49,14 @@ def random_legs():
 
 
 def network(draw, histories, periods, legs, products, most, thresholds=()):
-    demand = {name: [[draw.randint(0, most) for _ in range(periods)] for _ in range(histories)] for name, _, _ in products}
+    demand = {name: [[draw.randint(0, most) for _ in range(periods)] for _ in range(histories)]
+              for name, _, _ in products}
     return Network(histories, periods, legs, products, demand, thresholds)
 
 
 class Network:
-    """Legs with their seats, products with their fares and legs, demand by product, history and period, and the thresholds of
-    every leg."""
+    """Legs with their seats, products with their fares and legs, demand by product, history and period, and the
+    thresholds of every leg."""
 
     def __init__(self, histories, periods, legs, products, demand, thresholds=()):
         self.histories, self.periods, self.legs, self.products, self.demand = histories, periods, legs, products, demand

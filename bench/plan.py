@@ -3,13 +3,14 @@
 
     bench/plan.py [PROGRAM] [--before PROGRAM]
 
-`nrm plan bid FILE` runs on four networks, and on their linear programs those of these that are installed: `glpsol` (Debian's
-glpk-utils), exactly and in floating point, and `esolver` (Debian's qsopt-ex), which is exact; with --before another build of `nrm`
-too. They are whole processes, which take turns, so that what else the machine does falls on each. Of each, the least of nine
-runs, and how many times as long as it the program takes; and whether the values agree. The pivots are counted by
-`tests/reference.py`; a pivot's time is what `plan bid` takes longer than `plan first`, which reads the file and solves nothing,
-shared among them. Last, `gen davn 1`, which solves five programs.
+`nrm plan bid FILE` runs on four networks, and on their linear programs those of these that are installed: `glpsol`
+(Debian's glpk-utils), exactly and in floating point, and `esolver` (Debian's qsopt-ex), which is exact; with --before
+another build of `nrm` too. They are whole processes, which take turns, so that what else the machine does falls on
+each. Of each, the least of nine runs, and how many times as long as it the program takes; and whether the values agree.
+The pivots are counted by `tests/reference.py`; a pivot's time is what `plan bid` takes longer than `plan first`, which
+reads the file and solves nothing, shared among them. Last, `gen davn 1`, which solves five programs.
 """
+import functools
 import importlib.util
 import os
 import re
@@ -17,19 +18,19 @@ import shutil
 import subprocess
 import sys
 import tempfile
-import time
 from fractions import Fraction
 
 import networks
 from nrm import Stop
-from running import built, end, parser
+from running import built, end, least_of, timed, words_of
 
 TOP = os.path.dirname(os.path.dirname(os.path.abspath(__file__)))
 
 RUNS = 9
 SOLVERS = {"glpsol --exact": ["glpsol", "--exact", "--lp", "PROGRAM"], "glpsol": ["glpsol", "--lp", "PROGRAM"],
            "esolver": ["esolver", "-L", "PROGRAM"]}
-VALUE = {"glpsol": ("-o", r"Objective: .* = (\S+)"), "esolver": ("-O", r"Value = (\S+)")}  # the option for a file, and the value in it
+# the option for a file, and the value in it
+VALUE = {"glpsol": ("-o", r"Objective: .* = (\S+)"), "esolver": ("-O", r"Value = (\S+)")}
 
 
 def reference():
@@ -52,18 +53,13 @@ def pivots_of(path, rules):
 def write_program(folder):
     """Writes the linear program of the network file, by the writer that the auditor has."""
     with open(os.path.join(folder, "PROGRAM"), "wb") as file:
-        subprocess.run([sys.executable, os.path.join(TOP, "python", "src"), "lp", "NETWORK"], cwd=folder, stdout=file, check=True)
+        subprocess.run([sys.executable, os.path.join(TOP, "python", "src"), "lp", "NETWORK"], cwd=folder,
+                       stdout=file, check=True)
 
 
-def timed(words, folder):
-    begun = time.perf_counter()
-    subprocess.run(words, cwd=folder, stdin=subprocess.DEVNULL, stdout=subprocess.DEVNULL, stderr=subprocess.DEVNULL, check=True)
-    return time.perf_counter() - begun
-
-
-def least_of(commands, folder):
-    rounds = [{it: timed(words, folder) for it, words in commands.items()} for _ in range(RUNS)]
-    return {it: min(times[it] for times in rounds) for it in commands}
+def quietly(folder):
+    """How a solver runs in a folder."""
+    return {"cwd": folder, "stderr": subprocess.DEVNULL}
 
 
 def value_of_plan(program, folder, histories):
@@ -76,7 +72,7 @@ def value_of_plan(program, folder, histories):
 
 def value_of_solver(words, folder):
     option, value = VALUE[words[0]]
-    timed([words[0], option, "SOLVED", *words[1:]], folder)
+    timed([words[0], option, "SOLVED", *words[1:]], **quietly(folder))
     with open(os.path.join(folder, "SOLVED")) as file:
         found = re.search(value, file.read())
     if not found:
@@ -96,7 +92,7 @@ def compared(name, network, programs, rules, folder):
     pivots = pivots_of(os.path.join(folder, "NETWORK"), rules)
     print(f"{name}: legs {len(network.legs)}, products {len(network.products)}, histories {network.histories}, "
           f"periods {network.periods}, value of all histories {value}")
-    least = least_of(commands, folder)
+    least = least_of({it: functools.partial(timed, words, **quietly(folder)) for it, words in commands.items()}, RUNS)
     whole, reading = least.pop("nrm plan bid"), least.pop("nrm plan first")
     print(f"    nrm plan bid: {whole * 1e3:.1f} ms, of which {reading * 1e3:.1f} without solving; "
           f"{pivots} pivots, {(whole - reading) / pivots * 1e6:.1f} microseconds each")
@@ -106,17 +102,15 @@ def compared(name, network, programs, rules, folder):
 
 
 def main():
-    words = parser(__doc__)
-    words.add_argument("program", nargs="?")
-    words.add_argument("--before", metavar="PROGRAM")
-    given = words.parse_args()
+    given = words_of(__doc__, before={"metavar": "PROGRAM"})
     programs = [built(given.program), given.before and built(given.before)]
     rules = reference()
-    for name, network in (("hub", networks.hub()), ("limits", networks.limits()), ("random legs", networks.random_legs()),
-                          ("long path", networks.long_path())):
+    for name, network in (("hub", networks.hub()), ("limits", networks.limits()),
+                          ("random legs", networks.random_legs()), ("long path", networks.long_path())):
         with tempfile.TemporaryDirectory() as folder:
             compared(name, network, programs, rules, folder)
-    print(f"gen davn 1: {least_of({'gen': [programs[0], 'gen', 'davn', '1']}, '.')['gen'] * 1e3:.1f} ms")
+    least = least_of({"gen": lambda: timed([programs[0], "gen", "davn", "1"])}, RUNS)
+    print(f"gen davn 1: {least['gen'] * 1e3:.1f} ms")
 
 
 if __name__ == "__main__":

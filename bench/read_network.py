@@ -10,12 +10,9 @@ the machine does falls on each of them.
 """
 import os
 import random
-import subprocess
-import sys
 import tempfile
-import time
 
-from running import built, end, parser
+from running import built, end, timed, words_of
 
 RUNS = 15
 
@@ -36,22 +33,14 @@ def network(path):
                 print(f"demand,PRODUCT-{j:04}", h, *seats, sep=",", file=file)
 
 
-def timed(program, words, folder):
-    begun = time.perf_counter()
-    subprocess.run([program] + words, cwd=folder, stdin=subprocess.DEVNULL, stdout=subprocess.DEVNULL, check=True)
-    return time.perf_counter() - begun
-
-
 def main():
-    words = parser(__doc__)
-    words.add_argument("program", nargs="*")
-    programs = [built(it) for it in words.parse_args().program] or [built()]
+    programs = [built(it) for it in words_of(__doc__, "*").program] or [built()]
     with tempfile.TemporaryDirectory() as folder:
         path = os.path.join(folder, "NETWORK")
         network(path)
         print(f"file: {os.path.getsize(path):,} bytes")
         for words in (["run", "first", "NETWORK"], ["print", "NETWORK"]):
-            rounds = [[timed(program, words, folder) for program in programs] for _ in range(RUNS)]
+            rounds = [[timed([program, *words], cwd=folder) for program in programs] for _ in range(RUNS)]
             for program, times in zip(programs, zip(*rounds)):
                 least, middle = min(times) * 1000, sorted(times)[RUNS // 2] * 1000
                 print(f"{program} {' '.join(words)}: least {least:.1f} ms, middle {middle:.1f} ms")

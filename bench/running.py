@@ -1,6 +1,9 @@
-"""How a script of this folder begins and ends, and which program it measures."""
+"""How a script of this folder begins and ends, which program it measures, and what scripts measure alike."""
+import collections
 import os
+import subprocess
 import sys
+import time
 from pathlib import Path
 
 from nrm import Stop
@@ -10,9 +13,14 @@ from nrm.program import TOP, built_in, is_program, no_program
 NAME = f"bench/{os.path.basename(sys.argv[0])}"
 
 
-def parser(manual):
-    """A reader of the words of a script, whose head is its manual."""
-    return running.parser(NAME, manual)
+def words_of(manual, programs="?", **options):
+    """The words of a script, whose head is its manual: its program, or several, and options as `add_argument` takes
+    them."""
+    words = running.parser(NAME, manual)
+    words.add_argument("program", nargs=programs)
+    for name, more in options.items():
+        words.add_argument(f"--{name}", **more)
+    return words.parse_args()
 
 
 def end(main):
@@ -31,6 +39,26 @@ def built(path=None, name="nrm"):
     if not is_program(Path(found)):
         raise Stop(f"there is no program {found}")
     return found
+
+
+def timed(words, **more):
+    """The seconds that a run takes."""
+    begun = time.perf_counter()
+    subprocess.run(words, **{"stdin": subprocess.DEVNULL, "stdout": subprocess.DEVNULL, "check": True, **more})
+    return time.perf_counter() - begun
+
+
+def least_of(runs, rounds):
+    """The least that each run gives, by its name: they take turns, so that what else the machine does falls on each."""
+    found = [{name: run() for name, run in runs.items()} for _ in range(rounds)]
+    return {name: min(it[name] for it in found) for name in runs}
+
+
+def calls_in(path, names):
+    """How often the calls of some names stand in a table that `strace -c` has written."""
+    with open(path) as table:
+        rows = [row.split() for row in table]
+    return collections.Counter({row[-1]: int(row[3]) for row in rows if row and row[-1] in names})
 
 
 if __name__ == "__main__":

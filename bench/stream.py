@@ -3,29 +3,29 @@
 
     bench/stream.py [PROGRAM] [--limit]
 
-The stream has a million lines on a hub of 20 legs and 120 products: 70 in 100 book, 25 cancel, 4 leg, and 1 is bad or names
-what isn't there; at each quarter the plan is made anew. It comes as a file, and through a pipe in pieces of 1, 64 and 4,096 bytes,
-of which each is read apart; in pieces of 1 it is 20,000 lines. Each mode runs beside an `awk` that writes a line for each line, in
-turn: of each the least of five runs, and how many times as long as `awk` the program takes. Then, where there is `strace`, how often
-the program reads and writes, in mode `bid`. Then the most memory that it had, after 100,000 and after 10,000,000 lines that are made
-as they are sent.
+The stream has a million lines on a hub of 20 legs and 120 products: 70 in 100 book, 25 cancel, 4 leg, and 1 is bad or
+names what isn't there; at each quarter the plan is made anew. It comes as a file, and through a pipe in pieces of 1, 64
+and 4,096 bytes, of which each is read apart; in pieces of 1 it is 20,000 lines. Each mode runs beside an `awk` that
+writes a line for each line, in turn: of each the least of five runs, and how many times as long as `awk` the program
+takes. Then, where there is `strace`, how often the program reads and writes, in mode `bid`. Then the most memory that
+it had, after 100,000 and after 10,000,000 lines that are made as they are sent.
 
-With --limit it is also sent 4 GiB in lines of a mebibyte, as many as it takes; the same and one byte more, which is too long; and
-the same with one byte more in front, so that the last line has no end within the limit.
+With --limit it is also sent 4 GiB in lines of a mebibyte, as many as it takes; the same and one byte more, which is too
+long; and the same with one byte more in front, so that the last line has no end within the limit.
 """
 import contextlib
+import functools
 import os
 import random
 import shutil
 import subprocess
-import sys
 import tempfile
 import threading
 import time
 
 import networks
 from nrm import Stop
-from running import built, end, parser
+from running import built, calls_in, end, least_of, words_of
 
 RUNS = 5
 LINES, FEWER_LINES = 1_000_000, 20_000
@@ -70,8 +70,9 @@ def timed(words, path, size):
     """The seconds that a run takes on a file, or on a pipe that keeps its pieces apart."""
     with open(path, "rb") as given:
         if size is not None:
-            stream, (out, end) = memoryview(given.read()), os.pipe2(os.O_DIRECT | os.O_CLOEXEC)
-            given, feeder = open(out, "rb"), threading.Thread(target=send, args=(open(end, "wb", buffering=0), pieces_of(stream, size)))
+            pieces, (out, end) = pieces_of(memoryview(given.read()), size), os.pipe2(os.O_DIRECT | os.O_CLOEXEC)
+            feeder = threading.Thread(target=send, args=(open(end, "wb", buffering=0), pieces))
+            given = open(out, "rb")
         begun = time.perf_counter()
         process = subprocess.Popen(words, stdin=given, stdout=subprocess.DEVNULL)
         if size is not None:
@@ -86,14 +87,12 @@ def calls(words, path, size, folder):
     """How often a run reads and writes."""
     told = os.path.join(folder, "CALLS")
     timed(["strace", "-f", "-c", "-o", told, "-e", "trace=read,write", *words], path, size)
-    with open(told) as table:
-        rows = [row.split() for row in table]
-    return ", ".join(f"{int(row[3]):,} calls of {row[-1]}" for row in rows if row and row[-1] in ("read", "write"))
+    return ", ".join(f"{count:,} calls of {name}" for name, count in calls_in(told, ("read", "write")).items())
 
 
 def most_memory(words, made):
-    """The most that a run has had, in KiB. It is asked while it waits after its last reply: what `wait4` tells later is no less than
-    what this script has."""
+    """The most that a run has had, in KiB. It is asked while it waits after its last reply: what `wait4` tells later is
+    no less than what this script has."""
     process = subprocess.Popen(words, stdin=subprocess.PIPE, stdout=subprocess.PIPE)
     threading.Thread(target=send, args=(os.fdopen(os.dup(process.stdin.fileno()), "wb"), made)).start()
     last = b""
@@ -119,16 +118,17 @@ def at_the_limit(words, before, after, status, replies):
     seconds = time.perf_counter() - begun
     feeder.join()
     if (process.wait(), out) != (status, replies * b"bad\n"):
-        raise Stop(f"`{' '.join(words)}` ended with status {process.returncode} and {len(out)} bytes of replies, and not with {status} and "
-                   f"{replies} replies")
+        raise Stop(f"`{' '.join(words)}` ended with status {process.returncode} and {len(out)} bytes of replies, and "
+                   f"not with {status} and {replies} replies")
     return f"{seconds:.1f} s, status {status} after the replies to {replies:,} lines"
 
 
 def tell_times(runs, stream_of):
     for way, size in WAYS.items():
-        rounds = [{it: timed(words, stream_of(size), size) for it, words in runs.items()} for _ in range(RUNS)]
-        least = {it: min(times[it] for times in rounds) for it in runs}
-        print(f"as {way}: " + ", ".join(f"{it} {least[it] * 1e3:.0f} ms ({least[it] / least['awk']:.2f})" for it in runs))
+        calls = {it: functools.partial(timed, words, stream_of(size), size) for it, words in runs.items()}
+        least = least_of(calls, RUNS)
+        told = [f"{it} {seconds * 1e3:.0f} ms ({seconds / least['awk']:.2f})" for it, seconds in least.items()]
+        print(f"as {way}: {', '.join(told)}")
 
 
 def tell_calls(words, stream_of, folder):
@@ -152,10 +152,7 @@ def tell_limit(words):
 
 
 def main():
-    words = parser(__doc__)
-    words.add_argument("program", nargs="?")
-    words.add_argument("--limit", action="store_true")
-    given = words.parse_args()
+    given = words_of(__doc__, limit={"action": "store_true"})
     program, network = built(given.program), networks.hub()
     with tempfile.TemporaryDirectory() as folder:
         file, stream, fewer = (os.path.join(folder, name) for name in ("NETWORK", "STREAM", "FEWER"))
