@@ -241,18 +241,18 @@ class Stream(Run):
 
     def feed(self, lines: Iterable[bytes], source: int | None) -> None:
         """Gives the program its input, to the end."""
-        try:
-            with self.input as end:
+        with contextlib.suppress(BrokenPipeError), self.input as end:
+            try:
                 end.writelines(lines)
                 end.flush()
                 while source is not None and (piece := os.read(source, PIECE)):
                     end.write(piece)
                     end.flush()
-        except BrokenPipeError:
-            pass  # the program has ended, or is wanted no longer
-        except OSError:
-            self.fault = INPUT_FAULT
-            self.process.kill()  # an unfinished line must not be taken for a whole one
+            except BrokenPipeError:
+                pass  # the program has ended, or is wanted no longer
+            except OSError:
+                self.fault = INPUT_FAULT
+                self.process.kill()  # before its input ends: an unfinished line must not be taken for a whole one
 
     def wait(self) -> int:
         """The status, once the program has ended."""
