@@ -1,8 +1,8 @@
 """The blocks of commands of a page, run in its order in one shell, and what the page shows of what they print.
 
-A block is what is indented by four blanks or more behind an empty line. A part of it that begins with the name of a command is run; any
-other shows something. What is shown behind commands must have been printed by those above it under the same heading, or written by
-them into files of the folder `mine`, which the pages write to.
+A block is what is indented by four blanks or more behind an empty line. A part of it that begins with the name of a
+command is run; any other shows something. What is shown behind commands must have been printed by those above it under
+the same heading, or written by them into files of the folder `mine`, which the pages write to.
 """
 import os
 import re
@@ -13,8 +13,9 @@ from dataclasses import dataclass, field
 from pathlib import Path
 
 SECONDS = 300  # that the commands of a page may take in all
-COMMANDS = """nrm nrm-tools nrm_kept ./nrm ./nrm_kept ./nrm-tools .ci/run tools/release.sh awk cat cc cmp coproc echo esolver for git glpsol grep
-    head install mkdir openssl printf python3 /usr/bin/python3 rm sed sender sqlite3 tail {""".split()
+COMMANDS = """nrm nrm-tools nrm_kept ./nrm ./nrm_kept ./nrm-tools .ci/run tools/release.sh awk cat cc cmp coproc echo
+    esolver for git glpsol grep head install mkdir openssl printf python3 /usr/bin/python3 rm sed sender sqlite3 tail {
+    """.split()
 ASSIGNED = re.compile(r"[a-z]+=")
 TOLD = re.compile(r"nrm-tools [a-z]+: ")  # what a command tells on standard error
 ELIDED = re.compile(r"\s*\.\.+\s*")  # a line that stands for several
@@ -23,7 +24,7 @@ MARK = "blocks.py"
 
 @dataclass
 class Part:
-    """A part of a block: its page, the line where it begins, its lines, and, if it shows something, the commands of which one prints it."""
+    """A part of a block: its page and line, its lines, and, if it shows something, the commands that may print it."""
     page: str
     line: int
     lines: list
@@ -83,23 +84,28 @@ def is_shown_in(shown, printed):
             pieces[-1].append(line.strip())
     bare = [it.strip() for it in lines]
     for piece in filter(None, pieces):
-        at = next((it + len(piece) for it in range(at, len(bare) - len(piece) + 1) if bare[it:it + len(piece)] == piece), None)
+        at = next((it + len(piece) for it in range(at, len(bare) - len(piece) + 1)
+                   if bare[it:it + len(piece)] == piece), None)
         if at is None:
             return False
     return True
 
 
 def run(parts, top, path):
-    """Runs the commands of a page at the top of a folder, with a path of programs: each gets what it printed, and its status. A part that
-    isn't reached keeps the status None."""
+    """Runs the commands of a page at the top of a folder, with a path of programs: each gets what it printed, and its
+    status. A part that isn't reached keeps the status None."""
     with tempfile.TemporaryDirectory() as folder:
         script = ["exec </dev/null"]
         for number, part in enumerate(parts):
             Path(folder, f"{number}.sh").write_text(part.text())
-            script.append(f". '{folder}/{number}.sh' >'{folder}/{number}.out' 2>&1; echo $? >'{folder}/{number}.status'")
-            script.append(f"mkdir -p '{folder}/{number}.mine'; cp -r --preserve=timestamps mine/. '{folder}/{number}.mine' 2>/dev/null")
-        process = subprocess.Popen(["bash", "-c", "\n".join(script), MARK], cwd=top, start_new_session=True, stdout=subprocess.DEVNULL,
-                                   stderr=subprocess.DEVNULL, env={**os.environ, "PATH": path, "LC_ALL": "C.UTF-8", "NRM_PROGRAM": ""})
+            script.append(
+                f". '{folder}/{number}.sh' >'{folder}/{number}.out' 2>&1; echo $? >'{folder}/{number}.status'")
+            script.append(f"mkdir -p '{folder}/{number}.mine'; cp -r --preserve=timestamps mine/. "
+                          f"'{folder}/{number}.mine' 2>/dev/null")
+        process = subprocess.Popen(["bash", "-c", "\n".join(script), MARK], cwd=top, start_new_session=True,
+                                   stdout=subprocess.DEVNULL,
+                                   stderr=subprocess.DEVNULL,
+                                   env={**os.environ, "PATH": path, "LC_ALL": "C.UTF-8", "NRM_PROGRAM": ""})
         try:
             process.wait(SECONDS)
         except subprocess.TimeoutExpired:
@@ -141,9 +147,10 @@ def missing(needs):
 
 
 def faults_of(page, top, path, lists):
-    """Runs a page in a folder, and tells what is wrong, how many parts were run and compared, and what was met of the lists."""
+    """Runs a page in a folder: what is wrong, how many parts were run and compared, and what was met of the lists."""
     parts = parts_of(page)
-    met = {found for some in (lists.not_run, lists.ends, lists.not_shown) for it in parts for found in lists.found(some, it)}
+    met = {found for some in (lists.not_run, lists.ends, lists.not_shown) for it in parts
+           for found in lists.found(some, it)}
     chosen = [it for it in parts if it.is_run() and not lists.found(lists.not_run, it)]
     if chosen:
         run(chosen, top, path)

@@ -44,7 +44,7 @@ class Tests:
 
 
 def words_of(manual):
-    """The words of the command line: which tests, and the program, which is the script `nrm` at the top if none is named."""
+    """The words of the command line: which tests, and the program, else the script `nrm` at the top."""
     words = argparse.ArgumentParser(usage=manual)
     words.add_argument("pattern", nargs="?", default="")
     add_program(words)

@@ -1,7 +1,8 @@
 #!/usr/bin/env python3
 """Says of each file of definitions whether a public contract reaches it.
 
-    tests/definitions.py            checks: a file outside specs/Inner that no public contract reaches, and one inside it
+    tests/definitions.py            checks: a file outside specs/Inner that no public contract reaches, and one inside
+                                    it
                                  that one does, is a fault (status 1)
     tests/definitions.py --list     prints the files to read, crate by crate, lowest first, each with its first line
 
@@ -141,7 +142,8 @@ def main():
     for crate in order:
         for uses, public in public_text(crate):
             for module, names in uses:
-                if module in files and any(re.search(r"(?<![\w.])" + re.escape(n) + r"(?!\w)", public) for n in names if n):
+                forms = [r"(?<![\w.])" + re.escape(it) + r"(?!\w)" for it in names if it]
+                if module in files and any(re.search(it, public) for it in forms):
                     reached.add(module)
     queue = list(reached)
     while queue:
@@ -161,7 +163,8 @@ def main():
             faults += 1
             why = "a public contract reaches it" if inner else "no public contract reaches it"
             print(f"{os.path.relpath(path, TOP)}: {why}")
-    print(f"{len(files)} files of definitions, {len(reached)} of them reached by public contracts, {faults} out of place")
+    print(f"{len(files)} files of definitions, {len(reached)} of them reached by public contracts, {faults} out of "
+          "place")
     return 1 if faults else 0
 
 

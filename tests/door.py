@@ -3,9 +3,9 @@
 
     tests/door.py [PATTERN]
 
-Each test has a copy of the script beside a `rt` that stands in for the kit's: it notes how it was called, plays `rt try` as the test
-wants, and builds a program that says its words and gives its input back. With PATTERN only the tests that have it in their names. The
-last line is `N passed, M failed`.
+Each test has a copy of the script beside a `rt` that stands in for the kit's: it notes how it was called, plays `rt
+try` as the test wants, and builds a program that says its words and gives its input back. With PATTERN only the tests
+that have it in their names. The last line is `N passed, M failed`.
 """
 import contextlib
 import os
@@ -32,7 +32,8 @@ case "$1 $2" in
     echo "rt: running out/nrm" ;;
   *)
     case "$PLAY" in
-      ends) echo "tried"; cat; printf 'checked: ended status=%s\nrun=ended status=%s runners=1 proved=no\n' "$STATUS" "$STATUS" >&2 ;;
+      ends) echo "tried"; cat; printf 'checked: ended status=%s\n' "$STATUS" >&2
+        printf 'run=ended status=%s runners=1 proved=no\n' "$STATUS" >&2 ;;
       stops) echo "half an answer"; echo "run=cut" >&2 ;;
     esac ;;
 esac
@@ -51,7 +52,8 @@ class Door:
             os.makedirs(os.path.join(folder, "crates", crate))
         os.mkdir(os.path.join(folder, "bin"))
         shutil.copy(os.path.join(checks.TOP, "nrm"), folder)
-        for name, text, rights in ("bin/rt", RT, 0o755), ("crates.txt", CRATES, 0o644), ("net.csv", "periods,1,1\n", 0o644):
+        for name, text, rights in (("bin/rt", RT, 0o755), ("crates.txt", CRATES, 0o644),
+                                    ("net.csv", "periods,1,1\n", 0o644)):
             with open(os.path.join(folder, name), "w") as file:
                 file.write(text)
             os.chmod(file.name, rights)
@@ -59,7 +61,8 @@ class Door:
     def start(self, *words, play="ends", status=0, **more):
         path = os.path.join(self.folder, "bin") + ":" + os.environ["PATH"]
         outside = dict(os.environ, PATH=path, CALLS=self.calls, PLAY=play, STATUS=str(status))
-        return subprocess.Popen([os.path.join(self.folder, "nrm"), *words], cwd=self.folder, env=outside, stdout=subprocess.PIPE,
+        return subprocess.Popen([os.path.join(self.folder, "nrm"), *words], cwd=self.folder, env=outside,
+                                stdout=subprocess.PIPE,
                                 stderr=subprocess.PIPE, **more)
 
     def run(self, *words, stream=b"", **more):
@@ -104,7 +107,8 @@ def answers_without_a_proof(door):
     status, out, told = door.run("run", "first", "net.csv", stream=b"book A 1\n")
     want((status, out), (0, "tried\nbook A 1\n"))
     want_in(told, "is not proved; `./nrm --build` proves and builds the program")
-    want(door.called(), [["try", "--data", f"FILE3={os.path.realpath(door.folder)}/net.csv", "--", "run", "first", "FILE3"]])
+    want(door.called(),
+         [["try", "--data", f"FILE3={os.path.realpath(door.folder)}/net.csv", "--", "run", "first", "FILE3"]])
 
 
 @test
@@ -147,7 +151,8 @@ def a_pipe_that_does_not_end_builds_first(door):
 
 @test
 def a_byte_0_in_a_pipe_is_kept(door):
-    want(door.pipe("run", "first", "net.csv", first=b"one\0two\xff\n\0")[:2], (0, b"program run first net.csv\none\0two\xff\n\0"))
+    want(door.pipe("run", "first", "net.csv", first=b"one\0two\xff\n\0")[:2],
+         (0, b"program run first net.csv\none\0two\xff\n\0"))
 
 
 @test
@@ -225,7 +230,8 @@ def build_builds_and_runs_nothing(door):
 def without_the_kit_it_says_so(door):
     os.remove(os.path.join(door.folder, "bin", "rt"))
     if shutil.which("rt", path=os.environ["PATH"]):
-        os.environ["PATH"] = ":".join(it for it in os.environ["PATH"].split(":") if not os.path.exists(os.path.join(it, "rt")))
+        os.environ["PATH"] = ":".join(it for it in os.environ["PATH"].split(":")
+                                      if not os.path.exists(os.path.join(it, "rt")))
     status, out, told = door.run("print", "net.csv")
     want((status, out), (checks.NOT_BUILT, ""))
     want_in(told, "`rt` of the Rattle kit")

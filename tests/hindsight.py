@@ -3,14 +3,14 @@
 
     tests/hindsight.py [--program WORD...]
 
-Each network has a few legs of a few seats and up to four products, and each stream up to ten requests with cancellations
-between them, at more places than one of which it looks back. Half of the files are of version 2, with authorised seats that
-aren't the seats and with refund percentages. There each selection of the requests so far is tried, each request whole and at
-most once: the one that earns most must earn no more than the value that is told, the bookings that stand must be one and
-earn the revenue that is told, and the value must be the greatest of the program's corners, so that it isn't above the bound
-that parts of seats allow. What cancellations gave back and what they didn't must be the fares that they were sold at. With
-no --program it is the script `nrm` at the top of the repository. The last line tells how many lines were compared, and at how
-many of them a selection earns the whole value.
+Each network has a few legs of a few seats and up to four products, and each stream up to ten requests with
+cancellations between them, at more places than one of which it looks back. Half of the files are of version 2, with
+authorised seats that aren't the seats and with refund percentages. There each selection of the requests so far is
+tried, each request whole and at most once: the one that earns most must earn no more than the value that is told, the
+bookings that stand must be one and earn the revenue that is told, and the value must be the greatest of the program's
+corners, so that it isn't above the bound that parts of seats allow. What cancellations gave back and what they didn't
+must be the fares that they were sold at. With no --program it is the script `nrm` at the top of the repository. The
+last line tells how many lines were compared, and at how many of them a selection earns the whole value.
 """
 import itertools
 import os
@@ -37,12 +37,14 @@ class Made:
         self.mode = MODES[seed % len(MODES)]
         self.version = 1 + seed // len(MODES) % 2
         self.legs = {f"L{n}": draw.randint(0, 6) for n in range(draw.randint(1, 4))}  # the seats that may be booked
-        self.products = {f"P{n}": (draw.randint(1, 999), draw.sample(list(self.legs), draw.randint(1, min(3, len(self.legs)))))
+        self.products = {f"P{n}": (draw.randint(1, 999),
+                                   draw.sample(list(self.legs), draw.randint(1, min(3, len(self.legs)))))
                          for n in range(draw.randint(1, 4))}
         self.refunds = {name: draw.choice([0, 1, 33, 50, 99, 100]) for name in self.products
                         if self.version == 2 and draw.randrange(3)}
         self.histories = draw.randint(1, 3)
-        self.demand = [(name, history + 1, draw.randint(0, 4)) for name in self.products for history in range(self.histories)]
+        self.demand = [(name, history + 1, draw.randint(0, 4)) for name in self.products
+                       for history in range(self.histories)]
         self.seats = {name: draw.randint(0, 9) if self.version == 2 else seats for name, seats in self.legs.items()}
         self.lines = [line for line in self.drawn(draw)]
 
@@ -58,7 +60,8 @@ class Made:
     def file(self):
         is_second = self.version == 2
         rows = [("periods", self.histories, 1, 2) if is_second else ("periods", self.histories, 1)]
-        rows += [("leg", name, seats, *([self.legs[name]] if is_second else []), 300, 100) for name, seats in self.seats.items()]
+        rows += [("leg", name, seats, *([self.legs[name]] if is_second else []), 300, 100)
+                 for name, seats in self.seats.items()]
         rows += [("product", name, fare, *legs) for name, (fare, legs) in self.products.items()]
         rows += [("refund", *row) for row in self.refunds.items()]
         rows += [("demand", *row) for row in self.demand]
@@ -77,7 +80,7 @@ class Made:
                    for some in itertools.combinations(requests, count) if self.fits(some))
 
     def corners(self, requests):
-        """What the corners of the program earn: so many of each product, as far as it was asked for and fits, in parts."""
+        """What the corners of the program earn: so many of each product, as far as asked for and fitting, in parts."""
         asked = [sum(party for name, party in requests if name == product) for product in self.products]
         uses = [[int(leg in legs) for _, legs in self.products.values()] for leg in self.legs]
         seats, fares = list(self.legs.values()), [fare for fare, _ in self.products.values()]
@@ -85,7 +88,8 @@ class Made:
             free = [at for at, it in enumerate(sold) if it is None]
             x = [Fraction(0 if it is None else it * many) for it, many in zip(sold, asked)]
             for full in itertools.combinations(range(len(seats)), len(free)):
-                rest = [[Fraction(uses[leg][at]) for at in free] + [seats[leg] - sum(a * b for a, b in zip(uses[leg], x))]
+                rest = [[Fraction(uses[leg][at]) for at in free]
+                        + [seats[leg] - sum(a * b for a, b in zip(uses[leg], x))]
                         for leg in full]
                 for at, number in zip(free, solved(rest) or [None] * len(free)):
                     x[at] = number
@@ -152,7 +156,8 @@ def main():
         with tempfile.TemporaryDirectory() as folder:
             with open(os.path.join(folder, "network.csv"), "w") as file:
                 file.write(made.file())
-            done = subprocess.run([*program, "run", made.mode, "network.csv"], cwd=folder, text=True, capture_output=True,
+            done = subprocess.run([*program, "run", made.mode, "network.csv"], cwd=folder, text=True,
+                                  capture_output=True,
                                   input="".join(f"{line}\n" for line in made.lines))
         try:
             if done.returncode or done.stderr:
@@ -161,7 +166,8 @@ def main():
             lines, reached = lines + len(found), reached + sum(found)
         except Wrong as wrong:
             failed += 1
-            print(f"stream {seed}, run {made.mode}: wanted {wrong}", *made.file().splitlines(), *made.lines, sep="\n    ")
+            print(f"stream {seed}, run {made.mode}: wanted {wrong}", *made.file().splitlines(), *made.lines,
+                  sep="\n    ")
     print(f"{lines} lines compared, {reached} values reached by a selection, {failed} of {STREAMS} streams failed")
     return 1 if failed or not 0 < reached < lines else 0
 

@@ -3,32 +3,37 @@
 
     tests/kept.py [PATTERN] [--kills N] [--images N] [--tries N] [--seed N] [--program FILE]
 
-    killed   runs of random bookings and cancellations are killed (SIGKILL) at random moments, in the three modes, with each reply
-             awaited and with lines that are sent in pieces. Then the rows must be those after some line, not before the last one
-             whose reply was read and not behind the last one that was sent: with each reply awaited, at most one line ahead.
-             Another run goes on with a copy of the store, and so does the next run that is killed. There are N of them (--kills).
-    power    the calls of a run are recorded by `strace`, and the power goes at any of them: what was not forced to the disk is
-             there, or isn't, or in part. A run on that has the rows of the last reply that was given, or is one line ahead. There
-             are N such images of a disk (--images) of each of two runs.
-    damage   bytes of a store and its log are changed: a run ends by itself with status 0, 6, 12 or 13, and what is whole to
-             `sqlite3` is taken as `sqlite3` reads it. There are N such stores (--images) of each of three kinds.
-    faults   a small library in C makes the Nth call of one kind on the store's files fail, alone or with all that come after: a
-             write, one that forces a file to the disk, or one that cuts a file. If forcing fails, what was written since it last
-             succeeded stays in the file, or is lost, as on a disk. For each N the replies must be those of a session that left
-             out the lines answered `store`, and the rows its bookings; or it is `store fault` with status 12. A later run goes on.
-    owners   a run meets a fault of its disk, and another one is started on its store while the fault lasts and after it: the
-             other always says `store fault`, no line that was acknowledged is lost, and the next run goes on. The calls that fail
-             are those that force a file to the disk, writes, and these together with each opening; or the disk is full, for which
-             a disk in memory must be mounted. There are N tries of each kind (--tries).
+    killed   runs of random bookings and cancellations are killed (SIGKILL) at random moments, in the three modes, with
+             each reply awaited and with lines that are sent in pieces. Then the rows must be those after some line, not
+             before the last one whose reply was read and not behind the last one that was sent: with each reply
+             awaited, at most one line ahead. Another run goes on with a copy of the store, and so does the next run
+             that is killed. There are N of them (--kills).
+    power    the calls of a run are recorded by `strace`, and the power goes at any of them: what was not forced to the
+             disk is there, or isn't, or in part. A run on that has the rows of the last reply that was given, or is one
+             line ahead. There are N such images of a disk (--images) of each of two runs.
+    damage   bytes of a store and its log are changed: a run ends by itself with status 0, 6, 12 or 13, and what is
+             whole to `sqlite3` is taken as `sqlite3` reads it. There are N such stores (--images) of each of three
+             kinds.
+    faults   a small library in C makes the Nth call of one kind on the store's files fail, alone or with all that come
+             after: a write, one that forces a file to the disk, or one that cuts a file. If forcing fails, what was
+             written since it last succeeded stays in the file, or is lost, as on a disk. For each N the replies must be
+             those of a session that left out the lines answered `store`, and the rows its bookings; or it is `store
+             fault` with status 12. A later run goes on.
+    owners   a run meets a fault of its disk, and another one is started on its store while the fault lasts and after
+             it: the other always says `store fault`, no line that was acknowledged is lost, and the next run goes on.
+             The calls that fail are those that force a file to the disk, writes, and these together with each opening;
+             or the disk is full, for which a disk in memory must be mounted. There are N tries of each kind (--tries).
     closed   after a run that ended, the log may be taken away: the file alone has all bookings.
-    listing  a view without end is refused in seconds and bounded memory, and tables and views of all rows that can stand are read.
+    listing  a view without end is refused in seconds and bounded memory, and tables and views of all rows that can
+             stand are read.
     disk     the store is on a small disk in memory that is full for a while. That needs the right to mount one.
     two      two programs have one store: the second says `store fault`, and the first goes on.
     memory   there is not enough memory for the program to begin: status 6.
 
-What is wanted comes from tests/reference.py, never from the program. A store is read by the `sqlite3` of Python, in a copy.
-PATTERN picks the trials that have it in their name. With no --program it is the program that the script `nrm_kept` builds. What
-can't be tried on a machine is told, with the reason. Each failure is told; the last line is `N passed, M failed`.
+What is wanted comes from tests/reference.py, never from the program. A store is read by the `sqlite3` of Python, in a
+copy. PATTERN picks the trials that have it in their name. With no --program it is the program that the script
+`nrm_kept` builds. What can't be tried on a machine is told, with the reason. Each failure is told; the last line is `N
+passed, M failed`.
 """
 import argparse
 import collections
@@ -207,13 +212,20 @@ class Pace:
             talk.end_input()
 
 
-class Killed:
+class Trial:
+    """What is tried with the program, by numbers that are drawn of the seed and the name."""
+
+    def __init__(self, given, name):
+        self.program, self.images, self.folder, self.name = given.program, given.images, given.quick, name
+        self.draw = random.Random(f"{given.seed} {name}")
+
+
+class Killed(Trial):
     """Runs on one store that are killed, one after another."""
 
-    def __init__(self, program, mode, way, number, given):
-        self.program, self.mode, self.way, self.pace = program, mode, way, given.pace
-        self.name = f"killed {mode} {way.__name__} {number}"
-        self.draw = random.Random(f"{given.seed} {self.name}")
+    def __init__(self, given, mode, way, number):
+        super().__init__(given, f"killed {mode} {way.__name__} {number}")
+        self.mode, self.way, self.pace = mode, way, given.pace
         self.count = min(KILLS_OF_A_STORE, given.kills - number * KILLS_OF_A_STORE)
 
     def tried(self):
@@ -281,19 +293,19 @@ def killed(given):
     """All runs that are killed, shared out over the modes and the ways."""
     count = -(-given.kills // KILLS_OF_A_STORE)
     shares = itertools.islice(itertools.cycle(itertools.product(MODES, WAYS)), count)
-    return [Killed(given.program, mode, way, number, given) for number, (mode, way) in enumerate(shares)]
+    return [Killed(given, mode, way, number) for number, (mode, way) in enumerate(shares)]
 
 
 # Without power
 
 
-class Power:
-    """A run is recorded, and the power goes at any of its calls: a later run has the rows of the replies, or is one line ahead."""
+class Power(Trial):
+    """A run is recorded, and the power goes at any of its calls: a later run has the rows of the replies, or is one
+    line ahead."""
 
     def __init__(self, given, mode):
-        self.program, self.images, self.mode, self.folder = given.program, given.images, mode, given.quick
-        self.name = f"power {mode}"
-        self.draw = random.Random(f"{given.seed} {self.name}")
+        super().__init__(given, f"power {mode}")
+        self.mode = mode
 
     def tried(self):
         with tempfile.TemporaryDirectory(dir=self.folder) as place:
@@ -333,7 +345,8 @@ class Power:
         rows = stores.rows(path) if status == 0 else None
         shutil.rmtree(place)
         if rows not in wanted:
-            raise Wrong(f"the rows {' or '.join(map(str, wanted))}, and not {rows}, with status {status} and {output!r}")
+            raise Wrong(
+                f"the rows {' or '.join(map(str, wanted))}, and not {rows}, with status {status} and {output!r}")
         return "with the store at the replies" if rows == wanted[0] else "with the store ahead of the replies"
 
 
@@ -367,19 +380,18 @@ def store_of_sqlite(_program, path):
                 f"INSERT INTO kept VALUES {rows}; DELETE FROM kept WHERE number % 7 = 0;".encode())
 
 
-class Damage:
+class Damage(Trial):
     """Bytes of a store or of its log are changed, and a run is given it."""
 
     def __init__(self, given, made):
-        self.program, self.count, self.made, self.folder = given.program, given.images, made, given.quick
-        self.name = f"damage {made.__name__.replace('_', ' ')}"
-        self.draw = random.Random(f"{given.seed} {self.name}")
+        super().__init__(given, f"damage {made.__name__.replace('_', ' ')}")
+        self.made = made
 
     def tried(self):
         found = []
         with tempfile.TemporaryDirectory(dir=self.folder) as place:
             self.made(self.program, os.path.join(place, "STORE"))
-            for number in range(self.count):
+            for number in range(self.images):
                 try:
                     found.append(self.one(place, os.path.join(place, f"DAMAGED-{number}")))
                 except Wrong as wrong:
@@ -396,7 +408,8 @@ class Damage:
                 file.write(self.bent(data) if it == bent else data)
         whole = self.by_sqlite(path)
         status, output = answered(self.program, "first", path, [b"cancel 0"])
-        if (status, output) not in [(0, b"unknown\n"), (NO_MEMORY, b""), (STORE_FAULT, b"store fault\n")] and status != REFUSED:
+        if (status, output) not in [(0, b"unknown\n"), (NO_MEMORY, b""),
+                                    (STORE_FAULT, b"store fault\n")] and status != REFUSED:
             raise Wrong(f"an end with status 0, 6, 12 or 13, and not {status} and {output!r}")
         if status == 0 and whole is not None:
             must_be(stores.rows(path), whole, "that sqlite3 read before")
@@ -563,11 +576,13 @@ ERRORS = {"EIO": {"ERROR": str(errno.EIO)}, "ENOSPC for all after": {"ERROR": st
 FATES = {"what was written stays": {}, "what was written is lost": {"LOSES": "1"}}
 FATES |= {f"{fate}, for all after": variables | {"ALL_AFTER": "1"} for fate, variables in FATES.items()}
 FATES |= {f"{n} flushes fail": {"ALL_AFTER": "1", "WINDOW": str(n)} for n in (2, 4)}
-DOZEN = [b"book HJ-Q 2", b"book HF-Y 1", b"cancel 1", b"leg HAM-FRA", b"book FN-Q 3", b"cancel 9", b"book HN-Y 1", b"cancel 2",
+DOZEN = [b"book HJ-Q 2", b"book HF-Y 1", b"cancel 1", b"leg HAM-FRA", b"book FN-Q 3", b"cancel 9", b"book HN-Y 1",
+         b"cancel 2",
          b"book MF-Q 2", b"hindsight", b"book FJ-Q 4", b"cancel 3", b"book NJ-Y 1"]
 
 
-MANY = [line for at in range(300) for line in (b"book HJ-Q 1", b"cancel %d" % (at + 1))]  # after these the log was emptied once
+# after these the log was emptied once
+MANY = [line for at in range(300) for line in (b"book HJ-Q 1", b"cancel %d" % (at + 1))]
 NEAR = 2  # the calls before and after that one that are made to fail
 
 
@@ -588,7 +603,7 @@ class Faults:
         return answered(self.program, self.mode, path, lines, env=environment)
 
     def count(self, **variables):
-        """How many calls of the kind a run has that nothing hinders, or has when its log is emptied for the first time."""
+        """How many calls of the kind a run has that nothing hinders, or has when its log is first emptied."""
         preload.must_be_a_program(self.program)
         with tempfile.TemporaryDirectory(dir=self.folder) as place:
             told = os.path.join(place, "COUNTED")
@@ -616,7 +631,8 @@ class Faults:
             session, refused, kind = self.judged(status, output, is_all)
             path = os.path.join(place, "STORE")
             rows = rows_of(session) if status == STORE_FAULT else stores.rows(path)
-            # if nothing can be forced to the disk any more, whether the first line that was answered `store` is there can't be known
+            # if nothing can be forced to the disk any more, whether the first line that was answered `store` is there
+            # can't be known
             may_be = is_all and self.kind == FLUSH and refused is not None and rows == rows_of(refused)
             later = output.rpartition(b"store\n")[2].splitlines()
             if may_be and any(line.startswith((b"ok ", b"cancelled ")) for line in later):
@@ -627,7 +643,7 @@ class Faults:
         return kind + may_be * " and the line is there"
 
     def judged(self, status, output, is_all):
-        """The session that these replies leave, that after the first line that was answered `store`, and what came in a word."""
+        """The session that these replies leave, that after the first line answered `store`, and what came in a word."""
         session, refused, count = session_from(self.mode, self.rows), None, 0
         if (status, output) == (STORE_FAULT, b"store fault\n"):
             return session, refused, "store fault"
@@ -646,7 +662,8 @@ class Faults:
             if got != wanted:
                 raise Wrong(f"{wanted!r} to {line!r}, and not {got!r}, in {output[-300:]!r}")
         if status or replies or count > 1 and not is_all:
-            raise Wrong(f"status 0, no more replies, and one `store` for one fault, and not status {status} and {output[-300:]!r}")
+            raise Wrong(f"status 0, no more replies, and one `store` for one fault, and not status {status} and "
+                        f"{output[-300:]!r}")
         return session, refused, f"{'some' if is_all else 1} store" if count else "no fault that shows"
 
     def tried(self):
@@ -726,34 +743,29 @@ static int opened(const char *path, int flags, int mode, typeof(&open) real) {
 
 static int mode_in(int flags, va_list more) { return flags & O_CREAT ? va_arg(more, int) : 0; }
 
-int open(const char *path, int flags, ...) {
-  va_list more;
-  va_start(more, flags);
-  int mode = mode_in(flags, more);
-  va_end(more);
-  return opened(path, flags, mode, REAL(open));
-}
+#define OPEN(name) int name(const char *path, int flags, ...) { \
+  va_list more; \
+  va_start(more, flags); \
+  int mode = mode_in(flags, more); \
+  va_end(more); \
+  return opened(path, flags, mode, REAL(name)); }
 
-int open64(const char *path, int flags, ...) {
-  va_list more;
-  va_start(more, flags);
-  int mode = mode_in(flags, more);
-  va_end(more);
-  return opened(path, flags, mode, REAL(open64));
-}
+OPEN(open)
+OPEN(open64)
 """
 
 
 class Switch:
-    """Calls on the files of a store that fail while a file is there: `f` those that force a file to the disk, `w` writes, `o` an
-    opening for reading and writing."""
+    """Calls on the files of a store that fail while a file is there: `f` those that force a file to the disk, `w`
+    writes, `o` an opening for reading and writing."""
 
     def __init__(self, letters, library):
         self.letters, self.library, self.until_it_shows = letters, library, 3
 
     def words(self, place):
         self.file = os.path.join(place, "SWITCH")
-        return ["env", f"LD_PRELOAD={self.library}", f"SWITCH={self.file}", f"STORE_FOLDER={os.path.join(place, 'store')}"]
+        return ["env", f"LD_PRELOAD={self.library}", f"SWITCH={self.file}",
+                f"STORE_FOLDER={os.path.join(place, 'store')}"]
 
     def begin(self):
         with open(self.file + "-new", "w", encoding="ascii") as file:
@@ -813,7 +825,7 @@ class FullDiskThatIsAway(FullDisk):
 
 
 def heard_of(talk, session, line, may_fail):
-    """Says a line, and hears its reply, which is that of the session, or `store` if the store may fail. Whether it was `store`."""
+    """Says a line, and hears its reply: the session's, or `store` if the store may fail. Whether it was `store`."""
     other = copied(session)
     wanted = other.reply(line)
     talk.say(line + b"\n")
@@ -832,7 +844,8 @@ class Owners:
     """Tries of two runs on one store, of which the first meets a fault. The second never has the store."""
 
     def __init__(self, given, kind, fault, folder):
-        self.program, self.tries, self.seed, self.fault, self.folder = given.program, given.tries, given.seed, fault, folder
+        self.program, self.tries, self.seed = given.program, given.tries, given.seed
+        self.fault, self.folder = fault, folder
         self.name = f"owners {kind}"
 
     def tried(self):
@@ -889,7 +902,8 @@ class Owners:
 
     def is_refused(self, path):
         """Another run on the store, which must not have it."""
-        if (got := answered(self.program, "first", path, [b"book HF-Q 50", b"cancel 1"])) != (STORE_FAULT, b"store fault\n"):
+        if (got := answered(self.program, "first", path,
+                            [b"book HF-Q 50", b"cancel 1"])) != (STORE_FAULT, b"store fault\n"):
             raise Wrong(f"`store fault` of a second run, and not {got}")
 
     def polled(self, talk, session, draw, path):
@@ -918,7 +932,8 @@ class Windows(Owners):
                 if (kind := self.lines(talk, session, draw, path)) == "store fault at the start":
                     return kind
                 talk.end_input()
-            must_be(stores.rows(path), rows_of(session), f"of the first run, whose flush {number} and {count - 1} more failed")
+            must_be(stores.rows(path), rows_of(session),
+                    f"of the first run, whose flush {number} and {count - 1} more failed")
             goes_on(self.program, mode, path, rows_of(session))
         return kind
 
@@ -953,7 +968,7 @@ class WrittenOver:
         return [self.one(*trial) for trial in trials]
 
     def one(self, line, statement, wanted):
-        """The line fails and is in the store all the same; the statement writes over it, and another line settles the doubt."""
+        """The line fails and is in the store all the same; the statement writes over it, another line settles it."""
         fault, session = Switch("fo", self.library), session_from("first")
         with tempfile.TemporaryDirectory(dir=self.folder) as place:
             words, path = fault.words(place), os.path.join(place, "store", "STORE")
@@ -981,7 +996,8 @@ def owners(given):
         switched = preload.built(SWITCHED, given.folder, "switched")
         kinds = {"failing flushes": Switch("f", switched), "failing flushes and openings": Switch("fo", switched),
                  "lost flushes": LosingSwitch("fo", switched), "failing writes": Switch("w", switched),
-                 "failing writes and openings": Switch("wo", switched), "failing writes and flushes": Switch("wfo", switched)}
+                 "failing writes and openings": Switch("wo", switched),
+                 "failing writes and flushes": Switch("wfo", switched)}
         yield from (Owners(given, kind, fault, given.quick) for kind, fault in kinds.items())
         yield WrittenOver(given, switched)
         yield Windows(given, preload.built(LIBRARY, given.folder, "windows"))
@@ -1053,7 +1069,8 @@ def listing_without_end(program, folder):
         resource.setrlimit(resource.RLIMIT_AS, (2**30, 2**30))
         resource.setrlimit(resource.RLIMIT_CPU, (30, 30))
 
-    if (got := answered(program, "first", path, [b"book HF-Q 1"], preexec_fn=narrow)) != (STORE_FAULT, b"store fault\n"):
+    if (got := answered(program, "first", path, [b"book HF-Q 1"],
+                        preexec_fn=narrow)) != (STORE_FAULT, b"store fault\n"):
         raise Wrong(f"`store fault` of a listing without end, and not {got}")
     return ["done"]
 
@@ -1111,7 +1128,8 @@ def disk_that_is_full(program, folder):
     os.remove(other)
     session = session_from("first")
     with Talk([program, "first", HUB, path], pipes()) as talk:
-        counts = collections.Counter(turn(talk, session, at, lambda: fill(other), lambda: os.remove(other)) for at in range(LAST))
+        counts = collections.Counter(turn(talk, session, at, lambda: fill(other), lambda: os.remove(other))
+                                     for at in range(LAST))
         talk.end_input()
     if not counts["`store`"] or not counts["kept after that"]:
         raise Wrong(f"`store` on a full disk and bookings after it, and not {counts}")
@@ -1154,7 +1172,7 @@ def fill(path):
 
 
 class OnADisk:
-    """A trial on a small disk of its own, by this script, below a mount that no other process sees and that ends with it."""
+    """A trial on a small disk of its own, by this script, below a mount that no other sees and that ends with it."""
 
     def __init__(self, given, name):
         self.given, self.name = given, name
@@ -1198,7 +1216,8 @@ def can_mount():
     """Whether a disk in memory can be mounted here."""
     words = "d=$(mktemp -d) && { mount -t tmpfs none $d && umount $d; s=$?; rmdir $d; exit $s; }"
     try:
-        return subprocess.run(["unshare", "--map-root-user", "--mount", "sh", "-c", words], capture_output=True).returncode == 0
+        return subprocess.run(["unshare", "--map-root-user", "--mount", "sh", "-c", words],
+                              capture_output=True).returncode == 0
     except FileNotFoundError:
         return False
 
@@ -1206,7 +1225,8 @@ def can_mount():
 def small_disks(given):
     if can_mount():
         return [OnADisk(given, name) for name in DISKS]
-    given.not_run.append("disk, and owners with a full one: that needs the right to mount a disk in memory, and there is none here")
+    given.not_run.append("disk, and owners with a full one: that needs the right to mount a disk in memory, and there "
+                         "is none here")
     return []
 
 

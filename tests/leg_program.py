@@ -3,53 +3,48 @@
 
     tests/leg_program.py [--program WORD...]
 
-Each network has a leg with a few classes, some at one fare, each with its demand in a few histories; there are products of other
-legs and of more than one. The value is worked out in exact fractions by trying every number of seats that may be sold, in each
-state: the class that asks, the seats left and what it asks for. The value that is told must be this one, and each protection
-the greatest number of seats of which the last is worth more to the classes above than the next fare. A policy that sells what
-the protections leave must earn the value, and one by EMSR-b's protections at most the value. With no --program it is the script
-`nrm` at the top of the repository. The last lines tell how often EMSR-b earns less, and how many legs passed.
+Each network has a leg with a few classes, some at one fare, each with its demand in a few histories; there are products
+of other legs and of more than one. The value is worked out in exact fractions by trying every number of seats that may
+be sold, in each state: the class that asks, the seats left and what it asks for. The value that is told must be this
+one, and each protection the greatest number of seats of which the last is worth more to the classes above than the next
+fare. A policy that sells what the protections leave must earn the value, and one by EMSR-b's protections at most the
+value. With no --program it is the script `nrm` at the top of the repository. The last lines tell how often EMSR-b earns
+less, and how many legs passed.
 """
-import os
 import random
-import subprocess
 import sys
-import tempfile
 from fractions import Fraction
 
 sys.dont_write_bytecode = True
 import checks
+import one_leg
 from checks import Wrong
 
 LEGS = 150
 
 
-class Made:
+class Made(one_leg.Made):
     """A network, of which the leg HERE is looked at."""
 
     def __init__(self, seed):
         draw = random.Random(seed)
         self.second = seed % 2 == 0  # version 2 of the file
-        is_large = seed % 30 == 29  # the value's denominator is the tenth power of 32 then, before it is in lowest terms
+        # the value's denominator is the tenth power of 32 then, before it is in lowest terms
+        is_large = seed % 30 == 29
         self.histories = draw.randint(1, 4) if not is_large else 32
         self.periods = draw.randint(1, 3)
         self.authorised = draw.choice([0, 1, 2, 3, 5, 8, 12, 16]) if not is_large else 12
-        self.seats = self.authorised if not self.second else draw.randint(0, 20)
+        seats = self.authorised if not self.second else draw.randint(0, 20)
+        self.legs = [(name, seats, self.authorised) for name in ("HERE", "AWAY", "IDLE")]
         count = draw.choice([0, 1, 2, 2, 3, 3, 4, 4, 5, 6, 10, 11]) if not is_large else 10
         top = draw.choice([3, 20, 999, 99_999_999]) if not is_large else 99_999_999
         most = draw.choice([0, 1, 2, 4, 9, 30]) if not is_large else 2
         self.products = [(f"C{at}", draw.randint(1, top), ["HERE"]) for at in range(count)]
         self.products += [("OVER", 700, ["HERE", "AWAY"]), ("AFTER", 300, ["AWAY", "HERE"]), ("ELSE", 99, ["AWAY"])]
         draw.shuffle(self.products)
-        self.demand = {(name, history): [draw.randint(0, most) for _ in range(self.periods)] for name, _, _ in self.products
+        self.demand = {(name, history): [draw.randint(0, most) for _ in range(self.periods)]
+                       for name, _, _ in self.products
                        for history in range(1, self.histories + 1) if draw.randrange(5)}
-
-    def file(self):
-        rows = [("periods", self.histories, self.periods, *([2] if self.second else []))]
-        rows += [("leg", name, self.seats, *([self.authorised] if self.second else []), 300, 100) for name in ("HERE", "AWAY", "IDLE")]
-        rows += [("product", name, fare, *legs) for name, fare, legs in self.products]
-        rows += [("demand", name, history, *seats) for (name, history), seats in self.demand.items()]
-        return "".join(",".join(map(str, row)) + "\n" for row in rows)
 
     def classes(self):
         """The name, the fare and the demand in each history of the products on the leg alone, by falling fare."""
@@ -67,7 +62,8 @@ def best(classes, seats):
     value = [[Fraction(0)] * (seats + 1)]
     for _, fare, demand in classes:
         above = value[-1]
-        value.append([mean([max(fare * sold + above[left - sold] for sold in range(min(asked, left) + 1)) for asked in demand])
+        value.append([mean([max(fare * sold + above[left - sold] for sold in range(min(asked, left) + 1))
+                            for asked in demand])
                       for left in range(seats + 1)])
     return value
 
@@ -76,13 +72,14 @@ def earned(classes, seats, protected):
     """The mean revenue where from each class but the first so many seats are kept."""
     value = [Fraction(0)] * (seats + 1)
     for (_, fare, demand), kept in zip(classes, [0, *protected]):
-        value = [mean([fare * sold + value[left - sold] for asked in demand for sold in [max(0, min(asked, left - kept))]])
+        value = [mean([fare * sold + value[left - sold] for asked in demand
+                       for sold in [max(0, min(asked, left - kept))]])
                  for left in range(seats + 1)]
     return value[seats]
 
 
 def emsr(classes, seats):
-    """EMSR-b's protections: Littlewood's rule for the classes above together, at their mean fare, history by history."""
+    """EMSR-b's protections: Littlewood's rule for the classes above together, at their mean fare, by history."""
     protected = [0]
     for at in range(1, len(classes)):
         above, next_fare = classes[:at], classes[at][1]
@@ -116,39 +113,24 @@ def compared(made, told):
     return earned(classes, seats, emsr(classes, seats)) < most
 
 
-def ended(made, done):
-    """Looks at how a run ended, and gives whether EMSR-b earns less than the value that it told."""
-    count = len(made.classes())
-    status = 0 if 1 <= count <= 10 else 11
-    if done.returncode != status or done.stderr or status and done.stdout != f"classes {count}\n":
-        raise Wrong(f"status {status}{f' and `classes {count}`' if status else ''}")
-    return status == 0 and compared(made, done.stdout)
+ENDS = [(["IDLE"], 11, "classes 0\n"), (["NONE"], 11, "classes 0\n"), (["here"], 2, None), ([], 2, None),
+        (["HERE", "1"], 2, None)]
 
 
-ENDS = [(["IDLE"], 11, "classes 0\n"), (["NONE"], 11, "classes 0\n"), (["here"], 2, None), ([], 2, None), (["HERE", "1"], 2, None)]
+def runs():
+    """Each made leg, and words that end otherwise."""
+    for made in map(Made, range(LEGS)):
+        count = len(made.classes())
+        end = (0, None, compared) if 1 <= count <= 10 else (11, f"classes {count}\n", None)
+        yield "dp", made, ["HERE"], *end
+    yield from (("dp", Made(1), *end, None) for end in ENDS)
 
 
 def main():
-    program, passed, failed, less = checks.program_of(__doc__), 0, 0, 0
-    for seed, words, status, line in [*[(seed, ["HERE"], None, None) for seed in range(LEGS)], *[(1, *end) for end in ENDS]]:
-        made = Made(seed)
-        with tempfile.TemporaryDirectory() as folder:
-            with open(os.path.join(folder, "network.csv"), "w") as file:
-                file.write(made.file())
-            done = subprocess.run([*program, "dp", "network.csv", *words], cwd=folder, text=True, capture_output=True)
-        try:
-            if status is None:
-                less += ended(made, done)
-            elif done.returncode != status or done.stderr or line is not None and done.stdout != line:
-                raise Wrong(f"status {status}{f' and {line!r}' if line else ''}")
-            passed += 1
-        except Wrong as wrong:
-            failed += 1
-            print(f"leg {seed}, dp {' '.join(words)}: status {done.returncode}: {done.stdout}{done.stderr}", f"wanted {wrong}",
-                  *made.file().splitlines(), sep="\n    ")
-    print(f"{less} legs on which EMSR-b earns less than the value")
+    passed, failed, less = one_leg.ended(checks.program_of(__doc__), runs())
+    print(f"{sum(less)} legs on which EMSR-b earns less than the value")
     status = checks.ended(passed, failed)
-    return status if less else 1
+    return status if any(less) else 1
 
 
 if __name__ == "__main__":

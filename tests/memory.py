@@ -3,26 +3,27 @@
 
     tests/memory.py [PATTERN] [--all] [--program FILE]
 
-It isn't part of the gate, since it needs a C compiler, `cc`. With that it builds a small library, which is loaded before the C
-library and stands before its malloc, calloc, realloc, memalign, aligned_alloc and posix_memalign: it counts these calls, and
-makes the Nth fail, alone or with all that come after it. It also has memory that is new or given back filled with other bytes
-(MALLOC_PERTURB_), so that what is read of it shows.
+It isn't part of the gate, since it needs a C compiler, `cc`. With that it builds a small library, which is loaded
+before the C library and stands before its malloc, calloc, realloc, memalign, aligned_alloc and posix_memalign: it
+counts these calls, and makes the Nth fail, alone or with all that come after it. It also has memory that is new or
+given back filled with other bytes (MALLOC_PERTURB_), so that what is read of it shows.
 
-The runs are `run` in the three modes on the network of examples/hub, over its lines and some that take memory, `run` on a file
-of version 2, and `check`, `plan`, `print`, `gen`, `cuts`, `dp` and some that end early. Each is done for every N, from 1 to the number of calls. Where there are more than
-3,000, it is done for the first 1,000 and then in steps of a prime, or with --all for every one. Each must end
+The runs are `run` in the three modes on the network of examples/hub, over its lines and some that take memory, `run` on
+a file of version 2, and `check`, `plan`, `print`, `gen`, `cuts`, `dp` and some that end early. Each is done for every
+N, from 1 to the number of calls. Where there are more than 3,000, it is done for the first 1,000 and then in steps of a
+prime, or with --all for every one. Each must end
 
     as with ample memory,
     with status 6, with nothing written and, under `run`, with nothing read of standard input,
-    or, under `run`, with `memory` in reply to a line `hindsight`, or to a line `reoptimise` under `bid` and `davn`, and else
-    with the replies to the lines without that one. Where all calls fail from the Nth on, all such lines from one on must be
-    answered so.
+    or, under `run`, with `memory` in reply to a line `hindsight`, or to a line `reoptimise` under `bid` and `davn`, and
+    else with the replies to the lines without that one. Where all calls fail from the Nth on, all such lines from one
+    on must be answered so.
 
-What is wanted with ample memory comes from tests/reference.py and the documents, never from the program. A crash, another
-status, other text or anything on standard error is a failure.
+What is wanted with ample memory comes from tests/reference.py and the documents, never from the program. A crash,
+another status, other text or anything on standard error is a failure.
 
-PATTERN picks the runs that have it in their name. With no --program it is the program that the script `nrm` builds; FILE must be
-the program itself, and no script. Each failure is told; the last line is `N passed, M failed`.
+PATTERN picks the runs that have it in their name. With no --program it is the program that the script `nrm` builds;
+FILE must be the program itself, and no script. Each failure is told; the last line is `N passed, M failed`.
 """
 import argparse
 import collections
@@ -56,7 +57,8 @@ LIBRARY = r"""
 #include <stdlib.h>
 #include <unistd.h>
 
-void *__libc_malloc(size_t), *__libc_calloc(size_t, size_t), *__libc_realloc(void *, size_t), *__libc_memalign(size_t, size_t);
+void *__libc_malloc(size_t), *__libc_calloc(size_t, size_t);
+void *__libc_realloc(void *, size_t), *__libc_memalign(size_t, size_t);
 
 static unsigned long calls, failing, all_after;
 
@@ -105,7 +107,8 @@ def lines_on_the_hub():
         lines = file.read().splitlines()
     lines[7:7] = [b"reoptimise 2", b"plan", b"book HN-Y 3", b"hindsight", b"reoptimise 1", b"plan"]
     lines[18:18] = [b"reoptimise 4", b"book MF-Q 2", b"reoptimise 5", b"hindsight", b"book HF-Q 1"]
-    return lines + [b"leg HAM-FRA", b"leg MUC-FRA", b"leg FRA-JFK", b"leg FRA-NRT", b"plan", b"reoptimise 3", b"book NJ-Y 1",
+    return lines + [b"leg HAM-FRA", b"leg MUC-FRA", b"leg FRA-JFK", b"leg FRA-NRT", b"plan", b"reoptimise 3",
+                    b"book NJ-Y 1",
                     b"plan", b"hindsight", b"cancel 3", b"leg FRA-JFK"]
 
 
@@ -179,7 +182,8 @@ def all_jobs(folder):
     yield Job("cuts no leg", ["cuts", HUB, "FRA", "2"], b"no leg\n", 10)
     yield Job("dp", ["dp", HUB, "FRA-JFK"], reference.dp_text(reference.network_in(HUB), b"FRA-JFK"))
     yield Job("dp no class", ["dp", HUB, "FRA"], b"classes 0\n", 11)
-    yield Job("print refused", ["print", file("refused", b"periods,2,2\nleg,PAR-LYO,1000\n")], b"refused row 2 why 7 range\n", 3)
+    yield Job("print refused", ["print", file("refused", b"periods,2,2\nleg,PAR-LYO,1000\n")],
+              b"refused row 2 why 7 range\n", 3)
     yield Job("run not there", ["run", "bid", os.path.join(folder, "none")], b"refused no file\n", 3)
     yield Job("run folder", ["run", "davn", folder], b"file fault\n", 9)
     yield Job("usage", ["help"], reference.USAGE.encode() + b"\n", 2)
@@ -279,7 +283,8 @@ def tried(runs, job, is_all):
         print(f"{job.name}: {len(wrong) - MOST_TOLD} more")
     kinds = collections.Counter(kind for kind, _ in ends if kind is not None)
     named = ", ".join(f"{number} {kind}" for kind, number in sorted(kinds.items()))
-    print(f"{job.name}: {count} calls, {len(ends)} runs: {named or 'none as wanted'}; {time.monotonic() - begun:.0f} s", flush=True)
+    print(f"{job.name}: {count} calls, {len(ends)} runs: {named or 'none as wanted'}; {time.monotonic() - begun:.0f} s",
+          flush=True)
     return len(ends) - len(wrong), len(wrong)
 
 

@@ -1,15 +1,16 @@
 #!/usr/bin/env python3
-"""Whether what docs/proofs.md, docs/claims.md, docs/map.md and CONTRIBUTING.md name is there, and all links of the pages.
+"""Whether what docs/proofs.md, docs/claims.md, docs/map.md and CONTRIBUTING.md name is there, and all links.
 
     tests/named.py           checks
-    tests/named.py --map     writes the drawing and the table of docs/map.md as crates.txt has them, and leaves what a crate holds
+    tests/named.py --map     writes drawing and table of docs/map.md as crates.txt has them; what a crate holds stays
 
-Of proofs.md and claims.md it checks each file of definitions or proofs (`nrm_lp/specs/Ends`, or in a list `nrm_lp/specs`: `Ends`,
-`Laws`), each public function (`nrm_lp::weakly_dual`), and each clause that is named with a function (`nrm_cli::run`, clause `ends`, or
-clause `ends` of `run`). claims.md must name each file of definitions that a public contract reaches. Of the table in proofs.md it checks
-too that a file has the names that stand behind it. The table and the drawing of map.md are compared with crates.txt. Of CONTRIBUTING.md
-each path must be there (`nrm_stream/src/command.rt`, `docs/commands.md`). Each link of a page must lead to a file and to a heading in it.
-What isn't so is printed; the last line is `N names, M not there`.
+Of proofs.md and claims.md it checks each file of definitions or proofs (`nrm_lp/specs/Ends`, or in a list
+`nrm_lp/specs`: `Ends`, `Laws`), each public function (`nrm_lp::weakly_dual`), and each clause that is named with a
+function (`nrm_cli::run`, clause `ends`, or clause `ends` of `run`). claims.md must name each file of definitions that a
+public contract reaches. Of the table in proofs.md it checks too that a file has the names that stand behind it. The
+table and the drawing of map.md are compared with crates.txt. Of CONTRIBUTING.md each path must be there
+(`nrm_stream/src/command.rt`, `docs/commands.md`). Each link of a page must lead to a file and to a heading in it. What
+isn't so is printed; the last line is `N names, M not there`.
 """
 import functools
 import glob
@@ -117,7 +118,8 @@ def look_everywhere(document, names):
 def look_for_definitions(document, names):
     """Whether a document names each file of definitions that a public contract reaches."""
     text = read(document)
-    named = {f"{folder}/{file}" for folder, files in re.findall(rf"`(nrm\w*/specs)`(?::|\s\(){LIST}", text) for file in ticked(files)}
+    lists = re.findall(rf"`(nrm\w*/specs)`(?::|\s\(){LIST}", text)
+    named = {f"{folder}/{file}" for folder, files in lists for file in ticked(files)}
     named |= {f"{crate}/specs/Laws" for crates in re.findall(rf"`Laws` of{LIST}", text) for crate in ticked(crates)}
     program = [sys.executable, os.path.join(TOP, "tests", "definitions.py"), "--list"]
     reached = subprocess.run(program, stdout=subprocess.PIPE, text=True, check=True).stdout
@@ -152,7 +154,8 @@ def mapped(text, crates):
     drawn = r"(?:^     [ \d]\d  nrm.*\n)+"
     rows = r"(?:^\| `nrm.*\n)+"
     holds = dict(re.findall(r"^\| `(nrm\w*)` \| (.*?) \|", text, re.M))
-    table = [f"| `{crate}` | {holds.get(crate, '')} |{''.join(f' `{it}`' for it in below)} |" for crate, below in crates.items()]
+    table = [f"| `{crate}` | {holds.get(crate, '')} |{''.join(f' `{it}`' for it in below)} |"
+             for crate, below in crates.items()]
     for pattern, lines in ((drawn, drawing_of(crates)), (rows, table)):
         text = re.sub(pattern, lambda _: "\n".join(lines) + "\n", text, count=1, flags=re.M)
     return text

@@ -3,10 +3,11 @@
 
     tests/pages.py [PATTERN] [--program WORD...]
 
-The pages are README.md and those of docs/, of which PATTERN picks those with it in their name. The commands of each run in a copy of what
-is committed or added, in their order, with the program that is tested in the place of the built one. What isn't run or compared is
-listed below, each with the reason. With no --program it is the script `nrm` at the top of the repository; the script `nrm_kept` is
-always that at the top. What fails is told; the last line is `N passed, M failed`.
+The pages are README.md and those of docs/, of which PATTERN picks those with it in their name. The commands of each run
+in a copy of what is committed or added, in their order, with the program that is tested in the place of the built one.
+What isn't run or compared is listed below, each with the reason. With no --program it is the script `nrm` at the top of
+the repository; the script `nrm_kept` is always that at the top. What fails is told; the last line is `N passed, M
+failed`.
 """
 import concurrent.futures
 import os
@@ -37,7 +38,8 @@ NOT_RUN = {  # by the beginning of the commands; the reason
     "sqlite3 mine/bookings.db 'SELECT * FROM kept WHERE number = N'": "N stands for a number that was told",
     "nrm-tools desks": SERVERS, "cc -o mine/desk": SERVERS, r"printf 'book HJ-Q 2\nbook HN-Y 1\ncancel 1": SERVERS,
 }
-NEEDS = ("glpsol", "esolver", "sqlite3")  # commands of Debian's packages glpk-utils, qsopt-ex and sqlite3: not run where one isn't there
+# commands of Debian's packages glpk-utils, qsopt-ex and sqlite3: not run where one isn't there
+NEEDS = ("glpsol", "esolver", "sqlite3")
 ENDS = {  # by the beginning of the commands that end with another status than 0 on purpose: the status
     "sed 's/AB 120/AB 119/'": 1, "nrm-tools explain mine/train.csv": 3, 'cp "$store-wal" mine/backup': 1}
 NOT_SHOWN = {}  # by the beginning of what isn't compared: the reason
@@ -45,7 +47,8 @@ NOT_SHOWN = {}  # by the beginning of what isn't compared: the reason
 
 def headings_of(path):
     """The anchors of a page's headings."""
-    return {re.sub(r"[^\w -]", "", it.lower()).replace(" ", "-") for it in re.findall(r"^#+ (.*)", path.read_text(), re.M)}
+    return {re.sub(r"[^\w -]", "", it.lower()).replace(" ", "-")
+            for it in re.findall(r"^#+ (.*)", path.read_text(), re.M)}
 
 
 def faulty_links(pages):
@@ -63,11 +66,17 @@ def faulty_links(pages):
 
 def copied(top, program):
     """Copies what git knows of to a folder, but for the crates, with the program in the place of the built one."""
-    names = subprocess.run(["git", "ls-files", "-z", ":!crates"], cwd=TOP, stdout=subprocess.PIPE, check=True).stdout.split(b"\0")
+    names = subprocess.run(["git", "ls-files", "-z", ":!crates"], cwd=TOP, stdout=subprocess.PIPE,
+                           check=True).stdout.split(b"\0")
     for name in map(os.fsdecode, filter(None, names)):
         if (TOP / name).exists():
             (top / name).parent.mkdir(parents=True, exist_ok=True)
             shutil.copy2(TOP / name, top / name, follow_symlinks=False)
+    lay_programs(top, program)
+
+
+def lay_programs(top, program):
+    """Lays the program, and that of the script `nrm_kept`, in the place of the built ones of a folder."""
     for name, words in (("nrm", program), ("nrm_kept", [str(TOP / "nrm_kept")])):
         built = top / "crates" / name / "out" / name
         built.parent.mkdir(parents=True, exist_ok=True)
@@ -76,7 +85,7 @@ def copied(top, program):
 
 
 def page_tried(path, program):
-    """What is wrong with a page, how many parts of it were run, and how many compared, and what of the lists was met."""
+    """What is wrong with a page, how many parts were run and how many compared, and what of the lists was met."""
     with tempfile.TemporaryDirectory() as folder:
         top = Path(folder) / "copy"
         if any(it.is_run() for it in blocks.parts_of(path)):
@@ -96,7 +105,8 @@ def main():
         faults.append(f"there are {links} links alone")
     failed, met = bool(faults), set()
     with concurrent.futures.ThreadPoolExecutor(4) as pool:
-        for path, (wrong, ran, compared, found) in zip(pages, pool.map(lambda it: page_tried(it, given.program), pages)):
+        tried = pool.map(lambda it: page_tried(it, given.program), pages)
+        for path, (wrong, ran, compared, found) in zip(pages, tried):
             print(f"{path.name}: commands run {ran}, compared with what is shown {compared}", flush=True)
             faults += wrong
             met |= found

@@ -1,8 +1,8 @@
 """What a disk may hold if the power goes, of a run whose calls on the files of its store were recorded by `strace`.
 
-A call is ("write", name, bytes, place), ("flush", name), ("cut", name, size) or ("reply", how many). Of what was written to a file
-since it was last forced to the disk, each write may be there, not at all or in part: some sectors of 512 bytes, some bytes, or a front;
-and each cut may have been made or not.
+A call is ("write", name, bytes, place), ("flush", name), ("cut", name, size) or ("reply", how many). Of what was
+written to a file since it was last forced to the disk, each write may be there, not at all or in part: some sectors of
+512 bytes, some bytes, or a front; and each cut may have been made or not.
 """
 import os
 import re
@@ -87,7 +87,7 @@ def apply(data, call):
 
 
 def moment(all_calls, store, draw):
-    """A call before which the power goes, most often near a cut or a write to the store's own file, when its log is copied."""
+    """A call before which the power goes, often near a cut or a write to the store's file, as its log is copied."""
     marks = [at for at, it in enumerate(all_calls) if it[0] == "cut" or it[0] == "write" and it[1] == store]
     if not marks or draw.random() < 0.3:
         return draw.randrange(len(all_calls) + 1)

@@ -2,24 +2,29 @@
 """An independent account of the rules: a plain, slow model against which cases are made.
 
     tests/reference.py run MODE FILE          the replies to standard input on the network of FILE
-    tests/reference.py plan MODE FILE         the plan of the network of FILE at period 1, with every authorised seat left
+    tests/reference.py plan MODE FILE         the plan of the network of FILE at period 1, with every authorised seat
+                                              left
     tests/reference.py check FILE CERT        what the certificate CERT is for the network of FILE
     tests/reference.py print FILE             the canonical form of FILE
-    tests/reference.py gen MODE NUMBER        what becomes of the commands that are made of NUMBER, on the network made of it
+    tests/reference.py gen MODE NUMBER        what becomes of the commands that are made of NUMBER, on the network made
+                                              of it
     tests/reference.py cuts FILE LEG GROUPS   the fares of LEG in at most GROUPS groups, at the least cost
-    tests/reference.py dp FILE LEG            the dynamic program of LEG alone: its classes, its value and its protections
+    tests/reference.py dp FILE LEG            the dynamic program of LEG alone: its classes, its value and its
+                                              protections
     tests/reference.py stream MODE FILE SEED N
-                                              a made stream of N mixed lines for the network of FILE; a seed gives one stream
+                                              a made stream of N mixed lines for the network of FILE; a seed gives
+                                              one stream
 
 MODE is `first`, `bid` or `davn`. It was written from the rules alone and shares nothing with the program. It keeps no
-counters: seats are summed anew from the list of bookings at each line. A certificate is checked on exact fractions, which
-are brought to no common denominator. A plan's prices are worked out on the whole tableau, a row at a time, in whole
-numbers of any size; only then is it asked whether one is too large. Buckets are worked out anew for each product, and a
-protection level by trying one number of seats after the other. Of a leg's fares every division into groups is tried, and in
-its dynamic program every number of seats that a class could be sold.
+counters: seats are summed anew from the list of bookings at each line. A certificate is checked on exact fractions,
+which are brought to no common denominator. A plan's prices are worked out on the whole tableau, a row at a time, in
+whole numbers of any size; only then is it asked whether one is too large. Buckets are worked out anew for each product,
+and a protection level by trying one number of seats after the other. Of a leg's fares every division into groups is
+tried, and in its dynamic program every number of seats that a class could be sold.
 
-The words but `stream`, the texts and the statuses are those of the program, so `tests/run.py --program tests/reference.py`
-takes it as the program for the cases. The files in tests/streams are streams of `stream` and the replies of `run`.
+The words but `stream`, the texts and the statuses are those of the program, so `tests/run.py --program
+tests/reference.py` takes it as the program for the cases. The files in tests/streams are streams of `stream` and the
+replies of `run`.
 """
 import functools
 import os
@@ -135,11 +140,13 @@ class Network:
         return 4 if self.version == 2 else 3
 
     def allowed_fields(self, kind):
-        return {b"periods": [3, 4], b"leg": range(self.first_threshold(), self.first_threshold() + 10), b"product": range(4, 8),
+        return {b"periods": [3, 4], b"leg": range(self.first_threshold(), self.first_threshold() + 10),
+                b"product": range(4, 8),
                 b"refund": [3], b"demand": [3 + self.periods]}[kind]
 
     def is_full(self, kind):
-        return kind == b"leg" and len(self.seats) >= MOST_LEGS or kind == b"product" and len(self.products) >= MOST_PRODUCTS
+        return kind == b"leg" and len(self.seats) >= MOST_LEGS or kind == b"product" and len(
+            self.products) >= MOST_PRODUCTS
 
     def limits(self, row):
         """Each number field of a row, with its least and its greatest value."""
@@ -237,9 +244,10 @@ def network_of(data):
 
 
 def canonical(network):
-    """The canonical file, of version 2: no quotes, one order, no refund of 100 and no demand that is 0 in all periods."""
+    """The canonical file, of version 2: no quotes, one order, no refund of 100, no demand of 0 in all periods."""
     rows = [[b"periods", network.histories, network.periods, 2]]
-    rows += [[b"leg", name, seats, network.authorised[name]] + network.thresholds[name] for name, seats in network.seats.items()]
+    rows += [[b"leg", name, seats, network.authorised[name]] + network.thresholds[name]
+             for name, seats in network.seats.items()]
     rows += [[b"product", name, fare] + legs for name, (fare, legs) in network.products.items()]
     rows += [[b"refund", name, network.refund(name)] for name in network.products if network.refund(name) != 100]
     for name in network.products:
@@ -500,8 +508,8 @@ class Nests:
         return Fraction(thresholds[buckets[0] - 1]) if buckets[0] <= len(thresholds) else Fraction(0)
 
     def computed(self, leg, bucket):
-        """The least number of seats that is enough for this bucket and those above it, or the leg's authorised seats if it
-        is more."""
+        """The least number of seats that is enough for this bucket and those above it, or the leg's authorised seats if
+        it is more."""
         above = list(range(1, bucket + 1))
         demand = self.demand(self.products_in(leg, above))
         if sum(demand) == 0:
@@ -689,7 +697,7 @@ class Draws:
 
 
 def made_network(draws):
-    """A hub of six legs in and six out, with a dear and a cheap product on each and one from each leg in to each leg out."""
+    """A hub of six legs in and six out, with a dear and a cheap product on each and from each leg in to each out."""
     network = Network()
     network.version, network.histories, network.periods = 2, 8, 4
     legs = [b"%s%d" % (side, number) for side in (b"I", b"O") for number in range(1, 7)]
@@ -755,7 +763,8 @@ class Fares:
     def __init__(self, network, leg):
         on_leg = {product: fare for product, (fare, legs) in network.products.items() if leg in legs}
         self.values = sorted(set(on_leg.values()), reverse=True)
-        asked = {product: sum(sum(demand) for (name, _), demand in network.demand.items() if name == product) for product in on_leg}
+        asked = {product: sum(sum(demand) for (name, _), demand in network.demand.items() if name == product)
+                 for product in on_leg}
         self.weights = [sum(asked[product] for product in on_leg if on_leg[product] == value) for value in self.values]
         self.best = functools.cache(self.best)
         self.cost = functools.cache(self.cost)
@@ -771,14 +780,15 @@ class Fares:
         return sum(self.weights[at] * abs(self.values[at] - centre) for at in range(first, last))
 
     def best(self, first, groups):
-        """The least of the divisions of the values from a place on into at most so many pieces: by its cost, then by the
-        number of its pieces, then by their lengths."""
+        """The least of the divisions of the values from a place on into at most so many pieces: by its cost, then by
+        the number of its pieces, then by their lengths."""
         if first == len(self.values):
             return 0, 0, []
         if groups == 0:
             return None
         found = [(last, self.best(last, groups - 1)) for last in range(first + 1, len(self.values) + 1)]
-        return min((self.cost(first, last) + rest[0], 1 + rest[1], [last - first] + rest[2]) for last, rest in found if rest)
+        return min((self.cost(first, last) + rest[0], 1 + rest[1], [last - first] + rest[2])
+                   for last, rest in found if rest)
 
 
 def cuts_text(network, leg, groups):
@@ -799,8 +809,8 @@ def cuts_text(network, leg, groups):
 
 
 class Classes:
-    """The products whose only leg is this one, the dearest first; each class's demand is one of its histories, by chance and
-    whatever the others are, and the cheapest comes first."""
+    """The products whose only leg is this one, the dearest first; each class's demand is one of its histories, by
+    chance and whatever the others are, and the cheapest comes first."""
 
     def __init__(self, network, leg):
         self.seats = network.authorised.get(leg, 0)
@@ -821,7 +831,8 @@ class Classes:
 
     def protection(self, count):
         """The most seats of which the last is worth more to the first so many classes than to the one behind them."""
-        worth = [y for y in range(1, self.seats + 1) if self.fares[count] < self.value(count, y) - self.value(count, y - 1)]
+        worth = [y for y in range(1, self.seats + 1)
+                 if self.fares[count] < self.value(count, y) - self.value(count, y - 1)]
         return max(worth, default=0)
 
 
@@ -837,11 +848,14 @@ def dp_text(network, leg):
 
 # A made stream
 
-BAD = [b"", b" ", b"book", b"cancel", b"leg", b"reoptimise", b"reoptimise 0", b"reoptimise 01", b"reoptimise 100", b"plan 1",
+BAD = [b"", b" ", b"book", b"cancel", b"leg", b"reoptimise", b"reoptimise 0", b"reoptimise 01",
+       b"reoptimise 100", b"plan 1",
        b"reoptimise %s", b"PLAN", b"\r\r", b"book %s", b"book %s ", b"book %s 0", b"book %s 1000", b"book %s 01",
-       b"book  %s 1", b"book %s  1", b" book %s 1", b"book %s 1 ", b"book %s 1 1", b"BOOK %s 1", b"Book %s 1", b"book %s +1",
+       b"book  %s 1", b"book %s  1", b" book %s 1", b"book %s 1 ", b"book %s 1 1", b"BOOK %s 1", b"Book %s 1",
+       b"book %s +1",
        b"book %s -1", b"book %s 1.0", b"book %s one", b"book %s 18446744073709551617", b"book\t%s\t1", b"book %s\r 1",
-       b"book %s\x00 1", b"book %s\xff 1", b"book %sABCDEFGHIJKL 1", b"books %s 1", b"book,%s,1", b"leg %s ", b"leg %s 1",
+       b"book %s\x00 1", b"book %s\xff 1", b"book %sABCDEFGHIJKL 1", b"books %s 1", b"book,%s,1", b"leg %s ",
+       b"leg %s 1",
        b"LEG %s", b"cancel %s", b"cancel 00", b"cancel 07", b"cancel -1", b"cancel 1 1", b"cancel 1000000000000",
        b"cancel  1", b"\xef\xbb\xbfbook %s 1", b"# %s", b"%s", b"xxxxxxxxxxxxxxxxxxxxxxxxxxxxxxxxxxxxxxxxxxxxxxxxxx"]
 
@@ -883,8 +897,8 @@ def made_stream(session, seed, count):
     return b"\n".join(lines[:-1] + [b"book %s 1" % next(iter(session.network.products))])
 
 
-USAGE = ("usage: nrm run MODE FILE, plan MODE FILE, check FILE CERT, print FILE, gen MODE NUMBER, cuts FILE LEG GROUPS, "
-         "dp FILE LEG")
+USAGE = ("usage: nrm run MODE FILE, plan MODE FILE, check FILE CERT, print FILE, gen MODE NUMBER, cuts FILE LEG "
+         "GROUPS, dp FILE LEG")
 
 
 def is_name(word):

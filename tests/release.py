@@ -3,12 +3,12 @@
 
     tests/release.py [PATTERN] [--program WORD...]
 
-The tests are the functions below, of which PATTERN picks those with it in their name. The clone's built program is one that runs the
-program of the tests. Where the kit, git or what makes a wheel isn't there, that is told, and no release is made. With no --program it is
-the script `nrm` at the top of the repository; `nrm_kept` is always that at the top. The last line is `N passed, M failed`.
+The tests are the functions below, of which PATTERN picks those with it in their name. The clone's built program is one
+that runs the program of the tests. Where the kit, git or what makes a wheel isn't there, that is told, and no release
+is made. With no --program it is the script `nrm` at the top of the repository; `nrm_kept` is always that at the top.
+The last line is `N passed, M failed`.
 """
 import os
-import shlex
 import shutil
 import subprocess
 import sys
@@ -41,23 +41,22 @@ class Release:
         self.version = (TOP / "VERSION").read_text().strip()
         self.made = self.out / f"nrm-{self.version}"
         subprocess.run(["git", "clone", "-q", "--no-checkout", TOP, self.clone], check=True)
-        for words in (["sparse-checkout", "set", "--no-cone", "/*", "!/crates/"], ["checkout", "-q"]):  # the sources aren't needed
+        # the sources aren't needed
+        for words in (["sparse-checkout", "set", "--no-cone", "/*", "!/crates/"], ["checkout", "-q"]):
             subprocess.run(["git", *words], cwd=self.clone, check=True, stderr=subprocess.DEVNULL)
-        for name, words in (("nrm", program), ("nrm_kept", [str(TOP / "nrm_kept")])):
-            built = self.clone / "crates" / name / "out" / name
-            built.parent.mkdir(parents=True)
-            built.write_text(f'#!/bin/sh\nexec {shlex.join(words)} "$@"\n')
-            built.chmod(0o755)
+        pages.lay_programs(self.clone, program)
 
     def make(self, *words):
         """How the script ends, and what it tells."""
-        done = subprocess.run([self.clone / "tools" / "release.sh", *words], cwd=self.folder, capture_output=True, text=True, timeout=SECONDS)
+        done = subprocess.run([self.clone / "tools" / "release.sh", *words], cwd=self.folder, capture_output=True,
+                              text=True, timeout=SECONDS)
         return done.returncode, done.stdout + done.stderr
 
 
 @test
 def begins_nothing_where_no_folder_is_named(release):
-    for words, status, wanted in ((["--help"], 0, "    tools/release.sh FOLDER\n"), (["-x"], 2, "usage: "), ([], 2, "usage: "),
+    for words, status, wanted in ((["--help"], 0, "    tools/release.sh FOLDER\n"), (["-x"], 2, "usage: "),
+                                  ([], 2, "usage: "),
                                   (["a", "b"], 2, "usage: ")):
         ended, told = release.make(*words)
         want((ended, wanted in told), (status, True), told)
@@ -84,11 +83,14 @@ def is_of_what_is_committed(release):
 @test
 def has_what_one_begins_with(release):
     files = {str(it.relative_to(release.made)) for it in release.made.rglob("*") if it.is_file()}
-    wanted = {"nrm", "nrm_kept", "nrm-tools", "README.md", "CHANGELOG.md", "LICENSE", "VERSION", "SHA256SUMS", "docs/nrm.1", "docs/nrm_kept.1",
-              "docs/analyst.md", "docs/operating.md", "docs/auditor.md", "examples/log/network.csv", "python/src/nrm/audit.py",
+    wanted = {"nrm", "nrm_kept", "nrm-tools", "README.md", "CHANGELOG.md", "LICENSE", "VERSION", "SHA256SUMS",
+              "docs/nrm.1", "docs/nrm_kept.1",
+              "docs/analyst.md", "docs/operating.md", "docs/auditor.md", "examples/log/network.csv",
+              "python/src/nrm/audit.py",
               "python/src/nrm/telling/page.html"}
     want(wanted - files, set(), "files")
-    want([it for it in files if "__pycache__" in it or it.startswith(("python/tests", "python/src/nrm.egg", "crates", "build"))], [])
+    want([it for it in files if "__pycache__" in it
+          or it.startswith(("python/tests", "python/src/nrm.egg", "crates", "build"))], [])
     want(len([it for it in files if it.endswith(".whl")]), 1, "wheels")
     want({it for it in CRATES if not any(file.startswith(f"licences/{it}-") for file in files)}, set(), "licences")
     want(subprocess.run(["sha256sum", "--quiet", "-c", "SHA256SUMS"], cwd=release.made).returncode, 0, "sha256sum")
@@ -100,7 +102,8 @@ def has_what_one_begins_with(release):
 
 @test
 def tells_its_version_and_its_own_program(release):
-    told = subprocess.run([release.made / "nrm-tools", "--version"], env={"PATH": SYSTEM}, capture_output=True, text=True).stdout
+    told = subprocess.run([release.made / "nrm-tools", "--version"], env={"PATH": SYSTEM}, capture_output=True,
+                          text=True).stdout
     checksum = subprocess.run(["sha256sum", release.made / "nrm"], capture_output=True, text=True).stdout.split()[0]
     want(told, f"nrm-tools {release.version}\n{release.made / 'nrm'}\nsha256 {checksum}\n")
 
@@ -110,20 +113,24 @@ def its_commands_run_its_own_program(release):
     stream, kept = release.folder / "stream", release.folder / "kept"
     stream.write_text("book ZV-Y 1\nbook ZV-Y 1\n")
     kept.write_text("ok 1\nok")
-    done = subprocess.run([release.made / "nrm-tools", "resume", release.made / "examples" / "log" / "network.csv", "first", stream, kept],
+    done = subprocess.run([release.made / "nrm-tools", "resume", release.made / "examples" / "log" / "network.csv",
+                           "first", stream, kept],
                           env={"PATH": SYSTEM}, cwd=release.folder, capture_output=True, text=True, timeout=SECONDS)
-    want((done.stdout, done.returncode), ("go on at line 2; 5 bytes of whole replies stand before it\n", 0), done.stderr)
+    want((done.stdout, done.returncode), ("go on at line 2; 5 bytes of whole replies stand before it\n", 0),
+         done.stderr)
 
 
 @test
 def its_wheel_is_installed_in_an_environment_of_its_own(release):
     place, [wheel] = release.folder / "environment", release.made.glob("*.whl")
-    if subprocess.run(["/usr/bin/python3", "-m", "venv", place], stdout=subprocess.DEVNULL, stderr=subprocess.DEVNULL).returncode:
+    if subprocess.run(["/usr/bin/python3", "-m", "venv", place], stdout=subprocess.DEVNULL,
+                      stderr=subprocess.DEVNULL).returncode:
         print("Debian's python3-venv isn't installed: the wheel was not")
         return
     subprocess.run([place / "bin" / "pip", "install", "--quiet", "--no-index", wheel], check=True, timeout=SECONDS)
     network = release.made / "examples" / "log" / "network.csv"
-    done = subprocess.run([place / "bin" / "nrm-tools", "explain", network], cwd=release.folder, capture_output=True, text=True)
+    done = subprocess.run([place / "bin" / "nrm-tools", "explain", network], cwd=release.folder,
+                          capture_output=True, text=True)
     want((done.returncode, "no row is refused" in done.stdout), (0, True), done.stdout + done.stderr)
 
 
@@ -150,7 +157,8 @@ def its_commands_run_as_they_are_written(release):
 
 def can_be_made():
     """Whether there is what a release is made with."""
-    return bool(shutil.which("rt")) and (TOP / ".git").exists() and not subprocess.run(WHEEL, stderr=subprocess.DEVNULL).returncode
+    makes_wheels = not subprocess.run(WHEEL, stderr=subprocess.DEVNULL).returncode
+    return bool(shutil.which("rt")) and (TOP / ".git").exists() and makes_wheels
 
 
 def main():
@@ -160,8 +168,8 @@ def main():
         checks.ended(0, len(tests))
         return checks.NOT_BUILT
     if not can_be_made():
-        print("there is no kit, no git repository, or nothing to make a wheel with (python3-pip, python3-setuptools, python3-wheel): "
-              "no release was made")
+        print("there is no kit, no git repository, or nothing to make a wheel with (python3-pip, python3-setuptools, "
+              "python3-wheel): no release was made")
         checks.ended(0, 0)
         return 0
     failed = 0

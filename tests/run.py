@@ -4,9 +4,9 @@ r"""The end-to-end cases, on the built program with real files, pipes and output
     tests/run.py [PATTERN] [--lay FOLDER] [--program WORD...] [--kept WORD...]
 
 PATTERN picks the cases whose name has it in it, or matches it whole where it has a * or a ?. With --lay nothing is run:
-what each case gives and wants is laid out in FOLDER/NAME, to be looked at and tried by hand. With no --program and no --kept
-the programs are the scripts `nrm` and `nrm_kept` at the top of the repository. Each case that fails is told, and how many were not
-run and why; the last line is `N passed, M failed`.
+what each case gives and wants is laid out in FOLDER/NAME, to be looked at and tried by hand. With no --program and no
+--kept the programs are the scripts `nrm` and `nrm_kept` at the top of the repository. Each case that fails is told, and
+how many were not run and why; the last line is `N passed, M failed`.
 
 The cases stand in tests/tables/*.txt. A line at the margin opens an entry, and the indented lines below belong
 to it; a line that begins with # is a remark, and an empty line is nothing.
@@ -32,15 +32,16 @@ A part is one of these lines, and what stands below it, indented once more:
 and, of files that stay from run to run,
 
     store FILE            an SQLite file of this name, which the statements of SQL below make
-    earlier [WORD..]      a run before, on the same files, in rows as those of `session`, with the words that stand here or else
-                          those of the case; there may be several, and each must end with status 0
-    rows FILE             the rows that the table `kept` of this SQLite file must have at the end, a blank between two columns
+    earlier [WORD..]      a run before, on the same files, in rows as those of `session`, with the words that stand here
+                          or else those of the case; there may be several, and each must end with status 0
+    rows FILE             the rows that the table `kept` of this SQLite file must have at the end, a blank between two
+                          columns
     same FILE             at the end the file must have the bytes that it had before the run
     none FILE             at the end there must be no file whose name begins so
 
-FILE, stdin, stdout, store, rows and base have their lines below; one line may stand beside the word instead, `stdin: TEXT`. With
-`of NAME` they have those of a base, or of a file that the case named before, and with `from PATH` those of a file of
-the repository. Changes of these stand below or, if it is one, after `with`:
+FILE, stdin, stdout, store, rows and base have their lines below; one line may stand beside the word instead, `stdin:
+TEXT`. With `of NAME` they have those of a base, or of a file that the case named before, and with `from PATH` those of
+a file of the repository. Changes of these stand below or, if it is one, after `with`:
 
     3: TEXT               line 3 is this
     3 gone                line 3 is left out
@@ -62,8 +63,8 @@ A case with an outside of its own has a part `outside`, a line for each thing th
     mkdir NAME            a folder of that name stands in the folder where the program runs
     link NAME PATH        a link of that name stands in that folder, which leads to a path
     hard NAME FILE        the file has that name too
-    fixed NAME            nobody may write to this file or folder; `.` is the folder where the program runs. If the cases are run
-                          by root, who may, the program is run by another user
+    fixed NAME            nobody may write to this file or folder; `.` is the folder where the program runs. If the
+                          cases are run by root, who may, the program is run by another user
     fifo FILE N           the file is a FIFO, which gives its bytes in pieces of N
     pieces N              standard input comes in pieces of N bytes
     stdin-missing         the program has no standard input at all
@@ -72,10 +73,11 @@ A case with an outside of its own has a part `outside`, a line for each thing th
     stdout-missing        the program has no standard output at all
     stdout-full           every write to standard output fails
     stdout-closed         nobody reads standard output
-    stdout-takes N        who reads standard output takes N bytes and leaves; these must be the first N bytes of `stdout`
-    disk-of N             standard output is a file on a disk that is full after N bytes; what the file has at the end must
-                          be the first N bytes of `stdout`. (No disk is filled: the system lets the file grow no further, and
-                          a write is short and then fails, as on a disk that is full.)
+    stdout-takes N        who reads standard output takes N bytes and leaves; these must be the first N bytes of
+                          `stdout`
+    disk-of N             standard output is a file on a disk that is full after N bytes; what the file has at the end
+                          must be the first N bytes of `stdout`. (No disk is filled: the system lets the file grow no
+                          further, and a write is short and then fails, as on a disk that is full.)
 
 Whatever a case says, standard error must stay empty.
 """
@@ -146,7 +148,8 @@ def lines_of(text):
     names = [re.fullmatch(r"(\w+)=(\d+)\.\.(\d+)", it) for it in ranges.split()]
     counts = [range(int(it[2]), int(it[3]) + 1) for it in names]
     text = compile("f" + repr(each), "<a line of a table>", "eval")
-    return [line_of(eval(text, {}, dict(zip([it[1] for it in names], numbers)))) for numbers in itertools.product(*counts)]
+    return [line_of(eval(text, {}, dict(zip([it[1] for it in names], numbers))))
+            for numbers in itertools.product(*counts)]
 
 
 CHANGE = re.compile(r"(?:(\d+)(?:( then)?: (.*)| gone)|end: (.*))")
@@ -246,7 +249,8 @@ class Case:
         """Writes what the case gives and wants, to be looked at and to be tried by hand."""
         os.makedirs(os.path.join(folder, "files"))
         self.lay(os.path.join(folder, "files"))
-        told = {"words": lines_of_words(self.words), "stdin": self.stdin, "stdout": self.stdout, "status": b"%d\n" % self.status}
+        told = {"words": lines_of_words(self.words), "stdin": self.stdin, "stdout": self.stdout,
+                "status": b"%d\n" % self.status}
         for number, (words, stdin, _) in enumerate(self.earlier, 1):
             told |= {f"words-earlier-{number}": lines_of_words(words or self.words), f"stdin-earlier-{number}": stdin}
         for name, content in told.items():
@@ -474,8 +478,8 @@ class Run:
         """A run before that of the case."""
         done = subprocess.run(words, cwd=self.folder, input=stdin, capture_output=True, timeout=120)
         if (done.returncode, done.stdout, done.stderr) != (0, stdout, b""):
-            raise Bad(f"an earlier run ended with status {done.returncode}, wrote {done.stdout[:300]!r}, wanted {stdout[:300]!r}; "
-                      f"standard error {done.stderr[:300]!r}")
+            raise Bad(f"an earlier run ended with status {done.returncode}, wrote {done.stdout[:300]!r}, wanted "
+                      f"{stdout[:300]!r}; standard error {done.stderr[:300]!r}")
 
     def begun(self, words, stdin, stdout):
         """The process of the program."""
@@ -489,7 +493,8 @@ class Run:
         except PermissionError:
             if not user:
                 raise
-            raise NotRun("the cases are run by root, who may write everywhere, and another user may not run the program")
+            raise NotRun(
+                "the cases are run by root, who may write everywhere, and another user may not run the program")
 
     def left_wrong(self):
         """What is wrong with the files that are there at the end."""
@@ -500,7 +505,8 @@ class Run:
                 got = str(why).encode()
             if got != wanted:
                 yield f"{name} has {got[:300]!r}, wanted {wanted[:300]!r}"
-        yield from (f"{name} has changed" for name, was in self.before.items() if content_of(os.path.join(self.folder, name)) != was)
+        yield from (f"{name} has changed" for name, was in self.before.items()
+                    if content_of(os.path.join(self.folder, name)) != was)
         for name in self.case.none:
             yield from (f"{it} is there" for it in stores.files(os.path.join(self.folder, name)))
 
@@ -561,7 +567,8 @@ class Run:
     def told(self):
         wrote = (self.out or b"")[:300]
         return (f"{self.case.name}: status {self.status}, wanted {self.case.status}; wrote {wrote!r}, "
-                f"wanted {self.case.stdout[:300]!r}; standard error {self.err[:300]!r}" + "".join(f"; {it}" for it in self.faults))
+                f"wanted {self.case.stdout[:300]!r}; standard error {self.err[:300]!r}"
+                + "".join(f"; {it}" for it in self.faults))
 
 
 def cases_of(pattern):

@@ -1,7 +1,8 @@
 """Stores of `nrm_kept`, made and read by the `sqlite3` of Python.
 
-A store is the file and, beside it, its log, whose name begins with that of the file. It is read in a copy of both, so that
-reading changes neither, and while a program has it. Where Python has no `sqlite3`, `is_there` is false, and what needs it says so.
+A store is the file and, beside it, its log, whose name begins with that of the file. It is read in a copy of both, so
+that reading changes neither, and while a program has it. Where Python has no `sqlite3`, `is_there` is false, and what
+needs it says so.
 """
 import glob
 import os

@@ -3,15 +3,16 @@
 
     tests/talk.py [PATTERN] [--program WORD...]
 
-The talks go through pipes and through a terminal, in the three modes, on the network of examples/hub. What is wanted comes from
-the documents or from tests/reference.py, never from the program. The pipes keep pieces apart: one read takes what one write gave. On
-the terminal, the key for the end of the input is pressed where a piece ends inside a line. Nothing waits for a time to pass; where
-the program is silent, a talk fails after some seconds.
+The talks go through pipes and through a terminal, in the three modes, on the network of examples/hub. What is wanted
+comes from the documents or from tests/reference.py, never from the program. The pipes keep pieces apart: one read takes
+what one write gave. On the terminal, the key for the end of the input is pressed where a piece ends inside a line.
+Nothing waits for a time to pass; where the program is silent, a talk fails after some seconds.
 
-The last talks cut a session in each way that it can be cut, go on with `nrm-tools resume`, and want the replies of the whole stream.
+The last talks cut a session in each way that it can be cut, go on with `nrm-tools resume`, and want the replies of the
+whole stream.
 
-PATTERN picks the talks that have it in their name. With no --program it is the script `nrm` at the top of the repository. Each talk
-that fails is told; the last line is `N passed, M failed`.
+PATTERN picks the talks that have it in their name. With no --program it is the script `nrm` at the top of the
+repository. Each talk that fails is told; the last line is `N passed, M failed`.
 """
 import functools
 import os
@@ -81,7 +82,7 @@ def terminal_with_echo():
 
 
 def breaking_input():
-    """Where we say no more, reading fails: a socket that closes with unread bytes breaks the other one, after its bytes."""
+    """Where we say no more, reading fails: a socket closed with unread bytes breaks the other one, after its bytes."""
     near, far = socket.socketpair()
     far.sendall(b"never read")
     hear, out = os.pipe2(os.O_DIRECT)
@@ -198,13 +199,18 @@ def nothing_is_said(talk, session):
     talk.end_input()
 
 
-def lines_come_in_two_pieces(talk, session):
-    for line in lines_on_the_hub():
+def in_two_pieces(talk, session, lines):
+    """Says each line as often as it can be cut in two."""
+    for line in lines:
         for at in range(1, len(line) + 1):
             talk.say(line[:at])
             talk.say(line[at:] + b"\n")
             talk.hear(session.reply(line))
     talk.end_input()
+
+
+def lines_come_in_two_pieces(talk, session):
+    in_two_pieces(talk, session, lines_on_the_hub())
 
 
 def lines_come_in_single_bytes(talk, session):
@@ -225,13 +231,9 @@ def lines_are_cut_before_their_line_feed(talk, session):
 
 def lines_are_about_as_long_as_good_ones(talk, session):
     """The longest good one has 22 bytes, with its carriage return."""
-    for line in [b"book ABCDEFGHIJKL 999\r", b"book ABCDEFGHIJKL 999\r\r", b"book ABCDEFGHIJKL 9999", b"book ABCDEFGHIJKLM 999",
-                 b"book ABCDEFGHIJKL 999 \r", b"cancel 999999999999\r", b"cancel 9999999999999\r"]:
-        for at in range(1, len(line) + 1):
-            talk.say(line[:at])
-            talk.say(line[at:] + b"\n")
-            talk.hear(session.reply(line))
-    talk.end_input()
+    in_two_pieces(talk, session, [
+        b"book ABCDEFGHIJKL 999\r", b"book ABCDEFGHIJKL 999\r\r", b"book ABCDEFGHIJKL 9999", b"book ABCDEFGHIJKLM 999",
+        b"book ABCDEFGHIJKL 999 \r", b"cancel 999999999999\r", b"cancel 9999999999999\r"])
 
 
 def a_megabyte_is_one_bad_line(talk, session):
@@ -404,8 +406,8 @@ class Cut:
         done = subprocess.run(self.words(kept, "--go-on"), input=rest, capture_output=True, timeout=SECONDS)
         wanted = b"".join(self.replies)[size:]
         if (done.returncode, done.stderr, done.stdout) != (0, self.told(kept), wanted):
-            raise Wrong(f"{self.told(kept)!r} and {wanted[:300]!r}, and not status {done.returncode}, {done.stderr[-300:]!r} and "
-                        f"{done.stdout[:300]!r}")
+            raise Wrong(f"{self.told(kept)!r} and {wanted[:300]!r}, and not status {done.returncode}, "
+                        f"{done.stderr[-300:]!r} and {done.stdout[:300]!r}")
 
 
 def the_stream_is_a_file(cut):
@@ -414,7 +416,8 @@ def the_stream_is_a_file(cut):
         lines = [b"x" * before, b"book HJ-Q 1\r", b"leg HAM-FRA\r"] + cut.lines
         wanted = b"".join(map(hub_session(cut.mode).reply, lines))
         with open(cut.file("stream", joined(lines)[:-1]), "rb") as stream:
-            done = subprocess.run([*cut.program, "run", cut.mode, HUB], stdin=stream, capture_output=True, timeout=SECONDS)
+            done = subprocess.run([*cut.program, "run", cut.mode, HUB], stdin=stream, capture_output=True,
+                                  timeout=SECONDS)
         if (done.returncode, done.stderr, done.stdout) != (0, b"", wanted):
             raise Wrong(f"{wanted[:300]!r}, and not status {done.returncode} and {done.stdout[:300]!r}")
 
@@ -423,7 +426,8 @@ def goes_on_after_any_cut(cut):
     """Before a reply, in one line, between two lines of a plan or of a leg, and after all."""
     whole = b"".join(cut.replies)
     plan, leg = whole.rindex(cut.replies[cut.lines.index(b"plan")]), whole.rindex(b"leg FRA-JFK")
-    for at in [0, 1, 5, plan, whole.index(b"\n", plan) + 1, leg + 20, whole.index(b"\n", leg) + 1, len(whole) - 1, len(whole)]:
+    for at in [0, 1, 5, plan, whole.index(b"\n", plan) + 1, leg + 20, whole.index(b"\n", leg) + 1, len(whole) - 1,
+               len(whole)]:
         cut.goes_on(whole[:at])
 
 
@@ -474,7 +478,8 @@ def goes_on_without_lines_that_wanted_memory(cut):
     lines = [b"hindsight"] + [b"reoptimise 4"] * (cut.mode != "first")
     for count in [13, 22, 30]:
         session = hub_session(cut.mode)
-        cut.replies = [b"memory\n" if line in lines and at < count else session.reply(line) for at, line in enumerate(cut.lines)]
+        cut.replies = [b"memory\n" if line in lines and at < count else session.reply(line)
+                       for at, line in enumerate(cut.lines)]
         cut.goes_on(b"".join(cut.replies[:count]))
 
 
@@ -504,11 +509,13 @@ def replies_that_are_no_front_are_told(cut):
         kept = b"".join(cut.replies[:at] + [other] + cut.replies[at + 1:])
         done = subprocess.run(cut.words(kept), capture_output=True, timeout=SECONDS)
         if done.returncode != 1 or done.stdout or not done.stderr.startswith(b"nrm-tools resume: line %d: " % (at + 1)):
-            raise Wrong(f"line {at + 1} told, and not status {done.returncode}, {done.stdout!r} and {done.stderr[-300:]!r}")
+            raise Wrong(f"line {at + 1} told, and not status {done.returncode}, {done.stdout!r} and "
+                        f"{done.stderr[-300:]!r}")
 
 
 CUTS = [the_stream_is_a_file, goes_on_after_any_cut, goes_on_after_the_reader_left, goes_on_after_the_input_failed,
-        goes_on_after_the_program_was_killed, goes_on_after_a_cut_inside_memory, goes_on_after_too_long_a_stream, goes_on_in_talk,
+        goes_on_after_the_program_was_killed, goes_on_after_a_cut_inside_memory, goes_on_after_too_long_a_stream,
+        goes_on_in_talk,
         goes_on_without_lines_that_wanted_memory, replies_that_are_no_front_are_told]
 
 

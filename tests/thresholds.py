@@ -3,30 +3,30 @@
 
     tests/thresholds.py [--program WORD...]
 
-Each network has a leg whose products have a few fares, some of them more than once, and demand that is the weight of each fare;
-other legs have products too. All ways are tried to put the fares into so many groups, which needn't be neighbours, each with
-the best centre among the fares, and where the fares lie close together among all whole numbers between: none may cost less
-than the cost that is told. And of all divisions of the falling list into neighbouring pieces the one that is told must cost the
-least, of those have the fewest pieces, and of those the first list of lengths. With no --program it is the script `nrm` at the
-top of the repository. The last lines tell how often a rule had to choose, and how many lists passed.
+Each network has a leg whose products have a few fares, some of them more than once, and demand that is the weight of
+each fare; other legs have products too. All ways are tried to put the fares into so many groups, which needn't be
+neighbours, each with the best centre among the fares, and where the fares lie close together among all whole numbers
+between: none may cost less than the cost that is told. And of all divisions of the falling list into neighbouring
+pieces the one that is told must cost the least, of those have the fewest pieces, and of those the first list of
+lengths. With no --program it is the script `nrm` at the top of the repository. The last lines tell how often a rule had
+to choose, and how many lists passed.
 """
 import itertools
-import os
 import random
-import subprocess
 import sys
-import tempfile
 
 sys.dont_write_bytecode = True
 import checks
+import one_leg
 from checks import Wrong
 
 LISTS = 130
 CLOSE = 12  # between the greatest and the least fare, so that every whole number is tried as a centre
 
 
-class Made:
+class Made(one_leg.Made):
     """A network, one of its legs, and a number of groups."""
+    legs = [(name, 9, 8) for name in ("AWAY", "HERE", "IDLE")]
 
     def __init__(self, seed):
         draw = random.Random(seed)
@@ -43,29 +43,23 @@ class Made:
         self.histories, self.periods = draw.randint(1, 3), draw.randint(1, 2)
         fares += draw.choices(fares, k=draw.randrange(3))
         self.products = [(f"P{at}", fare, self.legs_of(draw)) for at, fare in enumerate(fares)]
-        self.demand = [(name, history, [draw.randint(0, most) for _ in range(self.periods)]) for name, _, _ in self.products
-                       for history in range(1, self.histories + 1) if draw.randrange(4)]
-        draw.shuffle(self.demand)
+        demand = [((name, history), [draw.randint(0, most) for _ in range(self.periods)])
+                  for name, _, _ in self.products for history in range(1, self.histories + 1) if draw.randrange(4)]
+        draw.shuffle(demand)
         self.products.insert(draw.randint(0, size), ("ELSE", draw.randint(1, 999), ["AWAY"]))
-        self.demand.append(("ELSE", 1, [5] * self.periods))
+        self.demand = {**dict(demand), ("ELSE", 1): [5] * self.periods}
 
     @staticmethod
     def legs_of(draw):
         return draw.choice([["HERE"], ["HERE"], ["AWAY", "HERE"], ["HERE", "AWAY"]])
-
-    def file(self):
-        rows = [("periods", self.histories, self.periods, *([2] if self.second else []))]
-        rows += [("leg", name, 9, *([8] if self.second else []), 300, 100) for name in ("AWAY", "HERE", "IDLE")]
-        rows += [("product", name, fare, *legs) for name, fare, legs in self.products]
-        rows += [("demand", name, history, *seats) for name, history, seats in self.demand]
-        return "".join(",".join(map(str, row)) + "\n" for row in rows)
 
     def weights(self):
         """Each fare of a product on the leg, falling, and the seats that were asked for at it."""
         found = {}
         for name, fare, legs in self.products:
             if "HERE" in legs:
-                found[fare] = found.get(fare, 0) + sum(sum(seats) for other, _, seats in self.demand if other == name)
+                asked = sum(sum(seats) for (other, _), seats in self.demand.items() if other == name)
+                found[fare] = found.get(fare, 0) + asked
         return sorted(found.items(), reverse=True)
 
 
@@ -107,7 +101,8 @@ def pieces(items, sizes):
 
 def centre(piece):
     """The first fare at which twice the weight up to and with it is at least the weight of the piece."""
-    return next(fare for at, (fare, _) in enumerate(piece) if 2 * sum(it for _, it in piece[:at + 1]) >= sum(it for _, it in piece))
+    return next(fare for at, (fare, _) in enumerate(piece)
+                if 2 * sum(it for _, it in piece[:at + 1]) >= sum(it for _, it in piece))
 
 
 def compared(made, told):
@@ -123,7 +118,8 @@ def compared(made, told):
         raise Wrong(f"a division that costs {least}, as the best grouping does, and none costs less than {total}")
     parts = pieces(items, sizes)
     cuts, centres = [piece[-1][0] for piece in parts[:-1]], map(centre, parts)
-    wanted = [" ".join(map(str, line)) for line in (["cuts", "HERE", *cuts], ["centres", "HERE", *centres], ["cost", "HERE", total])]
+    wanted = [" ".join(map(str, line))
+              for line in (["cuts", "HERE", *cuts], ["centres", "HERE", *centres], ["cost", "HERE", total])]
     if told.splitlines() != wanted or not told.endswith("\n"):
         raise Wrong("\n".join(wanted))
     same = [(many, some) for spent, many, some in divided if spent == total]
@@ -131,31 +127,16 @@ def compared(made, told):
 
 
 ENDS = [  # words behind the file, and how they end
-    (["IDLE", "2"], 10, "no leg\n"), (["NONE", "2"], 10, "no leg\n"), (["HERE", "0"], 2, None), (["HERE", "11"], 2, None),
+    (["IDLE", "2"], 10, "no leg\n"), (["NONE", "2"], 10, "no leg\n"), (["HERE", "0"], 2, None),
+    (["HERE", "11"], 2, None),
     (["HERE", "02"], 2, None), (["here", "2"], 2, None), (["HERE"], 2, None), (["HERE", "2", "2"], 2, None)]
 
 
 def main():
-    program, passed, failed, fewer, first = checks.program_of(__doc__), 0, 0, 0, 0
-    runs = [(seed, ["HERE", str(Made(seed).groups)], None, None) for seed in range(LISTS)]
-    runs += [(1, *end) for end in ENDS]
-    for seed, words, status, line in runs:
-        made = Made(seed)
-        with tempfile.TemporaryDirectory() as folder:
-            with open(os.path.join(folder, "network.csv"), "w") as file:
-                file.write(made.file())
-            done = subprocess.run([*program, "cuts", "network.csv", *words], cwd=folder, text=True, capture_output=True)
-        try:
-            if done.returncode != (status or 0) or done.stderr or line is not None and done.stdout != line:
-                raise Wrong(f"status {status or 0}{f' and {line!r}' if line else ''}")
-            if status is None:
-                is_fewer, is_first = compared(made, done.stdout)
-                fewer, first = fewer + is_fewer, first + is_first
-            passed += 1
-        except Wrong as wrong:
-            failed += 1
-            print(f"list {seed}, cuts {' '.join(words)}: status {done.returncode}: {done.stdout}{done.stderr}", f"wanted {wrong}",
-                  *made.file().splitlines(), sep="\n    ")
+    runs = [("cuts", made, ["HERE", str(made.groups)], 0, None, compared) for made in map(Made, range(LISTS))]
+    runs += [("cuts", Made(1), *end, None) for end in ENDS]
+    passed, failed, seen = one_leg.ended(checks.program_of(__doc__), runs)
+    fewer, first = map(sum, zip(*seen))
     print(f"{fewer} lists with as good a division into more pieces, {first} with as good a one of other lengths")
     status = checks.ended(passed, failed)
     return status if fewer and first else 1
