@@ -80,8 +80,7 @@ class PlaceTest(unittest.TestCase):
         return str(path)
 
     def blind(self, *libraries: str) -> dict[str, str]:
-        """An environment without some libraries, or with neither matplotlib nor jinja2: so nothing is drawn, which
-        takes long."""
+        """An environment without some libraries, or with neither matplotlib nor jinja2, which take long to draw."""
         blinded = self.folder / "-".join(["blind", *libraries])
         blinded.mkdir(exist_ok=True)
         for name in libraries or BLINDED:

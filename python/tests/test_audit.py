@@ -46,8 +46,7 @@ def plans() -> Iterator[tuple[str, bytes, Fraction]]:
         if case.words[:2] == [b"plan", b"bid"] and case.stdout.startswith(b"value "):
             yield case.name, case.files[case.words[2].decode()], Fraction(case.stdout.split()[1].decode())
     for path in sorted(EXAMPLES.glob("*/network.csv")):
-        out = subprocess.run([sys.executable, reference.__file__, "plan", "bid", path], stdout=subprocess.PIPE,
-                             check=True).stdout
+        out = subprocess.check_output([sys.executable, reference.__file__, "plan", "bid", path])
         yield str(path), path.read_bytes(), Fraction(out.split()[1].decode())
 
 
@@ -61,12 +60,10 @@ def audited(network: bytes, certificate: bytes) -> subprocess.CompletedProcess[s
 
 
 def solved(network: bytes) -> tuple[int, Fraction] | None:
-    """How many histories the program of a network stands for, and the value that `glpsol` finds for it; None where it
-    finds none."""
+    """How many histories a network's program stands for, and the value that `glpsol` finds, or None."""
     with tempfile.TemporaryDirectory() as folder:
         Path(folder, "network").write_bytes(network)
-        program = subprocess.run([sys.executable, SOURCES, "lp", "network"], cwd=folder, stdout=subprocess.PIPE,
-                                 text=True).stdout
+        program = subprocess.check_output([sys.executable, SOURCES, "lp", "network"], cwd=folder, text=True)
         Path(folder, "program").write_text(program)
         subprocess.run(["glpsol", "--exact", "--lp", "program", "--write", "solution"], cwd=folder,
                        stdout=subprocess.DEVNULL)

@@ -1,5 +1,4 @@
-"""Imports go one way, each file says at its head what it may use, and each folder has as many files as one can keep in
-mind."""
+"""Imports go one way, each file says at its head what it may use, and each folder has few files."""
 from __future__ import annotations
 
 import ast

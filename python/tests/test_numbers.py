@@ -37,8 +37,7 @@ class Reading(unittest.TestCase):
 
 
 class Refusing(PlaceTest):
-    """Most commands are called in this process, since they are so many: one that fails at a number would fail here
-    too."""
+    """Most commands are called in this process, since they are so many: what fails at a number fails here too."""
 
     def ran(self, name: str, *words: object, **_: object) -> Done:
         out, err = io.StringIO(), io.StringIO()

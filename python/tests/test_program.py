@@ -1,5 +1,4 @@
-"""The program is found where it is built or on the path, nothing is built, and what it writes is told where a run
-fails."""
+"""The program is found where it is built or on the path, nothing is built, and what a failing run writes is told."""
 from __future__ import annotations
 
 import os
@@ -18,8 +17,7 @@ ANSWERS = "#!/bin/sh\necho {}\n"
 
 
 class Finding(PlaceTest):
-    """In a checkout that is made: a copy of the tools, a script `nrm` that would build, sources, and a program or
-    none."""
+    """In a checkout that is made: the tools, a script `nrm` that would build, sources, and a program or none."""
 
     def setUp(self) -> None:
         super().setUp()

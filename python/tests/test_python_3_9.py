@@ -40,8 +40,7 @@ def annotations_of(tree: ast.AST) -> Iterator[ast.AST]:
 
 
 def is_type(node: ast.AST) -> bool:
-    """Whether an expression is that of a type: None, a built-in one, a name as those of classes, or one of these of
-    some."""
+    """Whether an expression is that of a type: None, a built-in one, a name as of classes, or one of these of some."""
     if isinstance(node, ast.Subscript):
         return is_type(node.value)
     if isinstance(node, ast.Name):

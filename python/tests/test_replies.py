@@ -7,9 +7,8 @@ from fractions import Fraction
 
 from harness import EXAMPLES, PlaceTest
 from nrm.replies import (MODES, Cancelled, Cuts, Hindsight, Leg, LegValue, Memory, Nest, NoAnswer, NoFare, NoLeg,
-                         Optimised, Overflow,
-                         Plan, Sold, Store, Unknown, answer_of, cuts_of, leg_value_of, plan_of, replies_of,
-                         whole_replies)
+                         Optimised, Overflow, Plan, Sold, Store, Unknown, answer_of, cuts_of, leg_value_of, plan_of,
+                         replies_of, whole_replies)
 
 ANSWERS = {
     "ok 7": Sold(7), "no AB-1": NoLeg("AB-1"), "no fare": NoFare(), "unknown": Unknown(),

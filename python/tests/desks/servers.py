@@ -140,8 +140,7 @@ class ServerTest(PlaceTest):
         return path
 
     def stub(self, name: str, replies: Mapping[str, str], pause: float = 0) -> list[str]:
-        """A program in place of the controller, which answers some lines so, after a pause in seconds, and writes down
-        what it gets."""
+        """A program in place of the controller: it answers some lines so, after a pause, and notes what it gets."""
         return [self.script(name, STUB.format(got=str(self.folder / "got"), answers=replies, pause=pause))]
 
     def got(self) -> list[str]:

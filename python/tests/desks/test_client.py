@@ -113,8 +113,7 @@ class Desks(ServerTest):
                     with Desk.start([*self.program.words, "run"], mode, path) as copy:
                         for line in lines:
                             copy.reply(line)
-                        self.assertEqual((copy.available(product), copy.hindsight()), (party, before),
-                                         "asking changes nothing")
+                        self.assertEqual((copy.available(product), copy.hindsight()), (party, before))
                         self.assertFalse(party < 999 and is_sold(copy, product, party + 1),
                                          f"{mode} {seed} {product} {party + 1}")
                         self.assertEqual(party == 0 or is_sold(copy, product, party), True,
@@ -141,8 +140,7 @@ class Desks(ServerTest):
                     self.assertEqual((desk.cancel(1), desk.reoptimise(1)),
                                      (of.Cancelled(1, 450), of.Optimised(Fraction(4130))))
                     self.assertEqual((desk.hindsight().revenue, desk.hindsight().withheld), (0, 0), "hindsight")
-                    self.assertEqual([desk.available(it) for it in ("ABL", "BCL", "ABH")], [3, 4, 10],
-                                     "what is available")
+                    self.assertEqual([desk.available(it) for it in ("ABL", "BCL", "ABH")], [3, 4, 10])
                     for call, words in [(desk.book, ("ABL", 0)), (desk.book, ("a\nb", 1)), (desk.reply, ("a\nb",)),
                                         (desk.cancel, (-1,))]:
                         self.expect(ValueError, lambda: call(*words))

@@ -1,5 +1,4 @@
-"""What tests of many seasons have in common: the command as a process, schedulers with workers, and the rows that one
-process makes."""
+"""What tests of many seasons have in common: the command as a process, schedulers with workers, rows of one process."""
 from __future__ import annotations
 
 import contextlib
@@ -66,8 +65,7 @@ def dask(folder: Path, name: str, *words: str,
 
 @contextlib.contextmanager
 def cluster(folder: Path, paths: Sequence[str | None] = (None, None), keys: Sequence[str] = ()) -> Iterator[Cluster]:
-    """A scheduler with a worker for each of some paths on which it finds programs, or for each None. No worker can
-    import `nrm`."""
+    """A scheduler with a worker for each path on which it finds programs, or None. No worker can import `nrm`."""
     words = ["--nthreads", "1", "--no-nanny", "--no-dashboard", "--host", "127.0.0.1", "--local-directory",
              str(folder), *keys]
     with contextlib.ExitStack() as stack:

@@ -31,13 +31,11 @@ from typing import NoReturn, Sequence, Tuple, Type, Union, cast
 
 from nrm.limits import LAST_BOOKING, LAST_PERIOD, MOST_PARTY
 from nrm.network import NAME, Network
-from nrm.replies import (Answer, Cancelled, Hindsight, Leg, Memory, NoAnswer, NoFare, NoLeg, Optimised,
-                         Overflow, Plan, Sold,
-                         Store, Unknown, answer_of, whole_replies)
+from nrm.replies import (Answer, Cancelled, Hindsight, Leg, Memory, NoAnswer, NoFare, NoLeg, Optimised, Overflow, Plan,
+                         Sold, Store, Unknown, answer_of, whole_replies)
 
-__all__ = ["Answer", "Cancelled", "Desk", "DeskError", "Ended", "Hindsight", "Late", "Leg", "Memory",
-           "Network", "NoFare",
-           "NoLeg", "Optimised", "Overflow", "Plan", "Sold", "Store", "Strange", "Unknown"]
+__all__ = ["Answer", "Cancelled", "Desk", "DeskError", "Ended", "Hindsight", "Late", "Leg", "Memory", "Network",
+           "NoFare", "NoLeg", "Optimised", "Overflow", "Plan", "Sold", "Store", "Strange", "Unknown"]
 SECONDS = 10.0
 PIECE = 65_536
 PAUSE = 0.05  # the seconds before a desk tries again to connect, where so many wait that no more may
@@ -133,8 +131,8 @@ class Desk:
 
     def book(self, product: str, party: int) -> Sold | NoLeg | NoFare | Unknown | Memory | Store:
         """Asks for seats for a party, 1 to 999, on each leg of a product."""
-        answer = self.ask(f"book {a_name(product)} {a_number(party, 1, MOST_PARTY)}", Sold, NoLeg, NoFare, Unknown,
-                          Memory, Store)
+        line = f"book {a_name(product)} {a_number(party, 1, MOST_PARTY)}"
+        answer = self.ask(line, Sold, NoLeg, NoFare, Unknown, Memory, Store)
         return cast(Union[Sold, NoLeg, NoFare, Unknown, Memory, Store], answer)
 
     def cancel(self, number: int) -> Cancelled | Unknown | Memory | Store:

@@ -81,8 +81,8 @@ class Place:
 
 def parted(number: int, kept: bytes, reply: bytes) -> Stop:
     """A Stop for a reply that was kept and isn't what the program answers."""
-    return Stop(f"line {number}: {kept.decode('latin-1')!r} was kept, and the program answers "
-                f"{reply.decode('latin-1')!r}")
+    before, now = kept.decode("latin-1"), reply.decode("latin-1")
+    return Stop(f"line {number}: {before!r} was kept, and the program answers {now!r}")
 
 
 def place_to_go_on_at(kept: Kept, program: Program) -> Place:

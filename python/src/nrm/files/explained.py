@@ -16,8 +16,7 @@ from nrm.limits import (MOST_DEMAND, MOST_FARE, MOST_HISTORIES, MOST_LEGS, MOST_
 from nrm.network import NAME, WHOLE, Row, rows_of
 
 WORDS = {1: "kind", 2: "order", 3: "fields", 4: "many", 5: "name", 6: "number", 7: "range", 8: "twice", 9: "missing",
-         10: "thresholds",
-         11: "sum", 12: "empty", 13: "size"}
+         10: "thresholds", 11: "sum", 12: "empty", 13: "size"}
 
 
 @dataclass(frozen=True)

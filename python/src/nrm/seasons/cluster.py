@@ -95,8 +95,8 @@ def temporary_keys() -> Keys:
     try:
         return distributed.Security.temporary()
     except ImportError:
-        raise Stop(f"{sys.executable} can't make keys for the workers; `apt-get install python3-cryptography` installs "
-                   "what it takes")
+        raise Stop(f"{sys.executable} can't make keys for the workers; "
+                   "`apt-get install python3-cryptography` installs what it takes")
 
 
 def keys_of(workers: Workers, address: str) -> Keys:
@@ -180,8 +180,8 @@ def send_package(client: Client, patience: float) -> None:
         try:
             within(patience, client.upload_file, zipped(folder, PACKAGE))
         except concurrent.futures.TimeoutError:
-            raise Stop(f"the workers don't take the tools within {patience} s: is one stopped? --patience sets how "
-                       "long it may take")
+            raise Stop(f"the workers don't take the tools within {patience} s: is one stopped? "
+                       "--patience sets how long it may take")
         except Exception as fault:  # whatever Dask has met there
             raise Stop(f"the workers don't take the tools: {type(fault).__name__}, {fault}")
 

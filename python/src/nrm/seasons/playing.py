@@ -18,9 +18,8 @@ from nrm.limits import LAST_BOOKING
 from nrm.network import Network, text_of
 from nrm.program import Dialogue, Program
 from nrm.replies import Answer, Hindsight, NoAnswer, Overflow, Sold, answer_of
-from nrm.seasons.drawing import (DrawnSeason, Requests, Settings, by_product, drawn_season, generator,
-                                 history_again, network_in,
-                                 request_of)
+from nrm.seasons.drawing import (DrawnSeason, Requests, Settings, by_product, drawn_season, generator, history_again,
+                                 network_in, request_of)
 
 SECOND_LETTER = operator.itemgetter(1)  # it tells the replies `ok`, `no` and `memory` from each other and the rest
 OF_OK, OF_NO, OF_MEMORY = b"koe"
@@ -153,8 +152,8 @@ def letters_of(mode: str, season: DrawnSeason, replies: list[bytes]) -> bytearra
     except IndexError:
         letters = bytearray()
     if len(letters) != len(season.lines) or OF_MEMORY in letters:
-        raise Stop(f"what `run {mode}` answers to {len(season.lines)} lines is no outcome: is memory short, or is that "
-                   "another program?")
+        raise Stop(f"what `run {mode}` answers to {len(season.lines)} lines is no outcome: "
+                   "is memory short, or is that another program?")
     return letters
 
 
@@ -176,8 +175,8 @@ def played(network: Network, season: DrawnSeason, program: Program, mode: str, p
     booked = season.tally(stand) if cancelled else sales
     revenue = sum([network.products[it.product].fare * it.party * it.count for it in booked])
     if last and last.revenue != revenue:
-        raise Stop(f"`run {mode}` has a revenue of {last.revenue}, and its replies one of {revenue}: is that another "
-                   "program?")
+        raise Stop(f"`run {mode}` has a revenue of {last.revenue}, and its replies one of {revenue}: "
+                   "is that another program?")
     return Outcome(revenue, last.withheld if last else 0, last.bound if last else None,
                    by_leg(network, ((it.product, it.party * it.count) for it in booked)),
                    shown_of(network, season, stand), refused_of(season, sales))
@@ -228,8 +227,8 @@ class Player:
     def outcomes(self, season: DrawnSeason, clock: Clock | None = None) -> dict[str, Outcome]:
         """The outcome of a season in each mode."""
         path = self.path_without(season.history if self.settings.leave_out else None)
-        return {mode: played(self.network, season, self.program, mode, path, clock or Clock())
-                for mode in self.settings.modes}
+        clock = clock or Clock()
+        return {it: played(self.network, season, self.program, it, path, clock) for it in self.settings.modes}
 
 
 def replayed(player: Player) -> Iterator[tuple[int, Fraction, list[int]]]:

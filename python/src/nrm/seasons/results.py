@@ -170,8 +170,8 @@ class Study:
 
     def earnings_of(self, it: Results, mode: str) -> list[Cell]:
         """What a mode earns on the mean, behind its name."""
-        return [amount(it.mean(mode, "revenue")), *([amount(it.mean(mode, "withheld"))] if self.cancels else []),
-                *self.departures(it, mode),
+        return [amount(it.mean(mode, "revenue")),
+                *([amount(it.mean(mode, "withheld"))] if self.cancels else []), *self.departures(it, mode),
                 *([amount(it.mean(mode, "earned"))] if self.cancels or self.departs else []),
                 amount(Estimate.of(it.earned[mode]).error), f"{100 * it.share(mode):.2f} %"]
 
@@ -185,12 +185,9 @@ class Study:
         for name, it in self.results.items():
             for mode, other in it.pairs():
                 differences = it.differences(mode, other)
-                mean, ahead, behind = Estimate.of(differences), sum(d > 0
-                                                                    for d in differences), sum(d < 0
-                                                                                               for d in differences)
+                mean, ahead, behind = Estimate.of(differences), [d > 0 for d in differences], [d < 0 for d in differences]
                 rows.append([self.named(name, f"{mode} less {other}"), amount(mean.mean), amount(mean.error),
-                             *mean.ends(),
-                             per_cent(ahead, it.seasons), per_cent(behind, it.seasons)])
+                             *mean.ends(), *[per_cent(sum(some), it.seasons) for some in (ahead, behind)]])
         return Table("What a mode earns more than another on the same requests, in currency units a season",
                      ["", "mean", "standard error", "from, at 95 %", "to", "ahead in", "behind in"], rows)
 
@@ -247,5 +244,4 @@ class Study:
                 rows.append([str(seats), *self.departures(it, mode), amount(it.mean(mode, "earned")), *ends])
             yield Table(f"Under {mode}, by the authorised seats of {leg}, in currency units a season",
                         ["authorised", *(["denied", "empty"] if self.departs else []), "earned",
-                         "less than the most by",
-                         "from, at 95 %", "to"], rows)
+                         "less than the most by", "from, at 95 %", "to"], rows)

@@ -11,7 +11,6 @@ import functools
 import gc
 import hashlib
 import importlib.resources
-import itertools
 import json
 import os
 import platform
@@ -59,17 +58,15 @@ def rows_of_season(network: Network, settings: Settings, number: int, season: Dr
         boardings = [it.denied(network), it.empty(network)] if settings.show is not None else []
         cost = settings.denied_cost * boardings[0] if boardings else 0
         bound = "" if it.bound is None else f"{float(it.bound):.4f}"
-        yield ",".join([str(number), mode, str(season.history or ""), str(sum(season.asked.values())), bound,
-                        str(it.revenue),
-                        str(it.withheld), *map(str, boardings), str(it.revenue + it.withheld - cost),
-                        *numbers(it.booked, legs),
-                        *(numbers(it.shown or {}, legs) if boardings else ()), *asked_for,
-                        *numbers(it.refused, products)]) + "\n"
+        fields = [number, mode, season.history or "", sum(season.asked.values()), bound, it.revenue, it.withheld,
+                  *boardings, it.revenue + it.withheld - cost, *numbers(it.booked, legs),
+                  *(numbers(it.shown or {}, legs) if boardings else ()), *asked_for, *numbers(it.refused, products)]
+        yield ",".join(map(str, fields)) + "\n"
 
 
-def numbers(counts: Mapping[str, int], names: Sequence[str]) -> list[str]:
-    """The texts of the numbers of some names; one that isn't there has 0."""
-    return list(map(str, map(counts.get, names, itertools.repeat(0))))
+def numbers(counts: Mapping[str, int], names: Sequence[str]) -> list[int]:
+    """The numbers of some names; one that isn't there has 0."""
+    return [counts.get(it, 0) for it in names]
 
 
 # Who plays

@@ -161,13 +161,12 @@ def leg_most_asked_for(network: Network, stream: LookedAt) -> str:
 def tables(season: Season, decimal: bool = False) -> Iterator[Table]:
     """The tables of a season."""
     courses, names, network = season.courses, season.stream.names(), season.network
-    revenues: list[list[Cell]] = [[name, *[it.points[at].revenue for it in courses], courses[0].points[at].bound]
-                                  for at, name in enumerate(names)]
+    points = list(zip(names, *[it.points for it in courses]))  # a row of them for each name
+    revenues: list[list[Cell]] = [[name, *[it.revenue for it in some], some[0].bound] for name, *some in points]
     yield Table("Revenue of the bookings that stand, and the bound of hindsight, in currency units",
                 ["", *MODES, "bound"], revenues, decimal)
     if min(it.refund for it in network.products.values()) < 100:
-        withheld: list[list[Cell]] = [[name, *[it.points[at].withheld for it in courses]]
-                                      for at, name in enumerate(names)]
+        withheld: list[list[Cell]] = [[name, *[it.withheld for it in some]] for name, *some in points]
         yield Table("Withheld of the bookings that were cancelled, in currency units", ["", *MODES], withheld, decimal)
     for it in courses[1:]:
         prices: list[list[Cell]] = [[leg, *[point.plan.prices[leg] for point in it.points]] for leg in network.legs]
@@ -176,8 +175,8 @@ def tables(season: Season, decimal: bool = False) -> Iterator[Table]:
         yield seats_table(season, it, decimal)
     requests: list[list[Cell]] = [[name, asked, *[it.refused[name] for it in courses]]
                                   for name, asked in courses[0].asked.items() if asked]
-    yield Table("Requests for each product, and how many of them were refused", ["product", "requests", *MODES],
-                requests, decimal)
+    yield Table("Requests for each product, and how many of them were refused",
+                ["product", "requests", *MODES], requests, decimal)
 
 
 def seats_table(season: Season, course: Course, decimal: bool) -> Table:

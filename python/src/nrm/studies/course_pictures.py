@@ -10,14 +10,12 @@ from matplotlib.lines import Line2D
 from matplotlib.patches import Patch
 
 from nrm.studies.course import Course, Season
-from nrm.telling.figures import (BLACK, BLUE, GREEN, ORANGE, PURPLE, SETTINGS, SHADE, SKY, VERMILLION, YELLOW,
-                                 Axes, Figure,
-                                 in_amounts, label, panels, style)
+from nrm.telling.figures import (BLACK, BLUE, GREEN, ORANGE, PURPLE, SETTINGS, SHADE, SKY, VERMILLION, YELLOW, Axes,
+                                 Figure, in_amounts, label, panels, style)
 
 Look = tuple[str, str]  # a colour and a hatch
 BANDS: list[Look] = [(VERMILLION, "////"), (ORANGE, "----"), (GREEN, "\\\\\\\\"), (YELLOW, "||||"), (PURPLE, "xxxx"),
-                     (SKY, "++++"),
-                     (VERMILLION, "----"), (ORANGE, "////"), (GREEN, "||||")]
+                     (SKY, "++++"), (VERMILLION, "----"), (ORANGE, "////"), (GREEN, "||||")]
 SOLD, OPEN, CLOSED = (BLUE, ""), ("#FFFFFF", ""), ("#BBBBBB", "")
 SEATS_LINE: dict[str, Any] = {"color": BLACK, "linewidth": 1.3, "linestyle": "--", "clip_on": False}
 PLAN_LINE: dict[str, Any] = {"color": BLACK, "linewidth": 0.5, "linestyle": (0, (1, 2))}
@@ -101,8 +99,8 @@ def seats(season: Season) -> Figure:
         axis.margins(x=0, y=0)
     kept = [patch(look, f"left, protected for bucket{f's 1 to {b}' if b > 1 else ' 1'}")
             for b, look in enumerate(looks, 1)]
-    label(figure, LINE, "seats", [patch(SOLD, "sold"), patch(OPEN, "left, not protected"), *kept, *marks, plan_mark()],
-          3)
+    handles = [patch(SOLD, "sold"), patch(OPEN, "left, not protected"), *kept, *marks, plan_mark()]
+    label(figure, LINE, "seats", handles, 3)
     return figure
 
 

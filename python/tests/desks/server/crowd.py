@@ -162,8 +162,7 @@ def parts_in(folder: Path) -> dict[tuple[int, int], Part]:
 
 
 def accounted(folder: Path, program: Program, mode: str, network: Path, journal: Path) -> int:
-    """Sees that the journal is just what the clients sent, with the replies that they got, and gives how many lines it
-    has."""
+    """Sees that the journal is just what the clients sent, with the replies that they got, and counts its lines."""
     data = journal.read_bytes()
     lines = data.split(b"\n")[:-1]
     told = program.replies(mode, str(network), data)
@@ -178,8 +177,7 @@ def accounted(folder: Path, program: Program, mode: str, network: Path, journal:
     parts = parts_in(folder)
     for (client, round_), part in sorted(parts.items()):
         jobs_of(client, part, places_of(own[client], lines, client, round_), lines, told, jobs)
-    want(sum(map(len, own.values())), sum(1 for at, line in enumerate(lines) if OWN.match(line)),
-         "the lines with a client")
+    want(sum(map(len, own.values())), sum(1 for at, line in enumerate(lines) if OWN.match(line)))
     matched(jobs, shared, lines, told)
     seats_counted(network, lines, told)
     return len(lines)
@@ -196,8 +194,7 @@ def places_of(places: list[int], lines: list[bytes], client: int, round_: int) -
 
 
 def jobs_of(client: int, part: Part, places: list[int], lines: list[bytes], told: list[bytes], jobs: Jobs) -> None:
-    """Sees that a client's own lines stand in the journal in their order, with its replies, and notes its other
-    lines."""
+    """Sees that a client's own lines stand in the journal in order, with its replies, and notes its others."""
     sent = [(line, reply) for line, reply in part.pairs() if OWN.match(line)]
     want([lines[at] for at in places], [line for line, _ in sent[:len(places)]], f"client {client}'s own lines")
     if len(sent) > len(places) and sent[len(places)][1] is not None:
@@ -216,8 +213,7 @@ def jobs_of(client: int, part: Part, places: list[int], lines: list[bytes], told
 
 
 def matched(jobs: Jobs, shared: list[int], lines: list[bytes], told: list[bytes]) -> None:
-    """Sees that each line of the journal that can be anybody's is somebody's, and that each of these that must be in it
-    is."""
+    """Sees that each line of the journal that can be anybody's is somebody's, and that all that must be in it are."""
     places = defaultdict(list)
     for at in shared:
         places[lines[at]].append(at)
@@ -235,8 +231,7 @@ def matched(jobs: Jobs, shared: list[int], lines: list[bytes], told: list[bytes]
 
 
 def pairs_in(fits: list[list[int]]) -> int:
-    """How many can have each one of what fits it, by augmenting paths: those that fit but one another are changed for
-    others."""
+    """How many can have each one of what fits it, by augmenting paths."""
     taken = {}
     return sum(placed(fits, taken, at) for at in range(len(fits)))
 

@@ -1,5 +1,4 @@
-"""Many more clients than may come, who come anew as soon as they are cut off, and how long one that is there waits
-meanwhile.
+"""Many more clients than may come, who come anew as soon as they are cut off, and how long one there waits.
 
     python3 -m desks.server.storms PATH COUNT SECONDS
 
@@ -47,8 +46,7 @@ def waits_of(connection: socket.socket, seconds: float) -> list[float]:
 
 
 def answered_soon(waits: list[float]) -> None:
-    """Sees that replies came within a tenth of a second; of a hundred five may be late, on a machine that does other
-    work too."""
+    """Sees that replies came within a tenth of a second; of a hundred five may be late, on a busy machine."""
     if len(waits) < 20 or waits[len(waits) * 95 // 100] > 0.1:
         raise AssertionError(f"each reply within a tenth of a second, and not {len(waits)} replies, the last within "
                              f"{waits[-5:]}")

@@ -55,8 +55,7 @@ class Connections(ServerTest):
                 leaver.sendall(b"book HJ-Q 1\nbook HJ-Q 1")
             with server.connect() as other:
                 self.assertEqual(answers(other, b"leg HAM-FRA\n\n", 2)[0],
-                                 b"leg HAM-FRA seats 60 authorised 60 sold 4 left 56\non HAM-FRA HJ-Q 4\n",
-                     "what was carried out")
+                                 b"leg HAM-FRA seats 60 authorised 60 sold 4 left 56\non HAM-FRA HJ-Q 4\n")
             server.end()
 
     def test_who_asks_for_long_work_waits_alone(self) -> None:
@@ -104,8 +103,7 @@ class Connections(ServerTest):
             server.end()
 
     def test_lines_that_are_taken_are_answered_at_the_end(self) -> None:
-        """Also those that the pipe to the program hasn't taken, since it is slow: they have more bytes than it
-        holds."""
+        """Also those that the pipe to the program hasn't taken, since it is slow: they are more than it holds."""
         journal, words = self.folder / "journal", self.stub("nrm", {}, pause=0.01)
         with self.server(words, journal=journal) as server, server.connect() as connection:
             connection.sendall((b"x" * 900 + b"\n") * 150)

@@ -43,8 +43,7 @@ class Crowd(ServerTest):
             end_crowd(begin_crowd(server, self.folder, 0, 30))
             server.end()
         count = accounted(self.folder, self.program, "davn", network, journal)
-        self.assertEqual(sum(len(it.replies) for it in parts_in(self.folder).values()), count,
-                         "all lines have been answered")
+        self.assertEqual(sum(len(it.replies) for it in parts_in(self.folder).values()), count)
         if count < 30 * CLIENTS:
             self.fail(f"{30 * CLIENTS} lines at least, and not {count}")
 

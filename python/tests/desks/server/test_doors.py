@@ -48,8 +48,7 @@ class Doors(ServerTest):
             self.want_in(server.told(), "--beyond-this-machine")
 
     def test_a_crowd_at_the_door_keeps_nobody_waiting(self) -> None:
-        """Many more clients than may come: those that are there are answered, and each of the others is told. Then
-        there is room again."""
+        """Many more than may come: who is there is answered, each other is told. Then there is room again."""
         count, begun = allow_connections(1500), time.monotonic()
         words = self.stub("nrm", {})
         with self.server(words, "--clients", "20", limit=few_files(84)) as server, contextlib.ExitStack() as all_:
@@ -147,8 +146,7 @@ class Doors(ServerTest):
             why = self.expect(Late, lambda: Desk(path, seconds=1))
             self.assertEqual(str(why), f"{path}: no connection in 1 seconds")
             self.assertEqual(0.8 < time.monotonic() - begun < 10, True, "when")
-            self.assertEqual(sorted(it.name for it in self.folder.iterdir()), ["got", "nrm", "socket", "told"],
-                             "what is left")
+            self.assertEqual(sorted(it.name for it in self.folder.iterdir()), ["got", "nrm", "socket", "told"])
 
     def test_a_server_that_ends_leaves_the_next_its_socket(self) -> None:
         """The first is told to end, and waits for a client that doesn't take its replies. Meanwhile another is started,
@@ -168,8 +166,7 @@ class Doors(ServerTest):
                 self.assertEqual(first.process.wait(SECONDS), 0, "the first's status")
                 with first.connect() as connection:
                     self.assertEqual(answers(connection, b"cancel 1\n", 1), [b"unknown\n"], "the next one's reply")
-                self.assertEqual(sorted(it.name for it in self.folder.glob("socket*")), ["socket", "socket.lock"],
-                                 "what is there")
+                self.assertEqual(sorted(it.name for it in self.folder.glob("socket*")), ["socket", "socket.lock"])
                 following.end()
         self.assertEqual(list(self.folder.glob("socket*")), [], "what is left")
 
@@ -182,8 +179,7 @@ class Doors(ServerTest):
         self.fail("the next server doesn't listen")
 
     def test_a_socket_is_had_by_one_of_many(self) -> None:
-        """Of servers that are started at once on a socket that a killed one left, one has it, though each is slow to
-        take the old one away."""
+        """Of servers started at once on a socket that a killed one left, one has it, though each is slow."""
         with self.server(self.stub("nrm", {})) as killed:
             killed.process.kill()
         words = [*DESKS, "--socket", str(self.folder / "socket"), "--", *self.stub("nrm", {})]

@@ -106,8 +106,7 @@ class Journals(ServerTest):
         with self.hub_server(journal=disk / "journal", before=enter) as server:
             told = self.full_disk(server)
             self.want_in(server.told(), "No space left")
-        self.assertEqual((self.folder / "disk.kept").read_bytes().count(b"\n"), len(told),
-                         "as many lines as were answered")
+        self.assertEqual((self.folder / "disk.kept").read_bytes().count(b"\n"), len(told))
 
     def test_half_a_number_is_cut_off(self) -> None:
         """What a full disk, or a kill, left of a number isn't joined with the next, which would be another line's."""
@@ -122,8 +121,7 @@ class Journals(ServerTest):
             self.want_in(server.told(), "journal.void: File too large")
         numbers = void.read_text()
         self.assertEqual(numbers, "".join(f"{it}\n" for it in range(1, numbers.count("\n") + 1)), "whole numbers")
-        self.assertEqual(told, b"store\n" * numbers.count("\n") + b"closed journal\n",
-                         "one to each line that is left out")
+        self.assertEqual(told, b"store\n" * numbers.count("\n") + b"closed journal\n")
         with void.open("a") as file:
             file.write("3")
         with self.server(words, journal=journal) as server, server.connect() as connection:
@@ -190,11 +188,9 @@ class Journals(ServerTest):
             other.sendall(b"book A 2\n")
             time.sleep(pause)
             os.kill(server.program(), signal.SIGKILL)
-            self.assertEqual([all_from(it)[-19:] for it in (one, other)], [b"closed program 137\n"] * 2,
-                             "what both are told")
+            self.assertEqual([all_from(it)[-19:] for it in (one, other)], [b"closed program 137\n"] * 2)
             server.end(137, sent=None)
-            self.assertEqual(server.told().splitlines()[-1], f"{TOLD}the program ended with status 137",
-                             "the last line")
+            self.assertEqual(server.told().splitlines()[-1], f"{TOLD}the program ended with status 137")
             self.assertEqual("Traceback" in server.told(), False, server.told())
 
     def test_a_program_may_die_while_lines_are_written(self) -> None:
@@ -231,12 +227,10 @@ class Journals(ServerTest):
                      "first", HUB]
             self.assertEqual(self.stopped("desks", *words), f"{TOLD}{journal} is the journal of another run\n")
             server.end()
-        self.assertEqual(journal.read_bytes(), b"book HJ-Q 1\nplan\nleg HAM-FRA\nbook HJ-Q 40\ncancel 2\n",
-                         "the journal")
+        self.assertEqual(journal.read_bytes(), b"book HJ-Q 1\nplan\nleg HAM-FRA\nbook HJ-Q 40\ncancel 2\n")
 
     def test_lines_are_on_the_disk_before_the_program_has_them(self) -> None:
-        """A library counts the bytes of the journal at each fsync that succeeds; a program in place of the controller
-        looks at each line."""
+        """A library counts the journal's bytes at each fsync that succeeds; a stub looks at each line."""
         if not preload.is_there():
             self.skipTest(f"when lines are on the disk wasn't tried: {preload.WANTING}")
         journal, flushed, watcher = self.folder / "journal", self.folder / "flushed", self.folder / "watcher"
@@ -249,8 +243,7 @@ class Journals(ServerTest):
                 server.connect() as other:
             for count in range(1, 40):
                 one.sendall(b"book A 1\n" * count)
-                self.assertEqual(answers(other, b"cancel 1\n" * count, count), [b"unknown\n"] * count,
-                                 "another's replies")
+                self.assertEqual(answers(other, b"cancel 1\n" * count, count), [b"unknown\n"] * count)
                 self.assertEqual(answers(one, b"", count), [b"unknown\n"] * count, "the replies")
             server.end()
         self.assertEqual(int(flushed.read_text()), journal.stat().st_size, "the bytes on the disk")

@@ -57,7 +57,7 @@ class Controller:
         self.words, self.limit, self.left = words, limit, b""
         self.fault: OSError | None = None
         try:  # in a session of its own, so that a Ctrl-C reaches it as the end of its input alone
-            self.process = subprocess.Popen(words, stdin=subprocess.PIPE, stdout=subprocess.PIPE, bufsize=0,
+            self.process = subprocess.Popen(words, bufsize=0, stdin=subprocess.PIPE, stdout=subprocess.PIPE,
                                             start_new_session=True)
         except OSError as fault:
             raise Stop(f"{words[0]}: {fault.strerror}")

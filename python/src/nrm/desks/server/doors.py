@@ -108,8 +108,8 @@ def tcp_socket(place: str, is_beyond_allowed: bool) -> socket.socket:
     try:
         family, kind, protocol, _, address = socket.getaddrinfo(host.strip("[]"), int(port), type=socket.SOCK_STREAM)[0]
         if not is_loopback(str(address[0])) and not is_beyond_allowed:
-            raise Stop(f"--listen {place} is beyond this machine's loopback range, and there is no "
-                       "--beyond-this-machine", 2)
+            raise Stop(f"--listen {place} is beyond this machine's loopback range, "
+                       "and there is no --beyond-this-machine", 2)
         listener = socket.socket(family, kind, protocol)
         listener.setsockopt(socket.SOL_SOCKET, socket.SO_REUSEADDR, 1)
         listener.bind(address)

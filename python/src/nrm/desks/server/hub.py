@@ -272,8 +272,8 @@ class Hub:
         """Ends a program that hasn't answered for too long."""
         self.silent += 1  # a second: so none counts in which this process was stopped
         if self.silent == math.ceil(self.limits.slow) + 1:
-            log(f"the program hasn't answered for {self.limits.slow:g} seconds; after {self.limits.answer:g} it is "
-                "ended")
+            log(f"the program hasn't answered for {self.limits.slow:g} seconds; "
+                f"after {self.limits.answer:g} it is ended")
         if self.silent == math.ceil(self.limits.answer) + 1:
             log(f"the program hasn't answered for {self.limits.answer:g} seconds, and is ended")
             self.controller.kill()

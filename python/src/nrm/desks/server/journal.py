@@ -132,8 +132,9 @@ class Journal(Lines):
     def again(self, wanted: bytes) -> Iterator[bytes]:
         """The lines that are given again: those that may have changed something and begin with some words."""
         with open(self.path, "rb") as file:
-            yield from (line for number, line in enumerate(file, 1) if number not in self.void
-                        and line.startswith(wanted))
+            for number, line in enumerate(file, 1):
+                if number not in self.void and line.startswith(wanted):
+                    yield line
 
     def leave_out(self, numbers: Iterable[int]) -> None:
         """Remembers lines that changed nothing."""
