@@ -185,9 +185,10 @@ class Study:
         for name, it in self.results.items():
             for mode, other in it.pairs():
                 differences = it.differences(mode, other)
-                mean, ahead, behind = Estimate.of(differences), [d > 0 for d in differences], [d < 0 for d in differences]
+                mean = Estimate.of(differences)
+                ahead, behind = sum(d > 0 for d in differences), sum(d < 0 for d in differences)
                 rows.append([self.named(name, f"{mode} less {other}"), amount(mean.mean), amount(mean.error),
-                             *mean.ends(), *[per_cent(sum(some), it.seasons) for some in (ahead, behind)]])
+                             *mean.ends(), per_cent(ahead, it.seasons), per_cent(behind, it.seasons)])
         return Table("What a mode earns more than another on the same requests, in currency units a season",
                      ["", "mean", "standard error", "from, at 95 %", "to", "ahead in", "behind in"], rows)
 

@@ -177,7 +177,6 @@ def accounted(folder: Path, program: Program, mode: str, network: Path, journal:
     parts = parts_in(folder)
     for (client, round_), part in sorted(parts.items()):
         jobs_of(client, part, places_of(own[client], lines, client, round_), lines, told, jobs)
-    want(sum(map(len, own.values())), sum(1 for at, line in enumerate(lines) if OWN.match(line)))
     matched(jobs, shared, lines, told)
     seats_counted(network, lines, told)
     return len(lines)
