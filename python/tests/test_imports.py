@@ -11,6 +11,7 @@ from harness import SOURCES, TOP
 PACKAGE = SOURCES / "nrm"
 STANDS_ALONE = "nrm.audit"
 OF_COMMANDS = "nrm.commands."
+BELOW_COMMANDS = (f"{OF_COMMANDS}running", f"{OF_COMMANDS}log_words")  # that commands share
 
 
 def name_of(path: Path) -> str:
@@ -63,14 +64,14 @@ class Imports(unittest.TestCase):
 
     def test_no_room_uses_a_command(self) -> None:
         for name, used in GRAPH.items():
-            below = {it for it in used if it.startswith(OF_COMMANDS) and it != f"{OF_COMMANDS}running"}
+            below = {it for it in used if it.startswith(OF_COMMANDS) and it not in BELOW_COMMANDS}
             self.assertEqual(below, set(), name)
 
     def test_each_file_uses_what_its_head_says(self) -> None:
         """But for commands, whose head is the manual, and which may use all but the auditor's."""
         for name, used in GRAPH.items():
             head = " ".join(head_of(name).split())
-            if name.startswith(OF_COMMANDS) and name != f"{OF_COMMANDS}running":
+            if name.startswith(OF_COMMANDS) and name not in BELOW_COMMANDS:
                 self.assertTrue(head, name)
             elif name not in (STANDS_ALONE, "nrm.commands"):
                 said = re.search(r"May use: ([^;]*)\.(?:$| )", head)

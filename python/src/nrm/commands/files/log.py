@@ -49,25 +49,22 @@ import argparse
 import sys
 from typing import Sequence
 
-from nrm import Stop
 from nrm.commands import running
+from nrm.commands.log_words import add_log, demand_of, requests_of, see_limits
 from nrm.commands.running import parser
 from nrm.files.names import named
-from nrm.limits import MOST_HISTORIES, MOST_PRODUCTS
-from nrm.logs.dates import WEEKDAYS
-from nrm.logs.demand import Demand, completed, cuts_of
+from nrm.limits import MOST_PRODUCTS
+from nrm.logs.demand import Demand, completed
 from nrm.logs.names import names_in, write_names
-from nrm.logs.requests import Columns, requests_in
-from nrm.network import number, text_of
+from nrm.network import text_of
 
 
 def run(given: Sequence[str]) -> int:
     """Writes the demand of a log, or the whole network file, and tells what was read and what is to do."""
     asked = words_of(given)
-    cuts, known = cuts_of(asked.cuts), names_in(asked.names)
-    columns = Columns(asked.departs, asked.booked, asked.product, asked.seats, asked.without)
-    requests = requests_in(asked.log, columns, asked.dates, asked.multiline, tell)
-    demand = Demand(requests, cuts, asked.weekday, asked.last)
+    known = names_in(asked.names)
+    requests = requests_of(asked, tell)
+    demand = demand_of(asked, requests)
     names = named(demand.products, known)
     if asked.names is not None:
         write_names(asked.names, names)
@@ -86,24 +83,9 @@ def run(given: Sequence[str]) -> int:
 def words_of(given: Sequence[str]) -> argparse.Namespace:
     """The words, in their limits."""
     words = parser("log", __doc__)
-    words.add_argument("log")
-    words.add_argument("--departs", metavar="COLUMN", required=True)
-    words.add_argument("--booked", metavar="COLUMN", required=True)
-    words.add_argument("--product", metavar="COLUMN", required=True, nargs="+")
-    words.add_argument("--seats", metavar="COLUMN")
-    words.add_argument("--cuts", metavar="DAYS", required=True)
-    words.add_argument("--without", metavar=("COLUMN", "TEXT"), nargs="+", action="append", default=[])
-    words.add_argument("--network", metavar="FILE")
-    words.add_argument("--names", metavar="FILE")
-    words.add_argument("--weekday", choices=WEEKDAYS)
-    words.add_argument("--last", metavar="N", type=number)
-    words.add_argument("--dates", choices=["dmy", "mdy"])
-    words.add_argument("--multiline", action="store_true")
+    add_log(words)
     asked = words.parse_args(given)
-    if asked.last is not None and not 1 <= asked.last <= MOST_HISTORIES:
-        raise Stop(f"--last {asked.last}: a network file takes 1 to {MOST_HISTORIES} histories")
-    if any(len(it) < 2 for it in asked.without):
-        raise Stop("--without wants a column and one text or more, as --without status cancelled")
+    see_limits(asked)
     return asked
 
 

@@ -1,0 +1,51 @@
+"""The words with which a log is read and cut into histories and periods: the same for each command that takes a log.
+
+May use: nrm, nrm.limits, nrm.logs.dates, nrm.logs.demand, nrm.logs.requests, nrm.network.
+"""
+from __future__ import annotations
+
+import argparse
+from typing import Callable
+
+from nrm import Stop
+from nrm.limits import MOST_HISTORIES
+from nrm.logs.dates import WEEKDAYS
+from nrm.logs.demand import Demand, cuts_of
+from nrm.logs.requests import Columns, Request, requests_in
+from nrm.network import number
+
+
+def add_log(words: argparse.ArgumentParser) -> None:
+    """The words for a log, its columns, histories, periods and names."""
+    words.add_argument("log")
+    words.add_argument("--departs", metavar="COLUMN", required=True)
+    words.add_argument("--booked", metavar="COLUMN", required=True)
+    words.add_argument("--product", metavar="COLUMN", required=True, nargs="+")
+    words.add_argument("--seats", metavar="COLUMN")
+    words.add_argument("--cuts", metavar="DAYS", required=True, type=cuts_of)
+    words.add_argument("--without", metavar=("COLUMN", "TEXT"), nargs="+", action="append", default=[])
+    words.add_argument("--network", metavar="FILE")
+    words.add_argument("--names", metavar="FILE")
+    words.add_argument("--weekday", choices=WEEKDAYS)
+    words.add_argument("--last", metavar="N", type=number)
+    words.add_argument("--dates", choices=["dmy", "mdy"])
+    words.add_argument("--multiline", action="store_true")
+
+
+def see_limits(asked: argparse.Namespace) -> None:
+    """A Stop for words that are out of their limits."""
+    if asked.last is not None and not 1 <= asked.last <= MOST_HISTORIES:
+        raise Stop(f"--last {asked.last}: a network file takes 1 to {MOST_HISTORIES} histories")
+    if any(len(it) < 2 for it in asked.without):
+        raise Stop("--without wants a column and one text or more, as --without status cancelled")
+
+
+def requests_of(asked: argparse.Namespace, tell: Callable[[str], None]) -> list[Request]:
+    """The requests of the log that the words name. Tells what was read."""
+    columns = Columns(asked.departs, asked.booked, asked.product, asked.seats, asked.without)
+    return requests_in(asked.log, columns, asked.dates, asked.multiline, tell)
+
+
+def demand_of(asked: argparse.Namespace, requests: list[Request]) -> Demand:
+    """The demand of requests, in the histories and periods that the words say."""
+    return Demand(requests, asked.cuts, asked.weekday, asked.last)
