@@ -11,7 +11,7 @@ from harness import SOURCES, TOP
 PACKAGE = SOURCES / "nrm"
 STANDS_ALONE = "nrm.audit"
 OF_COMMANDS = "nrm.commands."
-BELOW_COMMANDS = (f"{OF_COMMANDS}running", f"{OF_COMMANDS}log_words")  # that commands share
+BELOW_COMMANDS = tuple(f"{OF_COMMANDS}{it}" for it in ("running", "log_words", "export_words"))  # that commands share
 
 
 def name_of(path: Path) -> str:

@@ -9,10 +9,15 @@ from nrm.limits import MOST_NAME_BYTES
 from nrm.network import NAME
 
 
+def words_in(text: str) -> list[str]:
+    """The words of a text, in capitals and without accents: letters and digits alone."""
+    plain = unicodedata.normalize("NFKD", text.replace("ß", "ss").replace("æ", "ae").replace("ø", "o")).upper()
+    return re.findall("[A-Z0-9]+", "".join(it for it in plain if not unicodedata.combining(it))) or ["X"]
+
+
 def fitting(text: str) -> str:
     """A name for a text: in capitals, accents left out, a `-` for all else, and each word shorter until it fits."""
-    plain = unicodedata.normalize("NFKD", text.replace("ß", "ss").replace("æ", "ae").replace("ø", "o")).upper()
-    words = re.findall("[A-Z0-9]+", "".join(it for it in plain if not unicodedata.combining(it))) or ["X"]
+    words = words_in(text)
     while len("-".join(words)) > MOST_NAME_BYTES and max(map(len, words)) > 1:
         longest = max(words, key=len)
         words[words.index(longest)] = longest[:-1]

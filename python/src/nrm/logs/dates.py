@@ -6,29 +6,46 @@ from __future__ import annotations
 
 import datetime
 import re
+import unicodedata
 from typing import Iterable, Sequence
 
 from nrm import Stop
 
 WEEKDAYS = ["mon", "tue", "wed", "thu", "fri", "sat", "sun"]
-MONTHS = ["JAN", "FEB", "MAR", "APR", "MAY", "JUN", "JUL", "AUG", "SEP", "OCT", "NOV", "DEC"]
+MONTHS = [names.split() for names in (  # in English, German, French, Spanish and Italian, without accents
+    "january januar janner janvier enero gennaio", "february februar feber fevrier febrero febbraio",
+    "march marz maerz mrz mars marzo", "april avril abril aprile", "may mai mayo maggio", "june juni juin junio giugno",
+    "july juli juillet julio luglio", "august aout agosto", "september septembre septiembre setiembre settembre",
+    "october oktober octobre octubre ottobre", "november novembre noviembre",
+    "december dezember decembre diciembre dicembre")]
+DAYS_IN_LETTERS = (
+    "monday tuesday wednesday thursday friday saturday sunday montag dienstag mittwoch donnerstag freitag samstag "
+    "sonnabend sonntag lundi mardi mercredi jeudi vendredi samedi dimanche lunes martes miercoles jueves viernes "
+    "sabado domingo lunedi martedi mercoledi giovedi venerdi sabato domenica").split()
 TIME = re.compile(r"(?:(?:T|,? +)\d{1,2}(?::\d{2}.*|h\d{2}|\.\d{2}(?:\.\d{2})?)|-\d{2}\.\d{2}\.\d{2}(?:\.\d+)?)$")
 WEEKDAY = re.compile(r"[^\W\d_]{2,10}[.,]* +(?=\d)")  # in any language, before the date
-MONTH_FIRST = re.compile(r"(?P<month>[A-Za-z]{3})[a-z]*[ .]+(?P<day>\d{1,2}),? +(?P<year>\d{4})")
+WEEKDAY_BEFORE_MONTH = re.compile(r"([^\W\d_]{2,10})[.,]* +(?=[^\W\d_])")
+WEEKDAY_BEHIND = re.compile(r"(?<=\d)[ ,]+\(?([^\W\d_]{2,10})\.?\)?$")
+MONTH_FIRST = re.compile(r"(?P<month>[^\W\d_]{3,10})[ .]+(?P<day>\d{1,2}),? +(?P<year>\d{4})")
 FORMS = [re.compile(it) for it in (
     r"(?P<year>\d{4})([-/.]) ?(?P<month>\d{1,2})\2 ?(?P<day>\d{1,2})\.?",
     r"(?P<year>\d{4})(?P<month>\d{2})(?P<day>\d{2})(?:\d{4}(?:\d{2})?)?",  # and the time
     r"(?P<day>\d{1,2})\. ?(?P<month>\d{1,2})\. ?(?P<year>\d{4})",
-    r"(?P<day>\d{1,2})[- .]*(?P<month>[A-Za-z]{3})[a-z]*[- .,]*(?P<year>\d{4}|\d{2})")]
+    r"(?P<day>\d{1,2})(?:er|º|°)?[- .]*(?:de )?(?P<month>[^\W\d_]{3,10}?)(?:[- .,]+del? |[- .,]*)"
+    r"(?P<year>\d{4}|\d{2})")]
 EITHER_WAY = re.compile(r"(\d{1,2})([/-])(\d{1,2})\2(\d{4})")
 SHORT_YEAR = re.compile(r"\d{1,2}([./-]) ?\d{1,2}\1 ?\d{2}")
 
 
 def without_time(text: str) -> str:
-    """A date without the weekday before it and the time behind it."""
+    """A date without the weekday before or behind it and the time behind it."""
     text = TIME.sub("", text)
-    weekday = WEEKDAY.match(text)
-    return text[weekday.end():] if weekday else text
+    if (behind := WEEKDAY_BEHIND.search(text)) and is_weekday(behind[1]):
+        text = text[:behind.start()]
+    if before := WEEKDAY.match(text):
+        return text[before.end():]
+    before = WEEKDAY_BEFORE_MONTH.match(text)
+    return text[before.end():] if before and is_weekday(before[1]) else text
 
 
 def has_short_year(text: str) -> bool:
@@ -42,11 +59,19 @@ class Dates:
     def __init__(self, texts: Iterable[str], order: str | None = None) -> None:
         twofold = [found for found in (EITHER_WAY.fullmatch(without_time(it)) for it in texts) if found]
         self.order = order or (order_shown_by(twofold) if twofold else None)
+        self.known: dict[str, datetime.date] = {}
 
     def day(self, text: str) -> datetime.date:
         """The day that a text says; a ValueError where it says none."""
-        if found := MONTH_FIRST.fullmatch(TIME.sub("", text)):
-            return date_of(**found.groupdict())
+        if text not in self.known:
+            self.known[text] = self.read(text)
+        return self.known[text]
+
+    def read(self, text: str) -> datetime.date:
+        """The day that a text says, read anew."""
+        for it in (TIME.sub("", text), without_time(text)):
+            if found := MONTH_FIRST.fullmatch(it):
+                return date_of(**found.groupdict())
         text = without_time(text)
         if found := next(filter(None, (it.fullmatch(text) for it in FORMS)), None):
             return date_of(**found.groupdict())
@@ -57,9 +82,25 @@ class Dates:
 
 
 def date_of(day: str, month: str, year: str) -> datetime.date:
-    """A day by its texts: the month in digits or in English, of the year perhaps the last two digits alone."""
-    number = int(month) if month.isdigit() else MONTHS.index(month.upper()) + 1
+    """A day by its texts: the month in digits or letters, of the year perhaps the last two digits alone."""
+    number = int(month) if month.isdigit() else month_of(month)
     return datetime.date(int(year) + (2000 if len(year) == 2 else 0), number, int(day))
+
+
+def plain(text: str) -> str:
+    """A text in small letters and without accents."""
+    return "".join(it for it in unicodedata.normalize("NFKD", text.lower()) if not unicodedata.combining(it))
+
+
+def month_of(text: str) -> int:
+    """The month whose name in one of the languages begins so; a ValueError where there is none, or more than one."""
+    [found] = {at for at, names in enumerate(MONTHS, 1) if any(it.startswith(plain(text)) for it in names)}
+    return found
+
+
+def is_weekday(text: str) -> bool:
+    """Whether the name of a weekday in one of the languages begins so."""
+    return any(it.startswith(plain(text)) for it in DAYS_IN_LETTERS)
 
 
 def order_shown_by(twofold: Sequence[re.Match[str]]) -> str:

@@ -33,7 +33,7 @@ class Demand:
         self.seats: Counter[tuple[str, int, int]] = Counter()
         for it in requests:
             if it.departs in history:
-                self.seats[it.product, history[it.departs], 1 + sum(it.days <= cut for cut in cuts)] += it.seats
+                self.seats[it.product, history[it.departs], period_of(it.days, cuts)] += it.seats
         self.products = sorted({product for product, _, _ in self.seats})
 
     def rows(self, names: Mapping[str, str]) -> Iterator[list[object]]:
@@ -53,6 +53,11 @@ class Demand:
         return (f"seasons {len(self.departures)}, from {self.departures[0]} to {self.departures[-1]}"
                 f"{f', others left out {left_out}' if left_out else ''}; periods {self.periods}; "
                 f"products {len(self.products)}; seats {sum(self.seats.values())}")
+
+
+def period_of(days: int, cuts: Sequence[int]) -> int:
+    """The period of a day that is so many days before departure."""
+    return 1 + sum(days <= cut for cut in cuts)
 
 
 def cuts_of(text: str) -> list[int]:

@@ -7,30 +7,38 @@ from __future__ import annotations
 import datetime
 import re
 from dataclasses import dataclass
-from typing import Callable, Sequence
+from typing import Callable, Sequence, TypeVar
 
 from nrm import Stop
 from nrm.logs.dates import Dates, departures_told, has_short_year
 from nrm.logs.rows import Log, LogRow, cut_short
 
+Made = TypeVar("Made")
 MOST_TOLD = 20  # rows that can't be read, and days without a departure
 SEATS = re.compile(r"([0-9]{1,18})(?:[.,]0+)?")
 
 
 @dataclass(frozen=True)
 class Columns:
-    """The headings of the columns that are read: those of the product are several, and there may be none of the seats.
-    Rows that have some texts in a column are left out."""
+    """The headings of the columns that are read: those of the product are several, there may be none of the seats, and
+    further ones mean something to who asks. Rows that have some texts in a column are left out, or are the only ones.
+    """
     departs: str
     booked: str
     product: Sequence[str]
     seats: str | None = None
     without: Sequence[Sequence[str]] = ()
+    only: Sequence[Sequence[str]] = ()
+    further: Sequence[str] = ()
 
     def read(self) -> list[str]:
         """The headings, in the order in which a row is read, those that leave rows out at the end."""
-        return [self.departs, self.booked, *self.product, *([self.seats] if self.seats else []),
-                *[column for column, *_ in self.without]]
+        return [self.departs, self.booked, *self.product, *([self.seats] if self.seats else []), *self.further,
+                *[column for column, *_ in (*self.without, *self.only)]]
+
+    def further_from(self) -> int:
+        """Where the further columns begin in a row."""
+        return 2 + len(self.product) + bool(self.seats)
 
     def asked_for(self, fields: Sequence[str]) -> str:
         """The text of the product, joined."""
@@ -50,16 +58,17 @@ class Request:
     seats: int
 
     @classmethod
-    def of(cls, dates: Dates, columns: Columns, fields: Sequence[str]) -> Request:
-        """The request of a row of the log; a ValueError says what is wrong with it."""
+    def of(cls, dates: Dates, columns: Columns, fields: Sequence[str], is_cancelled: bool = False) -> Request:
+        """The request of a row of the log; a ValueError says what is wrong with it. A row that cancels one may have its
+        seats below 0, and may be made after the departure."""
         departs = day_of(dates, fields[0], "of departure")
         days = (departs - day_of(dates, fields[1], "on which it was made")).days
         product, seats = columns.asked_for(fields), columns.seats_of(fields)
-        if days < 0:
+        if days < 0 and not is_cancelled:
             raise ValueError(f"it was made on {fields[1]}, after its departure on {fields[0]}")
         if not product:
             raise ValueError("it names no product")
-        if not (found := SEATS.fullmatch(seats)):
+        if not (found := SEATS.fullmatch(seats.removeprefix("-") if is_cancelled else seats)):
             raise ValueError(f"{cut_short(seats)!r} is no number of seats")
         return cls(departs, days, product, int(found[1]))
 
@@ -75,37 +84,69 @@ def day_of(dates: Dates, text: str, which: str) -> datetime.date:
         raise ValueError(f"{cut_short(text)!r} {why}; write it as 2025-03-07") from None
 
 
-def rows_kept(rows: Sequence[LogRow], without: Sequence[Sequence[str]],
-              tell: Callable[[str], None]) -> Sequence[LogRow]:
-    """The rows of a log without those that have one of some texts in a column of the last; tells how many these are."""
+def rows_kept(rows: Sequence[LogRow], without: Sequence[Sequence[str]], tell: Callable[[str], None],
+              only: Sequence[Sequence[str]] = ()) -> Sequence[LogRow]:
+    """The rows of a log that have none of some texts in columns, and one of some in others; tells how many are left
+    out. These are the last columns that are read."""
     kept = rows
-    for at, (column, *texts) in enumerate(without, -len(without)):
-        unwanted = {it.strip().lower() for it in texts}
-        there = dict.fromkeys(it.fields[at] for it in kept)
-        kept, before = [it for it in kept if it.fields[at].lower() not in unwanted], len(kept)
-        told = "" if len(kept) < before else f"; there stands {', '.join(list(there)[:MOST_TOLD])}"
-        tell(f"rows left out {before - len(kept)}, with {' or '.join(texts)} in {column}{told}")
+    for at, (column, *texts) in enumerate([*without, *only]):
+        place, is_wanted = at - len(without) - len(only), at >= len(without)
+        named = {it.strip().lower() for it in texts}
+        there = dict.fromkeys(it.fields[place] for it in kept)
+        kept, before = [it for it in kept if (it.fields[place].lower() in named) == is_wanted], len(kept)
+        found = bool(kept) if is_wanted else len(kept) < before
+        told = "" if found else f"; there stands {', '.join(list(there)[:MOST_TOLD])}"
+        which = f"with{'out' if is_wanted else ''} {' or '.join(texts)} in {column}"
+        tell(f"rows left out {before - len(kept)}, {which}{told}")
     return kept
+
+
+def lines_told(lines: Sequence[int], most: int = MOST_TOLD) -> str:
+    """Some lines, and how many more there are."""
+    more = f" and {len(lines) - most} more" if len(lines) > most else ""
+    return f"line{'s' if len(lines) > 1 else ''} {', '.join(map(str, lines[:most]))}{more}"
 
 
 def requests_in(path: str, columns: Columns, order: str | None, is_multiline: bool,
                 tell: Callable[[str], None]) -> list[Request]:
     """The requests of the log at a path. Tells what was read."""
-    log = Log(path, columns.read(), is_multiline)
+    log = Log(path, columns.read(), is_multiline, gathers=True)
+    rows, dates = rows_and_dates(log, columns, order, tell)
+    requests = all_made(log, rows, lambda it: Request.of(dates, columns, it.fields), 0, tell)
+    tell_departures(requests, tell)
+    return requests
+
+
+def rows_and_dates(log: Log, columns: Columns, order: str | None,
+                   tell: Callable[[str], None]) -> tuple[Sequence[LogRow], Dates]:
+    """The rows of a log that aren't left out, and what reads their dates. Tells what was read."""
     tell(log.told())
-    rows = rows_kept(log.rows, columns.without, tell)
-    dates = Dates((text for it in rows for text in it.fields[:2]), order)
-    requests, wrong = [], []
+    rows = rows_kept(log.rows, columns.without, tell, columns.only)
+    return rows, Dates((text for it in rows for text in it.fields[:2]), order)
+
+
+def all_made(log: Log, rows: Sequence[LogRow], make: Callable[[LogRow], Made], most: int,
+             tell: Callable[[str], None]) -> list[Made]:
+    """What is made of each row. Rows that can't be read are told and left out, or, if they are more than so many, they
+    are a Stop."""
+    made, wrong = [], list(log.faults)
     for it in rows:
         try:
-            requests.append(Request.of(dates, columns, it.fields))
+            made.append(make(it))
         except ValueError as why:
-            wrong.append(f"line {it.line}: {why}")
-    if wrong:
-        more = [f"and {len(wrong) - MOST_TOLD} more"] if len(wrong) > MOST_TOLD else []
-        unread = f"{path} has rows that can't be read; mend them, or take them out"
-        raise Stop("\n    ".join([unread, *wrong[:MOST_TOLD], *more]))
-    if not requests:
-        raise Stop(f"{path} has no request below its headings")
+            wrong.append((it.line, f"line {it.line}: {why}"))
+    told = [why for _, why in sorted(wrong)]
+    if len(told) > most:
+        more = [f"and {len(told) - MOST_TOLD} more"] if len(told) > MOST_TOLD else []
+        unread = f"{log.path} has rows that can't be read; mend them, or take them out"
+        raise Stop("\n    ".join([unread, *told[:MOST_TOLD], *more]))
+    if not made:
+        raise Stop(f"{log.path} has no request below its headings")
+    for text in told:
+        tell(f"left out: {text}")
+    return made
+
+
+def tell_departures(requests: Sequence[Request], tell: Callable[[str], None]) -> None:
+    """Tells on which days there are departures."""
     tell(departures_told(sorted({it.departs for it in requests}), MOST_TOLD))
-    return requests

@@ -4,6 +4,7 @@ May use: nrm.
 """
 from __future__ import annotations
 
+import codecs
 import csv
 import io
 import itertools
@@ -30,7 +31,7 @@ def text_in(path: str) -> str:
     try:
         return data.decode("utf-8-sig")
     except UnicodeDecodeError:
-        return data.decode("cp1252", "replace")
+        return data.removeprefix(codecs.BOM_UTF8).decode("cp1252", "replace")
 
 
 def cut_short(text: str) -> str:
@@ -46,9 +47,12 @@ class LogRow:
 
 
 class Log:
-    """The rows of a log, and how many lines are none: down to the headings, empty, or within a row that goes on."""
+    """The rows of a log, and how many lines are none: down to the headings, empty, or within a row that goes on.
 
-    def __init__(self, path: str, columns: Sequence[str], is_multiline: bool = False) -> None:
+    Lines that can't be read are a Stop, or, where faults are gathered, told with what is wrong with them.
+    """
+
+    def __init__(self, path: str, columns: Sequence[str], is_multiline: bool = False, gathers: bool = False) -> None:
         text = text_in(path)
         self.path, self.is_multiline, self.lines = path, is_multiline, list(io.StringIO(text, newline=""))
         try:
@@ -59,8 +63,9 @@ class Log:
         if not places:
             raise Stop(f"{path} {what_is_there(text, columns)}")
         self.rows: list[LogRow] = []
+        self.faults: list[tuple[int, str]] = []  # lines, and what is told of them
         self.empty = self.within = 0
-        for line, ends, fields in self.records(separator):
+        for line, ends, fields in self.records(separator, gathers):
             self.within += ends - line
             if any(map(str.strip, fields)):
                 self.rows.append(LogRow(line, [fields[at].strip() if at < len(fields) else "" for at in places]))
@@ -78,38 +83,61 @@ class Log:
             before = reader.line_num
         return []
 
-    def records(self, separator: str) -> Iterator[tuple[int, int, list[str]]]:
-        """The records below the headings, each with the lines in which it begins and ends."""
+    def records(self, separator: str, gathers: bool = False) -> Iterator[tuple[int, int, list[str]]]:
+        """The records below the headings, each with the lines in which it begins and ends. One that doesn't end as it
+        should is a Stop; or, where faults are gathered and each record is a line, one of them."""
+        if self.is_multiline:
+            yield from self.records_of_lines(separator)
+            return
+        for line, text in enumerate(self.lines[self.above:], self.above + 1):
+            try:
+                fields = next(csv.reader([text], delimiter=separator, strict=True), list[str]())
+            except csv.Error as fault:
+                why = self.no_record(line, line, "end of data" in str(fault))
+                if not gathers:
+                    raise self.refused(line, why) from None
+                self.faults.append((line, self.shown(line, why)))
+            else:
+                yield line, line, fields
+
+    def records_of_lines(self, separator: str) -> Iterator[tuple[int, int, list[str]]]:
+        """The records below the headings, each of one line or more."""
         reader, begins = csv.reader(self.lines[self.above:], delimiter=separator, strict=True), self.above + 1
         while True:
             try:
                 fields = next(reader, None)
             except csv.Error as fault:
-                raise self.no_record(begins, self.above + reader.line_num, "end of data" in str(fault))
-            ends = self.above + reader.line_num
+                ends = self.above + reader.line_num
+                raise self.refused(begins, self.no_record(begins, ends, "end of data" in str(fault)))
             if fields is None:
                 return
-            if ends > begins and not self.is_multiline:
-                raise self.no_record(begins, ends)
+            ends = self.above + reader.line_num
             yield begins, ends, fields
             begins = ends + 1
 
-    def no_record(self, begins: int, ends: int, is_open: bool = False) -> Stop:
-        """A Stop for a record that doesn't end as it should, as shows in a line, or at the end with an open quote."""
-        if (ends > begins or is_open) and not self.is_multiline:
-            why = ("a quote is opened in it and isn't closed in it, which would take the lines below with it: "
-                   "close it or take it out; --multiline takes fields with line feeds")
-        elif is_open:
-            why = "a quote is opened in it that is closed nowhere: close it or take it out"
-        else:
-            why = (f"a quote is opened and closed in it{f', in line {ends},' if ends > begins else ''} and more text "
-                   "stands behind it: close it at the end of its field, or write a quote within a field twice")
-        line = self.lines[begins - 1].rstrip("\r\n")
-        return Stop(f"{self.path}: line {begins} can't be read: {why}\n    {cut_short(line)}")
+    def no_record(self, begins: int, ends: int, is_open: bool) -> str:
+        """What is wrong with a record that doesn't end as it should, as shows in a line, or by an open quote."""
+        if is_open and not self.is_multiline:
+            return ("a quote is opened in it and isn't closed in it, which would take the lines below with it: "
+                    "close it or take it out; --multiline takes fields with line feeds")
+        if is_open:
+            return "a quote is opened in it that is closed nowhere: close it or take it out"
+        return (f"a quote is opened and closed in it{f', in line {ends},' if ends > begins else ''} and more text "
+                "stands behind it: close it at the end of its field, or write a quote within a field twice")
+
+    def shown(self, line: int, why: str) -> str:
+        """A line that can't be read, and what is wrong with it."""
+        text = cut_short(self.lines[line - 1].rstrip("\r\n"))
+        return f"line {line} can't be read: {why}\n    {text}"
+
+    def refused(self, line: int, why: str) -> Stop:
+        """A Stop for a line."""
+        return Stop(f"{self.path}: {self.shown(line, why)}")
 
     def told(self) -> str:
         """How many rows were read of how many lines, and what the other lines were."""
         more = f", lines within fields {self.within}" if self.within else ""
+        more += f", open or broken quotes {len(self.faults)}" if self.faults else ""
         return (f"rows read {len(self.rows)} of {len(self.lines)} lines; down to the headings {self.above}, "
                 f"empty {self.empty}{more}")
 

@@ -1,0 +1,73 @@
+"""The words with which an export is read: beside those of a log, its stops, fares, numbers and cancellations.
+
+May use: nrm, nrm.exports.bookings, nrm.logs.dates, nrm.logs.requests, nrm.network.
+"""
+from __future__ import annotations
+
+import argparse
+import datetime
+from typing import Callable
+
+from nrm import Stop
+from nrm.exports.bookings import Booking, ExportColumns, bookings_in
+from nrm.logs.dates import Dates
+from nrm.logs.requests import Columns
+from nrm.network import number
+
+
+def add_export(words: argparse.ArgumentParser) -> None:
+    """The words for what an export has beside a log."""
+    words.add_argument("--train", metavar="COLUMN")
+    words.add_argument("--from", metavar="COLUMN", dest="first_stop")
+    words.add_argument("--to", metavar="COLUMN", dest="last_stop")
+    words.add_argument("--stops", metavar="COLUMN")
+    words.add_argument("--line", metavar="STOP", nargs="+", action="append", default=[])
+    words.add_argument("--seats-of", metavar="FILE")
+    words.add_argument("--fare", metavar="COLUMN")
+    words.add_argument("--amount", metavar="COLUMN")
+    words.add_argument("--cents", action="store_true")
+    words.add_argument("--id", metavar="COLUMN")
+    words.add_argument("--cancels", metavar=("COLUMN", "TEXT"), nargs="+", default=[])
+    words.add_argument("--net", action="store_true")
+    words.add_argument("--only", metavar=("COLUMN", "TEXT"), nargs="+", action="append", default=[])
+    words.add_argument("--leave-out", metavar="N", type=number, default=0)
+    words.add_argument("--until", metavar="DATE", type=day_of_word)
+    words.add_argument("--stream", metavar="DATE", type=day_of_word)
+
+
+def day_of_word(text: str) -> datetime.date:
+    """The day that a word says."""
+    try:
+        return Dates([]).day(text)
+    except ValueError:
+        raise Stop(f"{text} is no day: write it as 2025-03-07")
+
+
+def see_export_limits(asked: argparse.Namespace) -> None:
+    """A Stop for words that don't go together."""
+    stops = bool(asked.stops or asked.first_stop)
+    of_network = stops and asked.stream is None
+    for is_wrong, why in (
+            (bool(asked.first_stop) != bool(asked.last_stop), "--from and --to go together"),
+            (bool(asked.stops and asked.first_stop), "a journey's stops are in --stops, or in --from and --to"),
+            (bool(asked.fare and asked.amount), "--fare is of a seat and --amount of a row: say one of them"),
+            (stops and asked.network is not None, "with its stops a log makes the network that --network would say"),
+            (of_network and not (asked.fare or asked.amount), "with its stops a log wants --fare or --amount"),
+            (of_network and asked.seats_of is None, "with its stops a log wants --seats-of FILE"),
+            (not stops and asked.seats_of is not None, "--seats-of wants --from and --to, or --stops"),
+            (not asked.first_stop and bool(asked.line), "--line wants --from and --to"),
+            (asked.cents and not (asked.fare or asked.amount), "--cents wants --fare or --amount"),
+            (asked.net and not asked.cancels, "--net wants --cancels"),
+            (any(len(it) < 2 for it in asked.only), "--only wants a column and one text or more, as --only train 7501"),
+            (asked.leave_out < 0, f"--leave-out {asked.leave_out}: a number of rows is wanted, 0 or more")):
+        if is_wrong:
+            raise Stop(why)
+
+
+def bookings_of(asked: argparse.Namespace, tell: Callable[[str], None]) -> list[Booking]:
+    """The bookings of the export that the words name. Tells what was read and paired."""
+    log = Columns(asked.departs, asked.booked, asked.product, asked.seats, asked.without, asked.only)
+    stops = [it for it in (asked.stops, asked.first_stop, asked.last_stop) if it]
+    columns = ExportColumns(log, asked.train, stops, asked.fare or asked.amount, asked.amount is not None, asked.id,
+                            asked.cancels)
+    return bookings_in(asked.log, columns, asked.dates, asked.multiline, asked.leave_out, tell)

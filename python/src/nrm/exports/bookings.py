@@ -1,0 +1,253 @@
+"""The bookings of an export: what is there twice, cancellations in rows of their own or as a status, fares and stops.
+
+May use: nrm, nrm.exports.amounts, nrm.logs.dates, nrm.logs.requests, nrm.logs.rows.
+"""
+from __future__ import annotations
+
+import dataclasses
+import datetime
+import re
+from collections import defaultdict
+from dataclasses import dataclass
+from decimal import Decimal
+from typing import Callable, Iterable, Iterator, Sequence
+
+from nrm import Stop
+from nrm.exports.amounts import Amounts
+from nrm.logs.dates import Dates
+from nrm.logs.requests import Columns, Request, all_made, lines_told, rows_and_dates, tell_departures
+from nrm.logs.rows import Log, LogRow, cut_short
+
+CANCELLED = re.compile(r"-\d.*|x|xx|hx|cxl|yes|ja|oui|si|sì|sí|"
+                       r"(cancel|storn|annul|anul|refund|erstatt|rembours|rimbors|reembols)\w*", re.IGNORECASE)
+JOINED_BY = (">", "→", "|", "/", " - ", " – ", "–", "-")  # the stops of a journey
+
+
+@dataclass(frozen=True)
+class ExportColumns:
+    """The headings of the columns of an export beside those of a log: the train, the first and the last stop or one
+    with all of them, the fare of a seat or the amount of a row, the booking's number, and the one of cancellations
+    with the texts that say one."""
+    log: Columns
+    train: str | None = None
+    stops: Sequence[str] = ()
+    fare: str | None = None
+    is_of_row: bool = False
+    number: str | None = None
+    cancels: Sequence[str] = ()
+
+    def further(self) -> list[str]:
+        """The headings, in the order in which a row is read."""
+        return [*([self.train] if self.train else []), *self.stops, *([self.fare] if self.fare else []),
+                *([self.number] if self.number else []), *self.cancels[:1]]
+
+    def read(self) -> Columns:
+        """All columns that are read of the log."""
+        return dataclasses.replace(self.log, further=self.further())
+
+
+@dataclass(frozen=True)
+class Cancellation:
+    """A cancellation: its line, the seats, and the days before departure, if they are known."""
+    line: int
+    seats: int
+    days: int | None
+
+
+@dataclass(frozen=True)
+class Booking:
+    """A booking: its line and request, the train, the stops from the first to the last, the fare class, the fare of a
+    seat, its number, and its cancellations."""
+    line: int
+    request: Request
+    train: str
+    stops: tuple[str, ...]
+    fare_class: str
+    fare: Decimal | None
+    number: str
+    cancelled: tuple[Cancellation, ...] = ()
+
+    @property
+    def seats_cancelled(self) -> int:
+        return sum(it.seats for it in self.cancelled)
+
+    @property
+    def seats_standing(self) -> int:
+        return self.request.seats - self.seats_cancelled
+
+    def requests(self, is_net: bool, until: datetime.date | None) -> Iterator[Request]:
+        """What counts as demand: the request, or its seats that stand, if it departs no later than a day."""
+        if until is None or self.request.departs <= until:
+            if not is_net:
+                yield self.request
+            elif self.seats_standing:
+                yield dataclasses.replace(self.request, seats=self.seats_standing)
+
+
+class Reading:
+    """Reads the rows of an export, one after the other."""
+
+    def __init__(self, columns: ExportColumns, dates: Dates, rows: Sequence[LogRow]) -> None:
+        self.columns, self.dates, self.read = columns, dates, columns.read()
+        self.places = {name: at for at, name in enumerate(columns.further(), columns.log.further_from())}
+        fare = columns.fare
+        self.amounts = Amounts(fare, ((it.line, self.field(it, fare)) for it in rows)) if fare else None
+        one = columns.stops[0] if len(columns.stops) == 1 else None
+        self.separator = separator_of(self.field(it, one) for it in rows) if one else ""
+        if columns.cancels and not any(self.cancels(it) for it in rows):
+            there = dict.fromkeys(self.field(it, columns.cancels[0]) for it in rows)
+            raise Stop(f"no row is a cancellation by the column {columns.cancels[0]}, where there stands "
+                       f"{', '.join(list(there)[:9])}; say which texts mean one: --cancels {columns.cancels[0]} TEXT..")
+
+    def field(self, row: LogRow, column: str | None) -> str:
+        """What stands in a further column; nothing where none is read."""
+        return row.fields[self.places[column]] if column else ""
+
+    def cancels(self, row: LogRow) -> bool:
+        """Whether a row says that a booking is cancelled."""
+        if not self.columns.cancels:
+            return False
+        column, *texts = self.columns.cancels
+        text = self.field(row, column)
+        if texts:
+            return text.lower() in (it.strip().lower() for it in texts)
+        return CANCELLED.fullmatch(text) is not None or self.day_in(text) is not None
+
+    def day_in(self, text: str) -> datetime.date | None:
+        """The day that a text says, if it says one."""
+        try:
+            return self.dates.day(text)
+        except ValueError:
+            return None
+
+    def booking(self, row: LogRow) -> Booking:
+        """The booking of a row; a ValueError says what is wrong with it."""
+        is_cancelled = self.cancels(row)
+        request = Request.of(self.dates, self.read, row.fields, is_cancelled)
+        stops, fare_class = self.stops(row), request.product
+        train, number = self.field(row, self.columns.train), self.field(row, self.columns.number)
+        for column, text in ((self.columns.train, train), (self.columns.number, number)):
+            if column and not text:
+                raise ValueError(f"it has nothing in {column}")
+        relation = f"{stops[0]} - {stops[-1]}" if stops else ""
+        request = dataclasses.replace(request, product=" ".join(filter(None, [train, relation, fare_class])))
+        fare = self.fare(row, request.seats, is_cancelled)
+        return Booking(row.line, request, train, stops, fare_class, fare, number,
+                       (self.cancellation(row, request),) if is_cancelled else ())
+
+    def cancellation(self, row: LogRow, request: Request) -> Cancellation:
+        """The cancellation that the row of its booking says."""
+        day = self.day_in(self.field(row, self.columns.cancels[0]))
+        return Cancellation(row.line, request.seats, None if day is None else (request.departs - day).days)
+
+    def stops(self, row: LogRow) -> tuple[str, ...]:
+        """The stops of the journey, from the first to the last."""
+        texts = [self.field(row, it) for it in self.columns.stops]
+        stops = tuple(it.strip() for it in (texts[0].split(self.separator) if self.separator else texts))
+        if stops and (len(stops) < 2 or not all(stops)):
+            raise ValueError(f"{cut_short(' '.join(texts))!r} is no journey from one stop to another")
+        if len(set(stops)) < len(stops):
+            raise ValueError(f"it has the stop {max(stops, key=stops.count)} twice")
+        return stops
+
+    def fare(self, row: LogRow, seats: int, is_cancelled: bool) -> Decimal | None:
+        """The fare of a seat; what a cancellation says of money doesn't count."""
+        if self.amounts is None:
+            return None
+        text = self.field(row, self.columns.fare)
+        if is_cancelled and (not text or text.lstrip().startswith("-")):
+            return None
+        amount = self.amounts.amount(text)
+        return amount / seats if self.columns.is_of_row and seats else amount
+
+
+def separator_of(texts: Iterable[str]) -> str:
+    """What stands between the stops of a journey: the first of those that are known and stand in each text."""
+    every = [it for it in texts if it]
+    return next((it for it in JOINED_BY if all(it in text for text in every)), JOINED_BY[-1])
+
+
+def bookings_in(path: str, columns: ExportColumns, order: str | None, is_multiline: bool, most: int,
+                tell: Callable[[str], None]) -> list[Booking]:
+    """The bookings of the export at a path, of which so many rows may be left out. Tells what was read and paired."""
+    log = Log(path, columns.read().read(), is_multiline, gathers=True)
+    rows, dates = rows_and_dates(log, columns.read(), order, tell)
+    pairing = Pairing(all_made(log, rows, Reading(columns, dates, rows).booking, most, tell), bool(columns.number))
+    for text in pairing.told():
+        tell(text)
+    tell_departures([it.request for it in pairing.bookings], tell)
+    return pairing.bookings
+
+
+class Pairing:
+    """The bookings of rows: each once, and a cancellation in a row of its own with the booking of its number."""
+
+    def __init__(self, rows: Sequence[Booking], has_numbers: bool) -> None:
+        self.twice: list[int] = []
+        self.alone: list[int] = []
+        self.differing: list[int] = []
+        self.paired = 0
+        rows = list(self.each_once(rows)) if has_numbers else list(rows)
+        booked = {it.number for it in rows if not it.cancelled}
+        self.are_rows = has_numbers and any(it.cancelled and it.number in booked for it in rows)
+        self.bookings = self.paired_rows(rows) if self.are_rows else rows
+        late = [it.line for it in self.bookings if it.request.days < 0]
+        if late:
+            raise Stop(f"bookings that are cancelled were made after their departure, in {lines_told(late)}: mend "
+                       "them, or take them out")
+
+    def each_once(self, rows: Sequence[Booking]) -> Iterator[Booking]:
+        """The rows without those that say the same as one above with the same number."""
+        seen: dict[str, list[Booking]] = defaultdict(list)
+        for it in rows:
+            cancelled = tuple(dataclasses.replace(one, line=0) for one in it.cancelled)
+            alike = dataclasses.replace(it, line=0, cancelled=cancelled)
+            if alike in seen[it.number]:
+                self.twice.append(it.line)
+                continue
+            if not it.cancelled and any(not other.cancelled for other in seen[it.number]):
+                self.differing.append(it.line)
+            seen[it.number].append(alike)
+            yield it
+
+    def paired_rows(self, rows: Sequence[Booking]) -> list[Booking]:
+        """The bookings with the cancellations of their number."""
+        bookings = {it.line: it for it in rows if not it.cancelled}
+        by_number: dict[str, list[int]] = defaultdict(list)
+        for line, it in bookings.items():
+            by_number[it.number].append(line)
+        for it in rows:
+            if it.cancelled:
+                lines = [line for line in by_number[it.number] if is_of(it, bookings[line])]
+                if not lines:
+                    self.alone.append(it.line)
+                    continue
+                self.paired += 1
+                booking = bookings[lines[0]]
+                found = Cancellation(it.line, it.request.seats, it.request.days)
+                bookings[lines[0]] = dataclasses.replace(booking, cancelled=(*booking.cancelled, found))
+        return list(bookings.values())
+
+    def told(self) -> Iterator[str]:
+        """What was paired and what counts once, in sentences."""
+        if self.twice:
+            yield f"rows that are there twice {len(self.twice)}, which count once: {lines_told(self.twice)}"
+        if self.differing:
+            yield (f"rows with the number of another booking {len(self.differing)}, which differ from it and count: "
+                   f"{lines_told(self.differing)}")
+        if self.alone:
+            yield (f"cancellations without a booking of their number, departure, product and as many seats "
+                   f"{len(self.alone)}, which don't count: {lines_told(self.alone)}")
+        cancelled = sum(bool(it.cancelled) for it in self.bookings)
+        if cancelled:
+            how = f"in rows of their own, of which {self.paired} were paired" if self.are_rows else "by their own row"
+            whole = sum(it.cancelled != () and not it.seats_standing for it in self.bookings)
+            part = f", {cancelled - whole} more in part" if cancelled > whole else ""
+            yield (f"bookings {len(self.bookings)}, of them cancelled {whole}{part}, {how}; for such seasons: "
+                   f"nrm-tools simulate --cancel {whole / len(self.bookings):.4f}")
+
+
+def is_of(cancellation: Booking, booking: Booking) -> bool:
+    """Whether a row can cancel a booking: of the same departure and product, with as many seats as still stand."""
+    wanted, there = cancellation.request, booking.request
+    return (wanted.departs, wanted.product) == (there.departs, there.product) and wanted.seats <= booking.seats_standing

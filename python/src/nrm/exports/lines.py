@@ -1,0 +1,98 @@
+"""The stops of each train in their order, as the journeys on it show it, and the legs between neighbouring stops.
+
+May use: nrm, nrm.exports.bookings.
+"""
+from __future__ import annotations
+
+from collections import defaultdict
+from dataclasses import dataclass
+from typing import Iterable, Iterator, Mapping, Sequence
+
+from nrm import Stop
+from nrm.exports.bookings import Booking
+
+
+@dataclass(frozen=True)
+class Leg:
+    """A leg: its train, which may be none, and its two stops."""
+    train: str
+    first: str
+    last: str
+
+    @property
+    def text(self) -> str:
+        return " ".join(filter(None, [self.train, f"{self.first} - {self.last}"]))
+
+
+class Lines:
+    """The lines that bookings are on: of each train its stops in their order; or, where these are flights of which a
+    journey says all stops, each two neighbours that one of them has."""
+
+    def __init__(self, bookings: Iterable[Booking], given: Sequence[Sequence[str]], are_flights: bool) -> None:
+        journeys: dict[str, dict[tuple[str, ...], int]] = defaultdict(dict)
+        for it in bookings:
+            journeys[it.train].setdefault(it.stops, it.line)
+        self.are_flights = are_flights
+        self.order: dict[str, list[str]] = {}
+        self.neighbours: dict[str, list[tuple[str, str]]] = {}
+        for train, lines in sorted(journeys.items()):
+            if are_flights:
+                pairs = (pair for stops in sorted(lines) for pair in zip(stops, stops[1:]))
+                self.neighbours[train] = list(dict.fromkeys(pairs))
+            else:
+                self.order[train] = order_of(train, lines, given)
+                self.neighbours[train] = list(zip(self.order[train], self.order[train][1:]))
+
+    def legs(self) -> Iterator[Leg]:
+        """All legs, train by train."""
+        for train, pairs in self.neighbours.items():
+            yield from (Leg(train, *pair) for pair in pairs)
+
+    def legs_of(self, train: str, stops: Sequence[str]) -> list[Leg]:
+        """The legs of a journey, from its first stop to its last."""
+        if not self.are_flights:
+            order = self.order[train]
+            stops = order[order.index(stops[0]):order.index(stops[-1]) + 1]
+        return [Leg(train, *pair) for pair in zip(stops, stops[1:])]
+
+
+def order_of(train: str, journeys: Mapping[tuple[str, ...], int], given: Sequence[Sequence[str]]) -> list[str]:
+    """The stops of a train in their order: each behind those that a journey, or a line that is given, has before it."""
+    there = {stop for stops in journeys for stop in stops}
+    before: dict[str, dict[str, int]] = {it: {} for it in there}
+    for line in given:
+        on_it = [it for it in line if it in there]
+        for first, last in zip(on_it, on_it[1:]):
+            before[last][first] = 0
+    for stops, number in journeys.items():
+        for first, last in zip(stops, stops[1:]):
+            before[last].setdefault(first, number)
+    order: list[str] = []
+    while there:
+        heads = sorted(it for it in there if not before[it].keys() & there)
+        if len(heads) != 1:
+            left = {last: {it: line for it, line in before[last].items() if it in there} for last in there}
+            raise no_order(train, heads, left)
+        order.append(heads[0])
+        there.remove(heads[0])
+    return order
+
+
+def no_order(train: str, heads: Sequence[str], before: Mapping[str, Mapping[str, int]]) -> Stop:
+    """A Stop for stops whose order isn't shown, since none of two is before the other, or since each of some is."""
+    of_train = f" of {train}" if train else ""
+    if heads:
+        return Stop(f"no journey{of_train} shows which of {' and '.join(heads[:2])} comes first: say the stops in "
+                    "their order, --line STOP STOP.., or, where each journey's are in one column, --stops COLUMN")
+    ring = [min(before)]
+    while ring[-1] not in ring[:-1]:
+        ring.append(min(before[ring[-1]]))
+    ring = ring[ring.index(ring[-1]):][::-1]
+    shown = [f"{where(before[last][first])} from {first} to {last}" for first, last in zip(ring, ring[1:])]
+    return Stop(f"the journeys{of_train} go round: {', '.join(shown)}; so they are of several trains: say which column "
+                "names the train, --train COLUMN, or take the rows of one direction, --only COLUMN TEXT")
+
+
+def where(line: int) -> str:
+    """Where a journey stands."""
+    return f"line {line}" if line else "--line"
