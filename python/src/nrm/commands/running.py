@@ -36,6 +36,12 @@ def add_program(words: argparse.ArgumentParser) -> None:
                        help="what runs `nrm`; else it is the program of this folder, or the one on the path")
 
 
+def add_names(words: argparse.ArgumentParser) -> None:
+    """The option for what names stand for, among the words of a command."""
+    words.add_argument("--names", metavar="FILE",
+                       help="a list of what names stand for, as `nrm-tools log` writes it: its texts stand beside them")
+
+
 def status_of(name: str, run: Run, words: Sequence[str]) -> int:
     """Runs a command, and gives its status."""
     status = 1

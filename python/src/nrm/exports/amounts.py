@@ -49,7 +49,7 @@ class Amounts:
             raise ValueError(f"{cut_short(text)!r} is no amount" if text else "it has no amount")
         sign, whole, thousands, mark, decimals = found.groups()
         if thousands and thousands in (mark, self.mark):
-            raise ValueError(f"in {cut_short(text)!r} the mark {thousands} is for thousands, and elsewhere for decimals")
+            raise ValueError(f"in {cut_short(text)!r} {thousands} is a mark for thousands, and elsewhere for decimals")
         if sign:
             raise ValueError(f"{cut_short(text)!r} is below 0")
         return Decimal(f"{re.sub('[.,]', '', whole)}.{decimals or 0}")

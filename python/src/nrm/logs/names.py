@@ -9,7 +9,7 @@ import io
 import os
 from typing import Mapping
 
-from nrm import Stop
+from nrm import Stop, bytes_in
 from nrm.limits import MOST_NAME_BYTES
 from nrm.logs.rows import text_in
 from nrm.network import NAME
@@ -36,6 +36,13 @@ def names_in(path: str | None) -> dict[str, str]:
                        f"{MOST_NAME_BYTES} of A-Z, 0-9 and -, and one text that it stands for")
         names[stands_for[0]] = name
     return names
+
+
+def texts_in(path: str | None) -> dict[str, str]:
+    """What the names of a list at a path stand for; none where no list is said."""
+    if path is not None:
+        bytes_in(path, 0)  # it is there
+    return {name: text for text, name in names_in(path).items()}
 
 
 def write_names(path: str, names: Mapping[str, str]) -> None:

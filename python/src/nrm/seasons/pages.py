@@ -12,7 +12,7 @@ from typing import Any, Callable, Iterator, Mapping, Sequence
 from nrm.seasons.drawing import Settings
 from nrm.seasons.results import Results, Study
 from nrm.telling.page import Page
-from nrm.telling.tables import Table
+from nrm.telling.tables import Table, with_text
 
 MOST_SPANS, MOST_MEANS, MOST_HISTOGRAMS = 60, 12, 12
 DEMAND_IN_WORDS = {"histories": "the requests of a history, each as likely",
@@ -98,7 +98,7 @@ def of_authorised(study: Study, leg: str, names: Mapping[int, str]) -> Picture:
                      for seats, it in by_seats.items() if not it)
     words = ("What a season brings beside the authorised seats that earn most in each mode, with its 95 per cent "
              f"interval. Most is earned {tops}")
-    return Picture("authorised", f"What is earned by the authorised seats of {leg}", words,
+    return Picture("authorised", f"What is earned by the authorised seats of {with_text(leg, study.texts)}", words,
                    lambda: charts.courses(courses, f"authorised seats of {leg}", "beside the most, currency units"))
 
 

@@ -16,7 +16,7 @@ from typing import Iterator, Mapping, Sequence
 from nrm import Stop
 from nrm.network import Network, number
 from nrm.seasons.drawing import Settings
-from nrm.telling.tables import Cell, Table
+from nrm.telling.tables import Cell, Table, with_text
 
 NINETY_FIVE = 1.96  # standard errors on each side of a mean, between which 95 of 100 lie
 DECIMALS = 10_000  # the bound has four
@@ -134,8 +134,9 @@ def per_cent(part: float, whole: float) -> str:
 class Study:
     """The results of one or more networks, whose names begin the rows of their tables if they are several."""
 
-    def __init__(self, networks: Mapping[str, Network], settings: Settings, results: Mapping[str, Results]) -> None:
-        self.networks, self.settings, self.results = networks, settings, results
+    def __init__(self, networks: Mapping[str, Network], settings: Settings, results: Mapping[str, Results],
+                 texts: Mapping[str, str] | None = None) -> None:
+        self.networks, self.settings, self.results, self.texts = networks, settings, results, texts or {}
         self.departs, self.cancels = settings.show is not None, settings.cancel > 0
 
     def named(self, name: str, what: str) -> str:
@@ -147,6 +148,10 @@ class Study:
         return f"{name}: " if len(self.networks) > 1 else ""
 
     def tables(self) -> Iterator[Table]:
+        """All tables, with the texts that names stand for."""
+        yield from (it.with_texts(self.texts) for it in self.tables_of_names())
+
+    def tables_of_names(self) -> Iterator[Table]:
         """All tables."""
         if found := self.authorised():
             yield from self.by_authorised_seats(*found)
@@ -243,6 +248,7 @@ class Study:
                 it = self.results[names[seats]]
                 ends: list[Cell] = [amount(less.mean), *less.ends()] if less else ["most", None, None]
                 rows.append([str(seats), *self.departures(it, mode), amount(it.mean(mode, "earned")), *ends])
-            yield Table(f"Under {mode}, by the authorised seats of {leg}, in currency units a season",
+            seats_of = f"authorised seats of {with_text(leg, self.texts)}"
+            yield Table(f"Under {mode}, by the {seats_of}, in currency units a season",
                         ["authorised", *(["denied", "empty"] if self.departs else []), "earned",
                          "less than the most by", "from, at 95 %", "to"], rows)

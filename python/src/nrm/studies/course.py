@@ -9,14 +9,14 @@ import re
 from dataclasses import dataclass, field
 from fractions import Fraction
 from pathlib import Path
-from typing import Iterator, Sequence
+from typing import Iterator, Mapping, Sequence
 
 from nrm import Stop, bytes_in
 from nrm.network import Network, whole
 from nrm.program import Program
 from nrm.replies import MODES, Cancelled, Hindsight, Leg, NoAnswer, NoFare, NoLeg, Plan, Sold, answer_of
 from nrm.telling.page import Page
-from nrm.telling.tables import Cell, Table
+from nrm.telling.tables import Cell, Table, with_text
 
 UNFIT = "the replies don't fit the lines"
 
@@ -130,9 +130,11 @@ class Season:
     stream: LookedAt
     leg: str
     courses: list[Course]
+    texts: Mapping[str, str] = field(default_factory=dict)  # that names stand for
 
     @classmethod
-    def played(cls, path: str, stream_path: str, leg: str | None, program: Program) -> Season:
+    def played(cls, path: str, stream_path: str, leg: str | None, program: Program,
+               texts: Mapping[str, str] | None = None) -> Season:
         """The season of the files at two paths, on one leg, or on the one of which most seats were asked for."""
         network = Network.read(path)
         stream = LookedAt(bytes_in(stream_path), network)
@@ -140,8 +142,8 @@ class Season:
         if leg not in network.legs:
             raise Stop(f"there is no leg {leg}")
         data = stream.data()
-        return cls(network, stream, leg,
-                   [Course(mode, network, stream, leg, program.replies(mode, path, data)) for mode in MODES])
+        courses = [Course(mode, network, stream, leg, program.replies(mode, path, data)) for mode in MODES]
+        return cls(network, stream, leg, courses, texts or {})
 
 
 def leg_most_asked_for(network: Network, stream: LookedAt) -> str:
@@ -187,7 +189,7 @@ def seats_table(season: Season, course: Course, decimal: bool) -> Table:
         [name, point.sold[leg.name], leg.authorised - point.sold[leg.name], *point.plan.protections.get(leg.name, ())]
         for name, point in zip(season.stream.names(), course.points)]
     levels = [f"for 1 to {b}" if b > 1 else "for 1" for b in range(1, len(rows[0]) - 2)]
-    return Table(f"Seats of {leg.name}{authorised} under {course.mode}: sold, "
+    return Table(f"Seats of {with_text(leg.name, season.texts)}{authorised} under {course.mode}: sold, "
                  f"left{', and protected for buckets' if levels else ''}",
                  ["", "sold", "left", *levels], rows, decimal)
 
@@ -197,7 +199,7 @@ def seats_table(season: Season, course: Course, decimal: bool) -> Table:
 
 def abouts(season: Season) -> dict[str, tuple[str, str]]:
     """What each picture shows, in words, for those who can't see it."""
-    courses, leg = season.courses, season.leg
+    courses, leg = season.courses, with_text(season.leg, season.texts)
     sold = ", ".join(f"{it.mode} {it.course[-1]}" for it in courses)
     last = ", ".join(f"{it.mode} {it.points[-1].revenue:,}" for it in courses if it.points[-1].revenue is not None)
     refused = ", ".join(f"{it.mode} {sum(it.refused.values()):,}" for it in courses)

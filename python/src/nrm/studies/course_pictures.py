@@ -1,9 +1,10 @@
 """The pictures of one season in the three modes: bid prices, the seats of a leg, revenue and refusals.
 
-May use: nrm.studies.course, nrm.telling.figures.
+May use: nrm.studies.course, nrm.telling.figures, nrm.telling.tables.
 """
 from __future__ import annotations
 
+from textwrap import shorten
 from typing import Any, Callable, Iterator, Sequence
 
 from matplotlib.lines import Line2D
@@ -11,7 +12,8 @@ from matplotlib.patches import Patch
 
 from nrm.studies.course import Course, Season
 from nrm.telling.figures import (BLACK, BLUE, GREEN, ORANGE, PURPLE, SETTINGS, SHADE, SKY, VERMILLION, YELLOW, Axes,
-                                 Figure, in_amounts, label, panels, style)
+                                 Figure, in_amounts, label, panels, style, titled)
+from nrm.telling.tables import with_text
 
 Look = tuple[str, str]  # a colour and a hatch
 BANDS: list[Look] = [(VERMILLION, "////"), (ORANGE, "----"), (GREEN, "\\\\\\\\"), (YELLOW, "||||"), (PURPLE, "xxxx"),
@@ -21,6 +23,8 @@ SEATS_LINE: dict[str, Any] = {"color": BLACK, "linewidth": 1.3, "linestyle": "--
 PLAN_LINE: dict[str, Any] = {"color": BLACK, "linewidth": 0.5, "linestyle": (0, (1, 2))}
 LINE = "line of the stream"
 PRODUCTS_IN_A_PANEL = 32
+LEFT, LETTER = 1.35, 0.062  # inches: room for the name of a product, and for a letter of its text
+LETTERS_OF_A_TITLE, MOST_OF_A_TEXT = 40, 60
 WIDEST_TITLE = 22  # letters that fit above one of five panels
 
 
@@ -57,7 +61,7 @@ def bid_prices(season: Season) -> Figure:
         for it in priced:
             axis.plot([point.number for point in it.points], [float(point.plan.prices[leg]) for point in it.points],
                       drawstyle="steps-post", **style(it.mode))
-        axis.set_title(titles[leg], fontsize=size)
+        axis.set_title(titled(titles[leg], season.texts.get(leg, ""), WIDEST_TITLE + 4), fontsize=size)
     most = max(1.0, *[float(price) for it in priced for point in it.points for price in point.plan.prices.values()])
     axes[0].set_ylim(-0.05 * most, 1.05 * most)
     label(figure, LINE, "bid price, currency units",
@@ -95,7 +99,7 @@ def seats(season: Season) -> Figure:
         if marks:
             axis.axhline(leg.seats, **SEATS_LINE)
             axis.axhspan(leg.authorised, max(leg.authorised, leg.seats), facecolor=CLOSED[0], linewidth=0)
-        axis.set_title(f"{leg.name} under {it.mode}")
+        axis.set_title(titled(f"{leg.name} under {it.mode}", season.texts.get(leg.name, ""), LETTERS_OF_A_TITLE))
         axis.margins(x=0, y=0)
     kept = [patch(look, f"left, protected for bucket{f's 1 to {b}' if b > 1 else ' 1'}")
             for b, look in enumerate(looks, 1)]
@@ -145,9 +149,13 @@ def refused(season: Season) -> Figure:
     """Of each product, the share of the requests that were refused."""
     asked = season.courses[0].asked
     names = [name for name, count in asked.items() if count]
-    size = min(-(-len(names) // 2), PRODUCTS_IN_A_PANEL)
+    texts = {name: f"{shorten(with_text(name, season.texts), MOST_OF_A_TEXT, placeholder=' ..')} ({asked[name]})"
+             for name in names}
+    left = max(LEFT, LETTER * max(map(len, texts.values())))
+    columns = 1 if left > LEFT else 2
+    size = min(-(-len(names) // columns), PRODUCTS_IN_A_PANEL)
     parts = [names[at:at + size] for at in range(0, len(names), size)]
-    figure, axes = panels(len(parts), 2, max(0.2 * size, 1.5), 1, left=1.35, across=1.35, share_y=False)
+    figure, axes = panels(len(parts), columns, max(0.2 * size, 1.5), 1, left=left, across=LEFT, share_y=False)
     looks = {it.mode: {**style(it.mode), "linestyle": "", "markersize": 3.6} for it in season.courses}
     for axis, part in zip(axes, parts):
         for at in range(0, len(part), 2):
@@ -155,7 +163,7 @@ def refused(season: Season) -> Figure:
         for it, shift in zip(season.courses, (-0.3, 0.0, 0.3)):
             shares = [100 * it.refused[name] / it.asked[name] for name in part]
             axis.plot(shares, [at + shift for at in range(len(part))], **looks[it.mode], clip_on=False)
-        axis.set_yticks(range(len(part)), [f"{name} ({asked[name]})" for name in part])
+        axis.set_yticks(range(len(part)), [texts[name] for name in part])
         axis.set_ylim(size - 0.5, -0.5)
         axis.set_xlim(-3, 103)
         axis.tick_params(axis="y", length=0)

@@ -6,12 +6,12 @@ from __future__ import annotations
 
 import functools
 from dataclasses import dataclass
-from typing import Iterator, Sequence
+from typing import Iterator, Mapping, Sequence
 
 from nrm.network import Network
 from nrm.program import Program
 from nrm.replies import Cuts, cuts_of
-from nrm.telling.tables import Cell, Table
+from nrm.telling.tables import Cell, Table, with_text
 
 
 @dataclass(frozen=True)
@@ -29,11 +29,11 @@ class Grouping:
         """The number of the group that a fare is in, from 1."""
         return 1 + sum(cut > fare for cut in self.cuts.thresholds)
 
-    def table(self) -> Table:
+    def table(self, texts: Mapping[str, str]) -> Table:
         """The fares with their groups, the seats that were asked for at each, and the centres."""
         rows = [[self.group(fare), fare, seats, self.cuts.centres[self.group(fare) - 1]]
                 for fare, seats in self.asked.items()]
-        return Table(f"The fares on {self.leg}", ["group", "fare", "seats", "centre"], rows)
+        return Table(f"The fares on {with_text(self.leg, texts)}", ["group", "fare", "seats", "centre"], rows)
 
 
 def asked_on(network: Network, leg: str) -> dict[int, int]:

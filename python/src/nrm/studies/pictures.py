@@ -4,26 +4,29 @@ May use: nrm.studies.classes, nrm.studies.groupings, nrm.telling.figures.
 """
 from __future__ import annotations
 
-from typing import Any, Sequence
+from typing import Any, Mapping, Sequence
 
 from matplotlib.lines import Line2D
 from matplotlib.patches import Patch
 
 from nrm.studies.classes import FareClass, Policy
 from nrm.studies.groupings import Grouping
-from nrm.telling.figures import BLACK, BLUE, SHADE, VERMILLION, Axes, Figure, in_amounts, in_few_numbers, label, panels
+from nrm.telling.figures import (BLACK, BLUE, SHADE, VERMILLION, Axes, Figure, in_amounts, in_few_numbers, label, panels,
+                                 titled)
 
+LETTERS_OF_A_TITLE = 40
 CENTRE: dict[str, Any] = {"color": VERMILLION, "marker": "^", "linestyle": "", "clip_on": False, "zorder": 3}
 CUT: dict[str, Any] = {"color": BLACK, "linewidth": 0.7, "linestyle": (0, (3, 2))}
 OPTIMUM, EMSR = ({"color": BLUE, "linestyle": "-"}, "s",
                  "optimum"), ({"color": VERMILLION, "linestyle": "--"}, "^", "EMSR-b")
 
 
-def thresholds(groupings: Sequence[Grouping]) -> Figure:
+def thresholds(groupings: Sequence[Grouping], texts: Mapping[str, str]) -> Figure:
     """The fares on each leg, as high as the seats asked for, in their groups, with the cuts and the centres."""
     figure, axes = panels(len(groupings), 3, 1.35, 1, across=0.3, share_x=False, share_y=False)
     for axis, it in zip(axes, groupings):
         draw_fares(axis, it)
+        axis.set_title(titled(it.leg, texts.get(it.leg, ""), LETTERS_OF_A_TITLE))
     label(figure, "fare, currency units", "seats asked for, in all histories",
           [Line2D([], [], color=BLUE, marker="o", markersize=3, linewidth=2, label="a fare"),
            Line2D([], [], **CUT, label="cut: the least fare of its group"),
@@ -48,7 +51,6 @@ def draw_fares(axis: Axes, it: Grouping) -> None:
     axis.set_ylim(bottom=0)
     in_few_numbers(axis.xaxis)
     in_few_numbers(axis.yaxis)
-    axis.set_title(it.leg)
 
 
 def optimum(classes: Sequence[FareClass], optimal: Policy, emsr: Policy) -> Figure:

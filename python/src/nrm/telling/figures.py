@@ -6,6 +6,7 @@ too. It needs matplotlib: who draws asks `nrm.telling.libraries` first. May use:
 from __future__ import annotations
 
 import os
+import textwrap
 from typing import Any, Callable, Iterable, Iterator
 
 import matplotlib
@@ -20,6 +21,7 @@ BLACK, ORANGE, SKY, GREEN, YELLOW, BLUE, VERMILLION, PURPLE = (
 STYLES = {"first": (ORANGE, "o", ":"), "bid": (BLUE, "s", "-"), "davn": (VERMILLION, "^", "--"),
           "bound": (BLACK, "D", "-.")}
 SHADE = "#EEEEEE"
+MOST_LINES = 2  # of a text below a title
 AMOUNTS = "{x:,.0f}"
 WIDTH = 8.3  # inches of 100 dots: as wide as a page of a repository
 SETTINGS: dict[str, Any] = {
@@ -60,6 +62,11 @@ def style(name: str, text: str | None = None) -> dict[str, Any]:
     """The colour, the mark and the dash of a mode or of the bound, with its text in the legend."""
     colour, mark, dash = STYLES[name]
     return {"color": colour, "marker": mark, "linestyle": dash, "label": text or name}
+
+
+def titled(title: str, text: str, letters: int) -> str:
+    """A title, and below it a text of so many letters in a line, if there is one."""
+    return "\n".join([title, *textwrap.wrap(text, letters, max_lines=MOST_LINES, placeholder=" ..")])
 
 
 def in_amounts(axis: Any) -> None:

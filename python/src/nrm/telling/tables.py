@@ -1,9 +1,10 @@
-"""Tables as text. May use: nothing."""
+"""Tables as text, and names with the texts that they stand for. May use: nothing."""
 from __future__ import annotations
 
+import dataclasses
 from dataclasses import dataclass
 from fractions import Fraction
-from typing import Sequence, Union
+from typing import Mapping, Sequence, Union
 
 Cell = Union[str, int, Fraction, None]
 
@@ -13,6 +14,11 @@ def text_of_cell(value: Cell, decimal: bool) -> str:
     if decimal and isinstance(value, Fraction):
         return f"{float(value):.2f}"
     return "" if value is None else str(value)
+
+
+def with_text(name: str, texts: Mapping[str, str]) -> str:
+    """A name, and beside it the text that it stands for if it has another one."""
+    return f"{name}: {texts[name]}" if texts.get(name, name) != name else name
 
 
 @dataclass(frozen=True)
@@ -26,6 +32,11 @@ class Table:
     def cells(self) -> list[list[str]]:
         """The texts of the rows."""
         return [[text_of_cell(it, self.decimal) for it in row] for row in self.rows]
+
+    def with_texts(self, texts: Mapping[str, str]) -> Table:
+        """The table with the texts that names of its rows stand for beside them."""
+        rows = [[with_text(name, texts) if isinstance(name, str) else name, *rest] for name, *rest in self.rows]
+        return dataclasses.replace(self, rows=rows)
 
     def text(self) -> str:
         """The table as lines of text, its columns to the right but for the first."""

@@ -1,6 +1,6 @@
 """Every row of a network file that is refused, and how to mend it; of a certificate file, every line.
 
-    nrm-tools explain NETWORK [CERTIFICATE]
+    nrm-tools explain NETWORK [CERTIFICATE] [--names FILE]
 
 `nrm print NETWORK` tells the first row that it refuses, and `nrm check NETWORK CERTIFICATE` the first line. This tells
 all: of each row what the program says of it, and below that, for each field that is at fault, the line of the file as
@@ -14,14 +14,16 @@ still be wrong: `nrm check` and `nrm-tools audit` say so.
 """
 from __future__ import annotations
 
-from typing import Sequence
+from typing import Mapping, Sequence
 
 from nrm import Stop
-from nrm.commands.running import parser
+from nrm.commands.running import add_names, parser
 from nrm.files.certificates import faults_of_certificate
 from nrm.files.explained import refusals_of
 from nrm.limits import MOST_NETWORK_BYTES
+from nrm.logs.names import texts_in
 from nrm.network import Network, rows_of
+from nrm.telling.tables import with_text
 
 REFUSED, UNREADABLE = 3, 9
 
@@ -31,16 +33,18 @@ def run(given: Sequence[str]) -> int:
     words = parser("explain", __doc__)
     words.add_argument("network")
     words.add_argument("certificate", nargs="?")
+    add_names(words)
     asked = words.parse_args(given)
-    return explain(asked.network, asked.certificate)
+    return explain(asked.network, asked.certificate, texts_in(asked.names))
 
 
-def explain(path: str, certificate: str | None = None) -> int:
+def explain(path: str, certificate: str | None, texts: Mapping[str, str]) -> int:
     """Tells what is wrong with the files at two paths, and gives the status."""
     data = bytes_of(path, "refused no file")
     refusals = refusals_of(data)
     for refusal in refusals:
-        print(*refusal.lines(), sep="\n")
+        named = dict.fromkeys(it for it in refusal.row.fields[1:] if it in texts)
+        print(*refusal.lines(), *(f"    {with_text(it, texts)}" for it in named), sep="\n")
     if refusals:
         print(f"{path}: rows refused {len(refusals)}{'; the certificate was not read' if certificate else ''}")
         return REFUSED

@@ -1,6 +1,7 @@
 """A season in the three modes: its numbers as tables, four pictures of them, and a page with both.
 
-    nrm-tools season NETWORK STREAM [--out FOLDER] [--leg LEG] [--decimal] [--program WORD...]
+    nrm-tools season NETWORK STREAM [--out FOLDER] [--leg LEG] [--decimal] [--names FILE]
+                     [--program WORD...]
 
 `nrm` answers the lines of STREAM on NETWORK under `first`, `bid` and `davn`. It prints the revenue of each mode beside
 the bound of hindsight, what it has withheld of cancelled bookings where some product's refund is below 100 per cent,
@@ -26,7 +27,8 @@ import os
 from typing import Iterator, Sequence
 
 from nrm import make_folder
-from nrm.commands.running import add_program, lacking, parser
+from nrm.commands.running import add_names, add_program, lacking, parser
+from nrm.logs.names import texts_in
 from nrm.program import Program
 from nrm.studies.course import Season, page, tables
 from nrm.telling.page import write
@@ -40,10 +42,12 @@ def run(given: Sequence[str]) -> int:
     words.add_argument("--out", metavar="FOLDER", default=".")
     words.add_argument("--leg")
     words.add_argument("--decimal", action="store_true")
+    add_names(words)
     add_program(words)
     asked = words.parse_args(given)
-    season = Season.played(asked.network, asked.stream, asked.leg, Program.found(asked.program))
-    told = list(tables(season, asked.decimal))
+    texts = texts_in(asked.names)
+    season = Season.played(asked.network, asked.stream, asked.leg, Program.found(asked.program), texts)
+    told = [it.with_texts(texts) for it in tables(season, asked.decimal)]
     print("Each point of the season is behind a line of the stream:",
           *[f"{name} {number}" for number, name in season.stream.points],
           sep="\n  ")

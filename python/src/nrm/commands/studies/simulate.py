@@ -3,7 +3,7 @@
     nrm-tools simulate NETWORK... --seasons N [--seed S] [--out FOLDER] [--modes MODE...] [--demand HOW] [--order HOW]
                        [--parties SIZE:WEIGHT,...] [--cancel P] [--show P --denied-cost C] [--leave-out]
                        [--workers N | --cluster ADDRESS [--tls CA CERTIFICATE KEY]] [--patience SECONDS]
-                       [--program WORD...]
+                       [--names FILE] [--program WORD...]
 
 For each NETWORK and season requests are drawn, with a line `reoptimise` at the start of each period but the first, and
 `nrm` answers them in each mode. It prints the revenue of each mode with its standard error and its share of the bound
@@ -51,7 +51,8 @@ from pathlib import Path
 from typing import Callable, Iterator, Sequence
 
 from nrm import Stop, make_folder
-from nrm.commands.running import add_program, lacking, parser, tell
+from nrm.commands.running import add_names, add_program, lacking, parser, tell
+from nrm.logs.names import texts_in
 from nrm.network import number
 from nrm.program import TOP, Program
 from nrm.replies import MODES
@@ -138,6 +139,7 @@ def words_of(given: Sequence[str]) -> argparse.Namespace:
     where.add_argument("--cluster", metavar="ADDRESS")
     words.add_argument("--tls", nargs=3, metavar=("CA", "CERTIFICATE", "KEY"))
     words.add_argument("--patience", type=at_least(1, MOST_PATIENCE), default=PATIENCE, metavar="SECONDS")
+    add_names(words)
     add_program(words)
     asked = words.parse_args(given)
     if asked.tls and not (asked.cluster or "").startswith("tls://"):
@@ -189,7 +191,7 @@ def play(asked: argparse.Namespace, studies: Sequence[Seasons], settings: Settin
 def show(asked: argparse.Namespace, settings: Settings, studies: Sequence[Seasons]) -> None:
     """Tells the summary, and writes the page and the pictures."""
     results = {it.name: Results.read(it.whole) for it in studies}
-    study = Study({it.name: it.network for it in studies}, settings, results)
+    study = Study({it.name: it.network for it in studies}, settings, results, texts_in(asked.names))
     sentences, tables = list(about(asked.seasons, settings, results)), list(study.tables())
     summary = "\n".join([*sentences, "", *(it.text() for it in tables)])
     print(summary, end="")

@@ -1,6 +1,7 @@
 """Thresholds from the fares: where to cut the fares on each leg, so that those in a bucket lie close together.
 
-    nrm-tools thresholds NETWORK GROUPS [--out FILE] [--pictures FOLDER] [--program WORD...]
+    nrm-tools thresholds NETWORK GROUPS [--out FILE] [--pictures FOLDER] [--names FILE]
+                         [--program WORD...]
 
 For each leg that a product uses, `nrm cuts` divides the fares on it into at most GROUPS groups, 1 to 10, so that the
 seats that were asked for lie as close to the centres of their groups as can be: the cost is the sum, over the seats of
@@ -21,13 +22,15 @@ thresholds out before you use them.
 """
 from __future__ import annotations
 
-from typing import Sequence
+from typing import Mapping, Sequence
 
-from nrm.commands.running import add_program, lacking, parser
+from nrm.commands.running import add_names, add_program, lacking, parser
 from nrm.limits import MOST_GROUPS
+from nrm.logs.names import texts_in
 from nrm.network import Network, fields_in, number, text_of, with_thresholds
 from nrm.program import Program
 from nrm.studies.groupings import Grouping, groupings, table_of
+from nrm.telling.tables import with_text
 
 
 def run(given: Sequence[str]) -> int:
@@ -37,16 +40,18 @@ def run(given: Sequence[str]) -> int:
     words.add_argument("groups", type=number, choices=range(1, MOST_GROUPS + 1), metavar="GROUPS")
     words.add_argument("--out", metavar="FILE")
     words.add_argument("--pictures", metavar="FOLDER")
+    add_names(words)
     add_program(words)
     asked = words.parse_args(given)
+    texts = texts_in(asked.names)
     network, rows = Network.read(asked.network), fields_in(asked.network)
     found = list(groupings(asked.network, network, asked.groups, Program.found(asked.program)))
-    table_of(found, asked.groups).show()
+    table_of(found, asked.groups).with_texts(texts).show()
     unused = [leg for leg in network.legs if leg not in {it.leg for it in found}]
     if unused:
-        print(f"\nno product uses {', '.join(unused)}")
+        print(f"\nno product uses {', '.join(with_text(it, texts) for it in unused)}")
     if asked.pictures is not None:
-        draw(found, asked.pictures)
+        draw(found, asked.pictures, texts)
     if asked.out is not None:
         with open(asked.out, "w", encoding="ascii") as file:
             file.write(text_of(with_thresholds(rows, {it.leg: it.cuts.thresholds for it in found})))
@@ -54,14 +59,14 @@ def run(given: Sequence[str]) -> int:
     return 0
 
 
-def draw(found: Sequence[Grouping], folder: str) -> None:
+def draw(found: Sequence[Grouping], folder: str, texts: Mapping[str, str]) -> None:
     """Draws the fares, or tells them where there is no matplotlib."""
     if lacking("thresholds", "matplotlib"):
         for it in found:
-            it.table().show()
+            it.table(texts).show()
         return
     from nrm.studies import pictures
     from nrm.telling.figures import written
     print()
-    for path in written([("thresholds", lambda: pictures.thresholds(found))], folder):
+    for path in written([("thresholds", lambda: pictures.thresholds(found, texts))], folder):
         print(path)
