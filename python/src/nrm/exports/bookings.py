@@ -36,6 +36,11 @@ class ExportColumns:
     number: str | None = None
     cancels: Sequence[str] = ()
 
+    @property
+    def are_flights(self) -> bool:
+        """Whether a journey says all of its stops, which are no line then."""
+        return len(self.stops) == 1 and self.train is None
+
     def further(self) -> list[str]:
         """The headings, in the order in which a row is read."""
         return [*([self.train] if self.train else []), *self.stops, *([self.fare] if self.fare else []),
@@ -129,8 +134,8 @@ class Reading:
         for column, text in ((self.columns.train, train), (self.columns.number, number)):
             if column and not text:
                 raise ValueError(f"it has nothing in {column}")
-        relation = f"{stops[0]} - {stops[-1]}" if stops else ""
-        request = dataclasses.replace(request, product=" ".join(filter(None, [train, relation, fare_class])))
+        ends = stops if self.columns.are_flights else (*stops[:1], *stops[-1:])
+        request = dataclasses.replace(request, product=" ".join(filter(None, [train, " - ".join(ends), fare_class])))
         fare = self.fare(row, request.seats, is_cancelled)
         return Booking(row.line, request, train, stops, fare_class, fare, number,
                        (self.cancellation(row, request),) if is_cancelled else ())

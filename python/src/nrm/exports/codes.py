@@ -80,11 +80,11 @@ class Form:
         """How much a form is liked: the train's number of so many digits first, then two letters of each stop and of
         the class, then three of a stop, then the rest."""
         return (min(self.train, number), min(self.stop, 2), min(self.fare_class, 2), min(self.stop, 3), self.train,
-                int(self.is_apart), self.stop, self.fare_class)
+                int(self.is_apart), self.fare_class, self.stop)
 
 
 class Names:
-    """Names of parts, in the form that is liked best of those in which all of them fit."""
+    """Names of parts, in the form that is liked best of those in which all fit, and differ where the parts do."""
 
     def __init__(self, every: Sequence[Parts]) -> None:
         trains = {it.train for it in every} - {""}
@@ -94,7 +94,7 @@ class Names:
         self.trains, self.stops, self.classes = (
             {size: codes(texts, size, best) for size in SIZES}
             for texts, best in ((trains, of_numbers), (stops, beginning), (classes, of_all_words)))
-        self.form = self.liked_most(every)
+        self.form = self.liked_most(list(dict.fromkeys(every)))
 
     def liked_most(self, every: Sequence[Parts]) -> Form | None:
         """The form that is liked most of those that fit; None if none does."""
@@ -102,7 +102,17 @@ class Names:
         forms = (Form(*some) for some in itertools.product(*sizes, (True, False)))
         number = max((len(of_numbers(words_in(it), MOST_NAME_BYTES)) for it in self.trains[MOST_NAME_BYTES]), default=0)
         liked = sorted(forms, key=lambda it: it.liking(number), reverse=True)
-        return next((form for form in liked if all(len(self.of(it, form)) <= MOST_NAME_BYTES for it in every)), None)
+        return next((it for it in liked if self.fits(every, it)), None)
+
+    def fits(self, every: Sequence[Parts], form: Form) -> bool:
+        """Whether the names of some parts are no longer than they may be in a form, and all differ."""
+        names = set[str]()
+        for it in every:
+            name = self.of(it, form)
+            if len(name) > MOST_NAME_BYTES or name in names:
+                return False
+            names.add(name)
+        return True
 
     @staticmethod
     def useful(by_size: dict[int, dict[str, str]]) -> list[int]:
