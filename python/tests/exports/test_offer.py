@@ -14,7 +14,7 @@ GROUPS = [  # more words or other ones, and a part of the sentence
     (["--line", "A", "B"], "--line wants --from and --to"), (["--cents"], "--cents wants --fare or --amount"),
     (["--net"], "--net wants --cancels"), (["--only", "Train"], "--only wants a column and one text or more"),
     (["--leave-out", "-1"], "--leave-out -1: a number of rows is wanted"), (["--until", "soon"], "soon is no day"),
-    (["--stream", "07.03.25"], "07.03.25 is no day")]
+    (["--stream", "07.03.25"], "07.03.25 is no day"), (["--stream", "1", "2", "3"], "--stream wants a date, and perhaps a file")]
 AMOUNTS = [  # the price of the first booking, and a part of the sentence
     ("", "line 2: it has no amount"), ("free", "line 2: 'free' is no amount"), ("-40,00 €", "line 2: '-40,00 €' is below 0"),
     ("40.00 €", "the column Price has two decimal marks: line 2 has '40.00 €' and line 3 '90,00 €'"),

@@ -19,6 +19,12 @@ class Streams(ExportTest):
         self.want_in(err, "nrm-tools log: cancellations after the departure 1: they aren't in the stream\n")
         self.want_in(err, "a line `cancel N` has the number of the booking where each request is sold")
 
+    def test_what_stands_alone_if_asked_for(self) -> None:
+        path = self.export(BOOKINGS + CANCELLED)
+        out, err, _ = self.ran("log", path, *COLUMNS, *STOPS, *OF_IDS, *STREAM, "--net")
+        self.assertEqual(out.splitlines(), [LINES[0], *LINES[2:4], LINES[5]])
+        self.want_in(err, "requests 3, cancellations 0\n")
+
     def test_an_export_may_begin_with_its_newest_row(self) -> None:
         """Then the rows of a day are turned round."""
         rows = "".join((BOOKINGS + CANCELLED).splitlines(keepends=True)[::-1])
@@ -53,16 +59,16 @@ class Streams(ExportTest):
 
     def test_goes_on_to_a_session_and_a_season(self) -> None:
         """On the network of the seasons up to another day, by the same list of names, with what these stand for."""
-        path = self.export(BOOKINGS + CANCELLED)
-        network = self.told("log", path, *self.words(*OF_IDS, "--names", "names.csv", "--until", "2025-03-07"))
+        path, names = self.export(BOOKINGS + CANCELLED), ["--names", "names.csv"]
+        network = self.told("log", path, *self.words(*OF_IDS, *names, "--until", "2025-03-07", *STREAM, "stream.txt"))
         self.assertEqual(network.splitlines()[0], "periods,1,2")
-        stream = self.told("log", path, *COLUMNS, *STOPS, *OF_IDS, "--names", "names.csv", *STREAM)
         self.file("network.csv", network)
-        self.file("stream.txt", stream)
+        stream = (self.folder / "stream.txt").read_text()
+        self.assertEqual(self.told("log", path, *COLUMNS, *STOPS, *OF_IDS, *names, *STREAM), stream)
         self.assertEqual((self.folder / "names.csv").read_text().splitlines()[1:3],
                          ["AAC-BON,Aachen - Bonn", "AAC-BON-FLEX,Aachen - Bonn Flex"])
         self.assertEqual(self.nrm("run", "first", "network.csv", given=stream.encode()).splitlines(),
-                         ["ok 1", "ok 2", "optimised none", "ok 3", "ok 4", "ok 5", "cancelled 2 182"])
+                         ["ok 1", "ok 2", "optimised none", "ok 3", "ok 4", "ok 5", "cancelled 2 186"])
         told = self.told("season", "network.csv", "stream.txt", "--names", "names.csv", *self.with_program)
         self.want_in(told, "AAC-BON: Aachen - Bonn  ")
         self.want_in(told, "AAC-CAS-FLEX: Aachen - Cassel Flex  ")

@@ -32,7 +32,7 @@ def add_export(words: argparse.ArgumentParser) -> None:
     words.add_argument("--only", metavar=("COLUMN", "TEXT"), nargs="+", action="append", default=[])
     words.add_argument("--leave-out", metavar="N", type=number, default=0)
     words.add_argument("--until", metavar="DATE", type=day_of_word)
-    words.add_argument("--stream", metavar="DATE", type=day_of_word)
+    words.add_argument("--stream", metavar=("DATE", "FILE"), nargs="+", default=[])
 
 
 def day_of_word(text: str) -> datetime.date:
@@ -46,7 +46,7 @@ def day_of_word(text: str) -> datetime.date:
 def see_export_limits(asked: argparse.Namespace) -> None:
     """A Stop for words that don't go together."""
     stops = bool(asked.stops or asked.first_stop)
-    of_network = stops and asked.stream is None
+    of_network = stops and len(asked.stream) != 1
     for is_wrong, why in (
             (bool(asked.first_stop) != bool(asked.last_stop), "--from and --to go together"),
             (bool(asked.stops and asked.first_stop), "a journey's stops are in --stops, or in --from and --to"),
@@ -59,6 +59,7 @@ def see_export_limits(asked: argparse.Namespace) -> None:
             (asked.cents and not (asked.fare or asked.amount), "--cents wants --fare or --amount"),
             (asked.net and not asked.cancels, "--net wants --cancels"),
             (any(len(it) < 2 for it in asked.only), "--only wants a column and one text or more, as --only train 7501"),
+            (len(asked.stream) > 2, "--stream wants a date, and perhaps a file"),
             (asked.leave_out < 0, f"--leave-out {asked.leave_out}: a number of rows is wanted, 0 or more")):
         if is_wrong:
             raise Stop(why)

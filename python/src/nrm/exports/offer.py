@@ -154,7 +154,8 @@ def seats_of(path: str, offer: Offer, names: Mapping[str, str], tell: Callable[[
     """The seats of each leg, by its text, its name, its stops or its train in the file at a path."""
     there, used, seats, missing = seats_in(path), set(), {}, []
     for text, leg in offer.legs.items():
-        key = next((it for it in (text, names[text], f"{leg.first}-{leg.last}", leg.train) if it in there), None)
+        ways = (text, names[text], f"{leg.first}-{leg.last}", f"{leg.first} - {leg.last}", leg.train)
+        key = next((it for it in ways if it in there), None)
         if key is None:
             missing.append(text)
         else:

@@ -10,7 +10,7 @@ from dataclasses import dataclass
 from typing import Iterator, Mapping, Sequence
 
 from nrm import Stop
-from nrm.exports.bookings import Booking
+from nrm.exports.bookings import Booking, Cancellation
 from nrm.limits import MOST_PARTY
 from nrm.logs.demand import period_of
 
@@ -27,10 +27,12 @@ class Event:
 
 
 class Stream:
-    """The events of a day of departure. A booking that was cancelled in part is two parties."""
+    """The events of a day of departure: with what was cancelled, or what stands alone. A booking that was cancelled in
+    part is two parties."""
 
-    def __init__(self, bookings: Sequence[Booking], departs: datetime.date, names: Mapping[str, str]) -> None:
-        self.departs, self.undated, self.after, self.parties = departs, 0, 0, 0
+    def __init__(self, bookings: Sequence[Booking], departs: datetime.date, names: Mapping[str, str],
+                 is_net: bool = False) -> None:
+        self.departs, self.undated, self.after, self.parties, self.is_net = departs, 0, 0, 0, is_net
         self.sign = -1 if is_newest_first(bookings) else 1
         events: list[Event] = []
         for it in bookings:
@@ -46,16 +48,21 @@ class Stream:
         if booking.seats_standing:
             yield self.request(booking, day, place, booking.seats_standing, names)
         for it in booking.cancelled:
-            if it.seats:
-                yield self.request(booking, day, place, it.seats, names)
-            if it.seats and it.days is None:
-                self.undated += 1
-                yield Event(0, math.inf, True, self.parties, "")
-            elif it.seats and it.days is not None and it.days < 0:
-                self.after += 1
-            elif it.seats and it.days is not None:
-                at = max((-it.days, self.sign * it.line), (day, place))
-                yield Event(*at, True, self.parties, "")
+            if it.seats and not self.is_net:
+                request = self.request(booking, day, place, it.seats, names)
+                yield request
+                yield from self.cancellation(it, request)
+
+    def cancellation(self, it: Cancellation, request: Event) -> Iterator[Event]:
+        """The cancellation of a request, unless it is behind the departure."""
+        if it.days is None:
+            self.undated += 1
+            yield Event(0, math.inf, True, request.party, "")
+        elif it.days < 0:
+            self.after += 1
+        else:
+            day, place = max((-it.days, self.sign * it.line), (request.day, request.place))
+            yield Event(day, place, True, request.party, "")
 
     def request(self, booking: Booking, day: int, place: int, seats: int, names: Mapping[str, str]) -> Event:
         """The request of a party."""

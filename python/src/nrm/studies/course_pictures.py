@@ -23,7 +23,7 @@ SEATS_LINE: dict[str, Any] = {"color": BLACK, "linewidth": 1.3, "linestyle": "--
 PLAN_LINE: dict[str, Any] = {"color": BLACK, "linewidth": 0.5, "linestyle": (0, (1, 2))}
 LINE = "line of the stream"
 PRODUCTS_IN_A_PANEL = 32
-LEFT, LETTER = 1.35, 0.062  # inches: room for the name of a product, and for a letter of its text
+LEFT, LETTER = 1.35, 0.07  # inches: room for the name of a product, and for a letter of its text
 LETTERS_OF_A_TITLE, MOST_OF_A_TEXT = 40, 60
 WIDEST_TITLE = 22  # letters that fit above one of five panels
 
@@ -52,16 +52,17 @@ def plan_mark() -> Any:
 def bid_prices(season: Season) -> Figure:
     """The bid price of each leg, under the modes that have prices."""
     legs, priced = season.network.legs, season.courses[1:]
-    figure, axes = panels(len(legs), 5, 1.25 if len(legs) > 5 else 2, 1)
-    titles = {it.name: f"{it.name}, {it.authorised} {'seats' if it.authorised == it.seats else 'authorised'}"
-              for it in legs.values()}
-    size = SETTINGS["axes.titlesize"] * min(1, WIDEST_TITLE / max(map(len, titles.values())))
+    names = {it.name: f"{it.name}, {it.authorised} {'seats' if it.authorised == it.seats else 'authorised'}"
+             for it in legs.values()}
+    size = SETTINGS["axes.titlesize"] * min(1, WIDEST_TITLE / max(map(len, names.values())))
+    titles = {it: titled(names[it], season.texts.get(it, ""), WIDEST_TITLE) for it in legs}
+    figure, axes = panels(len(legs), 5, 1.25 if len(legs) > 5 else 2, 1, titles=titles.values())
     for axis, leg in zip(axes, legs):
         mark_plans(axis, season)
         for it in priced:
             axis.plot([point.number for point in it.points], [float(point.plan.prices[leg]) for point in it.points],
                       drawstyle="steps-post", **style(it.mode))
-        axis.set_title(titled(titles[leg], season.texts.get(leg, ""), WIDEST_TITLE + 4), fontsize=size)
+        axis.set_title(titles[leg], fontsize=size)
     most = max(1.0, *[float(price) for it in priced for point in it.points for price in point.plan.prices.values()])
     axes[0].set_ylim(-0.05 * most, 1.05 * most)
     label(figure, LINE, "bid price, currency units",
@@ -92,14 +93,15 @@ def seats(season: Season) -> Figure:
     looks = BANDS[:len(leg.thresholds)]
     marks = [] if leg.authorised == leg.seats else [Line2D([], [], **SEATS_LINE, label=f"the leg's {leg.seats} seats")]
     marks += [patch(CLOSED, "not authorised")] if leg.authorised < leg.seats else []
-    figure, axes = panels(len(courses), 3, 2.5, -(-(3 + len(looks) + len(marks)) // 3))
-    for axis, it in zip(axes, courses):
+    titles = [titled(f"{leg.name} under {it.mode}", season.texts.get(leg.name, ""), LETTERS_OF_A_TITLE) for it in courses]
+    figure, axes = panels(len(courses), 3, 2.5, -(-(3 + len(looks) + len(marks)) // 3), titles=titles)
+    for axis, it, title in zip(axes, courses, titles):
         draw_bands(axis, it, leg.authorised, looks)
         mark_plans(axis, season)
         if marks:
             axis.axhline(leg.seats, **SEATS_LINE)
             axis.axhspan(leg.authorised, max(leg.authorised, leg.seats), facecolor=CLOSED[0], linewidth=0)
-        axis.set_title(titled(f"{leg.name} under {it.mode}", season.texts.get(leg.name, ""), LETTERS_OF_A_TITLE))
+        axis.set_title(title)
         axis.margins(x=0, y=0)
     kept = [patch(look, f"left, protected for bucket{f's 1 to {b}' if b > 1 else ' 1'}")
             for b, look in enumerate(looks, 1)]
@@ -154,6 +156,8 @@ def refused(season: Season) -> Figure:
     left = max(LEFT, LETTER * max(map(len, texts.values())))
     columns = 1 if left > LEFT else 2
     size = min(-(-len(names) // columns), PRODUCTS_IN_A_PANEL)
+    if columns == 1:
+        size = -(-len(names) // -(-len(names) // PRODUCTS_IN_A_PANEL))  # panels of one size
     parts = [names[at:at + size] for at in range(0, len(names), size)]
     figure, axes = panels(len(parts), columns, max(0.2 * size, 1.5), 1, left=left, across=LEFT, share_y=False)
     looks = {it.mode: {**style(it.mode), "linestyle": "", "markersize": 3.6} for it in season.courses}

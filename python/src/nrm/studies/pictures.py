@@ -11,8 +11,8 @@ from matplotlib.patches import Patch
 
 from nrm.studies.classes import FareClass, Policy
 from nrm.studies.groupings import Grouping
-from nrm.telling.figures import (BLACK, BLUE, SHADE, VERMILLION, Axes, Figure, in_amounts, in_few_numbers, label, panels,
-                                 titled)
+from nrm.telling.figures import (BLACK, BLUE, SHADE, VERMILLION, Axes, Figure, in_amounts, in_few_numbers, label,
+                                 panels, titled)
 
 LETTERS_OF_A_TITLE = 40
 CENTRE: dict[str, Any] = {"color": VERMILLION, "marker": "^", "linestyle": "", "clip_on": False, "zorder": 3}
@@ -23,10 +23,11 @@ OPTIMUM, EMSR = ({"color": BLUE, "linestyle": "-"}, "s",
 
 def thresholds(groupings: Sequence[Grouping], texts: Mapping[str, str]) -> Figure:
     """The fares on each leg, as high as the seats asked for, in their groups, with the cuts and the centres."""
-    figure, axes = panels(len(groupings), 3, 1.35, 1, across=0.3, share_x=False, share_y=False)
-    for axis, it in zip(axes, groupings):
+    titles = [titled(it.leg, texts.get(it.leg, ""), LETTERS_OF_A_TITLE) for it in groupings]
+    figure, axes = panels(len(groupings), 3, 1.35, 1, across=0.3, share_x=False, share_y=False, titles=titles)
+    for axis, it, title in zip(axes, groupings, titles):
         draw_fares(axis, it)
-        axis.set_title(titled(it.leg, texts.get(it.leg, ""), LETTERS_OF_A_TITLE))
+        axis.set_title(title)
     label(figure, "fare, currency units", "seats asked for, in all histories",
           [Line2D([], [], color=BLUE, marker="o", markersize=3, linewidth=2, label="a fare"),
            Line2D([], [], **CUT, label="cut: the least fare of its group"),

@@ -21,7 +21,7 @@ BLACK, ORANGE, SKY, GREEN, YELLOW, BLUE, VERMILLION, PURPLE = (
 STYLES = {"first": (ORANGE, "o", ":"), "bid": (BLUE, "s", "-"), "davn": (VERMILLION, "^", "--"),
           "bound": (BLACK, "D", "-.")}
 SHADE = "#EEEEEE"
-MOST_LINES = 2  # of a text below a title
+MOST_LINES, LINE_OF_A_TITLE = 2, 0.14  # of a text below a title, and its inches
 AMOUNTS = "{x:,.0f}"
 WIDTH = 8.3  # inches of 100 dots: as wide as a page of a repository
 SETTINGS: dict[str, Any] = {
@@ -34,16 +34,18 @@ Axes = Any
 
 
 def panels(count: int, columns: int, height: float, legend: int, left: float = 0.65, across: float = 0.25,
-           share_x: bool = True, share_y: bool = True) -> tuple[Figure, list[Axes]]:
-    """A figure with that many panels, each of a height in inches, and room below for so many rows of a legend."""
+           share_x: bool = True, share_y: bool = True, titles: Iterable[str] = ()) -> tuple[Figure, list[Axes]]:
+    """A figure with that many panels, each of a height in inches, and room below for so many rows of a legend, and
+    above each panel for the lines of its title."""
     columns = min(columns, count)
     rows = -(-count // columns)
-    below = 0.7 + 0.18 * legend
-    tall = 0.3 + rows * height + (rows - 1) * 0.42 + below
+    below, more = 0.7 + 0.18 * legend, LINE_OF_A_TITLE * max((it.count("\n") for it in titles), default=0)
+    above, between = 0.3 + more, 0.42 + more
+    tall = above + rows * height + (rows - 1) * between + below
     wide = (WIDTH - left - 0.2 - (columns - 1) * across) / columns
     figure, axes = pyplot.subplots(rows, columns, squeeze=False, sharex=share_x, sharey=share_y, figsize=(WIDTH, tall))
-    figure.subplots_adjust(left=left / WIDTH, right=1 - 0.2 / WIDTH, top=1 - 0.3 / tall, bottom=below / tall,
-                           wspace=across / wide, hspace=0.42 / height)
+    figure.subplots_adjust(left=left / WIDTH, right=1 - 0.2 / WIDTH, top=1 - above / tall, bottom=below / tall,
+                           wspace=across / wide, hspace=between / height)
     for axis in axes.flat[count:]:
         axis.set_visible(False)
     return figure, list(axes.flat[:count])

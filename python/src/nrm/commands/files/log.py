@@ -4,7 +4,7 @@
                   [--train COLUMN] [--from COLUMN --to COLUMN | --stops COLUMN] [--line STOP STOP..] [--seats-of FILE]
                   [--fare COLUMN | --amount COLUMN] [--cents] [--id COLUMN] [--cancels COLUMN [TEXT..]] [--net]
                   [--without COLUMN TEXT..] [--only COLUMN TEXT..] [--leave-out N] [--network FILE] [--names FILE]
-                  [--weekday DAY] [--last N] [--until DATE] [--stream DATE] [--dates dmy|mdy] [--multiline] > NEW
+                  [--weekday DAY] [--last N] [--until DATE] [--stream DATE [FILE]] [--dates dmy|mdy] [--multiline] > NEW
 
 LOG has a row of headings and below it a row for each request: the day of departure, the day on which it was made, what
 was asked for, and how many seats, 1 where no column says so. COLUMN is a heading, in capitals or not; what was asked
@@ -58,8 +58,9 @@ among them. A file takes 16.
 
 STREAM. --stream DATE writes not the network, but the lines of the season that departs on that day, as `nrm run` reads
 them: `book` and `cancel` in the order of their days, those of one day in the order of the rows, and `reoptimise` where
-a period begins. It is of the same names where --names is the same. A booking has the number that it has where each
-request is sold.
+a period begins. With a FILE it writes them there, and the network too. The names are the same where --names is the
+same. A booking has the number that it has where each request is sold; with --net neither what was cancelled nor its
+cancellation is there.
 
 DATES. 2025-03-07, 2025/03/07, 2025.03.07 and 20250307; 7.3.2025 and 07.03.2025, the day first; with the month in
 English, German, French, Spanish or Italian 7MAR2025, 07-Mar-2025, 7. März 2025, 1er mars 2025, 7 de marzo de 2025, 7
@@ -72,7 +73,7 @@ NAMES. A product whose text is no name of a network file gets one: in capitals, 
 shorter where it is too long, and a name of its own. With stops it is made of the train, the two stops and the class,
 each whole where there is room, and else the same few letters wherever it stands: 6607-PALY-FL. --names FILE writes the
 list, `name,stands for`; where FILE is there already the names in it stay, and new ones are added. So better ones may be
-written into it. `season`, `thresholds`, `simulate`, `replay` and `explain` take it too, and show both.
+written into it. `season`, `thresholds`, `simulate` and `explain` take it too, and show the texts beside the names.
 
 What is written without stops is the demand, as rows `demand`, with the row of periods above them. With --network FILE,
 which has rows of legs and products, it is the whole network file: the demand and the periods of FILE are replaced; its
@@ -86,7 +87,7 @@ import sys
 from typing import Mapping, Sequence
 
 from nrm.commands import running
-from nrm.commands.export_words import add_export, bookings_of, see_export_limits
+from nrm.commands.export_words import add_export, bookings_of, day_of_word, see_export_limits
 from nrm.commands.log_words import add_log, demand_of, see_limits
 from nrm.commands.running import parser
 from nrm.exports.bookings import Booking
@@ -108,13 +109,17 @@ def run(given: Sequence[str]) -> int:
     asked = words_of(given)
     known, read = names_in(asked.names), bookings_of(asked, tell)
     bookings = [it for it in read if asked.weekday in (None, WEEKDAYS[it.request.departs.weekday()])]
-    if asked.stream is not None:
-        return write_stream(asked, bookings, known)
+    offer, day = offer_of(asked, bookings), day_of_word(asked.stream[0]) if asked.stream else None
+    of_day = sorted({it.request.product for it in bookings if it.request.departs == day})
+    if len(asked.stream) == 1:
+        write_stream(asked, bookings, offer.named(known) if offer else named(of_day, known))
+        return 0
     demand = demand_of(asked, [request for it in read for request in it.requests(asked.net, asked.until)])
-    offer = offer_of(asked, bookings)
-    names = offer.named(known) if offer else named(demand.products, known)
+    names = offer.named(known) if offer else named([*demand.products, *of_day], known)
     if asked.names is not None:
         write_names(asked.names, names)
+    if asked.stream:
+        write_stream(asked, bookings, names)
     fares = fares_of(bookings, asked.cents, tell) if asked.fare or asked.amount else {}
     rows = [*rows_above(asked, offer, demand, names, fares), *demand.rows(names)]
     tell(demand.told({it.request.departs for it in read}))
@@ -151,16 +156,18 @@ def offer_of(asked: argparse.Namespace, bookings: Sequence[Booking]) -> Offer | 
     return Offer(bookings, Lines(bookings, asked.line, asked.stops is not None and asked.train is None))
 
 
-def write_stream(asked: argparse.Namespace, bookings: Sequence[Booking], known: Mapping[str, str]) -> int:
-    """Writes the stream of the day that is asked for."""
-    offer = offer_of(asked, bookings)
-    of_day = sorted({it.request.product for it in bookings if it.request.departs == asked.stream})
-    names = offer.named(known) if offer else named(of_day, known)
-    stream = Stream(bookings, asked.stream, names)
+def write_stream(asked: argparse.Namespace, bookings: Sequence[Booking], names: Mapping[str, str]) -> None:
+    """Writes the stream of the day that is asked for, to a file if one is said."""
+    day, *path = asked.stream
+    stream = Stream(bookings, day_of_word(day), names, asked.net)
     for text in stream.told():
         tell(text)
-    print(*stream.lines(asked.cuts), sep="\n")
-    return 0
+    text = "".join(f"{it}\n" for it in stream.lines(asked.cuts))
+    if path:
+        with open(path[0], "w", encoding="ascii") as file:
+            file.write(text)
+    else:
+        print(text, end="")
 
 
 def rows_above(asked: argparse.Namespace, offer: Offer | None, demand: Demand, names: Mapping[str, str],
