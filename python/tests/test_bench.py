@@ -42,3 +42,13 @@ class Scripts(PlaceTest):
                 done = self.bench(name, *words)
                 self.assertEqual((done.out, done.status), ("", 1))
                 self.assertTrue(done.err.startswith(f"{name}.py: no tool, but a part of "), done.err)
+
+    def test_the_export_that_is_an_example_is_made_again(self) -> None:
+        words = ["--fridays", "--a-day", 110, "--trains", 2, "--of-a-train", 30]
+        done = self.bench("export", "bookings.csv", "seats.csv", *words)
+        self.assertEqual((done.out, done.status), (
+            "rows 1564, there twice 12, cancellations alone 2, open quote in line 800, total in line 1568, "
+            "no departure on 2025-04-18\n", 0), done.err)
+        for name in ("bookings.csv", "seats.csv"):
+            there = (TOP / "examples" / "export" / name).read_bytes()
+            self.assertTrue((self.folder / name).read_bytes() == there, name)

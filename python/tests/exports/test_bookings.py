@@ -24,6 +24,15 @@ class Cancellations(ExportTest):
                      "nrm-tools simulate --cancel 0.1667\n")
         self.want_in(err, "departures on 2 days, from 2025-03-07 to 2025-03-14")
 
+    def test_a_row_that_cancels_another_wants_its_number(self) -> None:
+        """As seats or an amount below 0 show; where its number is of no booking, it is told."""
+        path = self.export(BOOKINGS + CANCELLED)
+        err = self.stopped("log", path, *self.words("--cancels", "Status", "void"))
+        for line in (9, 10):
+            self.want_in(err, f"line {line}: it cancels a booking of another row: say --id, the column of the booking's number\n")
+        path = self.export(BOOKINGS + CANCELLED.replace("2;void", "12;void").replace("3;void", "13;void"))
+        self.want_in(self.ran("log", path, *self.words(*OF_IDS)).err, "3, which don't count: lines 8, 9, 10\n")
+
     def test_what_stands_alone_counts_if_asked_for(self) -> None:
         out = self.told("log", self.export(BOOKINGS + CANCELLED), *self.words(*OF_IDS, "--net"))
         self.assertEqual(out.splitlines()[6:], [DEMAND[0], DEMAND[2], "demand,BON-CAS-SAVE,1,0,2", DEMAND[4]])

@@ -11,7 +11,8 @@ GROUPS = [  # more words or other ones, and a part of the sentence
     ([*STOPS, *FARES, "--amount", "Price"], "--fare is of a seat and --amount of a row"),
     ([*STOPS, *FARES, "--seats-of", "s", "--network", "n"], "with its stops a log makes the network"),
     (["--seats-of", "s"], "--seats-of wants --from and --to, or --stops"),
-    (["--line", "A", "B"], "--line wants --from and --to"), (["--cents"], "--cents wants --fare or --amount"),
+    (["--line", "A", "B"], "--line wants --from and --to, or --stops"),
+    (["--join", "A"], "--join wants --from and --to"), ([*"--stops From --join A --fare Price --seats-of s".split()], "are of trains"), (["--cents"], "--cents wants --fare or --amount"),
     (["--net"], "--net wants --cancels"), (["--only", "Train"], "--only wants a column and one text or more"),
     (["--leave-out", "-1"], "--leave-out -1: a number of rows is wanted"), (["--until", "soon"], "soon is no day"),
     (["--stream", "07.03.25"], "07.03.25 is no day"), (["--stream", "1", "2", "3"], "--stream wants a date, and perhaps a file")]
@@ -133,6 +134,17 @@ class Lines(ExportTest):
         self.want_in(self.stopped("log", path, *self.words()),
                      "the journeys go round: line 3 from Aachen to Cassel, line 8 from Cassel to Aachen; so they are of several trains")
         self.want_in(self.stopped("log", self.export(), *self.words("--line", "Cassel", "Bonn")), "--line from Cassel to Bonn")
+
+    def test_joins_legs_at_a_stop(self) -> None:
+        """A journey from or to it takes all of the leg; at the ends of a line nothing is joined."""
+        self.file("seats.csv", "Aachen-Cassel,5\n")
+        words = [self.export(), *COLUMNS, *STOPS, *FARES, "--seats-of", "seats.csv", "--join"]
+        self.want_in(self.told("log", *words, "Bonn", "Aachen"), """leg,AAC-CAS,5
+product,AAC-BON-FLEX,45,AAC-CAS
+product,AAC-CAS-FLEX,91,AAC-CAS
+product,BON-CAS-SAVE,21,AAC-CAS
+""")
+        self.want_in(self.stopped("log", *words, "Delft"), "--join Delft: no journey begins or ends there; the stops are Aachen, Bonn, Cassel")
 
     def test_refuses_a_journey_that_is_none(self) -> None:
         for first, sentence in ((";Bonn", "line 2: ' Bonn' is no journey from one stop to another"),

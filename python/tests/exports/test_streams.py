@@ -72,4 +72,4 @@ class Streams(ExportTest):
         told = self.told("season", "network.csv", "stream.txt", "--names", "names.csv", *self.with_program)
         self.want_in(told, "AAC-BON: Aachen - Bonn  ")
         self.want_in(told, "AAC-CAS-FLEX: Aachen - Cassel Flex  ")
-        self.want_in(told, "Seats of AAC-BON: Aachen - Bonn under first: sold, left\n")
+        self.want_in(told, "Seats of BON-CAS: Bonn - Cassel under first: sold, left\n")

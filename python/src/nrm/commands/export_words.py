@@ -22,6 +22,7 @@ def add_export(words: argparse.ArgumentParser) -> None:
     words.add_argument("--to", metavar="COLUMN", dest="last_stop")
     words.add_argument("--stops", metavar="COLUMN")
     words.add_argument("--line", metavar="STOP", nargs="+", action="append", default=[])
+    words.add_argument("--join", metavar="STOP", nargs="+", default=[])
     words.add_argument("--seats-of", metavar="FILE")
     words.add_argument("--fare", metavar="COLUMN")
     words.add_argument("--amount", metavar="COLUMN")
@@ -55,7 +56,10 @@ def see_export_limits(asked: argparse.Namespace) -> None:
             (of_network and not (asked.fare or asked.amount), "with its stops a log wants --fare or --amount"),
             (of_network and asked.seats_of is None, "with its stops a log wants --seats-of FILE"),
             (not stops and asked.seats_of is not None, "--seats-of wants --from and --to, or --stops"),
-            (not asked.first_stop and bool(asked.line), "--line wants --from and --to"),
+            (bool(asked.line) and not stops, "--line wants --from and --to, or --stops"),
+            (bool(asked.join) and not stops, "--join wants --from and --to, or --stops"),
+            (bool(asked.line or asked.join) and bool(asked.stops) and asked.train is None,
+             "--line and --join are of trains: with --stops they want --train"),
             (asked.cents and not (asked.fare or asked.amount), "--cents wants --fare or --amount"),
             (asked.net and not asked.cancels, "--net wants --cancels"),
             (any(len(it) < 2 for it in asked.only), "--only wants a column and one text or more, as --only train 7501"),

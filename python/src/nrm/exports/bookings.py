@@ -10,7 +10,7 @@ import re
 from collections import defaultdict
 from dataclasses import dataclass
 from decimal import Decimal
-from typing import Callable, Iterable, Iterator, Sequence
+from typing import Callable, Iterable, Iterator, Mapping, Sequence
 
 from nrm import Stop
 from nrm.exports.amounts import Amounts
@@ -53,10 +53,12 @@ class ExportColumns:
 
 @dataclass(frozen=True)
 class Cancellation:
-    """A cancellation: its line, the seats, and the days before departure, if they are known."""
+    """A cancellation: its line, the seats, the days before departure, if they are known, and whether its row shows by an
+    amount or by seats below 0 that it is one of its own."""
     line: int
     seats: int
     days: int | None
+    is_below_0: bool = False
 
 
 @dataclass(frozen=True)
@@ -143,7 +145,10 @@ class Reading:
     def cancellation(self, row: LogRow, request: Request) -> Cancellation:
         """The cancellation that the row of its booking says."""
         day = self.day_in(self.field(row, self.columns.cancels[0]))
-        return Cancellation(row.line, request.seats, None if day is None else (request.departs - day).days)
+        is_below_0 = any(it.startswith("-") for it in (self.read.seats_of(row.fields), self.field(row, self.columns.fare)))
+        if is_below_0 and not self.columns.number:
+            raise ValueError("it cancels a booking of another row: say --id, the column of the booking's number")
+        return Cancellation(row.line, request.seats, None if day is None else (request.departs - day).days, is_below_0)
 
     def stops(self, row: LogRow) -> tuple[str, ...]:
         """The stops of the journey, from the first to the last."""
@@ -167,9 +172,9 @@ class Reading:
 
 
 def separator_of(texts: Iterable[str]) -> str:
-    """What stands between the stops of a journey: the first of those that are known and stand in each text."""
-    every = [it for it in texts if it]
-    return next((it for it in JOINED_BY if all(it in text for text in every)), JOINED_BY[-1])
+    """What stands between the stops of a journey: the one that most texts have, of several the first that is known."""
+    every = list(texts)
+    return max(JOINED_BY, key=lambda it: sum(it in text for text in every))
 
 
 def bookings_in(path: str, columns: ExportColumns, order: str | None, is_multiline: bool, most: int,
@@ -177,6 +182,8 @@ def bookings_in(path: str, columns: ExportColumns, order: str | None, is_multili
     """The bookings of the export at a path, of which so many rows may be left out. Tells what was read and paired."""
     log = Log(path, columns.read().read(), is_multiline, gathers=True)
     rows, dates = rows_and_dates(log, columns.read(), order, tell)
+    if columns.number:
+        rows = each_once(rows, tell)
     pairing = Pairing(all_made(log, rows, Reading(columns, dates, rows).booking, most, tell), bool(columns.number))
     for text in pairing.told():
         tell(text)
@@ -184,59 +191,55 @@ def bookings_in(path: str, columns: ExportColumns, order: str | None, is_multili
     return pairing.bookings
 
 
+def each_once(rows: Sequence[LogRow], tell: Callable[[str], None]) -> list[LogRow]:
+    """The rows without those that say the same as one above. Tells which these are."""
+    seen, once, twice = set[tuple[str, ...]](), list[LogRow](), list[int]()
+    for it in rows:
+        said = tuple(it.fields)
+        if said in seen:
+            twice.append(it.line)
+        else:
+            once.append(it)
+        seen.add(said)
+    if twice:
+        tell(f"rows that are there twice {len(twice)}, which count once: {lines_told(twice)}")
+    return once
+
+
 class Pairing:
-    """The bookings of rows: each once, and a cancellation in a row of its own with the booking of its number."""
+    """The bookings of rows, and a cancellation in a row of its own with the booking of its number."""
 
     def __init__(self, rows: Sequence[Booking], has_numbers: bool) -> None:
-        self.twice: list[int] = []
         self.alone: list[int] = []
-        self.differing: list[int] = []
         self.paired = 0
-        rows = list(self.each_once(rows)) if has_numbers else list(rows)
-        booked = {it.number for it in rows if not it.cancelled}
-        self.are_rows = has_numbers and any(it.cancelled and it.number in booked for it in rows)
-        self.bookings = self.paired_rows(rows) if self.are_rows else rows
+        lines: dict[str, list[int]] = defaultdict(list)
+        for it in rows if has_numbers else ():
+            if not it.cancelled:
+                lines[it.number].append(it.line)
+        self.differing = sorted(line for of_number in lines.values() for line in of_number[1:])
+        self.are_rows = any(it.cancelled and (it.number in lines or it.cancelled[0].is_below_0) for it in rows)
+        self.bookings = self.paired_rows(rows, lines) if self.are_rows else list(rows)
         late = [it.line for it in self.bookings if it.request.days < 0]
         if late:
             raise Stop(f"bookings that are cancelled were made after their departure, in {lines_told(late)}: mend "
                        "them, or take them out")
 
-    def each_once(self, rows: Sequence[Booking]) -> Iterator[Booking]:
-        """The rows without those that say the same as one above with the same number."""
-        seen: dict[str, list[Booking]] = defaultdict(list)
-        for it in rows:
-            cancelled = tuple(dataclasses.replace(one, line=0) for one in it.cancelled)
-            alike = dataclasses.replace(it, line=0, cancelled=cancelled)
-            if alike in seen[it.number]:
-                self.twice.append(it.line)
-                continue
-            if not it.cancelled and any(not other.cancelled for other in seen[it.number]):
-                self.differing.append(it.line)
-            seen[it.number].append(alike)
-            yield it
-
-    def paired_rows(self, rows: Sequence[Booking]) -> list[Booking]:
-        """The bookings with the cancellations of their number."""
+    def paired_rows(self, rows: Sequence[Booking], lines: Mapping[str, Sequence[int]]) -> list[Booking]:
+        """The bookings, of which each number has some lines, with the cancellations of their number."""
         bookings = {it.line: it for it in rows if not it.cancelled}
-        by_number: dict[str, list[int]] = defaultdict(list)
-        for line, it in bookings.items():
-            by_number[it.number].append(line)
         for it in rows:
             if it.cancelled:
-                lines = [line for line in by_number[it.number] if is_of(it, bookings[line])]
-                if not lines:
+                found = next((bookings[at] for at in lines.get(it.number, ()) if is_of(it, bookings[at])), None)
+                if found is None:
                     self.alone.append(it.line)
                     continue
                 self.paired += 1
-                booking = bookings[lines[0]]
-                found = Cancellation(it.line, it.request.seats, it.request.days)
-                bookings[lines[0]] = dataclasses.replace(booking, cancelled=(*booking.cancelled, found))
+                cancelled = (*found.cancelled, Cancellation(it.line, it.request.seats, it.request.days))
+                bookings[found.line] = dataclasses.replace(found, cancelled=cancelled)
         return list(bookings.values())
 
     def told(self) -> Iterator[str]:
         """What was paired and what counts once, in sentences."""
-        if self.twice:
-            yield f"rows that are there twice {len(self.twice)}, which count once: {lines_told(self.twice)}"
         if self.differing:
             yield (f"rows with the number of another booking {len(self.differing)}, which differ from it and count: "
                    f"{lines_told(self.differing)}")

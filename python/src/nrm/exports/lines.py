@@ -25,10 +25,11 @@ class Leg:
 
 
 class Lines:
-    """The lines that bookings are on: of each train its stops in their order; or, where these are flights of which a
-    journey says all stops, each two neighbours that one of them has."""
+    """The lines that bookings are on: of each train its stops in their order, of which some are joined, so that no leg
+    begins there; or, where these are flights of which a journey says all stops, each two neighbours that one has."""
 
-    def __init__(self, bookings: Iterable[Booking], given: Sequence[Sequence[str]], are_flights: bool) -> None:
+    def __init__(self, bookings: Iterable[Booking], given: Sequence[Sequence[str]] = (), joined: Sequence[str] = (),
+                 are_flights: bool = False) -> None:
         journeys: dict[str, dict[tuple[str, ...], int]] = defaultdict(dict)
         for it in bookings:
             journeys[it.train].setdefault(it.stops, it.line)
@@ -40,8 +41,12 @@ class Lines:
                 pairs = (pair for stops in sorted(lines) for pair in zip(stops, stops[1:]))
                 self.neighbours[train] = list(dict.fromkeys(pairs))
             else:
-                self.order[train] = order_of(train, lines, given)
-                self.neighbours[train] = list(zip(self.order[train], self.order[train][1:]))
+                order = self.order[train] = order_of(train, lines, given)
+                ends = [order[0], *[it for it in order[1:-1] if it not in joined], order[-1]]
+                self.neighbours[train] = list(zip(ends, ends[1:]))
+        stops = {stop for lines in journeys.values() for some in lines for stop in some}
+        if unknown := [it for it in joined if it not in stops]:
+            raise Stop(f"--join {unknown[0]}: no journey begins or ends there; the stops are {', '.join(sorted(stops))}")
 
     def legs(self) -> Iterator[Leg]:
         """All legs, train by train."""
@@ -49,11 +54,12 @@ class Lines:
             yield from (Leg(train, *pair) for pair in pairs)
 
     def legs_of(self, train: str, stops: Sequence[str]) -> list[Leg]:
-        """The legs of a journey, from its first stop to its last."""
-        if not self.are_flights:
-            order = self.order[train]
-            stops = order[order.index(stops[0]):order.index(stops[-1]) + 1]
-        return [Leg(train, *pair) for pair in zip(stops, stops[1:])]
+        """The legs of a journey, from its first stop to its last: all of a leg of which it needs a part."""
+        if self.are_flights:
+            return [Leg(train, *pair) for pair in zip(stops, stops[1:])]
+        place = {it: at for at, it in enumerate(self.order[train])}
+        return [Leg(train, first, last) for first, last in self.neighbours[train]
+                if place[first] < place[stops[-1]] and place[stops[0]] < place[last]]
 
 
 def order_of(train: str, journeys: Mapping[tuple[str, ...], int], given: Sequence[Sequence[str]]) -> list[str]:

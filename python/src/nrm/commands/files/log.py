@@ -1,9 +1,10 @@
 """From an export of bookings or a log of requests to a network file: its demand, and its legs, products and fares.
 
     nrm-tools log LOG --departs COLUMN --booked COLUMN --product COLUMN.. [--seats COLUMN] --cuts DAYS,DAYS..
-                  [--train COLUMN] [--from COLUMN --to COLUMN | --stops COLUMN] [--line STOP STOP..] [--seats-of FILE]
-                  [--fare COLUMN | --amount COLUMN] [--cents] [--id COLUMN] [--cancels COLUMN [TEXT..]] [--net]
-                  [--without COLUMN TEXT..] [--only COLUMN TEXT..] [--leave-out N] [--network FILE] [--names FILE]
+                  [--train COLUMN] [--from COLUMN --to COLUMN | --stops COLUMN] [--line STOP STOP..] [--join STOP..]
+                  [--seats-of FILE] [--fare COLUMN | --amount COLUMN] [--cents] [--id COLUMN]
+                  [--cancels COLUMN [TEXT..]] [--net] [--without COLUMN TEXT..] [--only COLUMN TEXT..] [--leave-out N]
+                  [--network FILE] [--names FILE]
                   [--weekday DAY] [--last N] [--until DATE] [--stream DATE [FILE]] [--dates dmy|mdy] [--multiline] > NEW
 
 LOG has a row of headings and below it a row for each request: the day of departure, the day on which it was made, what
@@ -18,7 +19,8 @@ STOPS. With --from and --to, the columns of the stops at which a journey begins 
 products too, and so the whole network file. The stops of a train, whose column is --train, or of all rows where none is
 said, are put in the order that the journeys show, and there is a leg for each two neighbouring ones. A product is a
 train, a first and a last stop, and what stands in --product, the fare class; its legs are those between. Where the
-journeys don't show the order, --line STOP STOP.. says it, of one line or, said again, of several. --stops is for one
+journeys don't show the order, --line STOP STOP.. says it, of one line or, said again, of several. --join STOP.. makes
+one leg of the two on each side of a stop: a journey from or to it takes a seat on all of that leg. --stops is for one
 column with all stops of the journey, as ZRH-VIE-BUD or Lyon > Dijon > Paris; without --train there is a leg for each
 two neighbours that a journey has, and so it is for flights over a hub. The seats are in the file of --seats-of: rows of
 a train or a leg and a number. A train's number is for each of its legs; a leg is its stops, as ZRH-VIE, with the
@@ -153,7 +155,7 @@ def offer_of(asked: argparse.Namespace, bookings: Sequence[Booking]) -> Offer | 
     """The legs and products that the stops of the bookings show, if a column has these."""
     if not (asked.stops or asked.first_stop):
         return None
-    return Offer(bookings, Lines(bookings, asked.line, asked.stops is not None and asked.train is None))
+    return Offer(bookings, Lines(bookings, asked.line, asked.join, asked.stops is not None and asked.train is None))
 
 
 def write_stream(asked: argparse.Namespace, bookings: Sequence[Booking], names: Mapping[str, str]) -> None:
