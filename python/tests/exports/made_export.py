@@ -1,7 +1,12 @@
 """An export by hand: a line of three stops and two classes, with its seats, and the words with which it is read."""
 from __future__ import annotations
 
-from harness import PlaceTest
+import contextlib
+import io
+import os
+
+from harness import Done, PlaceTest
+from nrm.__main__ import main
 
 HEADS = "No;Status;Booked;Departs;Train;From;To;Class;Seats;Price\n"
 BOOKINGS = """1;sold;2025-03-01 10:00;2025-03-07;;Aachen;Bonn;Flex;1;40,00 €
@@ -30,7 +35,29 @@ demand,BON-CAS-SAVE,2,0,1
 
 
 class ExportTest(PlaceTest):
-    """A test that reads exports."""
+    """A test that reads exports, within this process, since there are many."""
+
+    def setUp(self) -> None:
+        super().setUp()
+        self.addCleanup(os.chdir, os.getcwd())
+        os.chdir(self.folder)
+
+    def ran(self, name: str, *words: object, **more: object) -> Done:
+        """A command that was run in the folder."""
+        out, err = io.StringIO(), io.StringIO()
+        with contextlib.redirect_stdout(out), contextlib.redirect_stderr(err):
+            status = main([name, *map(str, words)])
+        return Done(out.getvalue(), err.getvalue(), status)
+
+    def read(self, *words: str, rows: str = BOOKINGS, heads: str = HEADS) -> Done:
+        """What is made of the whole of an export."""
+        done = self.ran("log", self.export(rows, heads), *self.words(*words))
+        self.assertEqual(done.status, 0, done.err)
+        return done
+
+    def refused(self, says: str, *words: str, rows: str = BOOKINGS) -> str:
+        """What is told of an export that is refused."""
+        return self.stopped("log", self.export(rows), *self.words(*words), says=says)
 
     def export(self, rows: str = BOOKINGS, heads: str = HEADS) -> str:
         """The path of an export of rows."""

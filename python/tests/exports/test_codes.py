@@ -9,7 +9,7 @@ from nrm.exports.codes import Names, Parts, codes, of_all_words, of_numbers
 from nrm.network import NAME
 
 STOPS = ["Paris Gare de Lyon", "Dijon-Ville", "Lyon Part-Dieu", "Marseille St-Charles", "Nice-Ville"]
-NAMED = [  # trains, stops and classes, and the names of the first train's product between the first two stops, and of the leg
+NAMED = [  # trains, stops, classes, and the names of the first train's product between the first two stops, and the leg
     (["TGV 6607", "TGV 6613"], STOPS[:3], ["Seconde", "Première"], "6607-PADI-SE", "6607-PADI"),
     (["ICE 71", "ICE 73"], ["Frankfurt", "Mannheim"], ["Flex", "Spar"], "71-FRAMAN-FL", "71-FRAMAN"),
     (["LX 1", "LX 3"], ["ZRH", "GVA"], ["Y", "Q"], "LX1-ZRHGVA-Y", "LX1-ZRHGVA"),

@@ -1,7 +1,7 @@
 """From an export to the legs, products and fares of a network: each number by hand, and each refusal with its line."""
 from __future__ import annotations
 
-from exports.made_export import BOOKINGS, COLUMNS, FARES, HEADS, NETWORK, SEATS, STOPS, ExportTest
+from exports.made_export import BOOKINGS, COLUMNS, FARES, NETWORK, STOPS, ExportTest
 
 GROUPS = [  # more words or other ones, and a part of the sentence
     (["--from", "From"], "--from and --to go together"),
@@ -12,12 +12,16 @@ GROUPS = [  # more words or other ones, and a part of the sentence
     ([*STOPS, *FARES, "--seats-of", "s", "--network", "n"], "with its stops a log makes the network"),
     (["--seats-of", "s"], "--seats-of wants --from and --to, or --stops"),
     (["--line", "A", "B"], "--line wants --from and --to, or --stops"),
-    (["--join", "A"], "--join wants --from and --to"), ([*"--stops From --join A --fare Price --seats-of s".split()], "are of trains"), (["--cents"], "--cents wants --fare or --amount"),
-    (["--net"], "--net wants --cancels"), (["--only", "Train"], "--only wants a column and one text or more"),
+    (["--join", "A"], "--join wants --from and --to"),
+    (["--stops", "From", "--join", "A", *FARES, "--seats-of", "s"], "--line and --join are of trains"),
+    (["--cents"], "--cents wants --fare or --amount"), (["--net"], "--net wants --cancels"),
+    (["--only", "Train"], "--only wants a column and one text or more"),
     (["--leave-out", "-1"], "--leave-out -1: a number of rows is wanted"), (["--until", "soon"], "soon is no day"),
-    (["--stream", "07.03.25"], "07.03.25 is no day"), (["--stream", "1", "2", "3"], "--stream wants a date, and perhaps a file")]
+    (["--stream", "07.03.25"], "07.03.25 is no day"),
+    (["--stream", "1", "2", "3"], "--stream wants a date, and perhaps a file")]
 AMOUNTS = [  # the price of the first booking, and a part of the sentence
-    ("", "line 2: it has no amount"), ("free", "line 2: 'free' is no amount"), ("-40,00 €", "line 2: '-40,00 €' is below 0"),
+    ("", "line 2: it has no amount"), ("free", "line 2: 'free' is no amount"),
+    ("-40,00 €", "line 2: '-40,00 €' is below 0"),
     ("40.00 €", "the column Price has two decimal marks: line 2 has '40.00 €' and line 3 '90,00 €'"),
     ("40,00 CHF", "the column Price has two currencies: line 2 has '40,00 CHF' and line 3 '90,00 €'"),
     ("1,040 €", "line 2: in '1,040 €' , is a mark for thousands, and elsewhere for decimals")]
@@ -30,11 +34,12 @@ SEAT_FILES = [  # the file of seats, and a part of the sentence
 
 class Offers(ExportTest):
     def test_makes_the_whole_network(self) -> None:
-        """AAC-BON-FLEX is (40.00 + 50.01) / 2; AAC-CAS-FLEX (2 of 90 and 93) / 3; BON-CAS-SAVE (3 of 20.50, 21.50) / 4."""
-        self.assertEqual(self.told("log", self.export(), *self.words()), NETWORK)
-        cents = self.told("log", self.export(), *self.words("--cents")).splitlines()
-        self.assertEqual(cents[3:6], ["product,AAC-BON-FLEX,4501,AAC-BON", "product,AAC-CAS-FLEX,9100,AAC-BON,BON-CAS",
-                                      "product,BON-CAS-SAVE,2075,BON-CAS"])
+        """AAC-BON-FLEX costs (40.00 + 50.01) / 2; AAC-CAS-FLEX (2 times 90 and 93) / 3; BON-CAS-SAVE (3 times 20.50 and
+        21.50) / 4."""
+        self.assertEqual(self.read().out, NETWORK)
+        self.assertEqual(self.read("--cents").out.splitlines()[3:6], [
+            "product,AAC-BON-FLEX,4501,AAC-BON", "product,AAC-CAS-FLEX,9100,AAC-BON,BON-CAS",
+            "product,BON-CAS-SAVE,2075,BON-CAS"])
         self.assertEqual(self.nrm("print", self.file("made.csv", NETWORK)).splitlines()[0], "periods,2,2,2")
 
     def test_an_amount_is_of_all_seats_of_its_row(self) -> None:
@@ -49,8 +54,8 @@ class Offers(ExportTest):
             ("GRZ-VIE-LHR", 300), ("GRZ-VIE", 100), ("VIE-LHR", 250), ("GRZ-LHR", 350))]
         log = self.file("log.csv", heads + "\n".join(rows) + "\n")
         seats = self.file("seats.csv", "GRZ-VIE,9\nVIE-LHR,8\nGRZ-LHR,7\n")
-        words = [log, "--departs", "departs", "--booked", "booked", "--product", "class", "--cuts", "3", "--fare", "price",
-                 "--stops", "route", "--seats-of", seats]
+        words = [log, "--departs", "departs", "--booked", "booked", "--product", "class", "--cuts", "3",
+                 "--fare", "price", "--stops", "route", "--seats-of", seats]
         made = self.told("log", *words).splitlines()
         self.assertEqual(made[1:4], ["leg,GRZ-LHR,7", "leg,GRZ-VIE,9", "leg,VIE-LHR,8"])
         self.assertEqual(made[4:8], ["product,GRZ-LHR-Y,300,GRZ-VIE,VIE-LHR", "product,GRZ-LHR-Y-2,350,GRZ-LHR",
@@ -70,47 +75,46 @@ class Offers(ExportTest):
         self.assertEqual(made[1:4], ["leg,12-AACBON,8", "leg,12-BONCAS,5", "leg,7-CASBON,4"])
 
     def test_refuses_what_a_network_file_doesnt_take(self) -> None:
-        """With the numbers: 65 legs of trains of their own, 257 products of as many classes, and journeys of five legs."""
+        """With the numbers: 65 legs of trains of their own, 257 products of as many classes, journeys of five legs."""
         def row(at: int, train: object, first: object, last: object, fare_class: object) -> str:
             return f"{at};sold;2025-03-01;2025-03-07;{train};{first};{last};{fare_class};1;40,00 €\n"
-        for rows, sentence in (
-                ([row(it, it, "A", "B", "Y") for it in range(65)], "a network file takes: 65 legs, and it takes 64. "),
-                ([row(it, 1, "A", "B", f"class {it}") for it in range(257)], "257 products, and it takes 256"),
-                ([row(it, 1, f"S{it}", f"S{it + 1}", "Y") for it in range(6)] + [row(7, 1, "S0", "S5", "Y"), row(8, 1, "S0", "S6", "Y")],
-                 "2 products of more than 4 legs, such as '1 S0 - S6 Y' of 6")):
-            self.want_in(self.stopped("log", self.export("".join(rows)), *self.words("--train", "Train")), sentence)
-        for rows in ([row(it, it, "A", "B", "Y") for it in range(64)], [row(it, 1, "A", "B", f"class {it}") for it in range(256)]):
-            self.file("seats.csv", "".join(f"{it},9\n" for it in range(64)))
-            words = [*COLUMNS, *STOPS, *FARES, "--seats-of", "seats.csv", "--train", "Train"]
-            self.assertEqual(self.ran("log", self.export("".join(rows)), *words).status, 0)
+        legs, products = ([row(it, it, "A", "B", "Y") for it in range(65)],
+                          [row(it, 1, "A", "B", f"class {it}") for it in range(257)])
+        stops = [row(it, 1, f"S{it}", f"S{it + 1}", "Y") for it in range(6)]
+        stops += [row(7, 1, "S0", "S5", "Y"), row(8, 1, "S0", "S6", "Y")]
+        for rows, says in ((legs, "a network file takes: 65 legs, and it takes 64. "),
+                           (products, "257 products, and it takes 256"),
+                           (stops, "2 products of more than 4 legs, such as '1 S0 - S6 Y' of 6")):
+            self.refused(says, "--train", "Train", rows="".join(rows))
+        self.file("seats.csv", "".join(f"{it},9\n" for it in range(64)))
+        words = [*COLUMNS, *STOPS, *FARES, "--seats-of", "seats.csv", "--train", "Train"]
+        for rows in (legs[:64], products[:256]):
+            self.told("log", self.export("".join(rows)), *words)
 
     def test_refuses_words_that_dont_go_together(self) -> None:
-        for more, sentence in GROUPS:
-            self.want_in(self.stopped("log", self.export(), *COLUMNS, *more), sentence)
+        for more, says in GROUPS:
+            self.stopped("log", self.export(), *COLUMNS, *more, says=says)
 
     def test_refuses_amounts_with_their_line(self) -> None:
-        for price, sentence in AMOUNTS:
-            self.want_in(self.stopped("log", self.export(BOOKINGS.replace("40,00 €", price, 1)), *self.words()), sentence)
+        for price, says in AMOUNTS:
+            self.refused(says, rows=BOOKINGS.replace("40,00 €", price, 1))
 
     def test_reads_amounts_in_every_form(self) -> None:
         for price, fare in (("1.234,50", 1235), ("1 234,49 €", 1234), ("CHF 1'234.60", 1235), ("$1,234.60", 1235),
                             ("1234", 1234), ("35,-", 35), ("1.234.567", 1234567), ("EUR\u00a035.4", 35)):
             rows = f"1;sold;2025-03-01;2025-03-07;;Aachen;Bonn;Flex;1;{price}\n"
-            self.file("seats.csv", SEATS)
-            made = self.told("log", self.export(rows), *COLUMNS, *STOPS, *FARES, "--seats-of", "seats.csv")
-            self.want_in(made, f"product,AACHE-BONN-F,{fare},AACHE-BONN\n" if "AACHE-" in made else f",{fare},")
+            self.want_in(self.read(rows=rows).out, f"product,AAC-BON-FLEX,{fare},AAC-BON\n")
 
     def test_refuses_a_fare_that_is_none(self) -> None:
-        for price, sentence in (("0,40 €", "the mean fare of 'Aachen - Bonn Flex' is 0.40, and a network file takes 1 to 99999999; "
-                                 "with --cents it is in cents"), ("123.456.789,00 €", "is 123456789.00, and")):
-            rows = f"1;sold;2025-03-01;2025-03-07;;Aachen;Bonn;Flex;1;{price}\n"
-            self.want_in(self.stopped("log", self.export(rows), *self.words()), sentence)
+        for price, says in (("0,40 €", "the mean fare of 'Aachen - Bonn Flex' is 0.40, and a network file takes 1 to "
+                             "99999999; with --cents it is in cents"), ("123.456.789,00 €", "is 123456789.00, and")):
+            self.refused(says, rows=f"1;sold;2025-03-01;2025-03-07;;Aachen;Bonn;Flex;1;{price}\n")
 
     def test_refuses_seats_with_their_line(self) -> None:
-        for seats, sentence in SEAT_FILES:
-            words = [*COLUMNS, *STOPS, *FARES, "--seats-of", self.file("seats.csv", seats)]
-            self.want_in(self.stopped("log", self.export(), *words), sentence)
-        self.want_in(self.stopped("log", self.export(), *COLUMNS, *STOPS, *FARES, "--seats-of", "none.csv"), "No such file")
+        words = [*COLUMNS, *STOPS, *FARES, "--seats-of"]
+        for seats, says in SEAT_FILES:
+            self.stopped("log", self.export(), *words, self.file("seats.csv", seats), says=says)
+        self.stopped("log", self.export(), *words, "none.csv", says="No such file")
 
     def test_fares_go_into_a_network_that_is_there(self) -> None:
         """And into the rows that are still to be completed."""
@@ -124,16 +128,17 @@ class Lines(ExportTest):
     def test_refuses_stops_without_an_order(self) -> None:
         """None of two before the other, unless a line says so; or each before the other."""
         rows = BOOKINGS.replace("Aachen;Bonn", "Aachen;Cassel")
-        path = self.export(rows.replace("Bonn;Cassel", "Bonn;Dorsten"))
-        err = self.stopped("log", path, *self.words())
-        self.want_in(err, "no journey shows which of Aachen and Bonn comes first: say the stops in their order, --line STOP STOP..")
+        rows = rows.replace("Bonn;Cassel", "Bonn;Dorsten")
+        self.refused("no journey shows which of Aachen and Bonn comes first: say the stops in their order, --line STOP "
+                     "STOP..", rows=rows)
         self.file("seats.csv", "Aachen-Bonn,9\nBonn-Cassel,8\nCassel-Dorsten,7\n")
-        words = [*COLUMNS, *STOPS, *FARES, "--seats-of", "seats.csv", "--line", "Aachen", "Bonn", "Cassel", "Ems", "Dorsten"]
-        self.want_in(self.told("log", path, *words), "-CAS,8\nleg,CAS-DOR,7\n")
-        path = self.export(BOOKINGS + "7;sold;2025-03-13;2025-03-14;;Cassel;Aachen;Flex;1;40,00 €\n")
-        self.want_in(self.stopped("log", path, *self.words()),
-                     "the journeys go round: line 3 from Aachen to Cassel, line 8 from Cassel to Aachen; so they are of several trains")
-        self.want_in(self.stopped("log", self.export(), *self.words("--line", "Cassel", "Bonn")), "--line from Cassel to Bonn")
+        line = ["--line", "Aachen", "Bonn", "Cassel", "Ems", "Dorsten"]
+        out = self.told("log", self.export(rows), *COLUMNS, *STOPS, *FARES, "--seats-of", "seats.csv", *line)
+        self.want_in(out, "-CAS,8\nleg,CAS-DOR,7\n")
+        back = "7;sold;2025-03-13;2025-03-14;;Cassel;Aachen;Flex;1;40,00 €\n"
+        self.refused("the journeys go round: line 3 from Aachen to Cassel, line 8 from Cassel to Aachen; so they are of "
+                     "several trains", rows=BOOKINGS + back)
+        self.refused("--line from Cassel to Bonn", "--line", "Cassel", "Bonn")
 
     def test_joins_legs_at_a_stop(self) -> None:
         """A journey from or to it takes all of the leg; at the ends of a line nothing is joined."""
@@ -144,20 +149,18 @@ product,AAC-BON-FLEX,45,AAC-CAS
 product,AAC-CAS-FLEX,91,AAC-CAS
 product,BON-CAS-SAVE,21,AAC-CAS
 """)
-        self.want_in(self.stopped("log", *words, "Delft"), "--join Delft: no journey begins or ends there; the stops are Aachen, Bonn, Cassel")
+        self.stopped("log", *words, "Delft",
+                     says="--join Delft: no journey begins or ends there; the stops are Aachen, Bonn, Cassel")
 
     def test_refuses_a_journey_that_is_none(self) -> None:
-        for first, sentence in ((";Bonn", "line 2: ' Bonn' is no journey from one stop to another"),
-                                ("Bonn;Bonn", "line 2: it has the stop Bonn twice")):
-            path = self.export(BOOKINGS.replace("Aachen;Bonn", first, 1))
-            self.want_in(self.stopped("log", path, *self.words()), sentence)
-        self.want_in(self.stopped("log", self.export(), *self.words("--train", "Train")), "line 2: it has nothing in Train")
+        for first, says in ((";Bonn", "line 2: ' Bonn' is no journey from one stop to another"),
+                            ("Bonn;Bonn", "line 2: it has the stop Bonn twice")):
+            self.refused(says, rows=BOOKINGS.replace("Aachen;Bonn", first, 1))
+        self.refused("line 2: it has nothing in Train", "--train", "Train")
 
     def test_takes_some_rows_alone(self) -> None:
-        out, err, _ = self.ran("log", self.export(), *COLUMNS, *STOPS, *FARES, "--only", "to", "cassel", "--only", "class", "SAVER",
-                               "--seats-of", self.file("seats.csv", "Bonn-Cassel,5\n"))
+        out, err, _ = self.read("--only", "to", "cassel", "--only", "class", "SAVER")
         self.want_in(out, "periods,2,2\nleg,BON-CAS,5\nproduct,")
         self.want_in(err, "rows left out 2, without cassel in to\n")
         self.want_in(err, "rows left out 2, without SAVER in class\n")
-        err = self.stopped("log", self.export(), *self.words("--only", "to", "Delft"))
-        self.want_in(err, "rows left out 6, without Delft in to; there stands Bonn, Cassel\n")
+        self.refused("rows left out 6, without Delft in to; there stands Bonn, Cassel\n", "--only", "to", "Delft")

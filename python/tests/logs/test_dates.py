@@ -20,8 +20,8 @@ MONTHS = {  # the names of the twelve months, and a short form of each
 FORMS = ["{day} {month} {year}", "{day}. {month} {year}", "{day}-{month}-{year}", "Fr {day} {month} {year} 10:22",
          "{day} de {month} de {year}", "ven. {day} {month} {year}", "{day}{month}{year}", "{month} {day}, {year}",
          "viernes, {day} {month} {year}", "{day} {month} {year} (Fri)", "Freitag, {month} {day}, {year}"]
-WITH_WEEKDAYS = ["07.03.2025 Fr", "2025-03-07 (ven)", "2025-03-07, venerdì", "vendredi 07/03/2025", "07/03/2025 viernes",
-                 "1er mars 2025", "1° marzo 2025", "Sábado, 1. März 2025"]
+WITH_WEEKDAYS = ["07.03.2025 Fr", "2025-03-07 (ven)", "2025-03-07, venerdì", "vendredi 07/03/2025",
+                 "07/03/2025 viernes", "1er mars 2025", "1° marzo 2025", "Sábado, 1. März 2025"]
 NONE = ["7 jui 2025", "7 ma 2025", "7 Nivose 2025", "31 février 2025", "2025-03-07 Kategorie", "7 Marchy 2025"]
 
 

@@ -25,7 +25,8 @@ class Texts(PlaceTest):
         """If they are others, in the first column alone."""
         self.assertEqual([with_text(it, {"A": "x", "B": "B"}) for it in "ABC"], ["A: x", "B", "C"])
         table = Table("A", ["A", "B"], [["A", "A"], ["B", 1], [3, "A"]]).with_texts({"A": "x"})
-        self.assertEqual((table.title, table.heads, table.cells()), ("A", ["A", "B"], [["A: x", "A"], ["B", "1"], ["3", "A"]]))
+        found = table.title, table.heads, table.cells()
+        self.assertEqual(found, ("A", ["A", "B"], [["A: x", "A"], ["B", "1"], ["3", "A"]]))
 
     def test_of_a_season_and_thresholds(self) -> None:
         words = [LOG, EXAMPLES / "log" / "commands.txt", "--leg", "VIE-BUD", *self.with_program]
@@ -45,9 +46,10 @@ class Texts(PlaceTest):
         rows = by_one_process(self.program, LOG, Settings(), 2)
         results = Results.read(self.file("rows.csv", rows))
         network = Network.read(str(LOG))
-        for texts, wanted in ((TEXTS, {"VB-Q: Wien - Budapest, <light>", "VIE-BUD: Wien - Budapest"}), ({}, {"VB-Q", "VIE-BUD"})):
+        for texts, wanted in ((TEXTS, {f"{name}: {text}" for name, text in TEXTS.items()}), ({}, {*TEXTS})):
             told = list(Study({"log": network}, Settings(), {"log": results}, texts).tables())
-            self.assertEqual({row[0] for table in told for row in table.cells() if row[0].startswith(("VB-Q", "VIE-BUD"))}, wanted)
+            named = {row[0] for table in told for row in table.cells() if row[0].startswith(tuple(TEXTS))}
+            self.assertEqual(named, wanted)
 
     def test_of_rows_that_are_refused(self) -> None:
         path = self.file("network.csv", "periods,1,1\nleg,VIE-BUD,1000\nproduct,VB-Q,5,VIE-BUD\n")
@@ -65,8 +67,8 @@ class Texts(PlaceTest):
         words = [LOG, EXAMPLES / "log" / "commands.txt", "--out", "page", "--leg", "VIE-BUD", *self.with_program]
         self.told("season", *words, *self.names, env=os.environ)
         page = (self.folder / "page" / "season.html").read_text()
-        for wanted in ('<th scope="row">VB-Q: Wien - Budapest, &lt;light&gt;</th>', '<th scope="row">VIE-BUD: Wien - Budapest</th>',
-                       "The seats of VIE-BUD: Wien - Budapest"):
+        for wanted in ('<th scope="row">VB-Q: Wien - Budapest, &lt;light&gt;</th>',
+                       '<th scope="row">VIE-BUD: Wien - Budapest</th>', "The seats of VIE-BUD: Wien - Budapest"):
             self.want_in(page, wanted)
         pictures = {it: (self.folder / "page" / f"{it}.svg").read_text() for it in ("bid-prices", "seats", "refused")}
         for name, wanted in (("bid-prices", ">Wien - Budapest</text>"), ("seats", ">Wien - Budapest</text>"),
