@@ -24,7 +24,7 @@ class Cancellations(ExportTest):
         self.want_in(err, "cancellations without a booking of their number, departure, product and as many seats 1, "
                      "which don't count: line 8\n")
         self.want_in(err, "bookings 6, of them cancelled 1, 1 more in part, in rows of their own, of which 2 were "
-                     "paired; for such seasons: nrm-tools simulate --cancel 0.1667\n")
+                     "paired; without --net `nrm-tools simulate --cancel 0.1667` plays such seasons\n")
         self.want_in(err, "departures on 2 days, from 2025-03-07 to 2025-03-14")
 
     def test_a_row_that_cancels_another_wants_its_number(self) -> None:
@@ -63,8 +63,8 @@ class Cancellations(ExportTest):
                 out, err, _ = self.read(*more, *numbered, rows=rows, heads=heads)
                 self.assertEqual(out.splitlines()[6:], DEMAND, err)
                 self.want_in(out, "product,AAC-BON-FLEX,50,")
-                self.want_in(err, "bookings 6, of them cancelled 1, by their own row; for such seasons: nrm-tools "
-                             "simulate --cancel 0.1667\n")
+                self.want_in(err, "bookings 6, of them cancelled 1, by their own row; without --net `nrm-tools "
+                             "simulate --cancel 0.1667` plays such seasons\n")
 
     def test_a_column_without_a_cancellation_is_refused(self) -> None:
         self.refused("no row is a cancellation by the column status, where there stands sold; say which texts mean "

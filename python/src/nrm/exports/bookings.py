@@ -251,8 +251,8 @@ class Pairing:
             how = f"in rows of their own, of which {self.paired} were paired" if self.are_rows else "by their own row"
             whole = sum(it.cancelled != () and not it.seats_standing for it in self.bookings)
             part = f", {cancelled - whole} more in part" if cancelled > whole else ""
-            yield (f"bookings {len(self.bookings)}, of them cancelled {whole}{part}, {how}; for such seasons: "
-                   f"nrm-tools simulate --cancel {whole / len(self.bookings):.4f}")
+            yield (f"bookings {len(self.bookings)}, of them cancelled {whole}{part}, {how}; without --net "
+                   f"`nrm-tools simulate --cancel {whole / len(self.bookings):.4f}` plays such seasons")
 
 
 def is_of(cancellation: Booking, booking: Booking) -> bool:
