@@ -26,6 +26,7 @@ class Cancellations(ExportTest):
         self.want_in(err, "bookings 6, of them cancelled 1, 1 more in part, in rows of their own, of which 2 were "
                      "paired; without --net `nrm-tools simulate --cancel 0.1667` plays such seasons\n")
         self.want_in(err, "departures on 2 days, from 2025-03-07 to 2025-03-14")
+        self.want_in(err, "rows that cancel by the column Status: void 3; that don't: sold 6\n")
 
     def test_a_row_that_cancels_another_wants_its_number(self) -> None:
         """As seats or an amount below 0 show; where its number is of no booking, it is told."""
@@ -67,7 +68,7 @@ class Cancellations(ExportTest):
                              "simulate --cancel 0.1667` plays such seasons\n")
 
     def test_a_column_without_a_cancellation_is_refused(self) -> None:
-        self.refused("no row is a cancellation by the column status, where there stands sold; say which texts mean "
+        self.refused("no row is a cancellation by the column status, where there stands sold 6; say which texts mean "
                      "one: --cancels status TEXT..", "--cancels", "status")
         self.refused("no row is a cancellation", "--cancels", "status", "void")
 

@@ -7,7 +7,7 @@ from __future__ import annotations
 import dataclasses
 import datetime
 import re
-from collections import defaultdict
+from collections import Counter, defaultdict
 from dataclasses import dataclass
 from decimal import Decimal
 from typing import Callable, Iterable, Iterator, Mapping, Sequence
@@ -20,6 +20,7 @@ from nrm.logs.rows import Log, LogRow, cut_short
 
 CANCELLED = re.compile(r"-\d.*|x|xx|hx|cxl|yes|ja|oui|si|sì|sí|"
                        r"(cancel|storn|annul|anul|refund|erstatt|rembours|rimbors|reembols)\w*", re.IGNORECASE)
+MOST_TEXTS = 9  # that are told of a column
 JOINED_BY = (">", "→", "|", "/", " - ", " – ", "–", "-")  # the stops of a journey
 
 
@@ -101,10 +102,18 @@ class Reading:
         self.amounts = Amounts(fare, ((it.line, self.field(it, fare)) for it in rows)) if fare else None
         one = columns.stops[0] if len(columns.stops) == 1 else None
         self.separator = separator_of(self.field(it, one) for it in rows) if one else ""
-        if columns.cancels and not any(self.cancels(it) for it in rows):
-            there = dict.fromkeys(self.field(it, columns.cancels[0]) for it in rows)
-            raise Stop(f"no row is a cancellation by the column {columns.cancels[0]}, where there stands "
-                       f"{', '.join(list(there)[:9])}; say which texts mean one: --cancels {columns.cancels[0]} TEXT..")
+
+    def texts_told(self, rows: Sequence[LogRow]) -> str:
+        """Which texts of the column of cancellations say that a row is one, and which don't; a Stop where none does."""
+        column = self.columns.cancels[0]
+        texts: dict[bool, Counter[str]] = {True: Counter(), False: Counter()}
+        for it in rows:
+            texts[self.cancels(it)][self.field(it, column) or "nothing"] += 1
+        yes, no = (counted(texts[it]) for it in (True, False))
+        if not yes:
+            raise Stop(f"no row is a cancellation by the column {column}, where there stands {no}; say which texts mean "
+                       f"one: --cancels {column} TEXT..")
+        return f"rows that cancel by the column {column}: {yes}; that don't: {no or 'none'}"
 
     def field(self, row: LogRow, column: str | None) -> str:
         """What stands in a further column; nothing where none is read."""
@@ -177,6 +186,12 @@ def separator_of(texts: Iterable[str]) -> str:
     return max(JOINED_BY, key=lambda it: sum(it in text for text in every))
 
 
+def counted(texts: Mapping[str, int]) -> str:
+    """Some texts, each with how often it is there, and how many other texts there are."""
+    more = f" and {len(texts) - MOST_TEXTS} other texts" if len(texts) > MOST_TEXTS else ""
+    return ", ".join(f"{cut_short(text)} {count}" for text, count in list(texts.items())[:MOST_TEXTS]) + more
+
+
 def bookings_in(path: str, columns: ExportColumns, order: str | None, is_multiline: bool, most: int,
                 tell: Callable[[str], None]) -> list[Booking]:
     """The bookings of the export at a path, of which so many rows may be left out. Tells what was read and paired."""
@@ -184,7 +199,10 @@ def bookings_in(path: str, columns: ExportColumns, order: str | None, is_multili
     rows, dates = rows_and_dates(log, columns.read(), order, tell)
     if columns.number:
         rows = each_once(rows, tell)
-    pairing = Pairing(all_made(log, rows, Reading(columns, dates, rows).booking, most, tell), bool(columns.number))
+    reading = Reading(columns, dates, rows)
+    if columns.cancels:
+        tell(reading.texts_told(rows))
+    pairing = Pairing(all_made(log, rows, reading.booking, most, tell), bool(columns.number))
     for text in pairing.told():
         tell(text)
     tell_departures([it.request for it in pairing.bookings], tell)

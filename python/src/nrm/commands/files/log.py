@@ -75,7 +75,8 @@ NAMES. A product whose text is no name of a network file gets one: in capitals, 
 shorter where it is too long, and a name of its own. With stops it is made of the train, the two stops and the class,
 each whole where there is room, and else the same few letters wherever it stands: 6607-PALY-FL. --names FILE writes the
 list, `name,stands for`; where FILE is there already the names in it stay, and new ones are added. So better ones may be
-written into it. `season`, `thresholds`, `simulate` and `explain` take it too, and show the texts beside the names.
+written into it. `season`, `thresholds`, `simulate`, `optimum` and `explain` take it too, and show the texts beside the
+names.
 
 What is written without stops is the demand, as rows `demand`, with the row of periods above them. With --network FILE,
 which has rows of legs and products, it is the whole network file: the demand and the periods of FILE are replaced; its

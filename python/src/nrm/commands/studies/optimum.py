@@ -1,6 +1,6 @@
 """EMSR-b beside the optimum on one leg: what is protected by each, and what each earns.
 
-    nrm-tools optimum NETWORK LEG [--out FOLDER] [--program WORD...]
+    nrm-tools optimum NETWORK LEG [--out FOLDER] [--names FILE] [--program WORD...]
 
 The classes are the products whose only leg is LEG, 1 to 10 of them, and they have all its authorised seats to
 themselves: what is sold over several legs has no part in this. The optimum is that of `nrm dp`. EMSR-b's protections
@@ -26,7 +26,8 @@ from __future__ import annotations
 
 from typing import Sequence
 
-from nrm.commands.running import add_program, lacking, parser
+from nrm.commands.running import add_names, add_program, lacking, parser
+from nrm.logs.names import texts_in
 from nrm.program import Program
 from nrm.studies.classes import LegAlone, remarks, tables
 
@@ -37,12 +38,14 @@ def run(given: Sequence[str]) -> int:
     words.add_argument("network")
     words.add_argument("leg", metavar="LEG")
     words.add_argument("--out", metavar="FOLDER")
+    add_names(words)
     add_program(words)
     asked = words.parse_args(given)
+    texts = texts_in(asked.names)
     leg = LegAlone(asked.network, asked.leg, Program.found(asked.program))
     emsr = leg.emsr()
     for table in tables(leg, emsr):
-        table.show()
+        table.with_texts(texts).show()
     for remark in remarks(leg, emsr):
         print("\n" + remark)
     if asked.out is None or lacking("optimum", "matplotlib"):

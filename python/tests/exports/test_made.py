@@ -1,0 +1,62 @@
+"""Exports that a script makes, with faults in them: each is told with its line, and what is read is what was put in."""
+from __future__ import annotations
+
+import os
+import re
+import subprocess
+import sys
+import unittest
+
+from exports.made_export import ExportTest
+from harness import TOP
+from nrm.network import Network
+
+WORDS = ["--departs", "reisetag", "--booked", "gebucht am", "--product", "tarif", "--seats", "personen", "--train", "zug",
+         "--from", "von", "--to", "nach", "--amount", "preis", "--seats-of", "seats.csv", "--id", "buchungsnr.",
+         "--cancels", "vorgang", "--cuts", "45,21,10,4,1", "--names", "names.csv", "--weekday", "fri"]
+UNTIL, SEASON = ["--until", "2025-06-13"], ["--stream", "2025-06-20", "stream.txt"]
+
+
+class Made(ExportTest):
+    def made(self, *words: object) -> dict[str, str]:
+        """Makes an export, and gives what its maker tells of it."""
+        script = [sys.executable, "-B", TOP / "bench" / "export.py", "export.csv", "seats.csv"]
+        told = subprocess.run([*script, *map(str, words)], capture_output=True, text=True, check=True).stdout
+        return dict(re.findall(r"(rows|twice|alone|quote in line|total in line|departure on) ([0-9-]+)", told))
+
+    def seats_of_bookings(self) -> int:
+        """The seats of the Fridays up to the last, counted apart from the tool: those of each booking once, by its
+        number."""
+        lines = (self.folder / "export.csv").read_bytes().decode("cp1252").splitlines()
+        fields = [it.split(";") for it in lines if '"' not in it]
+        return sum({it[0]: int(it[8]) for it in fields
+                    if it[1:2] == ["Buchung"] and it[3].startswith("Fr, ") and it[3] != "Fr, 20. Juni 2025"}.values())
+
+    def goes_to_a_season(self, *words: object) -> None:
+        """In four commands; what is wrong with the export is told."""
+        put_in = self.made(*words)
+        out, err, status = self.ran("log", "export.csv", *WORDS, "--leave-out", 2, *UNTIL, *SEASON)
+        self.assertEqual(status, 0, err)
+        for wanted in (f"rows read {put_in['rows']} of {int(put_in['rows']) + 4} lines; down to the headings 3, empty 0, ",
+                       f"rows that are there twice {put_in['twice']}, which count once: line",
+                       f"left out: line {put_in['quote in line']} can't be read: a quote is opened in it",
+                       f"left out: line {put_in['total in line']}: it has no day of departure\n",
+                       f"days between without one: {put_in['departure on']}"):
+            self.want_in(err, wanted)
+        self.assertGreaterEqual(int(re.findall(r"as many seats ([0-9]+), which don't count", err)[0]), int(put_in["alone"]))
+        path = self.file("network.csv", out)
+        network = Network.read(path)
+        self.assertEqual(network.histories, 12)
+        self.assertEqual(sum(it.demand_in_all() for it in network.products.values()), self.seats_of_bookings())
+        self.nrm("plan", "davn", path)
+        self.told("thresholds", path, 3, "--names", "names.csv", "--out", "cuts.csv", *self.with_program)
+        told = self.told("season", "cuts.csv", "stream.txt", "--names", "names.csv", *self.with_program)
+        self.want_in(told, "2301-BOKO-FL: IC 2301 Bonn Hbf - Koblenz Hbf Flexpreis  ")
+        self.assertTrue(any(it.startswith("cancel ") for it in (self.folder / "stream.txt").read_text().splitlines()))
+
+    def test_goes_to_a_season(self) -> None:
+        self.goes_to_a_season("--fridays", "--a-day", 110, "--trains", 2, "--of-a-train", 30)
+
+    @unittest.skipUnless(os.environ.get("NRM_LONG"), "it takes half a minute; NRM_LONG=1 runs it")
+    def test_goes_to_a_season_from_60000_rows(self) -> None:
+        self.goes_to_a_season()
