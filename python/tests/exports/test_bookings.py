@@ -72,6 +72,21 @@ class Cancellations(ExportTest):
                      "one: --cancels status TEXT..", "--cancels", "status")
         self.refused("no row is a cancellation", "--cancels", "status", "void")
 
+    def test_what_leaves_nothing_is_refused(self) -> None:
+        void = BOOKINGS.replace("sold", "void")
+        self.refused("no booking of the log stands", "--cancels", "Status", "void", "--net", rows=void)
+        self.refused("has no booking: each row cancels one", *OF_IDS, rows=CANCELLED)
+        self.refused("no request that counts departs up to 2025-03-01", "--until", "1.3.2025")
+        self.refused("no departure of the log is on a tue", "--weekday", "tue")
+
+    def test_products_of_other_seasons_are_told(self) -> None:
+        """They are in the network, without demand."""
+        rows = BOOKINGS.replace("Aachen;Cassel;Flex;1;93", "Bonn;Cassel;Flex;1;93")
+        out, err, _ = self.read("--until", "2025-03-07", rows=rows)
+        self.want_in(out, "product,BON-CAS-FLEX,93,BON-CAS\n")
+        self.assertNotIn("demand,BON-CAS-FLEX", out)
+        self.want_in(err, "products that nobody asked for in these seasons 1: BON-CAS-FLEX\n")
+
     def test_what_was_cancelled_before_it_could_be_booked_is_refused(self) -> None:
         """A row of its own may be behind the departure, and a booking not."""
         rows = BOOKINGS.replace("1;sold;2025-03-01 10:00", "1;void;2025-03-08")

@@ -1,15 +1,14 @@
 """Exports that a script makes, with faults in them: each is told with its line, and what is read is what was put in."""
 from __future__ import annotations
 
-import os
 import re
 import subprocess
 import sys
-import unittest
 
 from exports.made_export import ExportTest
 from harness import TOP
 from nrm.network import Network
+from seasons.clusters import takes_long
 
 WORDS = ["--departs", "reisetag", "--booked", "gebucht am", "--product", "tarif", "--seats", "personen", "--train", "zug",
          "--from", "von", "--to", "nach", "--amount", "preis", "--seats-of", "seats.csv", "--id", "buchungsnr.",
@@ -57,6 +56,6 @@ class Made(ExportTest):
     def test_goes_to_a_season(self) -> None:
         self.goes_to_a_season("--fridays", "--a-day", 110, "--trains", 2, "--of-a-train", 30)
 
-    @unittest.skipUnless(os.environ.get("NRM_LONG"), "it takes half a minute; NRM_LONG=1 runs it")
+    @takes_long
     def test_goes_to_a_season_from_60000_rows(self) -> None:
         self.goes_to_a_season()

@@ -6,12 +6,12 @@ from __future__ import annotations
 
 import argparse
 import datetime
-from typing import Callable
+from typing import Callable, Sequence
 
 from nrm import Stop
 from nrm.exports.bookings import Booking, ExportColumns, bookings_in
-from nrm.logs.dates import Dates
-from nrm.logs.requests import Columns
+from nrm.logs.dates import WEEKDAYS, Dates
+from nrm.logs.requests import Columns, Request
 from nrm.network import number
 
 
@@ -67,6 +67,22 @@ def see_export_limits(asked: argparse.Namespace) -> None:
             (asked.leave_out < 0, f"--leave-out {asked.leave_out}: a number of rows is wanted, 0 or more")):
         if is_wrong:
             raise Stop(why)
+
+
+def of_weekday(bookings: Sequence[Booking], weekday: str | None) -> list[Booking]:
+    """The bookings that depart on a day of the week, or all."""
+    found = [it for it in bookings if weekday in (None, WEEKDAYS[it.request.departs.weekday()])]
+    if not found:
+        raise Stop(f"no departure of the log is on a {weekday}")
+    return found
+
+
+def requests_until(bookings: Sequence[Booking], is_net: bool, until: datetime.date | None) -> list[Request]:
+    """What counts of bookings that depart no later than a day."""
+    found = [it for booking in bookings for it in booking.requests(is_net, until)]
+    if not found:
+        raise Stop(f"no request that counts departs up to {until}" if until else "no booking of the log stands")
+    return found
 
 
 def bookings_of(asked: argparse.Namespace, tell: Callable[[str], None]) -> list[Booking]:

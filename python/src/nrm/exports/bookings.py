@@ -205,6 +205,8 @@ def bookings_in(path: str, columns: ExportColumns, order: str | None, is_multili
     pairing = Pairing(all_made(log, rows, reading.booking, most, tell), bool(columns.number))
     for text in pairing.told():
         tell(text)
+    if not pairing.bookings:
+        raise Stop(f"{path} has no booking: each row cancels one")
     tell_departures([it.request for it in pairing.bookings], tell)
     return pairing.bookings
 

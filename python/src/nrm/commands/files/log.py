@@ -4,8 +4,8 @@
                   [--train COLUMN] [--from COLUMN --to COLUMN | --stops COLUMN] [--line STOP STOP..] [--join STOP..]
                   [--seats-of FILE] [--fare COLUMN | --amount COLUMN] [--cents] [--id COLUMN]
                   [--cancels COLUMN [TEXT..]] [--net] [--without COLUMN TEXT..] [--only COLUMN TEXT..] [--leave-out N]
-                  [--network FILE] [--names FILE]
-                  [--weekday DAY] [--last N] [--until DATE] [--stream DATE [FILE]] [--dates dmy|mdy] [--multiline] > NEW
+                  [--network FILE] [--names FILE] [--weekday DAY] [--last N] [--until DATE] [--stream DATE [FILE]]
+                  [--dates dmy|mdy] [--multiline] > NEW
 
 LOG has a row of headings and below it a row for each request: the day of departure, the day on which it was made, what
 was asked for, and how many seats, 1 where no column says so. COLUMN is a heading, in capitals or not; what was asked
@@ -90,16 +90,16 @@ import sys
 from typing import Mapping, Sequence
 
 from nrm.commands import running
-from nrm.commands.export_words import add_export, bookings_of, day_of_word, see_export_limits
+from nrm.commands.export_words import (add_export, bookings_of, day_of_word, of_weekday, requests_until,
+                                       see_export_limits)
 from nrm.commands.log_words import add_log, demand_of, see_limits
 from nrm.commands.running import parser
 from nrm.exports.bookings import Booking
 from nrm.exports.lines import Lines
-from nrm.exports.offer import Offer, fares_of, seats_of, with_fares
+from nrm.exports.offer import Offer, fares_of, seats_of, some_of, with_fares
 from nrm.exports.streams import Stream
 from nrm.files.names import named
 from nrm.limits import MOST_PRODUCTS
-from nrm.logs.dates import WEEKDAYS
 from nrm.logs.demand import Demand, completed
 from nrm.logs.names import names_in, write_names
 from nrm.network import text_of
@@ -111,13 +111,13 @@ def run(given: Sequence[str]) -> int:
     """Writes the demand of a log, the whole network file or a stream, and tells what was read and what is to do."""
     asked = words_of(given)
     known, read = names_in(asked.names), bookings_of(asked, tell)
-    bookings = [it for it in read if asked.weekday in (None, WEEKDAYS[it.request.departs.weekday()])]
+    bookings = of_weekday(read, asked.weekday)
     offer, day = offer_of(asked, bookings), day_of_word(asked.stream[0]) if asked.stream else None
     of_day = sorted({it.request.product for it in bookings if it.request.departs == day})
     if len(asked.stream) == 1:
         write_stream(asked, bookings, offer.named(known) if offer else named(of_day, known))
         return 0
-    demand = demand_of(asked, [request for it in read for request in it.requests(asked.net, asked.until)])
+    demand = demand_of(asked, requests_until(read, asked.net, asked.until))
     names = offer.named(known) if offer else named([*demand.products, *of_day], known)
     if asked.names is not None:
         write_names(asked.names, names)
@@ -126,12 +126,11 @@ def run(given: Sequence[str]) -> int:
     fares = fares_of(bookings, asked.cents, tell) if asked.fare or asked.amount else {}
     rows = [*rows_above(asked, offer, demand, names, fares), *demand.rows(names)]
     tell(demand.told({it.request.departs for it in read}))
-    tell_names([*(offer.legs if offer else []), *demand.products], names, asked.names)
-    if len(demand.products) > MOST_PRODUCTS:
-        tell(f"a network file takes {MOST_PRODUCTS} products: with its legs and fares `nrm-tools split` cuts it into "
-             "files")
+    tell_names(demand, offer, names, asked.names)
     if asked.network is None and offer is None:
         tell_what_is_to_do(demand, names, fares)
+    elif offer and (idle := sorted(names[it] for it in offer.products.keys() - set(demand.products))):
+        tell(f"products that nobody asked for in these seasons {len(idle)}: {some_of(idle)}")
     print(text_of(rows), end="")
     return 0
 
@@ -185,9 +184,12 @@ def rows_above(asked: argparse.Namespace, offer: Offer | None, demand: Demand, n
     return [["periods", len(demand.departures), demand.periods]]
 
 
-def tell_names(texts: Sequence[str], names: Mapping[str, str], path: str | None) -> None:
-    """Tells which names were made, or how many if a list at a path has them."""
-    made = [text for text in texts if names[text] != text]
+def tell_names(demand: Demand, offer: Offer | None, names: Mapping[str, str], path: str | None) -> None:
+    """Tells which names were made, or how many if a list at a path has them, and if there are too many for one file."""
+    if len(demand.products) > MOST_PRODUCTS:
+        tell(f"a network file takes {MOST_PRODUCTS} products: with its legs and fares `nrm-tools split` cuts it into "
+             "files")
+    made = [text for text in [*(offer.legs if offer else []), *demand.products] if names[text] != text]
     if path:
         tell(f"names made {len(made)}; {path} lists what they stand for")
     else:
