@@ -10,9 +10,10 @@ from harness import TOP
 from nrm.network import Network
 from seasons.clusters import takes_long
 
-WORDS = ["--departs", "reisetag", "--booked", "gebucht am", "--product", "tarif", "--seats", "personen", "--train", "zug",
-         "--from", "von", "--to", "nach", "--amount", "preis", "--seats-of", "seats.csv", "--id", "buchungsnr.",
-         "--cancels", "vorgang", "--cuts", "45,21,10,4,1", "--names", "names.csv", "--weekday", "fri"]
+WORDS = ["--departs", "reisetag", "--booked", "gebucht am", "--product", "tarif", "--seats", "personen",
+         "--train", "zug", "--from", "von", "--to", "nach", "--amount", "preis", "--seats-of", "seats.csv",
+         "--id", "buchungsnr.", "--cancels", "vorgang", "--cuts", "45,21,10,4,1", "--names", "names.csv",
+         "--weekday", "fri"]
 UNTIL, SEASON = ["--until", "2025-06-13"], ["--stream", "2025-06-20", "stream.txt"]
 
 
@@ -36,13 +37,15 @@ class Made(ExportTest):
         put_in = self.made(*words)
         out, err, status = self.ran("log", "export.csv", *WORDS, "--leave-out", 2, *UNTIL, *SEASON)
         self.assertEqual(status, 0, err)
-        for wanted in (f"rows read {put_in['rows']} of {int(put_in['rows']) + 4} lines; down to the headings 3, empty 0, ",
+        rows = int(put_in["rows"])
+        for wanted in (f"rows read {rows} of {rows + 4} lines; down to the headings 3, empty 0, ",
                        f"rows that are there twice {put_in['twice']}, which count once: line",
                        f"left out: line {put_in['quote in line']} can't be read: a quote is opened in it",
                        f"left out: line {put_in['total in line']}: it has no day of departure\n",
                        f"days between without one: {put_in['departure on']}"):
             self.want_in(err, wanted)
-        self.assertGreaterEqual(int(re.findall(r"as many seats ([0-9]+), which don't count", err)[0]), int(put_in["alone"]))
+        alone = re.findall(r"as many seats ([0-9]+), which don't count", err)[0]
+        self.assertGreaterEqual(int(alone), int(put_in["alone"]), "and the one whose booking has the quote, if there is one")
         path = self.file("network.csv", out)
         network = Network.read(path)
         self.assertEqual(network.histories, 12)
@@ -51,7 +54,21 @@ class Made(ExportTest):
         self.told("thresholds", path, 3, "--names", "names.csv", "--out", "cuts.csv", *self.with_program)
         told = self.told("season", "cuts.csv", "stream.txt", "--names", "names.csv", *self.with_program)
         self.want_in(told, "2301-BOKO-FL: IC 2301 Bonn Hbf - Koblenz Hbf Flexpreis  ")
-        self.assertTrue(any(it.startswith("cancel ") for it in (self.folder / "stream.txt").read_text().splitlines()))
+        self.stream_is_as_it_was(network)
+
+    def stream_is_as_it_was(self, network: Network) -> None:
+        """With room for all, each request is sold and each cancellation is of one that stands; and what stands at the
+        end is what the stream of that alone asks for."""
+        roomy = re.sub("^(leg,[^,]*),.*", r"\1,999", (self.folder / "network.csv").read_text(), flags=re.M)
+        stream = (self.folder / "stream.txt").read_bytes()
+        self.assertIn(b"\ncancel ", stream)
+        path = self.file("roomy.csv", roomy)
+        *replies, last = self.nrm("run", "first", path, given=stream + b"hindsight\n").splitlines()
+        self.assertLessEqual({it.split()[0] for it in replies}, {"ok", "cancelled", "optimised"})
+        net = self.told("log", "export.csv", *WORDS, "--leave-out", 2, "--net", *SEASON[:2]).splitlines()
+        asked = [it.split()[1:] for it in net if it.startswith("book ")]
+        revenue = sum(network.products[product].fare * int(seats) for product, seats in asked)
+        self.want_in(last, f" revenue {revenue} withheld 0")
 
     def test_goes_to_a_season(self) -> None:
         self.goes_to_a_season("--fridays", "--a-day", 110, "--trains", 2, "--of-a-train", 30)
