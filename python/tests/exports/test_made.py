@@ -45,7 +45,7 @@ class Made(ExportTest):
                        f"days between without one: {put_in['departure on']}"):
             self.want_in(err, wanted)
         alone = re.findall(r"as many seats ([0-9]+), which don't count", err)[0]
-        self.assertGreaterEqual(int(alone), int(put_in["alone"]), "and the one whose booking has the quote, if there is one")
+        self.assertGreaterEqual(int(alone), int(put_in["alone"]), "and that of the booking with the quote, if any")
         path = self.file("network.csv", out)
         network = Network.read(path)
         self.assertEqual(network.histories, 12)
