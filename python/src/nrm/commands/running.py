@@ -1,6 +1,6 @@
 """How a command begins and ends: its words, its status, and how a mistake, a closed pipe or Ctrl-C is told.
 
-May use: nrm, nrm.telling.libraries.
+May use: nrm, nrm.logs.names, nrm.telling.libraries.
 """
 from __future__ import annotations
 
@@ -12,6 +12,7 @@ import sys
 from typing import Callable, Sequence
 
 from nrm import Stop
+from nrm.logs.names import texts_in
 from nrm.telling.libraries import is_there, missing
 
 TOOLS = "nrm-tools"
@@ -40,6 +41,14 @@ def add_names(words: argparse.ArgumentParser) -> None:
     """The option for what names stand for, among the words of a command."""
     words.add_argument("--names", metavar="FILE",
                        help="a list of what names stand for, as `nrm-tools log` writes it: its texts stand beside them")
+
+
+def asked_with_texts(words: argparse.ArgumentParser, given: Sequence[str]) -> tuple[argparse.Namespace, dict[str, str]]:
+    """What the words ask of a program, and what names stand for."""
+    add_names(words)
+    add_program(words)
+    asked = words.parse_args(given)
+    return asked, texts_in(asked.names)
 
 
 def status_of(name: str, run: Run, words: Sequence[str]) -> int:

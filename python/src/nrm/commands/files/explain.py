@@ -38,13 +38,13 @@ def run(given: Sequence[str]) -> int:
     return explain(asked.network, asked.certificate, texts_in(asked.names))
 
 
-def explain(path: str, certificate: str | None, texts: Mapping[str, str]) -> int:
+def explain(path: str, certificate: str | None = None, texts: Mapping[str, str] | None = None) -> int:
     """Tells what is wrong with the files at two paths, and gives the status."""
     data = bytes_of(path, "refused no file")
     refusals = refusals_of(data)
     for refusal in refusals:
-        named = dict.fromkeys(it for it in refusal.row.fields[1:] if it in texts)
-        print(*refusal.lines(), *(f"    {with_text(it, texts)}" for it in named), sep="\n")
+        named = [with_text(it, texts) for it in dict.fromkeys(refusal.row.fields[1:]) if texts and it in texts]
+        print(*refusal.lines(), *(f"    {it}" for it in named), sep="\n")
     if refusals:
         print(f"{path}: rows refused {len(refusals)}{'; the certificate was not read' if certificate else ''}")
         return REFUSED

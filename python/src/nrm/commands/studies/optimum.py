@@ -26,8 +26,7 @@ from __future__ import annotations
 
 from typing import Sequence
 
-from nrm.commands.running import add_names, add_program, lacking, parser
-from nrm.logs.names import texts_in
+from nrm.commands.running import asked_with_texts, lacking, parser
 from nrm.program import Program
 from nrm.studies.classes import LegAlone, remarks, tables
 
@@ -38,10 +37,7 @@ def run(given: Sequence[str]) -> int:
     words.add_argument("network")
     words.add_argument("leg", metavar="LEG")
     words.add_argument("--out", metavar="FOLDER")
-    add_names(words)
-    add_program(words)
-    asked = words.parse_args(given)
-    texts = texts_in(asked.names)
+    asked, texts = asked_with_texts(words, given)
     leg = LegAlone(asked.network, asked.leg, Program.found(asked.program))
     emsr = leg.emsr()
     for table in tables(leg, emsr):

@@ -27,8 +27,7 @@ import os
 from typing import Iterator, Sequence
 
 from nrm import make_folder
-from nrm.commands.running import add_names, add_program, lacking, parser
-from nrm.logs.names import texts_in
+from nrm.commands.running import asked_with_texts, lacking, parser
 from nrm.program import Program
 from nrm.studies.course import Season, page, tables
 from nrm.telling.page import write
@@ -42,10 +41,7 @@ def run(given: Sequence[str]) -> int:
     words.add_argument("--out", metavar="FOLDER", default=".")
     words.add_argument("--leg")
     words.add_argument("--decimal", action="store_true")
-    add_names(words)
-    add_program(words)
-    asked = words.parse_args(given)
-    texts = texts_in(asked.names)
+    asked, texts = asked_with_texts(words, given)
     season = Season.played(asked.network, asked.stream, asked.leg, Program.found(asked.program), texts)
     told = [it.with_texts(texts) for it in tables(season, asked.decimal)]
     print("Each point of the season is behind a line of the stream:",

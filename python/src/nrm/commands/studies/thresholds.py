@@ -24,9 +24,8 @@ from __future__ import annotations
 
 from typing import Mapping, Sequence
 
-from nrm.commands.running import add_names, add_program, lacking, parser
+from nrm.commands.running import asked_with_texts, lacking, parser
 from nrm.limits import MOST_GROUPS
-from nrm.logs.names import texts_in
 from nrm.network import Network, fields_in, number, text_of, with_thresholds
 from nrm.program import Program
 from nrm.studies.groupings import Grouping, groupings, table_of
@@ -40,10 +39,7 @@ def run(given: Sequence[str]) -> int:
     words.add_argument("groups", type=number, choices=range(1, MOST_GROUPS + 1), metavar="GROUPS")
     words.add_argument("--out", metavar="FILE")
     words.add_argument("--pictures", metavar="FOLDER")
-    add_names(words)
-    add_program(words)
-    asked = words.parse_args(given)
-    texts = texts_in(asked.names)
+    asked, texts = asked_with_texts(words, given)
     network, rows = Network.read(asked.network), fields_in(asked.network)
     found = list(groupings(asked.network, network, asked.groups, Program.found(asked.program)))
     table_of(found, asked.groups).with_texts(texts).show()
