@@ -7,7 +7,9 @@ those beside a running session. May use: all but audit, which stands alone and i
 from __future__ import annotations
 
 NAMED = {
+    "asked": "nrm.commands.files.asked",
     "audit": "nrm.audit",
+    "demand": "nrm.commands.files.demand",
     "explain": "nrm.commands.files.explain",
     "log": "nrm.commands.files.log",
     "lp": "nrm.commands.files.lp",

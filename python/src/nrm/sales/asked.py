@@ -1,0 +1,138 @@
+"""What was asked for in the streams of past departures: the lines that sessions were given, sold or not.
+
+May use: nrm, nrm.limits, nrm.network.
+"""
+from __future__ import annotations
+
+import os
+import re
+from collections import Counter
+from dataclasses import dataclass, field
+from typing import Iterable, Iterator, Mapping, Sequence
+
+from nrm import Stop, bytes_in
+from nrm.limits import MOST_DEMAND, MOST_HISTORIES
+from nrm.network import Network
+
+REQUEST = re.compile(rb"book ([A-Z0-9-]{1,12}) ([1-9][0-9]{0,2})\r?")
+NEW_PERIOD = re.compile(rb"reoptimise ([1-9][0-9]?)\r?")
+CANCELLATION = re.compile(rb"cancel (?:0|[1-9][0-9]{0,11})\r?")
+REPORT = re.compile(rb"(?:plan|hindsight|leg [A-Z0-9-]{1,12})?\r?")  # or an empty line, which many desks send
+LINE_NUMBER = re.compile(rb"[1-9][0-9]{0,11}")
+MOST_NAMED = 5
+
+
+@dataclass
+class Asked:
+    """What a stream asked for.
+
+    seats     by product and period
+    requests  how many lines were requests for products that the network has
+    unknown   the seats asked for of products that the network hasn't, by product
+    cancels   how many lines were cancellations
+    void      how many lines changed nothing, as the file beside a journal says
+    others    the lines that are none of a session's, by their numbers
+    backward  the lines that begin no later period of the network, by their numbers
+    """
+    seats: Counter[tuple[str, int]] = field(default_factory=Counter)
+    requests: int = 0
+    unknown: Counter[str] = field(default_factory=Counter)
+    cancels: int = 0
+    void: int = 0
+    others: list[int] = field(default_factory=list)
+    backward: list[int] = field(default_factory=list)
+
+    def told(self, path: str) -> Iterator[str]:
+        """What a stream was read as, and what of it was left out."""
+        left_out = f"; lines left out, of {path}.void, {self.void}" if self.void else ""
+        yield (f"{path}: requests {self.requests}, seats {sum(self.seats.values())}; cancellations passed over "
+               f"{self.cancels}{left_out}")
+        if self.unknown:
+            names = sorted(self.unknown)
+            yield (f"{path}: seats left out {sum(self.unknown.values())}, of products that the network hasn't: "
+                   f"{', '.join(names[:MOST_NAMED])}{', ..' if names[MOST_NAMED:] else ''}")
+        for lines, which, why in ((self.others, "left out", "are none of a session"),
+                                  (self.backward, "`reoptimise` passed over", "begin no later period of the network")):
+            if lines:
+                yield f"{path}: lines {which} {len(lines)}, which {why}; the first is line {lines[0]}"
+
+
+def asked_in(path: str, network: Network) -> Asked:
+    """What the stream at a path asked for."""
+    void, asked, period = void_lines(path), Asked(), 1
+    bytes_in(path, 1)  # a Stop if it isn't there
+    with open(path, "rb") as stream:
+        for number, line in enumerate(stream, 1):
+            line = line[:-1] if line.endswith(b"\n") else line
+            if number in void:
+                asked.void += 1
+            elif found := NEW_PERIOD.fullmatch(line):
+                new = int(found[1])
+                if period < new <= network.periods:
+                    period = new
+                elif new != period:
+                    asked.backward.append(number)
+            elif found := REQUEST.fullmatch(line):
+                take_request(asked, found[1].decode(), period, int(found[2]), network)
+            elif CANCELLATION.fullmatch(line):
+                asked.cancels += 1
+            elif not REPORT.fullmatch(line):
+                asked.others.append(number)
+    return asked
+
+
+def take_request(asked: Asked, product: str, period: int, seats: int, network: Network) -> None:
+    """Takes a request."""
+    if product in network.products:
+        asked.seats[product, period] += seats
+        asked.requests += 1
+    else:
+        asked.unknown[product] += seats
+
+
+def void_lines(path: str) -> set[int]:
+    """The numbers of the lines of a journal that changed nothing, as the file beside it says; none where there is no
+    such file."""
+    beside = f"{path}.void"
+    if not os.path.exists(beside):
+        return set()
+    lines = bytes_in(beside).split(b"\n")
+    for at, line in enumerate(lines[:-1], 1):
+        if not LINE_NUMBER.fullmatch(line):
+            raise Stop(f"{beside}: line {at} is no number of a line of {path}")
+    return set(map(int, lines[:-1]))
+
+
+def histories_of(network: Network, asked: Sequence[Asked]) -> list[Mapping[str, Sequence[int]]]:
+    """What each of some streams asked for, by product, in each period."""
+    periods = range(1, network.periods + 1)
+    return [{name: [it.seats[name, period] for period in periods] for name in network.products} for it in asked]
+
+
+def histories_in(network: Network) -> list[Mapping[str, Sequence[int]]]:
+    """What the histories of a network asked for, likewise."""
+    none = (0,) * network.periods
+    return [{name: it.demand.get(history, none) for name, it in network.products.items()}
+            for history in range(1, network.histories + 1)]
+
+
+def rows_with(network: Network, histories: Sequence[Mapping[str, Sequence[int]]]) -> Iterator[list[object]]:
+    """The rows of a network with other histories in the place of its own."""
+    if len(histories) > MOST_HISTORIES:
+        raise Stop(f"these are {len(histories)} histories, and a network file takes {MOST_HISTORIES}: name fewer, "
+                   f"or say --last {MOST_HISTORIES} for the latest")
+    for row in network.rows():
+        if row[0] != "demand":
+            yield [row[0], len(histories), *row[2:]] if row[0] == "periods" else row
+    yield from rows_of_demand(network.products, histories)
+
+
+def rows_of_demand(products: Iterable[str], histories: Sequence[Mapping[str, Sequence[int]]]) -> Iterator[list[object]]:
+    """The rows of demand that histories make."""
+    for name in products:
+        for number, history in enumerate(histories, 1):
+            if sum(history[name]) > MOST_DEMAND:
+                raise Stop(f"{name} was asked for {sum(history[name])} seats in history {number}, and a row of demand "
+                           f"takes {MOST_DEMAND}: make two products of it")
+            if any(history[name]):
+                yield ["demand", name, number, *history[name]]
