@@ -1,0 +1,181 @@
+"""The feedback loop: each season is planned from what was sold in the one before, with the estimate of demand and
+without it.
+
+    bench/loop.py NETWORK [--mode MODE] [--demand KIND] [--scale X] [--down P] [--again P] [--runs N] [--seasons N]
+                  [--warm N] [--departures N] [--seed S] [--cuts DAYS,DAYS..] [--program WORD...]
+
+A season is some departures, ten if not said, sold under plans of one network file. The first file is made of as many
+departures' requests, each later one of what a way makes of the season before: of the requests, sold or not; of the
+sales as they are; of the `estimate` of `nrm-tools demand`; or of that with the file of the season `before`. All ways
+get the same customers. KIND is poisson, factor or rough: bench/departures.py says what they are. Told are, of the
+seasons behind the first --warm ones, what a departure earns in each way beside plans of the requests, how much of what
+the sales lose is regained, and how far the demand of dear and of cheap products is off.
+
+Of the customers the share of --down takes the cheapest open product of the journey, if it is no dearer than the one
+that they want, and the share of --again asks for the next dearer one if that is refused. Then the way `wanted` plans
+by what they wanted first, which nobody knows.
+"""
+import datetime
+import itertools
+import math
+import random
+import statistics
+import sys
+import tempfile
+import time
+from collections import Counter
+from dataclasses import dataclass
+
+from departures import Board, Clock, Demand, add_departures, counted
+from nrm import Stop
+from nrm.estimates.days import estimated
+from nrm.estimates.products import known_of
+from nrm.estimates.results import copies_of, drawn
+from nrm.logs import demand as logs
+from nrm.logs.requests import Request
+from nrm.network import Network, whole
+from nrm.program import Program
+from nrm.sales.closures import END_OF_DEPARTURE, Closure
+from nrm.sales.sale import Calendar
+from nrm.sales.sale import Sale as LoggedSale
+from running import end, parser
+from sold import FIRST
+
+WAYS = ("requests", "wanted", "sales", "estimate", "before")
+OPENS = 90
+WEEK = 7
+
+
+@dataclass(frozen=True)
+class Played:
+    """What a departure earned on the mean, and the demand that was reckoned with, by product."""
+    revenue: float
+    demand: dict
+
+
+class Loop:
+    """What stays the same in all seasons. A season is a list of sales."""
+
+    def __init__(self, given, folder):
+        self.network, self.given = Network.read(given.network), given
+        self.demand = Demand(self.network, given)
+        self.clock = Clock(self.network, given.cuts, OPENS)
+        self.board = Board(self.network, Program.found(given.program), given.mode, folder)
+        self.ways = WAYS if given.down or given.again else [it for it in WAYS if it != "wanted"]
+
+    def departures(self):
+        """The customers of a season's departures."""
+        return [self.demand.departure(self.draw) for _ in range(self.given.departures)]
+
+    def log(self, sales):
+        """The bookings and the closures of a season, as a log has them, to the day and to the moment."""
+        requests, closures = [], []
+        for number, sale in enumerate(sales):
+            departs = FIRST.date() + datetime.timedelta(WEEK * number)
+            for at, (asked, sold) in enumerate(zip(sale.asked, sale.sold)):
+                for u, name in itertools.compress(asked, sold):
+                    requests.append(Request(departs, -math.floor(self.clock.moment((at, u))), name, 1))
+            for name, since, until in sale.closures():
+                ends = self.clock.moment(until) if until else END_OF_DEPARTURE
+                closures.append(Closure(departs, name, self.clock.moment(since), ends))
+        return requests, closures
+
+    def estimate(self, sales, earlier, seed):
+        """Histories of the estimate of a season, which may know the file of an earlier network."""
+        requests, closures = self.log(sales)
+        sale = LoggedSale(requests, logs.Demand(requests, self.given.cuts), closures)
+        known = known_of(sale, {it: it for it in sale.products}, self.given.network, earlier, False)
+        rates = estimated(sale, Calendar(self.given.cuts, OPENS), known)
+        made = dict(zip(sale.products, drawn(rates, copies_of(len(sale.departures), None), seed)))
+        none = [[0] * self.network.periods] * len(next(iter(made.values())))
+        histories = zip(*(made.get(it, none) for it in self.network.products))
+        return [dict(zip(self.network.products, it)) for it in histories]
+
+    def histories_after(self, way, season, sales, number):
+        """The histories by which a way plans the season after one."""
+        if way == "wanted":
+            return [counted(self.network, it) for it in season]
+        if way in ("requests", "sales"):
+            return [counted(self.network, it.asked, it.sold if way == "sales" else None) for it in sales]
+        return self.estimate(sales, self.board.path if way == "before" and number else None, number)
+
+    def run(self, number):
+        """Plays all seasons in each way."""
+        self.draw = random.Random(f"{self.given.seed} {number}")
+        first = [counted(self.network, it) for it in self.departures()]
+        seasons = [self.departures() for _ in range(self.given.seasons)]
+        return {way: self.played(way, first, seasons) for way in self.ways}
+
+    def played(self, way, histories, seasons):
+        """What a way makes of seasons, the first of which is planned by some histories."""
+        revenues, told = [], Counter()
+        for number, season in enumerate(seasons):
+            self.board.plan_by(histories)
+            sales = [self.board.sell(it) for it in season]
+            histories = self.histories_after(way, season, sales, number)
+            if number >= self.given.warm:
+                revenues.append(statistics.mean(it.revenue for it in sales))
+                told.update({it: statistics.mean(sum(h[it]) for h in histories) for it in self.network.products})
+        return Played(statistics.mean(revenues), {name: told[name] / len(revenues) for name in self.network.products})
+
+
+def words_given():
+    words = parser(__doc__)
+    add_departures(words)
+    words.add_argument("--runs", type=whole, default=1)
+    words.add_argument("--seasons", type=whole, default=20)
+    words.add_argument("--warm", type=whole, default=5)
+    given = words.parse_args()
+    if given.mode == "first":
+        raise Stop("--mode first makes no plans, so it earns the same by all")
+    if not given.warm < given.seasons:
+        raise Stop(f"--warm {given.warm}: fewer than the {given.seasons} seasons are wanted")
+    return given
+
+
+def error_of(values):
+    """The standard error of a mean."""
+    return statistics.stdev(values) / len(values) ** 0.5 if len(values) > 1 else float("inf")
+
+
+def tell(loop, results):
+    """Prints a line for each way."""
+    earned = {way: [it[way].revenue for it in results] for way in loop.ways}
+    lost = [a - b for a, b in zip(earned["requests"], earned["sales"])]
+    best = statistics.mean(earned["requests"]) / 100
+    print(f"{loop.given.mode}, {loop.given.demand}: by requests a departure earns {100 * best:.0f}")
+    for way in loop.ways[1:]:
+        more, less = ([a - b for a, b in zip(earned[way], earned[other])] for other in ("sales", "requests"))
+        mean_lost = statistics.mean(lost) or math.nan
+        share = statistics.mean(more) / mean_lost
+        spread = error_of([a - share * b for a, b in zip(more, lost)]) / abs(mean_lost)
+        dear, cheap = (off(loop, results, way, it) for it in (True, False))
+        print(f"by {way}: beside requests {statistics.mean(less) / best:.2f} +- {error_of(less) / best:.2f} %, "
+              f"regained {100 * share:.0f} +- {100 * spread:.0f} %; demand off by {dear:.1f} % of dear and "
+              f"{cheap:.1f} % of cheap products")
+
+
+def off(loop, results, way, dear):
+    """By how many per cent the demand of the dear or the cheap products is off in a way."""
+    products = [it for it in loop.network.products if (it in loop.demand.dear) == dear]
+    told, wanted = (sum(it[which].demand[name] for it in results for name in products) for which in (way, "requests"))
+    return 100 * (told / wanted - 1)
+
+
+def main():
+    given = words_given()
+    begun = time.perf_counter()
+    with tempfile.TemporaryDirectory() as folder:
+        loop = Loop(given, folder)
+        results = []
+        for number in range(given.runs):
+            results.append(loop.run(number))
+            earned = ", ".join(f"{way} {it.revenue:.0f}" for way, it in results[-1].items())
+            print(f"run {number + 1}: a departure earns by {earned}", file=sys.stderr, flush=True)
+    tell(loop, results)
+    departures = len(loop.ways) * given.runs * given.seasons * given.departures
+    print(f"runs {given.runs}, departures {departures}, seconds {time.perf_counter() - begun:.0f}")
+
+
+if __name__ == "__main__":
+    end(main)
