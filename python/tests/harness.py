@@ -6,7 +6,9 @@ line of the run tells.
 """
 from __future__ import annotations
 
+import contextlib
 import functools
+import io
 import os
 import shlex
 import subprocess
@@ -18,6 +20,7 @@ from pathlib import Path
 from typing import Callable, NamedTuple, TypeVar
 
 from nrm import Stop
+from nrm.__main__ import main
 from nrm.program import Program
 from nrm.telling.libraries import is_there
 
@@ -137,3 +140,21 @@ class PlaceTest(unittest.TestCase):
         done = self.finished(*self.program.words, *words, input=given)
         self.assertEqual(done.status, status, f"nrm {words}")
         return done.out
+
+
+class WithinTest(PlaceTest):
+    """A test whose commands run within this process, since they are many."""
+
+    def setUp(self) -> None:
+        super().setUp()
+        self.addCleanup(os.chdir, os.getcwd())
+        os.chdir(self.folder)
+
+    def ran(self, name: str, *words: object, **more: object) -> Done:
+        """A command that was run in the folder."""
+        if more:
+            return super().ran(name, *words, **more)
+        out, err = io.StringIO(), io.StringIO()
+        with contextlib.redirect_stdout(out), contextlib.redirect_stderr(err):
+            status = main([name, *map(str, words)])
+        return Done(out.getvalue(), err.getvalue(), status)

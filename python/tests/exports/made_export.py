@@ -1,12 +1,7 @@
 """An export by hand: a line of three stops and two classes, with its seats, and the words with which it is read."""
 from __future__ import annotations
 
-import contextlib
-import io
-import os
-
-from harness import Done, PlaceTest
-from nrm.__main__ import main
+from harness import Done, WithinTest
 
 HEADS = "No;Status;Booked;Departs;Train;From;To;Class;Seats;Price\n"
 BOOKINGS = """1;sold;2025-03-01 10:00;2025-03-07;;Aachen;Bonn;Flex;1;40,00 €
@@ -34,20 +29,8 @@ demand,BON-CAS-SAVE,2,0,1
 """
 
 
-class ExportTest(PlaceTest):
-    """A test that reads exports, within this process, since there are many."""
-
-    def setUp(self) -> None:
-        super().setUp()
-        self.addCleanup(os.chdir, os.getcwd())
-        os.chdir(self.folder)
-
-    def ran(self, name: str, *words: object, **more: object) -> Done:
-        """A command that was run in the folder."""
-        out, err = io.StringIO(), io.StringIO()
-        with contextlib.redirect_stdout(out), contextlib.redirect_stderr(err):
-            status = main([name, *map(str, words)])
-        return Done(out.getvalue(), err.getvalue(), status)
+class ExportTest(WithinTest):
+    """A test that reads exports."""
 
     def read(self, *words: str, rows: str = BOOKINGS, heads: str = HEADS) -> Done:
         """What is made of the whole of an export."""
