@@ -28,6 +28,7 @@ from dataclasses import dataclass
 
 from departures import Board, Clock, Demand, add_departures, counted
 from nrm import Stop
+from nrm.commands.running import parser
 from nrm.estimates.days import estimated
 from nrm.estimates.products import known_of
 from nrm.estimates.results import copies_of, drawn
@@ -38,7 +39,7 @@ from nrm.program import Program
 from nrm.sales.closures import END_OF_DEPARTURE, Closure
 from nrm.sales.sale import Calendar
 from nrm.sales.sale import Sale as LoggedSale
-from running import end, parser
+from running import NAME, end
 from sold import FIRST
 
 WAYS = ("requests", "wanted", "sales", "estimate", "before")
@@ -120,7 +121,7 @@ class Loop:
 
 
 def words_given():
-    words = parser(__doc__)
+    words = parser(NAME, __doc__)
     add_departures(words)
     words.add_argument("--runs", type=whole, default=1)
     words.add_argument("--seasons", type=whole, default=20)

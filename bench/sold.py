@@ -16,16 +16,17 @@ import random
 
 from departures import Board, Clock, Demand, add_departures, counted
 from nrm import make_folder
+from nrm.commands.running import parser
 from nrm.network import Network, whole
 from nrm.program import Program
-from running import end, parser
+from running import NAME, end
 
 FIRST = datetime.datetime(2025, 3, 7)
 HEADS = ["Booked on", "Departure", "Product", "Seats"]
 
 
 def words_given():
-    words = parser(__doc__)
+    words = parser(NAME, __doc__)
     add_departures(words)
     words.add_argument("folder")
     words.add_argument("--opens", type=whole, default=90)
