@@ -1,5 +1,5 @@
-"""The package of the tools, as it stands in this checkout, for the scripts beside this folder: they run as they are written, from any
-folder, and write no path. Its modules are those of `python/src/nrm`."""
+"""The package of the tools, as it stands in this checkout, for the scripts beside this folder: they run as they are
+written, from any folder, and write no path. Its modules are those of `python/src/nrm`."""
 from pathlib import Path
 
 OWN = Path(__file__).resolve().parents[2] / "python" / "src" / "nrm"
