@@ -11,7 +11,7 @@ use Rattle.nrm_keeper.specs.Rows.{Lists}
 use Rattle.nrm_keeper.specs.Stored.{told}
 use Rattle.nrm_keeper.specs.File.{Seen, FileRows, seen, file_view, rows_in, shown_in, IsSteadyIfOpen, IsTrusted, Across, Same, Done, Failed, ListsIn}
 use Rattle.nrm_keeper.specs.Steady.{IsSteady}
-use Rattle.nrm_keeper.specs.Inner.Passes.{Passes, TellsNone}
+use Rattle.nrm_keeper.specs.Inner.Passes.{Passes, TellsRows}
 
 both : (a b : Bool) → IsTrue (a && b) → IsTrue a × IsTrue b
 both true true h = (refl, refl)
@@ -23,181 +23,183 @@ and_back true true h k = refl
 and_back true false h k = absurd (cc)
 and_back false b h k = absurd (cc)
 
--- the file as it is taken to be, before and after
-pub shown_across : (P : Option (List KeptRow) → Option (List KeptRow) → Type 0) (old new : Option Seen) → IsSome new → Across P old new → IsSteadyIfOpen new
-    → IsSteadyIfOpen old × P (rows_in old) (rows_in new)
-shown_across P old None there h steady = absurd (cc)
-shown_across P None (Some new) there h steady = (tt, h steady)
-shown_across P (Some old) (Some new) there h steady = h steady
+-- over a file that held these rows as it was first opened
+module _ (at_first : Option (List KeptRow)) where
+  -- the file as it is taken to be, before and after
+  pub shown_across : (P : Option (List KeptRow) → Option (List KeptRow) → Type 0) (old new : Option Seen) → IsSome new → Across at_first P old new → IsSteadyIfOpen new
+      → IsSteadyIfOpen old × P (rows_in at_first old) (rows_in at_first new)
+  shown_across P old None there h steady = absurd (cc)
+  shown_across P None (Some new) there h steady = (tt, h steady)
+  shown_across P (Some old) (Some new) there h steady = h steady
 
-pub same_across : (old new : Option Seen) → Across Same old new → IsSteadyIfOpen new → IsSteadyIfOpen old × Same (rows_in old) (rows_in new)
-same_across None None h steady = (tt, refl)
-same_across (Some old) None h steady = absurd h
-same_across None (Some new) h steady = (tt, h steady)
-same_across (Some old) (Some new) h steady = h steady
+  pub same_across : (old new : Option Seen) → Across at_first Same old new → IsSteadyIfOpen new → IsSteadyIfOpen old × Same (rows_in at_first old) (rows_in at_first new)
+  same_across None None h steady = (tt, refl)
+  same_across (Some old) None h steady = absurd h
+  same_across None (Some new) h steady = (tt, h steady)
+  same_across (Some old) (Some new) h steady = h steady
 
--- of a call that was done
-pub shown_done : (P : Option (List KeptRow) → Option (List KeptRow) → Type 0) (old new : FileRows) → Done P old new → IsTrusted new → IsTrusted old × P (shown_in old) (shown_in new)
-shown_done P old new d it = let s = shown_across P old.file new.file (d.there it.found) d.rows it.steady in (record { found = sym d.lost ∙ it.found; steady = s.0 }, s.1)
+  -- of a call that was done
+  pub shown_done : (P : Option (List KeptRow) → Option (List KeptRow) → Type 0) (old new : FileRows) → Done at_first P old new → IsTrusted new → IsTrusted old × P (shown_in at_first old) (shown_in at_first new)
+  shown_done P old new d it = let s = shown_across P old.file new.file (d.there it.found) d.rows it.steady in (record { found = sym d.lost ∙ it.found; steady = s.0 }, s.1)
 
-found_before : (old new : Bool) → (old ≡ true → new ≡ true) → new ≡ false → old ≡ false
-found_before true new h found = absurd (let t = h refl in cc)
-found_before false new h found = refl
+  found_before : (old new : Bool) → (old ≡ true → new ≡ true) → new ≡ false → old ≡ false
+  found_before true new h found = absurd (let t = h refl in cc)
+  found_before false new h found = refl
 
--- and of one that failed
-pub shown_failed : (old new : FileRows) → Failed old new → IsTrusted new → IsTrusted old × Same (shown_in old) (shown_in new)
-shown_failed old new f it =
-    let s = same_across old.file new.file (f.rows it.found) it.steady in (record { found = found_before old.is_lost new.is_lost f.lost it.found; steady = s.0 }, s.1)
+  -- and of one that failed
+  pub shown_failed : (old new : FileRows) → Failed at_first old new → IsTrusted new → IsTrusted old × Same (shown_in at_first old) (shown_in at_first new)
+  shown_failed old new f it =
+      let s = same_across old.file new.file (f.rows it.found) it.steady in (record { found = found_before old.is_lost new.is_lost f.lost it.found; steady = s.0 }, s.1)
 
--- a call that changes rows, by its answer
-pub shown_change : (P : Option (List KeptRow) → Option (List KeptRow) → Type 0) (old new : FileRows) (r : Result (Unit {0}) KeepFault) → OnOk r (Done P old new) → OnErr r (Failed old new)
-    → IsTrusted new → IsTrusted old × OnOk r (P (shown_in old) (shown_in new)) × OnErr r (shown_in new ≡ shown_in old)
-shown_change P old new (Ok x) d f it = let s = shown_done P old new d it in (s.0, s.1, tt)
-shown_change P old new (Err e) d f it = let s = shown_failed old new f it in (s.0, tt, s.1)
+  -- a call that changes rows, by its answer
+  pub shown_change : (P : Option (List KeptRow) → Option (List KeptRow) → Type 0) (old new : FileRows) (r : Result (Unit {0}) KeepFault) → OnOk r (Done at_first P old new) → OnErr r (Failed at_first old new)
+      → IsTrusted new → IsTrusted old × OnOk r (P (shown_in at_first old) (shown_in at_first new)) × OnErr r (shown_in at_first new ≡ shown_in at_first old)
+  shown_change P old new (Ok x) d f it = let s = shown_done P old new d it in (s.0, s.1, tt)
+  shown_change P old new (Err e) d f it = let s = shown_failed old new f it in (s.0, tt, s.1)
 
--- and one that lists them
-pub shown_list : (old new : FileRows) (r : Result (Vec KeptRow Global) KeepFault) → IfOk r (λ list. Done (λ before after. Same before after × Lists list.items before) old new)
-    → OnErr r (Failed old new) → IsTrusted new → IsTrusted old × (shown_in new ≡ shown_in old) × IfOk r (λ list. Lists list.items (shown_in new))
-shown_list old new (Ok list) d f it =
-    let s = shown_done (λ before after. Same before after × Lists list.items before) old new d it in
-    (s.0, s.1.0, subst (λ (r : Option (List KeptRow)). Lists list.items r) (sym s.1.0) s.1.1)
-shown_list old new (Err e) d f it = let s = shown_failed old new f it in (s.0, s.1, tt)
+  -- and one that lists them
+  pub shown_list : (old new : FileRows) (r : Result (Vec KeptRow Global) KeepFault) → IfOk r (λ list. Done at_first (λ before after. Same before after × Lists list.items before) old new)
+      → OnErr r (Failed at_first old new) → IsTrusted new → IsTrusted old × (shown_in at_first new ≡ shown_in at_first old) × IfOk r (λ list. Lists list.items (shown_in at_first new))
+  shown_list old new (Ok list) d f it =
+      let s = shown_done (λ before after. Same before after × Lists list.items before) old new d it in
+      (s.0, s.1.0, subst (λ (r : Option (List KeptRow)). Lists list.items r) (sym s.1.0) s.1.1)
+  shown_list old new (Err e) d f it = let s = shown_failed old new f it in (s.0, s.1, tt)
 
--- a call after which the file is lost
-pub lost_failed : (old new : FileRows) → new.is_lost ≡ true → Failed old new
-lost_failed old new lost = record { lost = λ was. lost; rows = λ found. absurd (let l = lost in cc) }
+  -- a call after which the file is lost
+  pub lost_failed : (old new : FileRows) → new.is_lost ≡ true → Failed at_first old new
+  lost_failed old new lost = record { lost = λ was. lost; rows = λ found. absurd (let l = lost in cc) }
 
-pub answer_failed : {T : Type 0} (old new : FileRows) (r : Result T KeepFault) → OnErr r (new.is_lost ≡ true) → OnErr r (Failed old new)
-answer_failed old new (Ok x) lost = tt
-answer_failed old new (Err e) lost = lost_failed old new lost
+  pub answer_failed : {T : Type 0} (old new : FileRows) (r : Result T KeepFault) → OnErr r (new.is_lost ≡ true) → OnErr r (Failed at_first old new)
+  answer_failed old new (Ok x) lost = tt
+  answer_failed old new (Err e) lost = lost_failed old new lost
 
--- of three views, the rows of the first two being the same
-pub compose : (P : Option (List KeptRow) → Option (List KeptRow) → Type 0) (a b c : Option Seen) → Across Same a b → Across P b c → Across P a c
-compose P None None c h k = k
-compose P None (Some b) None h k = tt
-compose P None (Some b) (Some c) h k = λ steady. let s = k steady in subst (λ (r : Option (List KeptRow)). P r c.rows) (h s.0) s.1
-compose P (Some a) None c h k = absurd h
-compose P (Some a) (Some b) None h k = k
-compose P (Some a) (Some b) (Some c) h k = λ steady. let s = k steady in let t = h s.0 in (t.0, subst (λ (r : Option (List KeptRow)). P r c.rows) t.1 s.1)
+  -- of three views, the rows of the first two being the same
+  pub compose : (P : Option (List KeptRow) → Option (List KeptRow) → Type 0) (a b c : Option Seen) → Across at_first Same a b → Across at_first P b c → Across at_first P a c
+  compose P None None c h k = k
+  compose P None (Some b) None h k = tt
+  compose P None (Some b) (Some c) h k = λ steady. let s = k steady in subst (λ (r : Option (List KeptRow)). P r c.rows) (h s.0) s.1
+  compose P (Some a) None c h k = absurd h
+  compose P (Some a) (Some b) None h k = k
+  compose P (Some a) (Some b) (Some c) h k = λ steady. let s = k steady in let t = h s.0 in (t.0, subst (λ (r : Option (List KeptRow)). P r c.rows) t.1 s.1)
 
-module _ {S : Type 0} (g : Ghosts S) where
-  steadied : (h : Held S) → IsTrue (seen g h).is_steady → IsSteady (state g h)
-  unfolding seen
-  steadied h is = let b = both (state g h).is_clean (state g h).is_open is in record { clean = no_doubt (state g h).is_clean b.0; live = b.1 }
+  module _ {S : Type 0} (g : Ghosts S) where
+    steadied : (h : Held S) → IsTrue (seen g h).is_steady → IsSteady (state g h)
+    unfolding seen
+    steadied h is = let b = both (state g h).is_clean (state g h).is_open is in record { clean = no_doubt (state g h).is_clean b.0; live = b.1 }
 
-  unsteadied : (h : Held S) → IsSteady (state g h) → IsTrue (seen g h).is_steady
-  unfolding seen
-  unsteadied h is = and_back (state g h).is_clean (state g h).is_open (clean_of (state g h).is_clean is.clean) is.live
+    unsteadied : (h : Held S) → IsSteady (state g h) → IsTrue (seen g h).is_steady
+    unfolding seen
+    unsteadied h is = and_back (state g h).is_clean (state g h).is_open (clean_of (state g h).is_clean is.clean) is.live
 
-  -- two connections, the rows of the first two being the same
-  pub passes_on : (P : Option (List KeptRow) → Option (List KeptRow) → Type 0) (a b c : Option (Held S)) → Passes g Same a b → Passes g P b c → Passes g P a c
-  passes_on P None None c h k = k
-  passes_on P None (Some b) c h k = absurd (cc)
-  passes_on P (Some a) None c h k = absurd h
-  passes_on P (Some a) (Some b) None h k = k
-  passes_on P (Some a) (Some b) (Some c) h k = λ steady. let s = k steady in let t = h s.0 in (t.0, subst (λ (r : Option (List KeptRow)). P r (told (state g c).now)) t.1 s.1)
+    -- two connections, the rows of the first two being the same
+    pub passes_on : (P : Option (List KeptRow) → Option (List KeptRow) → Type 0) (a b c : Option (Held S)) → Passes g Same a b → Passes g P b c → Passes g P a c
+    passes_on P None None c h k = k
+    passes_on P None (Some b) c h k = absurd (cc)
+    passes_on P (Some a) None c h k = absurd h
+    passes_on P (Some a) (Some b) None h k = k
+    passes_on P (Some a) (Some b) (Some c) h k = λ steady. let s = k steady in let t = h s.0 in (t.0, subst (λ (r : Option (List KeptRow)). P r (told (state g c).now)) t.1 s.1)
 
-  seen_passes : (P : Option (List KeptRow) → Option (List KeptRow) → Type 0) (o n : Held S) → Passes g P (Some o) (Some n) → Across P (Some (seen g o)) (Some (seen g n))
-  unfolding seen
-  seen_passes P o n h = λ steady. let s = h (steadied n steady) in (unsteadied o s.0, s.1)
+    seen_passes : (P : Option (List KeptRow) → Option (List KeptRow) → Type 0) (o n : Held S) → Passes g P (Some o) (Some n) → Across at_first P (Some (seen g o)) (Some (seen g n))
+    unfolding seen
+    seen_passes P o n h = λ steady. let s = h (steadied n steady) in (unsteadied o s.0, s.1)
 
-  across : (P : Option (List KeptRow) → Option (List KeptRow) → Type 0) (lost : Bool) (old new : Option (Held S)) (f f' : ℕ) → Passes g P old new
-      → Across P (file_view g old lost f).file (file_view g new lost f').file
-  across P true old new f f' h = tt
-  across P false None None f f' h = tt
-  across P false None (Some n) f f' h = absurd (cc)
-  across P false (Some o) None f f' h = h
-  across P false (Some o) (Some n) f f' h = seen_passes P o n h
+    across : (P : Option (List KeptRow) → Option (List KeptRow) → Type 0) (lost : Bool) (old new : Option (Held S)) (f f' : ℕ) → Passes g P old new
+        → Across at_first P (file_view g old lost f).file (file_view g new lost f').file
+    across P true old new f f' h = tt
+    across P false None None f f' h = tt
+    across P false None (Some n) f f' h = absurd (cc)
+    across P false (Some o) None f f' h = h
+    across P false (Some o) (Some n) f f' h = seen_passes P o n h
 
-  pub across_from : (P : Option (List KeptRow) → Option (List KeptRow) → Type 0) (lost : Bool) (old new : Option (Held S)) (f f' : ℕ) (before : FileRows)
-      → file_view g old lost f ≡ before → Passes g P old new → Across P before.file (file_view g new lost f').file
-  across_from P lost old new f f' before is h = subst (λ (v : FileRows). Across P v.file (file_view g new lost f').file) is (across P lost old new f f' h)
+    pub across_from : (P : Option (List KeptRow) → Option (List KeptRow) → Type 0) (lost : Bool) (old new : Option (Held S)) (f f' : ℕ) (before : FileRows)
+        → file_view g old lost f ≡ before → Passes g P old new → Across at_first P before.file (file_view g new lost f').file
+    across_from P lost old new f f' before is h = subst (λ (v : FileRows). Across at_first P v.file (file_view g new lost f').file) is (across P lost old new f f' h)
 
-  there_in : (lost : Bool) (new : Option (Held S)) (f : ℕ) → lost ≡ false → IsSome new → IsSome (file_view g new lost f).file
-  there_in true new f was some = absurd (cc)
-  there_in false None f was some = absurd (cc)
-  there_in false (Some n) f was some = refl
+    there_in : (lost : Bool) (new : Option (Held S)) (f : ℕ) → lost ≡ false → IsSome new → IsSome (file_view g new lost f).file
+    there_in true new f was some = absurd (cc)
+    there_in false None f was some = absurd (cc)
+    there_in false (Some n) f was some = refl
 
-  -- of a file that was shut and is opened
-  across_opened : (new : Option (Held S)) → TellsNone g new → Across Same None (option_map (seen g) new)
-  unfolding seen
-  across_opened None h = tt
-  across_opened (Some n) h = λ steady. h (steadied n steady)
+    -- of a file that was shut and is opened
+    across_opened : (new : Option (Held S)) → TellsRows g at_first new → Across at_first Same None (option_map (seen g) new)
+    unfolding seen
+    across_opened None h = tt
+    across_opened (Some n) h = λ steady. h (steadied n steady)
 
-  -- a file that is open after the connection was opened if it was shut, and then undid what was in doubt, if anything was
-  pub settled_by : (lost : Bool) (old mid new : Option (Held S)) (f f' : ℕ) (before : FileRows) → file_view g old lost f ≡ before → (IsSome old → mid ≡ old) → (old ≡ None → TellsNone g mid)
-      → IsSome mid → (lost ≡ false → new ≡ mid) → Done Same before (file_view g new lost f')
-  settled_by true old mid new f f' before is stays empty there same = record {
-    lost = ap (λ (v : FileRows). v.is_lost) is;
-    there = λ was. absurd (let w = was in cc);
-    rows = subst (λ (v : FileRows). Across Same v.file None) is tt;
-  }
-  settled_by false (Some o) mid new f f' before is stays empty there same = record {
-    lost = ap (λ (v : FileRows). v.is_lost) is;
-    there = λ was. there_in false new f' refl (subst (λ (m : Option (Held S)). IsSome m) (sym (same refl)) there);
-    rows = subst (λ (v : FileRows). Across Same v.file (option_map (seen g) new)) is
-        (subst (λ (m : Option (Held S)). Across Same (Some (seen g o)) (option_map (seen g) m)) (sym (same refl ∙ stays refl)) (λ steady. (steady, refl)));
-  }
-  settled_by false None mid new f f' before is stays empty there same = record {
-    lost = ap (λ (v : FileRows). v.is_lost) is;
-    there = λ was. there_in false new f' refl (subst (λ (m : Option (Held S)). IsSome m) (sym (same refl)) there);
-    rows = subst (λ (v : FileRows). Across Same v.file (option_map (seen g) new)) is (across_opened new (subst (λ (m : Option (Held S)). TellsNone g m) (sym (same refl)) (empty refl)));
-  }
+    -- a file that is open after the connection was opened if it was shut, and then undid what was in doubt, if anything was
+    pub settled_by : (lost : Bool) (old mid new : Option (Held S)) (f f' : ℕ) (before : FileRows) → file_view g old lost f ≡ before → (IsSome old → mid ≡ old) → (old ≡ None → TellsRows g at_first mid)
+        → IsSome mid → (lost ≡ false → new ≡ mid) → Done at_first Same before (file_view g new lost f')
+    settled_by true old mid new f f' before is stays empty there same = record {
+      lost = ap (λ (v : FileRows). v.is_lost) is;
+      there = λ was. absurd (let w = was in cc);
+      rows = subst (λ (v : FileRows). Across at_first Same v.file None) is tt;
+    }
+    settled_by false (Some o) mid new f f' before is stays empty there same = record {
+      lost = ap (λ (v : FileRows). v.is_lost) is;
+      there = λ was. there_in false new f' refl (subst (λ (m : Option (Held S)). IsSome m) (sym (same refl)) there);
+      rows = subst (λ (v : FileRows). Across at_first Same v.file (option_map (seen g) new)) is
+          (subst (λ (m : Option (Held S)). Across at_first Same (Some (seen g o)) (option_map (seen g) m)) (sym (same refl ∙ stays refl)) (λ steady. (steady, refl)));
+    }
+    settled_by false None mid new f f' before is stays empty there same = record {
+      lost = ap (λ (v : FileRows). v.is_lost) is;
+      there = λ was. there_in false new f' refl (subst (λ (m : Option (Held S)). IsSome m) (sym (same refl)) there);
+      rows = subst (λ (v : FileRows). Across at_first Same v.file (option_map (seen g) new)) is (across_opened new (subst (λ (m : Option (Held S)). TellsRows g at_first m) (sym (same refl)) (empty refl)));
+    }
 
-  pub done_by : (P : Option (List KeptRow) → Option (List KeptRow) → Type 0) (first mid last : FileRows) (lost : Bool) (f f' : ℕ) (old new : Option (Held S)) → Done Same first mid
-      → file_view g old lost f ≡ mid → IsSome new → Passes g P old new → last.file ≡ (file_view g new lost f').file → last.is_lost ≡ lost → Done P first last
-  done_by P first mid last lost f f' old new d is some h file lose = record {
-    lost = lose ∙ ap (λ (v : FileRows). v.is_lost) is ∙ d.lost;
-    there = λ was. subst (λ (o : Option Seen). IsSome o) (sym file) (there_in lost new f' (sym lose ∙ was) some);
-    rows = subst (λ (o : Option Seen). Across P first.file o) (sym file) (compose P first.file mid.file (file_view g new lost f').file d.rows (across_from P lost old new f f' mid is h));
-  }
+    pub done_by : (P : Option (List KeptRow) → Option (List KeptRow) → Type 0) (first mid last : FileRows) (lost : Bool) (f f' : ℕ) (old new : Option (Held S)) → Done at_first Same first mid
+        → file_view g old lost f ≡ mid → IsSome new → Passes g P old new → last.file ≡ (file_view g new lost f').file → last.is_lost ≡ lost → Done at_first P first last
+    done_by P first mid last lost f f' old new d is some h file lose = record {
+      lost = lose ∙ ap (λ (v : FileRows). v.is_lost) is ∙ d.lost;
+      there = λ was. subst (λ (o : Option Seen). IsSome o) (sym file) (there_in lost new f' (sym lose ∙ was) some);
+      rows = subst (λ (o : Option Seen). Across at_first P first.file o) (sym file) (compose P first.file mid.file (file_view g new lost f').file d.rows (across_from P lost old new f f' mid is h));
+    }
 
-  -- a change that was done
-  pub done_after : (P : Option (List KeptRow) → Option (List KeptRow) → Type 0) (first mid last : FileRows) (lost : Bool) (f f' : ℕ) (old new : Option (Held S)) (r answer : Result (Unit {0}) KeepFault)
-      → Done Same first mid → file_view g old lost f ≡ mid → OnOk r (IsSome new) → OnOk r (Passes g P old new)
-      → answer ≡ r → OnOk answer (last.file ≡ (file_view g new lost f').file) → OnOk answer (last.is_lost ≡ lost) → OnOk answer (Done P first last)
-  done_after P first mid last lost f f' old new r (Err e) d is some h same file lose = tt
-  done_after P first mid last lost f f' old new r (Ok x) d is some h same file lose =
-      done_by P first mid last lost f f' old new d is (rw (sym same) at some) (rw (sym same) at h) file lose
+    -- a change that was done
+    pub done_after : (P : Option (List KeptRow) → Option (List KeptRow) → Type 0) (first mid last : FileRows) (lost : Bool) (f f' : ℕ) (old new : Option (Held S)) (r answer : Result (Unit {0}) KeepFault)
+        → Done at_first Same first mid → file_view g old lost f ≡ mid → OnOk r (IsSome new) → OnOk r (Passes g P old new)
+        → answer ≡ r → OnOk answer (last.file ≡ (file_view g new lost f').file) → OnOk answer (last.is_lost ≡ lost) → OnOk answer (Done at_first P first last)
+    done_after P first mid last lost f f' old new r (Err e) d is some h same file lose = tt
+    done_after P first mid last lost f f' old new r (Ok x) d is some h same file lose =
+        done_by P first mid last lost f f' old new d is (rw (sym same) at some) (rw (sym same) at h) file lose
 
-  -- and one that failed
-  pub failed_after : (first mid last : FileRows) (lost : Bool) (f f' : ℕ) (old new : Option (Held S)) (r answer : Result (Unit {0}) KeepFault)
-      → Done Same first mid → file_view g old lost f ≡ mid → OnErr r (Passes g Same old new)
-      → answer ≡ r → OnErr answer (Failed (file_view g new lost f') last) → OnErr answer (Failed first last)
-  failed_after first mid last lost f f' old new r (Ok x) d is h same failed = tt
-  failed_after first mid last lost f f' old new r (Err e) d is h same failed = record {
-    lost = λ was. failed.lost (ap (λ (v : FileRows). v.is_lost) is ∙ d.lost ∙ was);
-    rows = λ was. compose Same first.file (file_view g new lost f').file last.file
-        (compose Same first.file mid.file (file_view g new lost f').file d.rows (across_from Same lost old new f f' mid is (rw (sym same) at h))) (failed.rows was);
-  }
+    -- and one that failed
+    pub failed_after : (first mid last : FileRows) (lost : Bool) (f f' : ℕ) (old new : Option (Held S)) (r answer : Result (Unit {0}) KeepFault)
+        → Done at_first Same first mid → file_view g old lost f ≡ mid → OnErr r (Passes g Same old new)
+        → answer ≡ r → OnErr answer (Failed at_first (file_view g new lost f') last) → OnErr answer (Failed at_first first last)
+    failed_after first mid last lost f f' old new r (Ok x) d is h same failed = tt
+    failed_after first mid last lost f f' old new r (Err e) d is h same failed = record {
+      lost = λ was. failed.lost (ap (λ (v : FileRows). v.is_lost) is ∙ d.lost ∙ was);
+      rows = λ was. compose Same first.file (file_view g new lost f').file last.file
+          (compose Same first.file mid.file (file_view g new lost f').file d.rows (across_from Same lost old new f f' mid is (rw (sym same) at h))) (failed.rows was);
+    }
 
-  -- and one of which the connection can still tell
-  pub failed_from : (lost : Bool) (old new : Option (Held S)) (f f' : ℕ) (before : FileRows) → file_view g old lost f ≡ before → Passes g Same old new
-      → Failed before (file_view g new lost f')
-  failed_from lost old new f f' before is h = record {
-    lost = λ was. ap (λ (v : FileRows). v.is_lost) is ∙ was;
-    rows = λ kept. across_from Same lost old new f f' before is h;
-  }
+    -- and one of which the connection can still tell
+    pub failed_from : (lost : Bool) (old new : Option (Held S)) (f f' : ℕ) (before : FileRows) → file_view g old lost f ≡ before → Passes g Same old new
+        → Failed at_first before (file_view g new lost f')
+    failed_from lost old new f f' before is h = record {
+      lost = λ was. ap (λ (v : FileRows). v.is_lost) is ∙ was;
+      rows = λ kept. across_from Same lost old new f f' before is h;
+    }
 
-  -- a list
-  pub listed_after : (first mid last : FileRows) (lost : Bool) (f f' : ℕ) (old new : Option (Held S)) (r answer : Result (Vec KeptRow Global) KeepFault)
-      → Done Same first mid → file_view g old lost f ≡ mid → OnOk r (IsSome new) → IfOk r (λ rows. Passes g (λ before after. Same before after × Lists rows.items before) old new)
-      → answer ≡ r → OnOk answer (last.file ≡ (file_view g new lost f').file) → OnOk answer (last.is_lost ≡ lost)
-      → IfOk answer (λ list. Done (λ before after. Same before after × Lists list.items before) first last)
-  listed_after first mid last lost f f' old new r (Err e) d is some h same file lose = tt
-  listed_after first mid last lost f f' old new r (Ok list) d is some h same file lose =
-      done_by (λ before after. Same before after × Lists list.items before) first mid last lost f f' old new d is (rw (sym same) at some) (rw (sym same) at h) file lose
+    -- a list
+    pub listed_after : (first mid last : FileRows) (lost : Bool) (f f' : ℕ) (old new : Option (Held S)) (r answer : Result (Vec KeptRow Global) KeepFault)
+        → Done at_first Same first mid → file_view g old lost f ≡ mid → OnOk r (IsSome new) → IfOk r (λ rows. Passes g (λ before after. Same before after × Lists rows.items before) old new)
+        → answer ≡ r → OnOk answer (last.file ≡ (file_view g new lost f').file) → OnOk answer (last.is_lost ≡ lost)
+        → IfOk answer (λ list. Done at_first (λ before after. Same before after × Lists list.items before) first last)
+    listed_after first mid last lost f f' old new r (Err e) d is some h same file lose = tt
+    listed_after first mid last lost f f' old new r (Ok list) d is some h same file lose =
+        done_by (λ before after. Same before after × Lists list.items before) first mid last lost f f' old new d is (rw (sym same) at some) (rw (sym same) at h) file lose
 
-  tells_in : (list : List KeptRow) (lost : Bool) (old new : Option (Held S)) (f : ℕ) → Passes g (λ before after. Same before after × Lists list before) old new
-      → ListsIn list (file_view g new lost f).file
-  unfolding seen
-  tells_in list true old new f h = tt
-  tells_in list false old None f h = tt
-  tells_in list false None (Some n) f h = absurd (cc)
-  tells_in list false (Some o) (Some n) f h = λ steady. let s = h (steadied n steady) in subst (λ (r : Option (List KeptRow)). Lists list r) (sym s.1.0) s.1.1
+    tells_in : (list : List KeptRow) (lost : Bool) (old new : Option (Held S)) (f : ℕ) → Passes g (λ before after. Same before after × Lists list before) old new
+        → ListsIn list (file_view g new lost f).file
+    unfolding seen
+    tells_in list true old new f h = tt
+    tells_in list false old None f h = tt
+    tells_in list false None (Some n) f h = absurd (cc)
+    tells_in list false (Some o) (Some n) f h = λ steady. let s = h (steadied n steady) in subst (λ (r : Option (List KeptRow)). Lists list r) (sym s.1.0) s.1.1
 
-  pub told_after : (last : FileRows) (lost : Bool) (f : ℕ) (old new : Option (Held S)) (r answer : Result (Vec KeptRow Global) KeepFault)
-      → IfOk r (λ rows. Passes g (λ before after. Same before after × Lists rows.items before) old new)
-      → answer ≡ r → OnOk answer (last.file ≡ (file_view g new lost f).file) → IfOk answer (λ list. ListsIn list.items last.file)
-  told_after last lost f old new r (Err e) h same file = tt
-  told_after last lost f old new r (Ok list) h same file = subst (λ (o : Option Seen). ListsIn list.items o) (sym file) (tells_in list.items lost old new f (rw (sym same) at h))
+    pub told_after : (last : FileRows) (lost : Bool) (f : ℕ) (old new : Option (Held S)) (r answer : Result (Vec KeptRow Global) KeepFault)
+        → IfOk r (λ rows. Passes g (λ before after. Same before after × Lists rows.items before) old new)
+        → answer ≡ r → OnOk answer (last.file ≡ (file_view g new lost f).file) → IfOk answer (λ list. ListsIn list.items last.file)
+    told_after last lost f old new r (Err e) h same file = tt
+    told_after last lost f old new r (Ok list) h same file = subst (λ (o : Option Seen). ListsIn list.items o) (sym file) (tells_in list.items lost old new f (rw (sym same) at h))

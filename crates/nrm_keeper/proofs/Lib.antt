@@ -14,3 +14,4 @@ pub mod OverMemory
 pub mod ShownLemmas
 mod Examples
 pub mod FileLemmas
+pub mod FirstRows

@@ -1,3 +1,5 @@
+pub mod Beginning
+pub mod EmptyFile
 pub mod File
 pub mod Inner
 pub mod Memory

@@ -1,26 +1,19 @@
-//! A keeper over a file of `sqlite`: a connection, if one is open, and a count of faults. A call opens the file if it is
-//! not open. A change that failed may be in the file all the same, as when what was written could not be flushed: then the
+//! A keeper over a file of `sqlite`: what opens it, a connection, if one is open, and a count of faults. A call opens the
+//! file if it is not open. A change that failed may be in the file all the same, as when what was written could not be flushed: then the
 //! connection is let go, and the change is undone as soon as the file can be opened again. What the file tells is said as long
 //! as it is the one that was first opened, and is clean.
 ghost use Rattle.std.specs.Prelude.{◌≡◌, ◌<◌, ◌^◌, None, Some, IfOk, OnOk, OnErr, IfSome, IsSome};
-ghost use Rattle.sqlite.specs.Files.{over_files};
 ghost use Rattle.nrm_keeper.specs.Steady.{IsSettled};
-ghost use Rattle.nrm_keeper.specs.Inner.Passes.{TellsNone};
+ghost use Rattle.nrm_keeper.specs.Inner.Passes.{TellsRows};
 
 use crate::causes::{fault_of, raised};
-use crate::owner::StoreOwner;
+use crate::opener::{Beginning, Opener, PathOpener};
 use crate::shut::{drop_in, find_in, keep_in, list_in};
 use crate::{KeepFault, Keeper, KeptRow};
-use sqlite::{Connection, File, FileStore, Unknown};
+use sqlite::{Alter, Connection, FileFrom, FileStore};
 use std::alloc::Global;
 use std::marker::Model;
 use std::rt::HostRuntime;
-
-type FileConnection = Connection<FileStore<File>>;
-
-// The rows that a statement may visit: many times those that can stand (64 legs of 999 seats), so that only what has no end, as
-// a view may have none, is refused for it.
-const MOST_STEPS: u64 = 4_000_000;
 
 // A change that failed, and may be in the file all the same: the row, and whether it was kept before.
 #[derive(Clone, Copy)]
@@ -34,52 +27,41 @@ struct Doubt {
 /// that failed otherwise than by a refused change the next one opens the file again, which is then no longer the one that
 /// was told (`is_lost`). What a change that failed may have left in the file is undone before anything else.
 ///
-/// It tells no rows outright, and shows those of the file. They are the file's as far as it is trusted: it held nothing as it
-/// was first opened, nobody else wrote it since, it returned what was written, and it was never let go.
+/// It tells no rows outright, and shows those of the file. They are the file's as far as it is trusted: it held the rows of
+/// `first` as it was first opened, nobody else wrote it since, it returned what was written, and it was never let go.
 #[derive(Drop)]
-pub struct FileKeeper<'a> {
-    rt: &'a HostRuntime,
-    path: &'a str,
-    owner: StoreOwner,
-    connection: Option<FileConnection>,
+pub struct StoreKeeper<T: Alter + Drop, O: Opener<T>> {
+    opener: O,
+    connection: Option<Connection<T>>,
     lost: bool,
     doubt: Option<Doubt>,
     faults: u64,
 }
 
-impl<'a> Model for FileKeeper<'a> {
+/// Rows in a table of the file of a path, for each `S` that the file may have held as it was first opened.
+pub type FileKeeper<'a, S> = StoreKeeper<FileStore<FileFrom<S>>, PathOpener<'a, S>>;
+
+impl<T: Alter + Drop, O: Opener<T>> Model for StoreKeeper<T, O> {
     ghost use Rattle.std.specs.Prelude.{◌<◌, ◌^◌, IfSome, IsTrue};
-    ghost use Rattle.sqlite.specs.Files.{over_files};
     ghost use Rattle.nrm_keeper.specs.Steady.{IsSettled};
     ghost use Rattle.nrm_keeper.specs.File.{FileRows, file_view};
 
     ghost Value = { FileRows };
 
-    ghost view = { λ s. file_view over_files s.connection s.lost s.faults };
+    ghost view = { λ s. file_view T.Store s.connection s.lost s.faults };
 
-    ghost invariant = { λ s. IsSettled over_files s.connection
+    ghost invariant = { λ s. IsSettled T.Store s.connection
         × IfSome s.doubt (λ doubt. (doubt.row.number < 10 ^ 12) × IsTrue s.lost) };
 }
 
-impl<'a> FileKeeper<'a> {
-    ghost use Rattle.std.specs.Prelude.{◌≡◌, ◌<◌, ◌^◌, None, true, false, IsOk, OnOk, OnErr};
-    ghost use Rattle.nrm_edge.specs.Causes.{counted};
-    ghost use Rattle.nrm_keeper.specs.Rows.{has_failed};
-    ghost use Rattle.nrm_keeper.specs.File.{Done, Failed, Same};
+impl<'a, S: Beginning> FileKeeper<'a, S> {
+    ghost use Rattle.std.specs.Prelude.{◌≡◌, None, false, IsOk};
 
     /// A keeper over the file of this path. It takes no memory and opens nothing.
-    pub fn new(rt: &'a HostRuntime, path: &'a str) -> FileKeeper<'a>
+    pub fn new(rt: &'a HostRuntime, path: &'a str) -> FileKeeper<'a, S>
         ensures { result ≡ record { file = None; is_lost = false; faults = 0 } }
     {
-        FileKeeper {
-            rt,
-            path,
-            owner: StoreOwner::of_none(),
-            connection: None,
-            lost: false,
-            doubt: None,
-            faults: 0,
-        }
+        StoreKeeper::over(PathOpener::new(rt, path))
     }
 
     /// Ends the run's use of the store. A change that is still in doubt is undone if that can be done now; if the file is open
@@ -92,11 +74,11 @@ impl<'a> FileKeeper<'a> {
         ensures unopened { self.entry.file ≡ None → self.entry.is_lost ≡ false → IsOk result }
     {
         if self.doubt.is_some() {
-            let alloc = self.rt.alloc();
+            let alloc = self.opener.alloc();
             let _undone = self.settle(alloc);
         }
-        let FileKeeper {
-            owner,
+        let StoreKeeper {
+            opener,
             connection,
             ..
         } = self;
@@ -104,10 +86,30 @@ impl<'a> FileKeeper<'a> {
             Some(connection) => connection.close(),
             None => Ok(()),
         };
-        drop(owner);
+        drop(opener);
         match closed {
             Ok(()) => Ok(()),
             Err(error) => Err(fault_of(error)),
+        }
+    }
+}
+
+impl<T: Alter + Drop, O: Opener<T>> StoreKeeper<T, O> {
+    ghost use Rattle.std.specs.Prelude.{◌≡◌, ◌<◌, ◌^◌, None, true, false, OnOk, OnErr};
+    ghost use Rattle.nrm_edge.specs.Causes.{counted};
+    ghost use Rattle.nrm_keeper.specs.Rows.{has_failed};
+    ghost use Rattle.nrm_keeper.specs.File.{Done, Failed, Same};
+
+    /// A keeper over the store that is opened so. It takes no memory and opens nothing.
+    pub fn over(opener: O) -> StoreKeeper<T, O>
+        ensures { result ≡ record { file = None; is_lost = false; faults = 0 } }
+    {
+        StoreKeeper {
+            opener,
+            connection: None,
+            lost: false,
+            doubt: None,
+            faults: 0,
         }
     }
 
@@ -115,9 +117,9 @@ impl<'a> FileKeeper<'a> {
     fn settle(&mut self, alloc: Global) -> Result<(), KeepFault>
         ensures faults { self.new.faults ≡ self.old.faults }
         ensures lost { self.new.is_lost ≡ self.old.is_lost }
-        ensures done { OnOk result (Done Same self.old self.new) }
+        ensures done { OnOk result (Done O.first Same self.old self.new) }
     {
-        open_if_shut(self.rt, self.path, &mut self.owner, &mut self.connection)?;
+        open_if_shut(&mut self.opener, &mut self.connection)?;
         let undone = undo(alloc, &mut self.connection, &self.doubt);
         if undone.is_ok() {
             self.doubt = None;
@@ -129,7 +131,7 @@ impl<'a> FileKeeper<'a> {
 
     // The answer of a call that changed nothing. After an Err the connection is let go, and one fault is counted if the keeper
     // failed.
-    fn answered<T>(&mut self, answer: Result<T, KeepFault>) -> Result<T, KeepFault>
+    fn answered<A>(&mut self, answer: Result<A, KeepFault>) -> Result<A, KeepFault>
         ensures answer { result ≡ answer }
         ensures counts { self.new.faults ≡ counted (has_failed answer) self.old.faults }
         ensures file { OnOk result (self.new.file ≡ self.old.file) }
@@ -159,7 +161,7 @@ impl<'a> FileKeeper<'a> {
         ensures counts { self.new.faults ≡ counted (has_failed answer) self.old.faults }
         ensures file { OnOk result (self.new.file ≡ self.old.file) }
         ensures stays { OnOk result (self.new.is_lost ≡ self.old.is_lost) }
-        ensures same { OnErr result (Failed self.old self.new) }
+        ensures same { OnErr result (Failed O.first self.old self.new) }
     {
         match answer {
             Ok(()) => Ok(()),
@@ -174,7 +176,7 @@ impl<'a> FileKeeper<'a> {
     fn doubted(&mut self, alloc: Global, change: Doubt)
         requires { change.row.number < 10 ^ 12 }
         ensures faults { self.new.faults ≡ self.old.faults }
-        ensures same { Failed self.old self.new }
+        ensures same { Failed O.first self.old self.new }
     {
         if find_in(alloc, &mut self.connection, change.row.number).is_ok() {
             return;
@@ -186,42 +188,22 @@ impl<'a> FileKeeper<'a> {
     }
 }
 
-// A new connection to the file, which belongs to this run from the first one on.
-fn opened(rt: &HostRuntime, path: &str, owner: &mut StoreOwner) -> Result<FileConnection, KeepFault>
-    ensures settled { IfOk result (λ connection. IsSettled over_files (Some connection)) }
-    ensures empty { IfOk result (λ connection. TellsNone over_files (Some connection)) }
-{
-    if !owner.may_open(rt, path) {
-        return Err(KeepFault::Failed);
-    }
-    match Connection::open_from(rt, path, false, Unknown) {
-        Ok(mut connection) => {
-            owner.take(rt, path)?;
-            connection.set_step_limit(Some(MOST_STEPS));
-            Ok(connection)
-        }
-        Err((error, _)) => Err(fault_of(error)),
-    }
-}
-
 // Opens the connection, if it is shut.
-fn open_if_shut(
-    rt: &HostRuntime,
-    path: &str,
-    owner: &mut StoreOwner,
-    connection: &mut Option<FileConnection>,
+fn open_if_shut<T: Alter + Drop, O: Opener<T>>(
+    opener: &mut O,
+    connection: &mut Option<Connection<T>>,
 ) -> Result<(), KeepFault>
-    requires settled { IsSettled over_files connection.old }
-    ensures settled { IsSettled over_files connection.new }
+    requires settled { IsSettled T.Store connection.old }
+    ensures settled { IsSettled T.Store connection.new }
     ensures there { OnOk result (IsSome connection.new) }
     ensures stays { IsSome connection.old → connection.new ≡ connection.old }
-    ensures empty { connection.old ≡ None → TellsNone over_files connection.new }
+    ensures first { connection.old ≡ None → TellsRows T.Store O.first connection.new }
     ensures shut { OnErr result (connection.new ≡ connection.old) }
 {
     if connection.is_some() {
         return Ok(());
     }
-    match opened(rt, path, owner) {
+    match opener.open() {
         Ok(conn) => {
             *connection = Some(conn);
             Ok(())
@@ -232,14 +214,14 @@ fn open_if_shut(
 
 // Undoes a change that is in doubt: a row that was kept is put back if no row has its number, and one that was not is taken
 // out if it is there just as it was to be kept.
-fn undo(
+fn undo<T: Alter>(
     alloc: Global,
-    connection: &mut Option<FileConnection>,
+    connection: &mut Option<Connection<T>>,
     doubt: &Option<Doubt>,
 ) -> Result<(), KeepFault>
     requires number { IfSome doubt.now (λ doubt. doubt.row.number < 10 ^ 12) }
-    requires settled { IsSettled over_files connection.old }
-    ensures settled { IsSettled over_files connection.new }
+    requires settled { IsSettled T.Store connection.old }
+    ensures settled { IsSettled T.Store connection.new }
     ensures there { IsSome connection.old → OnOk result (IsSome connection.new) }
     ensures nothing { doubt.now ≡ None → connection.new ≡ connection.old }
 {
@@ -257,7 +239,7 @@ fn undo(
     }
 }
 
-impl Keeper for FileKeeper<'_> {
+impl<T: Alter + Drop, O: Opener<T>> Keeper for StoreKeeper<T, O> {
     ghost use Rattle.std.specs.Prelude.{◌≡◌, ◌<◌, ◌^◌, None, IfOk, OnOk, OnErr};
     ghost use Rattle.nrm_edge.specs.Causes.{counted};
     ghost use Rattle.nrm_keeper.specs.Rows.{Adds, Drops, Keeps, Lists, has_failed};
@@ -265,7 +247,7 @@ impl Keeper for FileKeeper<'_> {
 
     ghost rows = { λ _. None };
 
-    ghost shown = { shown_in };
+    ghost shown = { shown_in O.first };
 
     ghost trusted = { IsTrusted };
 
@@ -276,10 +258,10 @@ impl Keeper for FileKeeper<'_> {
         ensures counts { self.new.faults ≡ counted (has_failed result) self.old.faults }
         ensures added { OnOk result (Adds row untold untold) }
         ensures unchanged { OnErr result (untold ≡ untold) }
-        ensures kept { OnOk result (Done (Adds row) self.old self.new) }
-        ensures same { OnErr result (Failed self.old self.new) }
-        ensures shows { IsTrusted self.new → IsTrusted self.old × OnOk result (Adds row (shown_in self.old) (shown_in self.new))
-            × OnErr result (shown_in self.new ≡ shown_in self.old) }
+        ensures kept { OnOk result (Done O.first (Adds row) self.old self.new) }
+        ensures same { OnErr result (Failed O.first self.old self.new) }
+        ensures shows { IsTrusted self.new → IsTrusted self.old × OnOk result (Adds row (shown_in O.first self.old) (shown_in O.first self.new))
+            × OnErr result (shown_in O.first self.new ≡ shown_in O.first self.old) }
     {
         if let Err(fault) = self.settle(alloc) {
             return self.answered(Err(fault));
@@ -297,10 +279,10 @@ impl Keeper for FileKeeper<'_> {
         ensures counts { self.new.faults ≡ counted (has_failed result) self.old.faults }
         ensures dropped { OnOk result (Drops number untold untold) }
         ensures unchanged { OnErr result (untold ≡ untold) }
-        ensures gone { OnOk result (Done (Drops number) self.old self.new) }
-        ensures same { OnErr result (Failed self.old self.new) }
-        ensures shows { IsTrusted self.new → IsTrusted self.old × OnOk result (Drops number (shown_in self.old) (shown_in self.new))
-            × OnErr result (shown_in self.new ≡ shown_in self.old) }
+        ensures gone { OnOk result (Done O.first (Drops number) self.old self.new) }
+        ensures same { OnErr result (Failed O.first self.old self.new) }
+        ensures shows { IsTrusted self.new → IsTrusted self.old × OnOk result (Drops number (shown_in O.first self.old) (shown_in O.first self.new))
+            × OnErr result (shown_in O.first self.new ≡ shown_in O.first self.old) }
     {
         if let Err(fault) = self.settle(alloc) {
             return self.answered(Err(fault));
@@ -323,11 +305,11 @@ impl Keeper for FileKeeper<'_> {
         ensures listed { IfOk result (λ list. Lists list.items untold) }
         ensures stays { OnOk result (Keeps untold untold) }
         ensures unchanged { OnErr result (untold ≡ untold) }
-        ensures rows { IfOk result (λ list. Done (λ before after. Same before after × Lists list.items before) self.old self.new) }
+        ensures rows { IfOk result (λ list. Done O.first (λ before after. Same before after × Lists list.items before) self.old self.new) }
         ensures told { IfOk result (λ list. ListsIn list.items self.new.file) }
-        ensures same { OnErr result (Failed self.old self.new) }
-        ensures shows { IsTrusted self.new → IsTrusted self.old × (shown_in self.new ≡ shown_in self.old)
-            × IfOk result (λ list. Lists list.items (shown_in self.new)) }
+        ensures same { OnErr result (Failed O.first self.old self.new) }
+        ensures shows { IsTrusted self.new → IsTrusted self.old × (shown_in O.first self.new ≡ shown_in O.first self.old)
+            × IfOk result (λ list. Lists list.items (shown_in O.first self.new)) }
     {
         if let Err(fault) = self.settle(alloc) {
             return self.answered(Err(fault));

@@ -6,6 +6,7 @@ mod causes;
 mod file_keeper;
 mod keeper;
 mod mem_keeper;
+mod opener;
 mod owner;
 mod reading;
 mod row;
@@ -16,8 +17,10 @@ mod table;
 #[cfg(test)]
 mod tests;
 
-pub use file_keeper::FileKeeper;
+pub use file_keeper::{FileKeeper, StoreKeeper};
 pub use keeper::Keeper;
 pub use mem_keeper::MemKeeper;
+pub use opener::{Beginning, Opener, PathOpener};
 pub use row::{KeepFault, KeptRow};
 pub use sql_keeper::{MemConnection, SqlKeeper};
+pub use sqlite::Unknown;

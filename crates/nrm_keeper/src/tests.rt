@@ -1,9 +1,9 @@
 //! What no clause tells: that the calls succeed with ample memory, what the store keeps, and what a file does.
 ghost use Rattle.std.specs.Prelude.{◌≡◌, ◌<◌, ◌^◌, [], ◌∷◌, Some, IfOk};
 
-use crate::{FileKeeper, KeepFault, Keeper, KeptRow, MemKeeper, SqlKeeper};
+use crate::{Beginning, FileKeeper, KeepFault, Keeper, KeptRow, MemKeeper, SqlKeeper};
 use nrm_text::{Name, name_of};
-use sqlite::Connection;
+use sqlite::{Connection, Unknown};
 use std::alloc::{AllocError, Global};
 use std::rt::HostRuntime;
 use std::test::Fail;
@@ -225,89 +225,119 @@ fn new_place(rt: &HostRuntime, name: &str) -> Result<Place, Fail> {
     Ok(Place { folder, store, log })
 }
 
+fn holds(so: bool, what: &'static str) -> Result<(), Fail> {
+    if so { Ok(()) } else { Err(Fail::from(what)) }
+}
+
 // A call that fails, and after which a keeper lets its connection go: no row has the number.
-fn lets_go(keeper: &mut FileKeeper<'_>, alloc: Global) -> bool {
-    matches!(keeper.drop_row(alloc, 9), Err(KeepFault::Failed))
+fn lets_go<S: Beginning>(keeper: &mut FileKeeper<'_, S>, alloc: Global) -> Result<(), Fail> {
+    holds(
+        matches!(keeper.drop_row(alloc, 9), Err(KeepFault::Failed)),
+        "no row has the number",
+    )
+}
+
+fn rows_in_a_file<S: Beginning>(rt: &HostRuntime, place: &Place) -> Result<(), Fail> {
+    let mut keeper = FileKeeper::<S>::new(rt, &place.store);
+    holds(first_run(&mut keeper, rt.alloc())?, "the first run")?;
+    drop(keeper);
+    let mut keeper = FileKeeper::<S>::new(rt, &place.store);
+    holds(second_run(&mut keeper, rt.alloc())?, "the second run")?;
+    lets_go(&mut keeper, rt.alloc())?;
+    holds(
+        keeper.all(rt.alloc()).is_ok(),
+        "after a failed call the file is opened again",
+    )
 }
 
 #[test]
 fn rows_are_kept_in_a_file(rt: HostRuntime) -> Result<(), Fail> {
     let place = new_place(&rt, "nrm_keeper_rows")?;
-    let mut keeper = FileKeeper::new(&rt, &place.store);
-    assert!(rt; first_run(&mut keeper, rt.alloc())?);
-    drop(keeper);
-    let mut keeper = FileKeeper::new(&rt, &place.store);
-    assert!(rt; second_run(&mut keeper, rt.alloc())?);
-    assert!(rt; lets_go(&mut keeper, rt.alloc()));
-    assert!(rt;
-        keeper.all(rt.alloc()).is_ok(),
-        "after a failed call the file is opened again"
-    );
+    rows_in_a_file::<Unknown>(&rt, &place)?;
     fs::remove_dir_all(&rt, &place.folder)?;
     Ok(())
+}
+
+fn opened_late<S: Beginning>(rt: &HostRuntime, place: &Place) -> Result<(), Fail> {
+    let beyond = format!(in rt.alloc(); "{}/store", place.store)?;
+    let mut keeper = FileKeeper::<S>::new(rt, &beyond);
+    holds(
+        matches!(keeper.all(rt.alloc()), Err(KeepFault::Failed)),
+        "there is no folder",
+    )?;
+    fs::create_dir(rt, &place.store)?;
+    holds(keeps(&mut keeper, rt.alloc(), &[]), "now there is one")
 }
 
 #[test]
 fn a_file_that_cannot_be_opened_is_a_fault(rt: HostRuntime) -> Result<(), Fail> {
     let place = new_place(&rt, "nrm_keeper_folder")?;
-    let beyond = format!(in rt.alloc(); "{}/store", place.store)?;
-    let mut keeper = FileKeeper::new(&rt, &beyond);
-    assert!(rt; matches!(keeper.all(rt.alloc()), Err(KeepFault::Failed)));
-    fs::create_dir(&rt, &place.store)?;
-    assert!(rt; keeps(&mut keeper, rt.alloc(), &[]));
+    opened_late::<Unknown>(&rt, &place)?;
     fs::remove_dir_all(&rt, &place.folder)?;
     Ok(())
+}
+
+fn two_keepers<S: Beginning>(rt: &HostRuntime, place: &Place) -> Result<(), Fail> {
+    let one = (1, b"THRU".as_slice(), 2);
+    let mut first = FileKeeper::<S>::new(rt, &place.store);
+    holds(first.add(rt.alloc(), row(one)?).is_ok(), "a row is added")?;
+    lets_go(&mut first, rt.alloc())?;
+    let mut second = FileKeeper::<S>::new(rt, &place.store);
+    holds(
+        matches!(second.all(rt.alloc()), Err(KeepFault::Failed)),
+        "the first has the store, though it has let its connection go",
+    )?;
+    holds(keeps(&mut first, rt.alloc(), &[one]), "the first goes on")?;
+    holds(first.close().is_ok(), "the first is closed")?;
+    holds(keeps(&mut second, rt.alloc(), &[one]), "the second has it")
 }
 
 #[test]
 fn a_store_belongs_to_one_keeper_until_it_is_closed(rt: HostRuntime) -> Result<(), Fail> {
     let place = new_place(&rt, "nrm_keeper_owner")?;
-    let one = (1, b"THRU".as_slice(), 2);
-    let mut first = FileKeeper::new(&rt, &place.store);
-    assert!(rt; first.add(rt.alloc(), row(one)?).is_ok());
-    assert!(rt; lets_go(&mut first, rt.alloc()));
-    let mut second = FileKeeper::new(&rt, &place.store);
-    assert!(rt;
-        matches!(second.all(rt.alloc()), Err(KeepFault::Failed)),
-        "the first has the store, though it has let its connection go"
-    );
-    assert!(rt; keeps(&mut first, rt.alloc(), &[one]));
-    assert!(rt; first.close().is_ok());
-    assert!(rt; keeps(&mut second, rt.alloc(), &[one]));
+    two_keepers::<Unknown>(&rt, &place)?;
     fs::remove_dir_all(&rt, &place.folder)?;
     Ok(())
+}
+
+fn gone_and_back<S: Beginning>(rt: &HostRuntime, place: &Place) -> Result<(), Fail> {
+    let away = format!(in rt.alloc(); "{}-away", place.store)?;
+    let one = (1, b"THRU".as_slice(), 2);
+    let mut keeper = FileKeeper::<S>::new(rt, &place.store);
+    holds(keeper.add(rt.alloc(), row(one)?).is_ok(), "a row is added")?;
+    lets_go(&mut keeper, rt.alloc())?;
+    fs::rename(rt, &place.store, &away)?;
+    holds(keeper.all(rt.alloc()).is_err(), "the file is gone")?;
+    holds(fs::metadata(rt, &place.store).is_err(), "nothing is made")?;
+    fs::write(rt, &place.store, b"".as_slice())?;
+    holds(keeper.all(rt.alloc()).is_err(), "another file")?;
+    holds(fs::metadata(rt, &place.store)?.len() == 0, "it stays empty")?;
+    fs::rename(rt, &away, &place.store)?;
+    holds(keeps(&mut keeper, rt.alloc(), &[one]), "the file is back")
 }
 
 #[test]
 fn a_store_that_is_gone_is_not_made_again(rt: HostRuntime) -> Result<(), Fail> {
     let place = new_place(&rt, "nrm_keeper_gone")?;
-    let away = format!(in rt.alloc(); "{}-away", place.store)?;
-    let one = (1, b"THRU".as_slice(), 2);
-    let mut keeper = FileKeeper::new(&rt, &place.store);
-    assert!(rt; keeper.add(rt.alloc(), row(one)?).is_ok());
-    assert!(rt; lets_go(&mut keeper, rt.alloc()));
-    fs::rename(&rt, &place.store, &away)?;
-    assert!(rt; keeper.all(rt.alloc()).is_err());
-    assert!(rt; fs::metadata(&rt, &place.store).is_err(), "nothing is made");
-    fs::write(&rt, &place.store, b"".as_slice())?;
-    assert!(rt; keeper.all(rt.alloc()).is_err(), "another file");
-    assert_eq!(rt; fs::metadata(&rt, &place.store)?.len(), 0);
-    fs::rename(&rt, &away, &place.store)?;
-    assert!(rt; keeps(&mut keeper, rt.alloc(), &[one]));
+    gone_and_back::<Unknown>(&rt, &place)?;
     fs::remove_dir_all(&rt, &place.folder)?;
     Ok(())
+}
+
+fn closed_and_opened<S: Beginning>(rt: &HostRuntime, place: &Place) -> Result<(), Fail> {
+    let one = (1, b"THRU".as_slice(), 2);
+    let mut keeper = FileKeeper::<S>::new(rt, &place.store);
+    holds(keeper.add(rt.alloc(), row(one)?).is_ok(), "a row is added")?;
+    holds(keeper.close().is_ok(), "it is closed")?;
+    fs::remove_file(rt, &place.log)?;
+    let mut keeper = FileKeeper::<S>::new(rt, &place.store);
+    holds(keeps(&mut keeper, rt.alloc(), &[one]), "the row is there")
 }
 
 #[test]
 fn a_closed_store_needs_no_log(rt: HostRuntime) -> Result<(), Fail> {
     let place = new_place(&rt, "nrm_keeper_closed")?;
-    let one = (1, b"THRU".as_slice(), 2);
-    let mut keeper = FileKeeper::new(&rt, &place.store);
-    assert!(rt; keeper.add(rt.alloc(), row(one)?).is_ok());
-    assert!(rt; keeper.close().is_ok());
-    fs::remove_file(&rt, &place.log)?;
-    let mut keeper = FileKeeper::new(&rt, &place.store);
-    assert!(rt; keeps(&mut keeper, rt.alloc(), &[one]));
+    closed_and_opened::<Unknown>(&rt, &place)?;
     fs::remove_dir_all(&rt, &place.folder)?;
     Ok(())
 }
@@ -317,14 +347,21 @@ const ENDLESS: &str =
     "CREATE VIEW kept AS WITH RECURSIVE c(n) AS (SELECT 1 UNION ALL SELECT n + 1 FROM c)
     SELECT n AS number, 'LOC' AS product, 1 AS party FROM c";
 
+fn endless_listing<S: Beginning>(rt: &HostRuntime, place: &Place) -> Result<(), Fail> {
+    let mut keeper = FileKeeper::<S>::new(rt, &place.store);
+    holds(
+        matches!(keeper.all(rt.alloc()), Err(KeepFault::Failed)),
+        "a listing without end",
+    )
+}
+
 #[test]
 fn a_listing_without_end_is_a_fault(rt: HostRuntime) -> Result<(), Fail> {
     let place = new_place(&rt, "nrm_keeper_endless")?;
     let mut connection = Connection::open(&rt, &place.store)?;
     assert!(rt; connection.execute(ENDLESS, &[]).is_ok());
     drop(connection);
-    let mut keeper = FileKeeper::new(&rt, &place.store);
-    assert!(rt; matches!(keeper.all(rt.alloc()), Err(KeepFault::Failed)));
+    endless_listing::<Unknown>(&rt, &place)?;
     fs::remove_dir_all(&rt, &place.folder)?;
     Ok(())
 }

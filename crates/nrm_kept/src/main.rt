@@ -2,7 +2,7 @@
 #![tactic(auto)]
 
 use nrm_edge::{DirFiles, GatheringSink, StdSink, StdSource};
-use nrm_keeper::FileKeeper;
+use nrm_keeper::{Beginning, FileKeeper, Unknown};
 use nrm_keeping::{KeptStatus, asks_for_a_session, run_kept};
 use nrm_outside::words_given;
 use std::io;
@@ -21,10 +21,10 @@ fn store_in(words: &[String]) -> &str {
 
 // The program, around its words and the keeper of its store. Memory to gather the output is taken only for words that ask for a
 // session.
-fn answered(
+fn answered<S: Beginning>(
     rt: &HostRuntime,
     words: &[String],
-    keeper: &mut FileKeeper<'_>,
+    keeper: &mut FileKeeper<'_, S>,
 ) -> io::Result<KeptStatus> {
     let alloc = rt.alloc();
     let mut files = DirFiles::new(rt);
@@ -37,17 +37,17 @@ fn answered(
     Ok(run_kept(alloc, words, &mut files, &mut source, &mut sink, keeper))
 }
 
-// The status of a run. The store is closed behind it, all replies being sent; if that fails the rows stand as they did, and so does
+// The status of a run, for each `S` that the store's files may have held. The store is closed behind it, all replies being sent; if that fails the rows stand as they did, and so does
 // the status.
-fn status_of(rt: &HostRuntime) -> io::Result<KeptStatus> {
+fn status_of<S: Beginning>(rt: &HostRuntime) -> io::Result<KeptStatus> {
     let words = words_given(rt)?;
-    let mut keeper = FileKeeper::new(rt, store_in(&words));
+    let mut keeper = FileKeeper::<S>::new(rt, store_in(&words));
     let status = answered(rt, &words, &mut keeper);
     let _closed = keeper.close();
     status
 }
 
 fn main(rt: HostRuntime) -> ExitCode {
-    let status = status_of(&rt).unwrap_or(KeptStatus::NoMemory);
+    let status = status_of::<Unknown>(&rt).unwrap_or(KeptStatus::NoMemory);
     ExitCode::from(status.number())
 }

@@ -1,5 +1,5 @@
 -- A connection that may be shut, before and after a call on it.
-use Rattle.std.specs.Prelude.{◌≡◌, List, [], Option, Some, None, ⊤}
+use Rattle.std.specs.Prelude.{◌≡◌, List, Option, Some, None, ⊤}
 use Rattle.sqlite_trees.specs.declared.store.Store.{Ghosts}
 use Rattle.sqlite.specs.Held.{Held, state}
 use Rattle.nrm_keeper.specs.declared.row.KeptRow.{KeptRow}
@@ -13,7 +13,7 @@ module _ {S : Type 0} (g : Ghosts S) where
   Passes P (Some old) None = ⊥
   Passes P (Some old) (Some new) = IsSteady (state g new) → IsSteady (state g old) × P (told (state g old).now) (told (state g new).now)
 
-  -- a connection that tells no rows if it is clean and open, as one over an empty file that was just opened
-  abbrev pub TellsNone : Option (Held S) → Type 0
-  TellsNone None = ⊤
-  TellsNone (Some h) = IsSteady (state g h) → told (state g h).now ≡ Some []
+  -- a connection that tells these rows if it is clean and open
+  abbrev pub TellsRows : Option (List KeptRow) → Option (Held S) → Type 0
+  TellsRows rows None = ⊤
+  TellsRows rows (Some h) = IsSteady (state g h) → told (state g h).now ≡ rows

@@ -1,7 +1,6 @@
 use Rattle.std.proofs.Common.{◌≡◌, Bool, false, Option, Some, None, Ok, Err, Result, OnOk, IfSome, IsTrue, refl}
-use Rattle.sqlite.specs.Files.{over_files}
 use Rattle.nrm_keeper.proofs.FileLemmas.{settled_by}
-use Rattle.nrm_keeper.proofs.file_keeper.FileKeeper.settle.Goals as goal
+use Rattle.nrm_keeper.proofs.file_keeper.StoreKeeper.settle.Goals as goal
 
 on_ok : {T E P : Type 0} (r : Result T E) → P → OnOk r P
 on_ok (Ok x) p = p
@@ -13,6 +12,6 @@ undoubted N None lost it found = refl
 undoubted N (Some d) lost it found = absurd (let l = it.1 in cc)
 
 pub returns-then-is_ok-clause-done : goal.returns-then-is_ok-clause-done
-returns-then-is_ok-clause-done c = on_ok c.undo-undone.result
-    (settled_by over_files c.self.inside.lost c.self.inside.connection c.open_if_shut.new.connection c.undo-undone.new.connection c.self.inside.faults _ c.args.self.now c.self.view_is
-    c.open_if_shut.ensures.stays c.open_if_shut.ensures.empty c.in_ok-open_if_shut.ensures.there (λ found. c.undo-undone.ensures.nothing (undoubted _ c.self.inside.doubt c.self.inside.lost c.self.invariant.1 found)))
+returns-then-is_ok-clause-done g c = on_ok c.undo-undone.result
+    (settled_by g.O.Opener.first g.T.Store c.self.inside.lost c.self.inside.connection c.open_if_shut.new.connection c.undo-undone.new.connection c.self.inside.faults _ c.args.self.now c.self.view_is
+    c.open_if_shut.ensures.stays c.open_if_shut.ensures.first c.in_ok-open_if_shut.ensures.there (λ found. c.undo-undone.ensures.nothing (undoubted _ c.self.inside.doubt c.self.inside.lost c.self.invariant.1 found)))

@@ -1,5 +1,0 @@
-use Rattle.nrm_keeper.proofs.FileLemmas.{failed_from}
-use Rattle.nrm_keeper.proofs.file_keeper.FileKeeper.doubted.Goals as goal
-
-pub returns-then-is_ok-clause-same : goal.returns-then-is_ok-clause-same
-returns-then-is_ok-clause-same c = failed_from _ c.self.inside.lost c.self.inside.connection c.find_in.new.connection c.self.inside.faults _ _ c.self.view_is c.find_in.ensures.same

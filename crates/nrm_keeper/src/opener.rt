@@ -1,0 +1,103 @@
+//! How the store of a keeper is opened: anew, each time that no connection is open. What the files held as they were first
+//! opened is a ghost of the opener, so that what is said of a keeper holds of all files that tell rows.
+ghost use Rattle.std.specs.Prelude.{List, Option, Some, IfOk};
+ghost use Rattle.nrm_keeper.specs.declared.row.KeptRow.{KeptRow};
+ghost use Rattle.nrm_keeper.specs.Steady.{IsSettled};
+ghost use Rattle.nrm_keeper.specs.Inner.Passes.{TellsRows};
+
+use crate::KeepFault;
+use crate::causes::fault_of;
+use crate::owner::StoreOwner;
+use sqlite::{Alter, Connection, FileFrom, FileStore, Start, Unknown};
+use std::alloc::Global;
+use std::marker::PhantomData;
+use std::rt::HostRuntime;
+
+// The rows that a statement may visit: many times those that can stand (64 legs of 999 seats), so that only what has no end, as
+// a view may have none, is refused for it.
+const MOST_STEPS: u64 = 4_000_000;
+
+/// What opens the store of a keeper, always the same one.
+pub trait Opener<T: Alter>: Drop {
+    /// The rows that the store is taken to hold before it is first opened.
+    ghost first: { Option (List KeptRow) };
+
+    /// A new connection to the store. It tells the first rows, if it is clean and open.
+    ///
+    /// # Errors
+    /// `Failed` if the store could not be opened, `NoMemory` if memory ran out.
+    fn open(&mut self) -> Result<Connection<T>, KeepFault>
+        ensures settled { IfOk result (λ connection. IsSettled T.Store (Some connection)) }
+        ensures first { IfOk result (λ connection. TellsRows T.Store first (Some connection)) };
+}
+
+/// What files held as they were first opened, with the rows that they then tell.
+pub trait Beginning: Start {
+    ghost use Rattle.sqlite.specs.WalFiles.{image_at};
+    ghost use Rattle.nrm_keeper.specs.Beginning.{BeginsWith};
+
+    /// The rows that these contents tell.
+    ghost rows: { Option (List KeptRow) };
+
+    /// The same contents, for one opening more.
+    fn again() -> Self;
+
+    ghost begins: { BeginsWith (image_at Self.Start) rows };
+}
+
+impl Beginning for Unknown {
+    ghost use Rattle.std.specs.Prelude.{Some, []};
+    ghost use Rattle.nrm_keeper.specs.EmptyFile.{empty_begins};
+
+    ghost rows = { Some [] };
+
+    ghost begins = { empty_begins };
+
+    fn again() -> Unknown {
+        Unknown
+    }
+}
+
+/// Opens the file of a path, which belongs to this run from the first opening on.
+#[derive(Drop)]
+pub struct PathOpener<'a, S: Beginning> {
+    rt: &'a HostRuntime,
+    path: &'a str,
+    owner: StoreOwner,
+    first: PhantomData<S>,
+}
+
+impl<'a, S: Beginning> PathOpener<'a, S> {
+    /// It opens nothing yet.
+    pub fn new(rt: &'a HostRuntime, path: &'a str) -> PathOpener<'a, S> {
+        PathOpener {
+            rt,
+            path,
+            owner: StoreOwner::of_none(),
+            first: PhantomData,
+        }
+    }
+
+    /// The allocator of the run.
+    pub(crate) fn alloc(&self) -> Global {
+        self.rt.alloc()
+    }
+}
+
+impl<S: Beginning> Opener<FileStore<FileFrom<S>>> for PathOpener<'_, S> {
+    ghost first = { S.rows };
+
+    fn open(&mut self) -> Result<Connection<FileStore<FileFrom<S>>>, KeepFault> {
+        if !self.owner.may_open(self.rt, self.path) {
+            return Err(KeepFault::Failed);
+        }
+        match Connection::open_from(self.rt, self.path, false, S::again()) {
+            Ok(mut connection) => {
+                self.owner.take(self.rt, self.path)?;
+                connection.set_step_limit(Some(MOST_STEPS));
+                Ok(connection)
+            }
+            Err((error, _)) => Err(fault_of(error)),
+        }
+    }
+}
