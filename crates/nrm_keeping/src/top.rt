@@ -135,8 +135,8 @@ fn run_job<F: Files, S: Source, K: Sink, P: Keeper>(
 /// What the call says of itself: `call` ties the words, the file, the rows, the stream, the written bytes and the counts of faults to the
 /// status (`KeptCall`). If the store tells its rows, they are the bookings that stand, at the end of each session however it ends, and so
 /// behind each line, since every front of a stream is a stream; and a later run loads just these bookings from them. `on_trust`: all of
-/// this holds of the rows that the store shows, if the store is trusted after the call, and it was trusted before. So a file that began
-/// empty, that nobody else wrote, that returned what was written and was never let go has just the rows of the bookings that stand.
+/// this holds of the rows that the store shows, if the store is trusted after the call, and it was trusted before. So a file that nobody
+/// else wrote, that returned what was written and was never let go has just the rows of the bookings that stand, if it told rows at first.
 /// `sent`: nothing is kept back at the end.
 ///
 /// The other clauses are laws about every such session, whatever the faults of its store. Without the lines that were answered `store` or
