@@ -42,7 +42,7 @@ def items_of(path):
     if not os.path.exists(os.path.join(TOP, path)):
         return None
     text = read(path)
-    return set(re.findall(r"^(?: +pub |(?:abbrev |pub |record |data )*)([\w-]+)(?: \(| \{| :|$)", text, re.M))
+    return set(re.findall(r"^(?: +(?:abbrev )?pub (?:record |data )?|(?:abbrev |pub |record |data )*)([\w-]+)(?: \(| \{| :|$)", text, re.M))
 
 
 def functions_of(crate):
@@ -56,7 +56,7 @@ def functions_of(crate):
                 if public:
                     clauses = re.findall(r"^ +ensures (\w+) \{", part, re.M)
                     found.setdefault(public[1], set()).update(clauses)
-            for known in re.findall(r"^ *pub (?:struct|enum|trait) (\w+)", text, re.M):
+            for known in re.findall(r"^ *pub (?:struct|enum|trait|type) (\w+)", text, re.M):
                 found.setdefault(known, set())
     return found
 

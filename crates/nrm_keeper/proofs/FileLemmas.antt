@@ -11,7 +11,7 @@ use Rattle.nrm_keeper.specs.Rows.{Lists}
 use Rattle.nrm_keeper.specs.Stored.{told}
 use Rattle.nrm_keeper.specs.File.{Seen, FileRows, seen, file_view, rows_in, shown_in, IsSteadyIfOpen, IsTrusted, Across, Same, Done, Failed, ListsIn}
 use Rattle.nrm_keeper.specs.Steady.{IsSteady}
-use Rattle.nrm_keeper.specs.Inner.Passes.{Passes, TellsRows}
+use Rattle.nrm_keeper.specs.Passes.{Passes, TellsRows}
 
 both : (a b : Bool) → IsTrue (a && b) → IsTrue a × IsTrue b
 both true true h = (refl, refl)

@@ -11,7 +11,7 @@ use Rattle.nrm_keeper.specs.declared.row.KeptRow.{KeptRow}
 use Rattle.nrm_keeper.specs.Beginning.{BeginsWith}
 use Rattle.nrm_keeper.specs.Steady.{IsSteady}
 use Rattle.nrm_keeper.specs.Stored.{told}
-use Rattle.nrm_keeper.specs.Inner.Passes.{TellsRows}
+use Rattle.nrm_keeper.specs.Passes.{TellsRows}
 
 -- with a limit of steps
 pub first_told : (S : Type 0) (g : Ghosts S) (image : Image) (rows : Option (List KeptRow)) (opened limited : Held S) (limit : Option ℕ) → BeginsWith image rows → limited ≡ record opened { step_limit = limit }

@@ -3,6 +3,7 @@ pub mod EmptyFile
 pub mod File
 pub mod Inner
 pub mod Memory
+pub mod Passes
 pub mod Rows
 pub mod Steady
 pub mod Stored

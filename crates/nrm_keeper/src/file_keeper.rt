@@ -4,7 +4,7 @@
 //! as it is the one that was first opened, and is clean.
 ghost use Rattle.std.specs.Prelude.{◌≡◌, ◌<◌, ◌^◌, None, Some, IfOk, OnOk, OnErr, IfSome, IsSome};
 ghost use Rattle.nrm_keeper.specs.Steady.{IsSettled};
-ghost use Rattle.nrm_keeper.specs.Inner.Passes.{TellsRows};
+ghost use Rattle.nrm_keeper.specs.Passes.{TellsRows};
 
 use crate::causes::{fault_of, raised};
 use crate::opener::{Beginning, Opener, PathOpener};

@@ -3,7 +3,7 @@
 ghost use Rattle.std.specs.Prelude.{List, Option, Some, IfOk};
 ghost use Rattle.nrm_keeper.specs.declared.row.KeptRow.{KeptRow};
 ghost use Rattle.nrm_keeper.specs.Steady.{IsSettled};
-ghost use Rattle.nrm_keeper.specs.Inner.Passes.{TellsRows};
+ghost use Rattle.nrm_keeper.specs.Passes.{TellsRows};
 
 use crate::KeepFault;
 use crate::causes::fault_of;

@@ -3,7 +3,7 @@ ghost use Rattle.std.specs.Prelude.{◌≡◌, ◌<◌, ◌^◌, IfOk, OnOk, OnE
 ghost use Rattle.nrm_keeper.specs.Rows.{Adds, Drops, Lists};
 ghost use Rattle.nrm_keeper.specs.File.{Same};
 ghost use Rattle.nrm_keeper.specs.Steady.{IsSettled};
-ghost use Rattle.nrm_keeper.specs.Inner.Passes.{Passes};
+ghost use Rattle.nrm_keeper.specs.Passes.{Passes};
 
 use crate::table::{drop_kept, keep, list, row_of};
 use crate::{KeepFault, KeptRow};

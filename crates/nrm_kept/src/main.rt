@@ -37,8 +37,8 @@ fn answered<S: Beginning>(
     Ok(run_kept(alloc, words, &mut files, &mut source, &mut sink, keeper))
 }
 
-// The status of a run, for each `S` that the store's files may have held. The store is closed behind it, all replies being sent; if that fails the rows stand as they did, and so does
-// the status.
+// The status of a run, for each `S` that the store's files may have held. The store is closed behind it, all replies being sent;
+// if that fails the rows stand as they did, and so does the status.
 fn status_of<S: Beginning>(rt: &HostRuntime) -> io::Result<KeptStatus> {
     let words = words_given(rt)?;
     let mut keeper = FileKeeper::<S>::new(rt, store_in(&words));
