@@ -96,6 +96,13 @@ class Report(SalePlace):
         self.want_in(found.err, "C was never open in period 1 to 2: its demand there isn't known, and it has no row")
         self.want_in(found.report, "\nC,C,0.00,,0.00,,1 to 2\n")
 
+    def test_names_that_were_made_are_told(self) -> None:
+        self.want_in(self.demand([], TWO.replace(",A,", ",a b,")).err, "nrm-tools demand: A-B stands for 'a b'\n")
+        names = self.file("names.csv", "name,stands for\nOLD,a b\n")
+        found = self.demand(["--names", names], TWO.replace(",A,", ",a b,"))
+        self.want_in(found.err, f"nrm-tools demand: names made 1; {names} lists what they stand for\n")
+        self.want_in(found.out, "\ndemand,OLD,1,1,6\n")
+
     def test_many_that_were_never_open(self) -> None:
         closures = CLOSURES + "".join(f"2025-03-14,C{it},2025-02-25 00:00,\n2025-03-07,C{it},2025-02-20,\n"
                                       for it in range(30))

@@ -5,10 +5,10 @@ May use: nrm, nrm.limits, nrm.logs.dates, nrm.logs.demand, nrm.logs.requests, nr
 from __future__ import annotations
 
 import argparse
-from typing import Callable
+from typing import Callable, Iterable, Iterator, Mapping, Sequence
 
 from nrm import Stop
-from nrm.limits import MOST_HISTORIES
+from nrm.limits import MOST_HISTORIES, MOST_PRODUCTS
 from nrm.logs.dates import WEEKDAYS
 from nrm.logs.demand import Demand, cuts_of
 from nrm.logs.requests import Columns, Request, requests_in
@@ -49,3 +49,16 @@ def requests_of(asked: argparse.Namespace, tell: Callable[[str], None]) -> list[
 def demand_of(asked: argparse.Namespace, requests: list[Request]) -> Demand:
     """The demand of requests, in the histories and periods that the words say."""
     return Demand(requests, asked.cuts, asked.weekday, asked.last)
+
+
+def names_told(names: Mapping[str, str], legs: Iterable[str], products: Sequence[str],
+               path: str | None) -> Iterator[str]:
+    """Which names were made, or how many if a list at a path has them, and if there are too many for one file."""
+    if len(products) > MOST_PRODUCTS:
+        yield (f"a network file takes {MOST_PRODUCTS} products: with its legs and fares `nrm-tools split` cuts it into "
+               "files")
+    made = [text for text in [*legs, *products] if names[text] != text]
+    if path:
+        yield f"names made {len(made)}; {path} lists what they stand for"
+    else:
+        yield from (f"{names[text]} stands for {text!r}" for text in made)

@@ -55,7 +55,7 @@ from typing import Callable, Sequence
 
 from nrm import Stop
 from nrm.commands import running
-from nrm.commands.log_words import add_log, demand_of, requests_of, see_limits
+from nrm.commands.log_words import add_log, demand_of, names_told, requests_of, see_limits
 from nrm.commands.running import parser
 from nrm.sales.closures import Closure, Times
 from nrm.estimates.days import estimated
@@ -89,7 +89,7 @@ def run(given: Sequence[str]) -> int:
     made = carried(rates) if asked.mean else drawn(rates, copies, asked.seed)
     estimate = Estimate(rates, names, made, copies, asked.before)
     rows = [["periods", estimate.histories(), *above[0][2:]], *above[1:], *estimate.rows()]
-    for line in estimate.told():
+    for line in [*names_told(names, [], sale.products, asked.names), *estimate.told()]:
         tell(line)
     if asked.report is not None:
         estimate.write_report(asked.report)

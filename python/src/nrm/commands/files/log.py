@@ -92,14 +92,13 @@ from typing import Mapping, Sequence
 from nrm.commands import running
 from nrm.commands.export_words import (add_export, bookings_of, day_of_word, of_weekday, requests_until,
                                        see_export_limits)
-from nrm.commands.log_words import add_log, demand_of, see_limits
+from nrm.commands.log_words import add_log, demand_of, names_told, see_limits
 from nrm.commands.running import parser
 from nrm.exports.bookings import Booking
 from nrm.exports.lines import Lines
 from nrm.exports.offer import Offer, fares_of, seats_of, some_of, with_fares
 from nrm.exports.streams import Stream
 from nrm.files.names import named
-from nrm.limits import MOST_PRODUCTS
 from nrm.logs.demand import Demand, completed
 from nrm.logs.names import names_in, write_names
 from nrm.network import text_of
@@ -126,7 +125,8 @@ def run(given: Sequence[str]) -> int:
     fares = fares_of(bookings, asked.cents, tell) if asked.fare or asked.amount else {}
     rows = [*rows_above(asked, offer, demand, names, fares), *demand.rows(names)]
     tell(demand.told({it.request.departs for it in read}))
-    tell_names(demand, offer, names, asked.names)
+    for text in names_told(names, offer.legs if offer else [], demand.products, asked.names):
+        tell(text)
     if asked.network is None and offer is None:
         tell_what_is_to_do(demand, names, fares)
     elif offer and (idle := sorted(names[it] for it in offer.products.keys() - set(demand.products))):
@@ -182,19 +182,6 @@ def rows_above(asked: argparse.Namespace, offer: Offer | None, demand: Demand, n
         by_name = {names[it]: fare for it, fare in fares.items() if it in names}
         return with_fares(completed(asked.network, demand, names, tell), by_name)
     return [["periods", len(demand.departures), demand.periods]]
-
-
-def tell_names(demand: Demand, offer: Offer | None, names: Mapping[str, str], path: str | None) -> None:
-    """Tells which names were made, or how many if a list at a path has them, and if there are too many for one file."""
-    if len(demand.products) > MOST_PRODUCTS:
-        tell(f"a network file takes {MOST_PRODUCTS} products: with its legs and fares `nrm-tools split` cuts it into "
-             "files")
-    made = [text for text in [*(offer.legs if offer else []), *demand.products] if names[text] != text]
-    if path:
-        tell(f"names made {len(made)}; {path} lists what they stand for")
-    else:
-        for text in made:
-            tell(f"{names[text]} stands for {text!r}")
 
 
 def tell_what_is_to_do(demand: Demand, names: Mapping[str, str], fares: Mapping[str, int]) -> None:
