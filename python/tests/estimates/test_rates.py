@@ -68,14 +68,6 @@ class ByHand(unittest.TestCase):
         sale = sale_of([[[0, 4], [0, 4]], [[3, 3], [3, 3]]], {(0, 0): (-7.0, 1.0), (0, 1): (-7.0, 1.0)})
         self.assertLess(max(map(max, rates_of(sale).rate)), 9)
 
-    def test_a_sale_shortly_before_closing_makes_no_huge_rate(self) -> None:
-        """P0 was open for a thousandth of a period in one departure of two, and sold 2 seats there: not 2,000 in a period,
-        but 20 in a departure, and what its strengths add."""
-        booked = [[[2, 0], [0, 0]], [[3, 3], [3, 3]]]
-        rates = rates_of(sale_of(booked, {(0, 0): (-6.996, 1.0), (0, 1): (-7.0, 1.0)}))
-        self.assertLess(rates.mean(0), 30)
-        self.assertEqual(rates.never_open(0), [1])
-
     def test_nothing_is_booked(self) -> None:
         """Of a product that was open all along nothing was wanted, and is expected."""
         rates = rates_of(sale_of([[[0, 0], [0, 0]], [[3, 3], [3, 3]]], {(0, 1): (0.0, 1.0), (1, 1): (0.5, 1.0)}))

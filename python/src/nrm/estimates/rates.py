@@ -33,7 +33,6 @@ ROUNDS, NEAR = 100, 1e-4
 ROUNDS_OF_COURSE = 20
 OF_OWN = 10  # how much farther a strength of a product may move, since it has fewer bookings than a departure has
 LEAST_SEEN = 1e-9  # departures: below it a product was never open
-LEAST_OPEN = 0.1  # departures, which a level is taken of at least: else a sale shortly before closing makes a huge one
 
 
 @dataclass(frozen=True)
@@ -139,18 +138,14 @@ class Rates:
         that was never open has the level 0, or the mean level of the others if that is asked for."""
         course, level = [1.0 for _ in self.periods], dict.fromkeys(some, 0.0)
         for _ in range(ROUNDS_OF_COURSE):
-            level = {j: self.level_of(j, course) for j in some}
+            seen = {j: sum(map(operator.mul, course, self.seen[j])) for j in some}
+            level = {j: over(sum(self.booked_by_period[j]), seen[j]) for j in some}
             booked = [sum(self.booked_by_period[j][t] for j in some) for t in self.periods]
             course = [over(booked[t], sum(level[j] * self.seen[j][t] for j in some)) for t in self.periods]
         if self.known.is_by_class:
             open_ = [it for j, it in level.items() if sum(self.seen[j]) > LEAST_SEEN]
             level.update({j: sum(open_) / len(open_) for j in some if open_ and sum(self.seen[j]) <= LEAST_SEEN})
         return [[level[j] * c for c in course] for j in some]
-
-    def level_of(self, j: int, course: Sequence[float]) -> float:
-        """The level of a product by what was booked while it was open, of a course over the periods."""
-        seen = sum(map(operator.mul, course, self.seen[j]))
-        return over(sum(self.booked_by_period[j]), max(seen, LEAST_OPEN * sum(course)) if seen > LEAST_SEEN else seen)
 
     # What they tell
 

@@ -40,9 +40,8 @@ departure more is counted for each product. --before NETWORK, the network file t
 asked for in it: its mean demand. Where that doesn't name the product, or there is none, it is the product's level
 times the course of the sale over the periods, which is common to the dear products and to the cheap ones, or without
 --network to all. A product is dear if its fare is at or above the middle of those of its journey, or if that has one
-fare, of all. What was open for less than a tenth of a departure in all has a level as if it had been open for a tenth.
-One that was never open in any period has none: without --before it gets no row, as if nobody had asked for it, or with
---like-class the mean level of those of its class.
+fare, of all. One that was never open in any period has no level: without --before it gets no row, as if nobody had
+asked for it, or with --like-class the mean level of those of its class.
 
 --report FILE gets a row for each product: seats booked in a departure, how much of its demand came while it was open,
 the estimate, and its standard error. A log or a file of times that has rows that can't be read is refused: the first
