@@ -1,5 +1,5 @@
-"""Departures that are drawn, and sold by the program, with what it takes to estimate demand: what was asked for and sold,
-and when each product was closed. What its plans and the seats left say is open must be what the program sells."""
+"""Departures that are drawn, and sold by the program, with what it takes to estimate demand: what was asked for and
+sold, and when each product was closed. What its plans and the seats left say is open must be what the program sells."""
 import os
 import sys
 from typing import NamedTuple
@@ -33,8 +33,8 @@ def add_departures(words):
 
 
 class Customer(NamedTuple):
-    """Who wants a product at a time of a period, 0 to 1: one who buys the cheapest open product of the journey, if it is no
-    dearer, or who asks again for the next dearer one if it is refused, or neither."""
+    """Who wants a product at a time of a period, 0 to 1: one who buys the cheapest open product of the journey, if it
+    is no dearer, or who asks again for the next dearer one if it is refused, or neither."""
     time: float
     product: str
     buys_down: bool
@@ -76,8 +76,8 @@ class Demand:
         return Customer(self.time(name, draw), name, habit < down, down <= habit < down + again)
 
     def time(self, name, draw):
-        """A time in a period: uniform, or of the density 1 + s (2u - 1), where s is above 0 for dear products, and below
-        for cheap ones."""
+        """A time in a period: uniform, or of the density 1 + s (2u - 1), where s is above 0 for dear products, and
+        below for cheap ones."""
         u = draw.random()
         if self.kind != "rough":
             return u
@@ -107,7 +107,7 @@ class Board:
         self.lines_of_a_plan = 1 if mode == "first" else 1 + len(products) + len(network.legs) + nests
 
     def plan_by(self, histories):
-        """Takes histories for the plans of the next departures: of each, by product, the seats asked for in each period."""
+        """Takes histories for the plans of the next departures: of each, by product, the seats asked for by period."""
         with open(self.path, "w", encoding="ascii") as file:
             file.write(text_of(rows_with(self.network, histories)))
 
@@ -144,7 +144,8 @@ class Sale:
 
     asked    of each period, the times and products of the requests
     sold     of each period, whether each request was sold
-    closed   times at which products were closed: the product, and where it begins and ends, each a period and a time in it
+    closed   times at which products were closed: the product, and where it begins and ends, each a period and a time
+             in it
     since    of the products that are closed, where that begins
     revenue  of what was sold
     """
@@ -168,8 +169,8 @@ class Sale:
                 self.since.setdefault(name, here)
 
     def levels_of(self, product, plan):
-        """The legs of a product, each with the seats above which it is open by a plan; None where its fare is below their
-        prices."""
+        """The legs of a product, each with the seats above which it is open by a plan; None where its fare is below
+        their prices."""
         if self.board.mode == "bid" and product.fare < sum(plan.prices[leg] for leg in product.legs):
             return None
         return [(leg, plan.kept_from(leg, product.name)) for leg in product.legs]
