@@ -15,7 +15,8 @@ import datetime
 import random
 import sys
 
-import running
+from nrm.commands.running import parser
+from running import NAME, end
 
 FIRST_DAY = datetime.date(2025, 3, 17)
 GOOD_FRIDAY = datetime.date(2025, 4, 18)
@@ -87,7 +88,7 @@ def faulty(draw, rows):
 
 
 def main():
-    words = running.parser(__doc__)
+    words = parser(NAME, __doc__)
     words.add_argument("export")
     words.add_argument("seats")
     words.add_argument("--days", type=int, default=96)
@@ -111,4 +112,4 @@ def main():
 
 
 if __name__ == "__main__":
-    running.end(main)
+    end(main)
