@@ -42,7 +42,8 @@ def items_of(path):
     if not os.path.exists(os.path.join(TOP, path)):
         return None
     text = read(path)
-    return set(re.findall(r"^(?: +(?:abbrev )?pub (?:record |data )?|(?:abbrev |pub |record |data )*)([\w-]+)(?: \(| \{| :|$)", text, re.M))
+    in_module, at_top = r" +(?:abbrev )?pub (?:record |data )?", r"(?:abbrev |pub |record |data )*"
+    return set(re.findall(rf"^(?:{in_module}|{at_top})([\w-]+)(?: \(| \{{| :|$)", text, re.M))
 
 
 def functions_of(crate):

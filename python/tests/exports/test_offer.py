@@ -136,8 +136,8 @@ class Lines(ExportTest):
         out = self.told("log", self.export(rows), *COLUMNS, *STOPS, *FARES, "--seats-of", "seats.csv", *line)
         self.want_in(out, "-CAS,8\nleg,CAS-DOR,7\n")
         back = "7;sold;2025-03-13;2025-03-14;;Cassel;Aachen;Flex;1;40,00 €\n"
-        self.refused("the journeys go round: line 3 from Aachen to Cassel, line 8 from Cassel to Aachen; so they are of "
-                     "several trains", rows=BOOKINGS + back)
+        self.refused("the journeys go round: line 3 from Aachen to Cassel, line 8 from Cassel to Aachen; so they are "
+                     "of several trains", rows=BOOKINGS + back)
         self.refused("--line from Cassel to Bonn", "--line", "Cassel", "Bonn")
 
     def test_joins_legs_at_a_stop(self) -> None:

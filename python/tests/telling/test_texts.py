@@ -41,7 +41,8 @@ class Texts(PlaceTest):
         cuts = self.told("thresholds", LOG, 2, *self.names, "--pictures", "pictures", *self.with_program)
         self.want_in(cuts, "\n  VIE-BUD: Wien - Budapest  ")
         self.want_in(cuts, "\nThe fares on VIE-BUD: Wien - Budapest\n")
-        self.want_in(self.told("optimum", LOG, "VIE-BUD", *self.names, *self.with_program), f"\n  VB-Q: {TEXTS['VB-Q']}  ")
+        optimum = self.told("optimum", LOG, "VIE-BUD", *self.names, *self.with_program)
+        self.want_in(optimum, f"\n  VB-Q: {TEXTS['VB-Q']}  ")
 
     def test_of_simulated_seasons(self) -> None:
         rows = by_one_process(self.program, LOG, Settings(), 2)

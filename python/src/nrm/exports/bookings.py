@@ -54,8 +54,8 @@ class ExportColumns:
 
 @dataclass(frozen=True)
 class Cancellation:
-    """A cancellation: its line, the seats, the days before departure, if they are known, and whether its row shows by an
-    amount or by seats below 0 that it is one of its own."""
+    """A cancellation: its line, the seats, the days before departure, if they are known, and whether its row shows by
+    an amount or by seats below 0 that it is one of its own."""
     line: int
     seats: int
     days: int | None
@@ -111,8 +111,8 @@ class Reading:
             texts[self.cancels(it)][self.field(it, column) or "nothing"] += 1
         yes, no = (counted(texts[it]) for it in (True, False))
         if not yes:
-            raise Stop(f"no row is a cancellation by the column {column}, where there stands {no}; say which texts mean "
-                       f"one: --cancels {column} TEXT..")
+            raise Stop(f"no row is a cancellation by the column {column}, where there stands {no}; say which texts "
+                       f"mean one: --cancels {column} TEXT..")
         return f"rows that cancel by the column {column}: {yes}; that don't: {no or 'none'}"
 
     def field(self, row: LogRow, column: str | None) -> str:
@@ -154,7 +154,8 @@ class Reading:
     def cancellation(self, row: LogRow, request: Request) -> Cancellation:
         """The cancellation that the row of its booking says."""
         day = self.day_in(self.field(row, self.columns.cancels[0]))
-        is_below_0 = any(it.startswith("-") for it in (self.read.seats_of(row.fields), self.field(row, self.columns.fare)))
+        amounts = self.read.seats_of(row.fields), self.field(row, self.columns.fare)
+        is_below_0 = any(it.startswith("-") for it in amounts)
         if is_below_0 and not self.columns.number:
             raise ValueError("it cancels a booking of another row: say --id, the column of the booking's number")
         return Cancellation(row.line, request.seats, None if day is None else (request.departs - day).days, is_below_0)

@@ -46,7 +46,8 @@ class Lines:
                 self.neighbours[train] = list(zip(ends, ends[1:]))
         stops = {stop for lines in journeys.values() for some in lines for stop in some}
         if unknown := [it for it in joined if it not in stops]:
-            raise Stop(f"--join {unknown[0]}: no journey begins or ends there; the stops are {', '.join(sorted(stops))}")
+            known = ", ".join(sorted(stops))
+            raise Stop(f"--join {unknown[0]}: no journey begins or ends there; the stops are {known}")
 
     def legs(self) -> Iterator[Leg]:
         """All legs, train by train."""

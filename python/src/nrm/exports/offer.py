@@ -58,8 +58,8 @@ class Offer:
                          f"{len(longest.legs)}")
         if found:
             raise Stop(f"the export is more than a network file takes: {'; '.join(found)}. Take some trains alone, "
-                       "--only COLUMN TEXT.., join the legs at stops that few use, --join STOP.., or leave products out, "
-                       "--without COLUMN TEXT..")
+                       "--only COLUMN TEXT.., join the legs at stops that few use, --join STOP.., or leave products "
+                       "out, --without COLUMN TEXT..")
 
     def named(self, known: Mapping[str, str]) -> dict[str, str]:
         """A name for each leg and product: the one that is known, or one that its parts make."""

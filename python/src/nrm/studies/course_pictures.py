@@ -93,7 +93,8 @@ def seats(season: Season) -> Figure:
     looks = BANDS[:len(leg.thresholds)]
     marks = [] if leg.authorised == leg.seats else [Line2D([], [], **SEATS_LINE, label=f"the leg's {leg.seats} seats")]
     marks += [patch(CLOSED, "not authorised")] if leg.authorised < leg.seats else []
-    titles = [titled(f"{leg.name} under {it.mode}", season.texts.get(leg.name, ""), LETTERS_OF_A_TITLE) for it in courses]
+    text = season.texts.get(leg.name, "")
+    titles = [titled(f"{leg.name} under {it.mode}", text, LETTERS_OF_A_TITLE) for it in courses]
     figure, axes = panels(len(courses), 3, 2.5, -(-(3 + len(looks) + len(marks)) // 3), titles=titles)
     for axis, it, title in zip(axes, courses, titles):
         draw_bands(axis, it, leg.authorised, looks)
