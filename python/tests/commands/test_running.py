@@ -20,8 +20,11 @@ from seasons.clusters import by_one_process, needs_dask
 NETWORK = str(EXAMPLES / "log" / "network.csv")
 OF_NRM = {"none": 3, "folder": 9, "refused": 3}
 OWN_STATUSES = {"audit": OF_NRM, "explain": OF_NRM}  # those of the program
+SOLD = ["--departs", "departure", "--booked", "booked on", "--product", "product", "--seats", "seats"]
 SERVE = {"desks"}  # these go on until they are ended, and have tests of their own
-TOLD_ON_THE_WAY = ("nrm-tools season: no pictures", "nrm-tools log: ", "nrm-tools simulate: ")
+TOLD_ON_THE_WAY = ("nrm-tools season: no pictures", "nrm-tools log: ", "nrm-tools simulate: ", "nrm-tools asked: ",
+                   "nrm-tools demand: ")
+OF_LOGS = {"log", "demand"}  # their first file is no network
 
 
 class Running(PlaceTest):
@@ -30,11 +33,13 @@ class Running(PlaceTest):
     def setUp(self) -> None:
         super().setUp()
         requests, rows, stream = (str(EXAMPLES / "log" / it) for it in ("requests.csv", "rows.csv", "commands.txt"))
+        bookings, closures = (str(EXAMPLES / "sales" / it) for it in ("bookings.csv", "closures.csv"))
         network, program = NETWORK, self.with_program
         kept = self.file("kept", (EXAMPLES / "log" / "bid.txt").read_bytes()[:40])
         certificate = self.file("certificate", self.nrm("plan", "bid", network))
         self.words = {  # with which each ends with status 0
             "log": [requests, *COLUMNS, "--cuts", "30,7", "--network", rows],
+            "demand": [bookings, *SOLD, "--cuts", "30,7", "--closures", closures], "asked": [network, stream],
             "audit": [network, certificate], "explain": [network, certificate],
             "lp": [network], "split": [network, "parts"],
             "season": [network, stream, "--out", "pictures", *program], "replay": [network, *program],
@@ -67,7 +72,7 @@ class Running(PlaceTest):
     def test_each_refuses_a_network_with_a_number_that_is_too_long(self) -> None:
         network = self.file("long.csv", f"periods,1,1\nleg,A,1\nproduct,P,{'9' * 4301},A\ndemand,P,1,1\n")
         for name, words in self.words.items():
-            if name not in (*OWN_STATUSES, "log"):
+            if name not in {*OWN_STATUSES, *OF_LOGS}:
                 self.stopped(name, network, *words[1:], says="refused")
 
     def test_each_ends_quietly_where_nobody_reads(self) -> None:
