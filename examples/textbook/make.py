@@ -4,15 +4,15 @@
     examples/textbook/make.py first > examples/textbook/first.csv
     examples/textbook/make.py second > examples/textbook/second.csv
 
-The two have other fares and the same demand, which is normal in each class. A network file has histories in the place of a
-distribution: here 32, in which a class has its quantiles at 1/64, 3/64, .. 63/64, each once, rounded to whole seats and not
-below 0.
+The two have other fares and the same demand, which is normal in each class. A network file has histories in the place
+of a distribution: here 32, in which a class has its quantiles at 1/64, 3/64, .. 63/64, each once, rounded to whole
+seats and not below 0.
 
-WHICH HISTORY HAS WHICH. EMSR-b reads the sums of the classes history by history, and the dynamic program takes each class for
-itself, as independent of the others. So that the two are asked nearly the same, the classes are shuffled against each other:
-in history h the first class has quantile number h, the second 5h, the third 25h and the fourth 125h, each modulo 33. So each
-class has every quantile once, since 5 and 33 have no common divisor. With 5 the greatest rank correlation of two classes is 0.13
-in size; no number in its place gives less, and no smaller one as little.
+WHICH HISTORY HAS WHICH. EMSR-b reads the sums of the classes history by history, and the dynamic program takes each
+class for itself, as independent of the others. So that the two are asked nearly the same, the classes are shuffled
+against each other: in history h the first class has quantile number h, the second 5h, the third 25h and the fourth
+125h, each modulo 33. So each class has every quantile once, since 5 and 33 have no common divisor. With 5 the greatest
+rank correlation of two classes is 0.13 in size; no number in its place gives less, and no smaller one as little.
 """
 import sys
 from statistics import NormalDist
