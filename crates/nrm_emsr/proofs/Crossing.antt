@@ -9,7 +9,7 @@ use Rattle.nrm_number.proofs.Ring.Expr.{◌⊗◌, e1}
 use Rattle.nrm_fraction.specs.Fraction.{Fraction, ◌over◌, ◌*ᶠ◌, whole}
 use Rattle.nrm_fraction.proofs.Field.{IsValue_whole}
 use Rattle.nrm_fraction.proofs.Tests.{less-is}
-use Rattle.nrm_fraction.proofs.Values.{IsValue, IsValue_over, IsValue_product, IsValue_turn}
+use Rattle.nrm_fraction.proofs.Values.{IsValue, IsValue_over, IsValue_product, IsValue_turn, same_value}
 use Rattle.std.specs.List.{count_by, range_with_len}
 use Rattle.std.proofs.lemmas.List.FromFn.{length-map-range_with_len}
 use Rattle.std.proofs.lemmas.List.Sums.{sum_by-cons}
@@ -99,6 +99,17 @@ module _ (net : NetworkValue) (cert : Certificate) (i k : ℕ) (some : 0 < nat_a
       let w : ℕ = weight_of net cert i k b b in
       let a : ℤ = weighted_fares net cert i k b b in
       parts w a t d some (nat_lt b (bucket_count net i)) (w == 0) ((w == 0) || int_lt a (pos 0)) (not-nought w) (λ h. not-nought w (or_parts (w == 0) (int_lt a (pos 0)) h).0)
+
+  -- and put together from them
+  pub fare-made : (b : ℕ) (own made : Mean) → own.fares ≡ weighted_fares net cert i k b b → own.seats ≡ weight_of net cert i k b b
+      → made.fares ≡ (fare_by own.fares own.seats (leg_of net i).cuts d b).0 → made.seats ≡ (fare_by own.fares own.seats (leg_of net i).cuts d b).1 → 1 ≤ made.seats
+      → made.fares over (made.seats * d) ≡ bucket_fare net cert i k b
+  fare-made b own made own-fares own-seats fares seats positive =
+      let fare : ℤ × ℕ = fare_by (weighted_fares net cert i k b b) (weight_of net cert i k b b) (leg_of net i).cuts d b in
+      let num : made.fares ≡ fare.0 = fares ∙ (λ s. (fare_by (own-fares s) (own-seats s) (leg_of net i).cuts d b).0) in
+      let den : made.seats ≡ fare.1 = seats ∙ (λ s. (fare_by (own-fares s) (own-seats s) (leg_of net i).cuts d b).1) in
+      same_value (made.fares over (made.seats * d)) (bucket_fare net cert i k b) made.fares fare.0 (made.seats * d) (fare.1 * d) (IsValue_over made.fares (made.seats * d) (mul-pos positive some)) (fare-parts b)
+      (λ s. num s *ℤ pos (sym den s * d))
 
   -- it isn't negative
   fare-nat : (b : ℕ) → IsNat (fare_by (weighted_fares net cert i k b b) (weight_of net cert i k b b) (leg_of net i).cuts d b).0

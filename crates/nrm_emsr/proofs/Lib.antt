@@ -1,6 +1,6 @@
 pub mod Nests  -- a leg's products in some of its buckets: one product more, one bucket more, and the definitions' lists of products
 pub mod Come  -- demand to come, history by history: how large it gets, and a list of it when some more is added
-pub mod Means  -- mean fares: their bounds, and that of one bucket more
+pub mod Means  -- mean fares: their bounds, that of one bucket more, and those of the definitions
 pub mod SideSizes  -- how large a side of the comparison gets
 pub mod Places  -- counts over falling numbers, and the greatest count that passes a test
 pub mod Least  -- the first number that passes a test

@@ -1,21 +1,44 @@
 //! The comparison of two mean fares, in whole numbers that fit in 128 bits, and the greatest count of histories that
 //! passes.
-ghost use Rattle.std.specs.Prelude.{◌≡◌, ◌*◌, ◌^◌, ◌<◌, ◌≤◌, ◌*ℤ◌, int_lt, not, pos, unsigned_abs};
+ghost use Rattle.std.specs.Prelude.{◌≡◌, ◌+◌, ◌*◌, ◌^◌, ◌<◌, ◌≤◌, ◌*ℤ◌, int_lt, length, nat_abs, not, pos, unsigned_abs};
 ghost use Rattle.nrm_fraction.specs.Large.{size_limit};
+ghost use Rattle.nrm_model.specs.Network.{leg_of};
 ghost use Rattle.nrm_model.specs.declared.limits.TheConstants.{MOST_HISTORIES};
+ghost use Rattle.nrm_virtual.specs.Adjusted.{HasPrices};
+ghost use Rattle.nrm_virtual.specs.Buckets.{bucket_count};
 ghost use Rattle.nrm_emsr.specs.Inner.Sums.{crosses, fare_by};
 ghost use Rattle.nrm_emsr.specs.Inner.Ranked.{greatest_count};
 
 use crate::sums::{Mean, scaled};
+use nrm_lp::Certificate;
+use nrm_model::Network;
 
-/// The fare of a bucket, from its mean fare.
-pub(crate) fn fare_of(mean: Mean, cuts: &[u32], den: u64, bucket: u8) -> Mean
+/// The fare of the bucket behind `last` of a leg, from its mean fare.
+pub(crate) fn next_fare(net: &Network, cert: &Certificate, leg: u8, last: u8, mean: Mean) -> Mean
+    requires prices { HasPrices size_limit (length net.now.legs) cert.now }
+    requires leg { leg < length net.now.legs }
+    requires last { last < bucket_count net.now leg }
+    requires weight { mean.seats < 2 ^ 23 }
+    requires fares { unsigned_abs mean.fares < 2 ^ 98 }
+    ensures fares { result.fares ≡ (fare_by mean.fares mean.seats (leg_of net.now leg).cuts (nat_abs cert.now.den) (last + 1)).0 }
+    ensures seats { result.seats ≡ (fare_by mean.fares mean.seats (leg_of net.now leg).cuts (nat_abs cert.now.den) (last + 1)).1 }
+    ensures some { 1 ≤ result.seats }
+    ensures seats_size { result.seats < 2 ^ 23 }
+    ensures fares_size { unsigned_abs result.fares < 2 ^ 98 }
+{
+    let cuts = net.leg_at(leg).cuts.as_slice();
+    fare_of(mean, cuts, cert.den.unsigned_abs(), last + 1)
+}
+
+// The fare of a bucket, from its mean fare, the thresholds and the denominator.
+fn fare_of(mean: Mean, cuts: &[u32], den: u64, bucket: u8) -> Mean
     requires weight { mean.seats < 2 ^ 23 }
     requires fares { unsigned_abs mean.fares < 2 ^ 98 }
     requires den { den < size_limit }
     requires first { 1 ≤ bucket }
     ensures fares { result.fares ≡ (fare_by mean.fares mean.seats cuts.now den bucket).0 }
     ensures seats { result.seats ≡ (fare_by mean.fares mean.seats cuts.now den bucket).1 }
+    ensures some { 1 ≤ result.seats }
     ensures seats_size { result.seats < 2 ^ 23 }
     ensures fares_size { unsigned_abs result.fares < 2 ^ 98 }
 {

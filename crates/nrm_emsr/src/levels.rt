@@ -9,10 +9,10 @@ ghost use Rattle.nrm_virtual.specs.Table.{IsTableOf};
 ghost use Rattle.nrm_emsr.specs.Protections.{protections_of, seats_enough};
 ghost use Rattle.nrm_emsr.specs.Inner.Sums.{AreSumsOf};
 
-use crate::compared::{fare_of, most_that_pass};
+use crate::compared::{most_that_pass, next_fare};
 use crate::nest::nested_on;
 use crate::ranked::{demand_at, falling};
-use crate::sums::{Mean, add_bucket, both};
+use crate::sums::{Mean, add_next, first_sums};
 use nrm_lp::Certificate;
 use nrm_model::Network;
 use nrm_virtual::BucketTable;
@@ -43,16 +43,15 @@ pub fn protections(
         return Ok(levels);
     }
     let nest = nested_on(alloc, net, cert, table, leg)?;
-    let mut demands = vec![in alloc; 0; net.n() as usize]?;
-    let mut above = add_bucket(&mut demands, net, &nest, 0, period);
+    let mut sums = first_sums(alloc, net, &nest, period)?;
     let mut last = 0;
     for passed in 0..cuts.len() as u8 {
-        let ranked = falling(Vec::from_slice(alloc, &demands)?);
-        let next = add_bucket(&mut demands, net, &nest, passed + 1, period);
+        let above = sums.above;
+        let ranked = falling(Vec::from_slice(alloc, &sums.demands)?);
+        let next = add_next(&mut sums, net, &nest, passed + 1, period);
         let enough = enough_for(net, cert, leg, passed + 1, above, next, &ranked);
         last = greater(last, enough);
         levels.push(last)?;
-        above = both(above, next);
     }
     Ok(levels)
 }
@@ -89,12 +88,7 @@ fn enough_for(
     if above.seats == 0 {
         return 0;
     }
-    let next = fare_of(
-        next,
-        net.leg_at(leg).cuts.as_slice(),
-        cert.den.unsigned_abs(),
-        last + 1,
-    );
+    let next = next_fare(net, cert, leg, last, next);
     let most = most_that_pass(net.n(), above, next);
     capped(demand_at(ranked, most), cap_of(net, leg))
 }

@@ -2,6 +2,9 @@
 //! protected for its higher buckets.
 #![tactic(auto)]
 
+mod basis;
+#[cfg(test)]
+mod basis_tests;
 #[cfg(test)]
 mod bucket_tests;
 mod compared;
@@ -13,5 +16,7 @@ mod sums;
 #[cfg(test)]
 mod tests;
 
+pub use basis::{Basis, basis_of};
 pub use laws::enough_is_least;
 pub use levels::protections;
+pub use sums::Mean;

@@ -1,32 +1,79 @@
 //! Sums over a leg's buckets, from the first on: their fares, each as often as its demand to come, and that demand, in each
 //! history and in all. Those of one bucket more are those so far and its own.
-ghost use Rattle.std.specs.Prelude.{◌≡◌, ◌+◌, ◌-◌, ◌*◌, ◌^◌, ◌<◌, ◌≤◌, ◌+ℤ◌, ◌*ℤ◌, All, length, map, pos, slice_index, unsigned_abs};
+ghost use Rattle.std.specs.Prelude.{◌≡◌, ◌+◌, ◌-◌, ◌*◌, ◌^◌, ◌<◌, ◌≤◌, ◌+ℤ◌, ◌*ℤ◌, All, IfOk, length, map, pos, slice_index, unsigned_abs};
 ghost use Rattle.std.specs.Int.{IsInRange, is_in_range};
 ghost use Rattle.std.specs.List.{range_with_len};
 ghost use Rattle.nrm_model.specs.Demand.{demand_to_come, total_to_come};
 ghost use Rattle.nrm_model.specs.declared.limits.TheConstants.{MOST_PRODUCTS, MOST_THRESHOLDS, MOST_TOTAL_DEMAND};
 ghost use Rattle.nrm_emsr.specs.Inner.Nest.{IsKnown};
-ghost use Rattle.nrm_emsr.specs.Inner.Sums.{IsMeanOf, nest_demand};
+ghost use Rattle.nrm_emsr.specs.Inner.Sums.{AreSumsTo, IsMeanOf, nest_demand};
 
 use crate::nest::Nested;
 use nrm_model::Network;
+use std::alloc::{AllocError, Global};
 
 /// A mean fare: the sum of the fares, each as often as its demand, over that demand and the certificate's denominator.
 #[derive(Clone, Copy)]
-pub(crate) struct Mean {
-    pub(crate) fares: i128,
-    pub(crate) seats: u32,
+pub struct Mean {
+    /// The sum of the fares, each as often as its demand.
+    pub fares: i128,
+    /// That demand, over all histories.
+    pub seats: u32,
 }
 
-/// Adds the demand to come of the bucket behind `above` to that of buckets 1 to `above`, history by history, and gives its
-/// mean fare.
-pub(crate) fn add_bucket(
-    demands: &mut Vec<u32>,
+/// The sums over a leg's buckets 1 to some bucket: their mean fare, and their demand to come in each history.
+#[derive(Drop)]
+pub(crate) struct Sums {
+    pub(crate) above: Mean,
+    pub(crate) demands: Vec<u32>,
+}
+
+/// The sums over bucket 1 alone.
+///
+/// # Errors
+/// Want of memory.
+pub(crate) fn first_sums(
+    alloc: Global,
     net: &Network,
     nest: &[Nested],
-    above: u8,
+    period: u8,
+) -> Result<Sums, AllocError>
+    requires known { All (IsKnown (length net.now.products)) nest.now }
+    requires few { length nest.now ≤ MOST_PRODUCTS }
+    requires period { IsInRange 1 net.now.periods period }
+    ensures { IfOk result (AreSumsTo net.now period nest.now 1) }
+{
+    let mut demands = vec![in alloc; 0; net.n() as usize]?;
+    let above = add_bucket(&mut demands, net, nest, 0, period);
+    Ok(Sums { above, demands })
+}
+
+/// Adds the bucket behind `last` to the sums over buckets 1 to `last`, and gives its mean fare.
+pub(crate) fn add_next(
+    sums: &mut Sums,
+    net: &Network,
+    nest: &[Nested],
+    last: u8,
     period: u8,
 ) -> Mean
+    requires known { All (IsKnown (length net.now.products)) nest.now }
+    requires few { length nest.now ≤ MOST_PRODUCTS }
+    requires last { last ≤ MOST_THRESHOLDS }
+    requires period { IsInRange 1 net.now.periods period }
+    requires sums { AreSumsTo net.now period nest.now last sums.old }
+    ensures next { IsMeanOf net.now period nest.now (last + 1) (last + 1) result }
+    ensures sums { AreSumsTo net.now period nest.now (last + 1) sums.new }
+    ensures next_weight { result.seats < 2 ^ 23 }
+    ensures next_fares { unsigned_abs result.fares < 2 ^ 98 }
+{
+    let next = add_bucket(&mut sums.demands, net, nest, last, period);
+    sums.above = both(sums.above, next);
+    next
+}
+
+// Adds the demand to come of the bucket behind `above` to that of buckets 1 to `above`, history by history, and gives its
+// mean fare.
+fn add_bucket(demands: &mut Vec<u32>, net: &Network, nest: &[Nested], above: u8, period: u8) -> Mean
     requires known { All (IsKnown (length net.now.products)) nest.now }
     requires few { length nest.now ≤ MOST_PRODUCTS }
     requires above { above ≤ MOST_THRESHOLDS }
@@ -85,8 +132,8 @@ fn with(mean: Mean, nested: &Nested, seats: u32) -> Mean
     }
 }
 
-/// The mean fare of some buckets and another one.
-pub(crate) fn both(mean: Mean, other: Mean) -> Mean
+// The mean fare of some buckets and another one.
+fn both(mean: Mean, other: Mean) -> Mean
     requires fares { unsigned_abs mean.fares < 2 ^ 98 }
     requires weight { mean.seats < 2 ^ 23 }
     requires other_fares { unsigned_abs other.fares < 2 ^ 98 }

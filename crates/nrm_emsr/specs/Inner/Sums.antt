@@ -9,6 +9,7 @@ use Rattle.nrm_model.specs.declared.limits.TheConstants.{MOST_TOTAL_DEMAND}
 use Rattle.nrm_lp.specs.declared.certificate.Certificate.{Certificate}
 use Rattle.nrm_emsr.specs.declared.nest.Nested.{Nested}
 use Rattle.nrm_emsr.specs.declared.sums.Mean.{Mean}
+use Rattle.nrm_emsr.specs.declared.sums.Sums.{Sums}
 use Rattle.nrm_emsr.specs.Fares.{sum_of, weight_of, weighted_fares}
 use Rattle.nrm_emsr.specs.Protections.{demand_above}
 use Rattle.nrm_emsr.specs.Inner.Nest.{in_buckets}
@@ -32,6 +33,11 @@ pub record IsMeanOf (net : NetworkValue) (k : ℕ) (nest : List Nested) (first l
   pub fares : mean.fares ≡ nest_fares net k nest first last
   pub seats_size : mean.seats ≤ MOST_TOTAL_DEMAND * length (in_buckets nest first last)
   pub fares_size : unsigned_abs mean.fares ≤ 2 ^ 75 * MOST_TOTAL_DEMAND * length (in_buckets nest first last)
+
+-- the sums over buckets 1 to b
+pub record AreSumsTo (net : NetworkValue) (k : ℕ) (nest : List Nested) (b : ℕ) (sums : Sums) : Type 0 where
+  pub above : IsMeanOf net k nest 1 b sums.above
+  pub demands : sums.demands.items ≡ map (nest_demand net k nest 1 b) (range_with_len 0 net.histories)
 
 -- what decides on buckets 1 to b of a leg: the mean fares of them and of the next bucket, and their demands history by history, sorted
 -- so that they fall
