@@ -2,6 +2,7 @@
 from __future__ import annotations
 
 import csv
+import itertools
 import math
 import random
 import re
@@ -14,7 +15,8 @@ from harness import PlaceTest
 from nrm import bytes_in
 from nrm.network import Network, Row, rows_of
 from nrm.replies import MODES
-from nrm.seasons.drawing import DEMANDS, DrawnSeason, Settings, drawn_season, generator, identity
+from nrm.seasons.coupled import season_of
+from nrm.seasons.drawing import DEMANDS, DrawnSeason, Settings, drawn_season, identity
 from nrm.seasons.playing import Clock, played
 from seasons.clusters import HUB, LOG, SEASON, by_one_process
 
@@ -29,15 +31,14 @@ class Drawn(unittest.TestCase):
     def test_drawn_means_are_those_of_the_histories(self) -> None:
         for name in (LOG, SEASON):
             network, count = Network.read(name), 400
-            for demand in DEMANDS:
-                settings = Settings(demand=demand, parties=((1, 80), (2, 15), (4, 5)))
-                drawn = [self.seats_drawn(network, drawn_season(network, settings, generator(1, "test", it)))
-                         for it in range(count)]
+            for demand, by_product in itertools.product(DEMANDS, (False, True)):
+                settings = Settings(demand=demand, parties=((1, 80), (2, 15), (4, 5)), by_product=by_product)
+                drawn = [self.seats_drawn(network, season_of(network, settings, "test", it)) for it in range(count)]
                 for product, by_period in network.mean_demand.items():
                     for period, mean in enumerate(by_period):
                         values = [it.get((product, period), 0) for it in drawn]
                         self.assertLessEqual(abs(sum(values) / count - mean), 4 * spread(values) + 1e-9,
-                                             f"{name} {demand} {product} {period + 1}")
+                                             f"{name} {demand} {by_product} {product} {period + 1}")
 
     def seats_drawn(self, network: Network, season: DrawnSeason) -> dict[tuple[str, int], int]:
         """The seats that a season asks for, by product and period."""

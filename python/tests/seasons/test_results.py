@@ -9,7 +9,7 @@ from nrm import Stop
 from nrm.network import Network
 from nrm.replies import MODES
 from nrm.seasons.results import Results
-from seasons.clusters import LOG, SEASON, SimulateTest, needs_dask
+from seasons.clusters import LOG, SEASON, SECONDS, SimulateTest, needs_dask
 from seasons.test_drawing import spread
 
 SETTINGS = ["--show", "0.9", "--denied-cost", "700", "--cancel", "0.1", "--parties", "1:80,2:15,4:5"]
@@ -27,7 +27,7 @@ class Told(SimulateTest):
                      for name in ("revenue", "withheld", "denied", "empty", "earned")]
             share = sum(int(it["revenue"]) for it in own) / sum(float(it["bound"]) for it in own)
             texts = [f"{means[0]:,.1f}", f"{means[1]:,.1f}", f"{means[2]:.2f}", f"{means[3]:.2f}", f"{means[4]:,.1f}",
-                     f"{spread([int(it['earned']) for it in own]):,.1f}", f"{100 * share:.2f}", "%"]
+                     f"{spread([int(it['earned']) for it in own]):,.1f}", f"{100 * share:.1f}", "%"]
             self.want_in(out, " ".join([mode, *texts]))
             for row in own:
                 self.row_adds_up(row)
@@ -60,8 +60,31 @@ class Told(SimulateTest):
         for a, b in zip(*rows):
             self.assertEqual([a[it] for it in a if it.startswith("asked ")],
                              [b[it] for it in b if it.startswith("asked ")])
-        self.want_in(out, "Under first, by the authorised seats of VIE-LHR-2")
+        self.want_in(out, "What is earned under first, by the authorised seats of VIE-LHR-2")
         self.assertRegex(out, re.compile(r"^  52 .* most$", re.M))
+
+
+    def test_networks_that_differ_in_fares_and_demand_are_compared_on_the_same_draws(self) -> None:
+        text = Path(LOG).read_text()
+        dearer = text.replace("product,ZV-Q,110", "product,ZV-Q,120")
+        other = dearer.replace("demand,VB-Q,1,2,3,0", "demand,VB-Q,1,4,3,1")
+        self.assertEqual(len({text, dearer, other}), 3, "both are replaced")
+        paths = [self.file("as-it-is.csv", text), self.file("changed.csv", other)]
+        out = self.simulated(*paths, "--seasons", 9, "--workers", 2, "--out", "two", "--modes", "first", "davn")
+        a, b = (list(csv.DictReader((self.folder / "two" / f"{it}-seasons.csv").read_text().splitlines()))
+                for it in ("as-it-is", "changed"))
+        others = [it for it in a[0] if it.startswith("asked ") and it != "asked VB-Q"]
+        self.assertEqual([[row[it] for it in others] for row in a], [[row[it] for it in others] for row in b])
+        self.assertNotEqual([row["asked VB-Q"] for row in a], [row["asked VB-Q"] for row in b])
+        self.want_in(out, "each product's requests are drawn by its name")
+        for mode in ("first", "davn"):
+            differences = [int(y["earned"]) - int(x["earned"]) for x, y in zip(a, b) if x["mode"] == mode]
+            mean, half = sum(differences) / 9, 1.96 * spread(differences)
+            pairs = out.partition(f"What a network earns more than another under {mode} on the same draws")[2]
+            self.want_in(" ".join(pairs.split()), f"changed less as-it-is {mean:,.1f} {spread(differences):,.1f} "
+                         f"{mean - half:,.1f} {mean + half:,.1f}")
+        self.want_in(self.stopped("simulate", paths[0], "--seasons", 9, "--out", "two", "--modes", "first", "davn",
+                                  *self.with_program, timeout=SECONDS), "differs in: by-product")
 
 
 class Files(SimulateTest):

@@ -7,7 +7,8 @@ import unittest
 from harness import EXAMPLES, PlaceTest
 from nrm.network import Network
 from nrm.seasons.drawing import Settings
-from nrm.seasons.results import Results, Study
+from nrm.comparing.study import Study
+from nrm.seasons.results import Results
 from nrm.telling.libraries import is_there
 from nrm.telling.tables import Table, with_text
 from seasons.clusters import LOG, by_one_process

@@ -2,7 +2,8 @@
 
 All numbers are drawn by Python's own generator, from the seed, what the network file says of products and demand, and
 the number of the season: so a season is the same wherever and whenever it is drawn, and the same on two networks that
-differ in their legs' seats or thresholds alone. May use: nrm.network, nrm.replies.
+differ in their legs' seats or thresholds alone; `coupled` is for those that differ in more. May use: nrm.network,
+nrm.replies.
 """
 from __future__ import annotations
 
@@ -36,6 +37,7 @@ class Settings:
     show         the probability that a booked seat is taken at departure, 0 to 1; None if departures aren't played
     denied_cost  what a denied boarding costs, in currency units
     leave_out    whether plans are made without the history that is played
+    by_product   whether each product's numbers are drawn from its name, as networks that differ in more than legs take
     """
     seed: int = 1
     modes: tuple[str, ...] = MODES
@@ -46,6 +48,7 @@ class Settings:
     show: float | None = None
     denied_cost: int = 0
     leave_out: bool = False
+    by_product: bool = False
 
 
 @dataclass(frozen=True)

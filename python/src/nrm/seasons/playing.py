@@ -1,6 +1,6 @@
 """What a mode makes of a season, by a run of the program, and the seasons that are played again or in batches.
 
-May use: nrm, nrm.limits, nrm.network, nrm.program, nrm.replies, nrm.seasons.drawing.
+May use: nrm, nrm.limits, nrm.network, nrm.program, nrm.replies, nrm.seasons.coupled, nrm.seasons.drawing.
 """
 from __future__ import annotations
 
@@ -18,8 +18,8 @@ from nrm.limits import LAST_BOOKING
 from nrm.network import Network, text_of
 from nrm.program import Dialogue, Program
 from nrm.replies import Answer, Hindsight, NoAnswer, Overflow, Sold, answer_of
-from nrm.seasons.drawing import (DrawnSeason, Requests, Settings, by_product, drawn_season, generator, history_again,
-                                 network_in, request_of)
+from nrm.seasons.coupled import season_of
+from nrm.seasons.drawing import DrawnSeason, Requests, Settings, by_product, history_again, network_in, request_of
 
 SECOND_LETTER = operator.itemgetter(1)  # it tells the replies `ok`, `no` and `memory` from each other and the rest
 OF_OK, OF_NO, OF_MEMORY = b"koe"
@@ -222,7 +222,7 @@ class Player:
 
     def season(self, number: int) -> DrawnSeason:
         """The season of a number."""
-        return drawn_season(self.network, self.settings, generator(self.settings.seed, self.identity, number))
+        return season_of(self.network, self.settings, self.identity, number)
 
     def outcomes(self, season: DrawnSeason, clock: Clock | None = None) -> dict[str, Outcome]:
         """The outcome of a season in each mode."""

@@ -262,7 +262,8 @@ def check_same(folder: str, settings: Settings, studies: Sequence[Seasons]) -> N
         try:
             before = json.loads(bytes_in(path))
             known = before["networks"]
-            differ = [it for it in now if now[it] != before["settings"][it]]
+            settled = {**dataclasses.asdict(Settings()), **before["settings"]}  # an older run has fewer of them
+            differ = [it for it in now if now[it] != settled[it]]
             differ += [it for it in digests if known.get(it, digests[it]) != digests[it]]
         except (ValueError, LookupError, TypeError):
             raise Stop(f"{path} isn't what simulate writes")

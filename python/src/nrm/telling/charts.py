@@ -47,17 +47,17 @@ def histogram(values: Sequence[int], across: str, up: str) -> Figure:
     return figure
 
 
-def spans(named: Sequence[tuple[str, str, Sequence[float]]], across: str) -> Figure:
-    """For each name with its look and its sorted values: from the 5th to the 95th of a hundred thin, from the 25th
-    to the 75th thick, and a mark at the mean."""
+def spans(named: Sequence[tuple[str, str, Sequence[float], float]], across: str) -> Figure:
+    """For each name with its look, its sorted values and a mark: from the 5th to the 95th of a hundred thin, from the
+    25th to the 75th thick, and the mark."""
     figure, axis = chart(0.6 + ROW * len(named), across, "")
-    for at, (_, look, values) in enumerate(named):
+    for at, (_, look, values, middle) in enumerate(named):
         colour, mark, _ = STYLES[look]
         fifth, quarter = len(values) // 20, len(values) // 4
         axis.plot([values[fifth], values[-1 - fifth]], [at, at], color=colour, linewidth=2, solid_capstyle="butt")
         axis.plot([values[quarter], values[-1 - quarter]], [at, at], color=colour, linewidth=9, solid_capstyle="butt")
-        axis.plot([sum(values) / len(values)], [at], color=colour, marker=mark, markersize=8, markeredgecolor="#FFFFFF")
-    axis.set_yticks(range(len(named)), [name for name, _, _ in named])
+        axis.plot([middle], [at], color=colour, marker=mark, markersize=8, markeredgecolor="#FFFFFF")
+    axis.set_yticks(range(len(named)), [name for name, *_ in named])
     axis.set_ylim(len(named) - 0.5, -0.5)
     axis.spines["left"].set_visible(False)
     axis.tick_params(axis="y", length=0)

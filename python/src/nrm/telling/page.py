@@ -11,7 +11,7 @@ import itertools
 import re
 from dataclasses import dataclass
 from pathlib import Path
-from typing import Union
+from typing import Sequence, Union
 
 from nrm.telling.tables import Table
 
@@ -31,10 +31,11 @@ class Picture:
 
 
 class Page:
-    """A page that is written part by part, each a kind and what there is of it."""
+    """A page that is written part by part, each a kind and what there is of it. Its verdict comes first, in a
+    sentence, and below it what the page was made of, each thing with its name."""
 
-    def __init__(self, title: str) -> None:
-        self.title, self.numbers = title, itertools.count(1)
+    def __init__(self, title: str, verdict: str = "", made_of: Sequence[tuple[str, str]] = ()) -> None:
+        self.title, self.verdict, self.made_of, self.numbers = title, verdict, made_of, itertools.count(1)
         self.parts: list[tuple[str, Union[str, Table, Picture]]] = []
 
     def heading(self, text: str) -> None:

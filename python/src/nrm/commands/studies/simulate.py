@@ -6,10 +6,17 @@
                        [--names FILE] [--program WORD...]
 
 For each NETWORK and season requests are drawn, with a line `reoptimise` at the start of each period but the first, and
-`nrm` answers them in each mode. It prints the revenue of each mode with its standard error and its share of the bound
-of hindsight; the difference of each two modes on the same requests, with its 95 per cent interval; the load of each
-leg; and the share of the requests for each product that was refused. If the networks differ in the authorised seats of
-one leg alone, what is earned is told by these.
+`nrm` answers them in each mode. First it says in a sentence which mode, or network, earns most, by how much and how
+sure that is. Below are the revenue of each mode with its standard error and its share of the bound of hindsight; the
+difference of each two modes on the same requests, with its 95 per cent interval; the load of each leg; and the share of
+the requests for each product that was refused.
+
+SEVERAL NETWORKS are played on the same draws, whatever differs in them, and compared in each mode season by season:
+what each earns less than the one that earns most, and if they are six or fewer, the difference of each two. Beside the
+most the intervals are wider the more networks there are, so that what truly earns most is the one marked so or one
+whose interval reaches 0, in 95 of 100 runs or more. If they differ in the seats, thresholds or refunds alone, their
+seasons are those that each has by itself. If they differ in more, the history is the same and each product's requests
+are drawn by its name: so a product that has the same name and demand in two networks asks for the same there.
 
 HOW A SEASON IS DRAWN. --demand histories: the requests of a history, each as likely (the default); independent: those
 of a history for each product, drawn apart; poisson: numbers about the mean of the histories, for each product and
@@ -18,8 +25,7 @@ requests 80 are for a seat, 15 for two and 5 for four; the seats that are asked 
 a product in a period may be smaller. --cancel 0.1: each booking is cancelled with this probability, at a line drawn
 from those after it. --show 0.9: each seat booked at the end is taken with this probability; those taken beyond the
 physical seats of a leg are denied boardings, at --denied-cost each. --leave-out: plans are made without the history
-that is played. The same --seed gives the same seasons, and they are the same on networks that differ in the seats and
-thresholds of legs alone.
+that is played. The same --seed gives the same seasons.
 
 WHERE IT RUNS. It needs Dask (Debian's python3-distributed, which is for /usr/bin/python3: if the Python that was asked
 has no Dask and that one has, a checkout's command goes on under that one). It starts as many processes as there are
@@ -52,13 +58,16 @@ from typing import Callable, Iterator, Sequence
 
 from nrm import Stop, make_folder
 from nrm.commands.running import add_names, add_program, lacking, parser, tell
+from nrm.comparing.pages import Picture, about, page, pictures
+from nrm.comparing.study import Study
+from nrm.comparing.verdicts import verdict
 from nrm.logs.names import texts_in
-from nrm.network import number
+from nrm.network import Network, number
 from nrm.program import TOP, Program
 from nrm.replies import MODES
+from nrm.seasons.coupled import together
 from nrm.seasons.drawing import DEMANDS, LARGEST_PARTY, ORDERS, Settings
-from nrm.seasons.pages import Picture, about, page, pictures
-from nrm.seasons.results import Results, Study
+from nrm.seasons.results import Results
 from nrm.seasons.rows import Seasons, check_same
 from nrm.telling.libraries import DEBIANS_PYTHON, is_debians, lacks
 from nrm.telling.page import write
@@ -73,7 +82,7 @@ def run(given: Sequence[str]) -> int:
     """Plays the seasons that aren't there yet, and tells what all of them say."""
     asked = words_of(given)
     see_dask(given)
-    settings = settings_of(asked)
+    settings = together(settings_of(asked), [Network.read(it) for it in asked.networks])
     with tempfile.TemporaryDirectory() as spare:
         folder = asked.out or spare
         make_folder(folder)
@@ -192,8 +201,8 @@ def show(asked: argparse.Namespace, settings: Settings, studies: Sequence[Season
     """Tells the summary, and writes the page and the pictures."""
     results = {it.name: Results.read(it.whole) for it in studies}
     study = Study({it.name: it.network for it in studies}, settings, results, texts_in(asked.names))
-    sentences, tables = list(about(asked.seasons, settings, results)), list(study.tables())
-    summary = "\n".join([*sentences, "", *(it.text() for it in tables)])
+    first, sentences, tables = verdict(study), list(about(asked.seasons, settings, results)), list(study.tables())
+    summary = "\n".join([first, "", *sentences, "", *(it.text() for it in tables)])
     print(summary, end="")
     if not asked.out:
         return
@@ -202,7 +211,7 @@ def show(asked: argparse.Namespace, settings: Settings, studies: Sequence[Season
     shown = list(pictures(study)) if "matplotlib" not in missing else []
     paths = {Path(it).stem: it for it in drawn(shown, asked.out)} if shown else {}
     if "jinja2" not in missing:
-        print(write(os.path.join(asked.out, "simulate.html"), page(sentences, tables, shown, paths)))
+        print(write(os.path.join(asked.out, "simulate.html"), page(first, sentences, tables, shown, paths)))
     print(*paths.values(), *(it.whole for it in studies), sep="\n")
 
 

@@ -1,19 +1,23 @@
 """What is told of many seasons in words and pictures, and the page with all of it.
 
 The pictures are drawn when they are asked for, since that takes matplotlib.
-May use: nrm.seasons.drawing, nrm.seasons.results, nrm.telling.charts, nrm.telling.page, nrm.telling.tables.
+May use: nrm.comparing.ranking, nrm.comparing.study, nrm.seasons.drawing, nrm.seasons.results, nrm.telling.charts,
+nrm.telling.page, nrm.telling.tables.
 """
 from __future__ import annotations
 
 from dataclasses import dataclass
 from pathlib import Path
-from typing import Any, Callable, Iterator, Mapping, Sequence
+from typing import Any, Callable, Iterator, Mapping, Sequence, Tuple
 
+from nrm.comparing.ranking import Ranking, errors_for
+from nrm.comparing.study import Study
 from nrm.seasons.drawing import Settings
-from nrm.seasons.results import Results, Study
+from nrm.seasons.results import Results, amount, per_cent
 from nrm.telling.page import Page
 from nrm.telling.tables import Table, with_text
 
+Span = Tuple[str, str, Sequence[float], float]  # a name, its look, the shares of seasons, and that of all together
 MOST_SPANS, MOST_MEANS, MOST_HISTOGRAMS = 60, 12, 12
 DEMAND_IN_WORDS = {"histories": "the requests of a history, each as likely",
                    "independent": "for each product the requests of a history, drawn apart",
@@ -47,6 +51,15 @@ def about(seasons: int, settings: Settings, results: Mapping[str, Results]) -> I
                "that nobody took. The bound knows of neither.")
     if settings.leave_out:
         yield "Plans were made without the history that was played."
+    if len(results) > 1:
+        yield "Season by season all networks get the same draws."
+    if settings.by_product:
+        yield ("They differ in more than their legs: each product's requests are drawn by its name, so those for one "
+               "that is the same in two networks are the same.")
+    if len(results) > 2:
+        yield (f"Beside the most, intervals are of {errors_for(len(results)):.2f} standard errors to each side, which "
+               "allows for how many are compared: what truly earns most is the one marked so or one whose interval "
+               "reaches 0, in 95 of 100 such runs or more.")
     yield f"Seasons whose revenue is above the bound: {sum(it.above_bound for it in results.values())}."
 
 
@@ -55,14 +68,13 @@ def about(seasons: int, settings: Settings, results: Mapping[str, Results]) -> I
 
 def pictures(study: Study) -> Iterator[Picture]:
     """The pictures of a study."""
-    found = study.authorised()
-    if found:
-        yield of_authorised(study, *found)
-    spans = [(study.named(name, mode), mode, it.shares(mode)) for name, it in study.results.items()
-             for mode in it.modes]
-    if all(values for _, _, values in spans) and len(spans) <= MOST_SPANS:
+    if study.seats:
+        yield of_authorised(study, *study.seats)
+    spans = [(study.named(name, mode), mode, it.shares(mode), 100 * it.share(mode))
+             for name, it in study.results.items() for mode in it.modes]
+    if all(values for _, _, values, _ in spans) and len(spans) <= MOST_SPANS:
         yield of_shares(spans)
-    if not found and len(study.results) <= MOST_HISTOGRAMS:
+    if not study.seats and len(study.results) <= MOST_HISTOGRAMS:
         for at, (name, it) in enumerate(study.results.items()):
             number = f"-{at + 1}" if len(study.results) > 1 else ""
             for mode, other in it.pairs():
@@ -70,50 +82,56 @@ def pictures(study: Study) -> Iterator[Picture]:
                 yield of_differences(f"differences-{mode}-{other}{number}", title, mode, it.differences(mode, other))
 
 
-def of_shares(spans: Sequence[tuple[str, str, list[float]]]) -> Picture:
+def of_shares(spans: Sequence[Span]) -> Picture:
     """The share of the bound in the seasons of each mode."""
     from nrm.telling import charts
-    means = "; ".join(f"{name} {sum(values) / len(values):.1f}" for name, _, values in spans[:MOST_MEANS])
+    marks = "; ".join(f"{name} {per_cent(mark, 100)}" for name, _, _, mark in spans[:MOST_MEANS])
     words = ("From the 5th to the 95th of a hundred seasons thin, from the 25th to the 75th thick, the mark at the "
-             f"mean, in per cent: {means}")
+             f"share of all seasons together: {marks}")
     return Picture("shares", "Share of the bound by mode", words, lambda: charts.spans(spans, "share of the bound, %"))
 
 
 def of_differences(name: str, title: str, mode: str, values: Sequence[int]) -> Picture:
     """By how much a mode is ahead of another, season by season."""
     from nrm.telling import charts
-    words = (f"Differences from {min(values):,} to {max(values):,}, on the mean {sum(values) / len(values):,.1f}, "
-             f"which the broken line shows; {mode} is ahead in {sum(v > 0 for v in values):,} of {len(values):,} "
-             "seasons, which are blue")
+    words = (f"Differences from {min(values):,} to {max(values):,}, on the mean {amount(sum(values) / len(values))}, "
+             f"which the broken line shows; {mode} is ahead in {per_cent(sum(v > 0 for v in values), len(values))} of "
+             "the seasons, which are blue")
     return Picture(name, title, words, lambda: charts.histogram(values, "currency units", "seasons"))
 
 
-def of_authorised(study: Study, leg: str, names: Mapping[int, str]) -> Picture:
+def of_authorised(study: Study, leg: str, seats: Mapping[str, int]) -> Picture:
     """What each mode earns less than with the authorised seats that are its best."""
     from nrm.telling import charts
-    less = {mode: study.less_than_most(mode, names) for mode in study.settings.modes}
-    courses = [(mode, [(float(seats), *((-it.mean, it.half()) if it else (0.0, 0.0))) for seats, it in found.items()])
-               for mode, found in less.items()]
-    tops = "; ".join(f"under {mode} at {seats}" for mode, by_seats in less.items()
-                     for seats, it in by_seats.items() if not it)
-    words = ("What a season brings beside the authorised seats that earn most in each mode, with its 95 per cent "
-             f"interval. Most is earned {tops}")
+    courses = [(mode, sorted(points_of(it, seats))) for mode, it in study.rankings.items()]
+    tops = "; ".join(f"under {mode} at {seats[it.best]}" for mode, it in study.rankings.items())
+    words = ("What a season brings beside the authorised seats that earn most in each mode, with its interval at 95 "
+             f"per cent in all. Most is earned {tops}")
     return Picture("authorised", f"What is earned by the authorised seats of {with_text(leg, study.texts)}", words,
                    lambda: charts.courses(courses, f"authorised seats of {leg}", "beside the most, currency units"))
+
+
+def points_of(ranking: Ranking, seats: Mapping[str, int]) -> Iterator[tuple[float, float, float]]:
+    """By authorised seats, how much more is earned than with the best, and half of the interval."""
+    yield float(seats[ranking.best]), 0.0, 0.0
+    for name, less in ranking.less.items():
+        yield float(seats[name]), -less.mean, less.half(ranking.errors)
 
 
 # The page
 
 
-def page(sentences: Sequence[str], tables: Sequence[Table], shown: Sequence[Picture], paths: Mapping[str, str]) -> str:
-    """The page of a run: its pictures are those whose SVG files are at these paths, by their names."""
-    made = Page("Simulated seasons")
+def page(first: str, sentences: Sequence[str], tables: Sequence[Table], shown: Sequence[Picture],
+         paths: Mapping[str, str]) -> str:
+    """The page of a run, what it says first at its front: its pictures are those whose SVG files are at these paths, by
+    their names."""
+    made = Page("Simulated seasons", first)
     made.text(" ".join(sentences))
-    made.heading("Tables")
-    for table in tables:
-        made.table(table)
     if paths:
         made.heading("Pictures")
     for it in shown:
         made.picture(Path(paths[it.name]).read_text(encoding="utf-8"), it.title, it.about)
+    made.heading("Tables")
+    for table in tables:
+        made.table(table)
     return made.html()
