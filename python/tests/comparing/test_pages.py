@@ -7,9 +7,18 @@ from pathlib import Path
 
 from elements import Elements
 from harness import EXAMPLES, needs
+from nrm import __version__
+from nrm.comparing.heads import today
 from nrm.seasons.drawing import Settings
 from seasons.clusters import LOG, SECONDS, SimulateTest, by_one_process, needs_dask
 
+FRAME = """<iframe id="page" src="%s" width="%d" height="900" style="border:0"></iframe><p id="told"></p><script>
+onload = () => {
+  const inside = document.getElementById("page").contentDocument, shown = getComputedStyle(inside.body)
+  const told = [inside.documentElement.scrollWidth, inside.documentElement.scrollHeight, shown.backgroundColor]
+  document.getElementById("told").textContent = told.join(" ")
+}
+</script>"""
 PICTURES = {"shares", "differences-bid-first", "differences-davn-first", "differences-davn-bid"}
 
 
@@ -41,19 +50,34 @@ class Pages(SimulateTest):
             self.assertEqual({it.get("scope") for it in page.all("th")}, {"col", "row"}, name)
             self.assertEqual(len(page.all("caption")), len(page.all("table")), name)
             self.want_in(text, 'name="viewport"')
+            self.begins_with_a_verdict(text)
             self.open(path)
 
+    def begins_with_a_verdict(self, text: str) -> None:
+        """Sees that a page says first what is best, then what it was made of, then shows pictures, then tables."""
+        places = [text.index(it) for it in ('<p class="verdict">davn ', "<dl>", "<h2>Pictures</h2>", "<svg ",
+                                            "<h2>Tables</h2>", "<table>")]
+        self.assertEqual(places, sorted(places))
+        self.assertLess(text.rindex("<svg "), text.index("<table>"))
+        for wanted in ("<dt>network</dt> <dd>", f"<dd>{today()}</dd>", f"<dd>nrm-tools {__version__}, "):
+            self.want_in(text, wanted)
+
     def open(self, path: Path) -> None:
-        """Opens a page in Chromium, wide and narrow, and sees that it draws something."""
-        for width in (1200, 390):
-            with self.subTest(f"{path.name} at {width}"):
+        """Opens a page in Chromium, wide and narrow, light and dark: it has its colours, and doesn't move sideways."""
+        frame = self.folder / f"{path.stem}-frame.html"
+        for width, words, background in ((1200, [], "rgb(255, 255, 255)"), (360, [], "rgb(255, 255, 255)"),
+                                         (360, ["--force-dark-mode"], "rgb(22, 24, 27)")):
+            with self.subTest(f"{path.name} at {width} {words}"):
                 if not shutil.which("chromium"):
                     self.skipTest("no page was opened: there is no Chromium (Debian's package is chromium)")
-                picture = self.folder / f"{path.stem}-{width}.png"
-                self.finished("chromium", "--headless", "--no-sandbox", "--disable-gpu", f"--window-size={width},900",
-                              f"--user-data-dir={self.folder}/chromium", f"--screenshot={picture}", path.as_uri(),
-                              timeout=SECONDS)
-                self.assertTrue(picture.exists() and picture.stat().st_size > 5000, path.name)
+                frame.write_text(FRAME % (path.as_uri(), width))
+                told = self.finished("chromium", "--headless", "--no-sandbox", "--disable-gpu", "--hide-scrollbars",
+                                     "--allow-file-access-from-files", f"--user-data-dir={self.folder}/chromium",
+                                     *words, "--dump-dom", frame.as_uri(), timeout=SECONDS).out
+                found = re.search(r'<p id="told">([0-9]+) ([0-9]+) (rgb[^<]*)</p>', told)
+                self.assertTrue(found, told[-600:])
+                self.assertEqual((found[1], found[3]), (str(width), background), "its width and colour")
+                self.assertGreater(int(found[2]), 1000, "its height")
 
     @needs("matplotlib")
     def test_pictures_are_the_same_bytes_each_time(self) -> None:

@@ -29,8 +29,8 @@ class Rankings(unittest.TestCase):
         self.assertEqual((ranking.best, ranking.alike()), ("C", ["B", "A"]))
 
     def test_the_interval_is_wider_the_more_there_are(self) -> None:
-        """By a table of the normal distribution, of 0.025 over one less than there are."""
-        for count, wanted in ((1, 1.96), (2, 1.96), (3, 2.2414), (6, 2.5758), (11, 2.807), (26, 3.0902)):
+        """By a table of the normal distribution: 0.025 over the pairs, of which 5 networks have 10, is 0.0025."""
+        for count, wanted in ((1, 1.96), (2, 1.96), (3, 2.394), (5, 2.807), (20, 3.649)):
             self.assertAlmostEqual(errors_for(count), wanted, 3)
 
     def test_the_truly_best_is_left_out_seldom(self) -> None:

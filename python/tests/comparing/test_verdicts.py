@@ -49,25 +49,26 @@ class OfModes(unittest.TestCase):
 class OfNetworks(unittest.TestCase):
     def test_two(self) -> None:
         study = study_of({"A": {"bid": [800, 700], "davn": [900, 900, ]}, "B": {"bid": [800, 700], "davn": [930, 934]}})
-        self.assertEqual(verdict(study), "Most is earned by B under davn, 932.0 a season. Under bid all earn the same in "
-                         "each season. Under davn B earns 32.0 a season more than A, between 28.1 and 35.9 at 95 per "
-                         "cent.")
+        self.assertEqual(verdict(study), "Most is earned by B under davn, 932.0 a season. Under davn B earns 32.0 a "
+                         "season more than A, between 28.1 and 35.9 at 95 per cent. Under bid all earn the same in "
+                         "each season.")
         tables = {it.title: it.cells() for it in study.tables()}
         title = "What a network earns more than another under davn on the same draws, in currency units a season"
         self.assertEqual(tables[title], [["B less A", "32.0", "2.0", "28.1", "35.9", "100.0 %", "0.0 %"]])
 
     def test_more_than_two(self) -> None:
-        """By hand: B less D is 5 on the mean, of 5, 8, 2 and 5, with an error of 1.225, of which it takes 2.394."""
+        """By hand: B less D is 5 on the mean, of 5, 8, 2 and 5, with an error of 1.225, of which it takes 2.638."""
         base = [800, 700, 900, 750]
         earned = {name: {"bid": [it + more for it, more in zip(base, add)]} for name, add in
                   (("A", (0, 0, 0, 0)), ("B", (10, 12, 8, 10)), ("C", (9, 13, 8, 8)), ("D", (5, 4, 6, 5)))}
         self.assertEqual(verdict(study_of(earned)), "Under bid B earns most of 4, 797.5 a season; C can't be told from "
-                         "it, and the nearest of the others, D, earns 5.0 less, between 2.1 and 7.9 at 95 per cent in "
+                         "it, and the nearest of the others, D, earns 5.0 less, between 1.8 and 8.2 at 95 per cent for "
                          "all.")
         ranked = {it.title: it.cells() for it in study_of(earned).tables()}
-        self.assertEqual(ranked["What is earned under bid, by network, the best first, in currency units a season"][::3],
+        title = "What is earned under bid, by network, the best first, in currency units a season"
+        self.assertEqual(ranked[title][::3],
                          [["B", "0.00", "1.00", "797.5", "most", "", "", ""],
-                          ["A", "0.00", "1.00", "787.5", "10.0", "0.8", "8.0", "12.0"]])
+                          ["A", "0.00", "1.00", "787.5", "10.0", "0.8", "7.8", "12.2"]])
         same = {name: {"bid": [it + at for it in base]} for at, name in enumerate("AB")}
         noise = {"C": {"bid": [801, 650, 951, 753]}}
         self.assertEqual(verdict(study_of({**same, **noise})), "Under bid C earns most of 3, 788.8 a season; none of "
@@ -78,8 +79,8 @@ class OfNetworks(unittest.TestCase):
         earned = {"N5": {"bid": [700, 600]}, "N4": {"bid": [720, 620]}, "N3": {"bid": [720, 621]}}
         study = study_of(earned, networks)
         self.assertEqual(verdict(study), "Under bid AB with 3 authorised seats earns most of 3, 670.5 a season; 4 "
-                         "can't be told from it, and the nearest of the others, 5, earns 20.5 less, between 19.4 and "
-                         "21.6 at 95 per cent in all.")
+                         "can't be told from it, and the nearest of the others, 5, earns 20.5 less, between 19.3 and "
+                         "21.7 at 95 per cent for all.")
         ranked = next(study.tables())
         self.assertEqual([row[0] for row in ranked.cells()], ["3", "4", "5"])
         self.assertEqual(ranked.heads[0], "authorised")

@@ -30,7 +30,9 @@ class Classes(PlaceTest):
     def test_tells_what_is_worked_out_by_hand(self) -> None:
         """The third class is sold one seat where the first two are kept 2, and none where they are kept 3."""
         out = self.told("optimum", self.file("network.csv", THREE_CLASSES), "X", *self.with_program)
-        self.assertEqual(out.splitlines()[3:],
+        self.assertEqual(out.splitlines()[0], "On X by itself EMSR-b earns 97.674 % of the optimum, 1,050.00 of "
+                         "1,075.00 a history, if classes come one after the other, the lowest fare first.")
+        self.assertEqual(out.splitlines()[4:],
                          ["  class  fare  mean demand  optimum  EMSR-b", "  HI      600         1.50        0       0",
                           "  MID     300         1.00        1       1",
                           "  LO      200         0.50        2       3", "",
@@ -47,7 +49,7 @@ class Classes(PlaceTest):
         network = ("periods,1,1\nleg,X,5\nproduct,A,100,X\nproduct,B,300,X\nproduct,C,100,X\n"
                    "demand,A,1,9\ndemand,B,1,2\n")
         out = self.told("optimum", self.file("network.csv", network), "X", *self.with_program)
-        self.assertEqual(out.splitlines()[4:7],
+        self.assertEqual(out.splitlines()[5:8],
                          ["  B       300         2.00        0       0", "  A       100         9.00        2       2",
                           "  C       100         0.00        2       2"])
         self.assertEqual("nobody asked" in out, False)
@@ -71,6 +73,6 @@ class Classes(PlaceTest):
             made = self.finished(sys.executable, "-B", EXAMPLES / "textbook" / "make.py", name).out
             self.assertEqual(made, path.read_text())
             out = self.told("optimum", path, "AB", "--out", "pictures", *self.with_program, env=os.environ)
-            rows = [it.split() for it in out.splitlines()[4:8]]
+            rows = [it.split() for it in out.splitlines()[5:9]]
             self.assertEqual([" ".join(it) for it in zip(*rows)][3:], [optimum, emsr])
             self.assertEqual((self.folder / "pictures").exists(), "pictures/optimum.svg\n" in out)

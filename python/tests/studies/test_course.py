@@ -16,12 +16,12 @@ class Courses(PlaceTest):
 
     def test_tells_what_the_documents_show(self) -> None:
         out = self.told("season", *self.words("log"))
-        self.want_in(out, "  period 2   1080   630   300   1080\n  period 3   1240  1270   620   1530\n  end        "
-                          "1240  2110  2840   2920\n")
+        self.want_in(out, "  period 2  1,080    630    300  1,080\n  period 3  1,240  1,270    620  1,530\n  end       "
+                          "1,240  2,110  2,840  2,920\n")
         self.want_in(out, "  ZRH-VIE      110       320       320  320\n")
         decimal = self.told("season", *self.words("log", "--decimal"))
         self.want_in(decimal, "  end        1240  2110  2840  2920.00\n")
-        self.assertNotIn("/", decimal, "fractions in decimals")
+        self.assertNotIn("/", decimal.partition("Revenue of")[2], "fractions in decimals")
 
     @needs("jinja2")
     def test_a_page_has_the_tables_and_the_pictures_that_there_are(self) -> None:
@@ -56,13 +56,13 @@ class Courses(PlaceTest):
         last = reference_replies("first", SECOND, [*OF_REFUNDS, "hindsight"])[-1].split()
         self.assertEqual([it.split() for it in withheld.splitlines()][1], ["opening", "0", "0", "0"])
         self.assertEqual([it.split()[:3] for it in withheld.splitlines()][2:],
-                         [["period", "2", "536"], ["end", last[5], withheld.split()[-2]]])
+                         [["period", "2", "536"], ["end", f"{int(last[5]):,}", withheld.split()[-2]]])
         self.want_in(out, "Seats of AB, 3 seats, 5 authorised, under first: sold, left\n")
         self.want_in(out, "\n  opening      0     5\n")
         plain, season = (self.told("season", *self.words(it)) for it in ("log", "season"))
         self.assertEqual(("Withheld" in plain, "authorised" in plain), (False, False))
         # of 1530 that were paid for seven bookings
-        self.want_in(season, "  period 4    736   736   736\n  end        1149  1149  1149\n")
+        self.want_in(season, "  period 4    736    736    736\n  end       1,149  1,149  1,149\n")
         self.want_in(season, "Seats of VIE-LHR-2, 48 seats, 50 authorised, under davn: sold, left, and protected for "
                              "buckets\n")
 

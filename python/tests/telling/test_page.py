@@ -38,6 +38,23 @@ class Pages(unittest.TestCase):
         self.assertEqual(read.values("width", "height", "viewbox"), ["0 0 9 8"] * 2)
         self.assertNotIn("old", read.text)
 
+    def test_a_verdict_and_what_it_was_made_of_come_first_as_text(self) -> None:
+        page = Page("page", MARKUP, [(MARKUP, MARKUP)])
+        page.text("below")
+        read = Elements(page.html())
+        self.assertEqual((read.open, read.all("script"), read.text.count(MARKUP)), ([], [], 3))
+        self.assertLess(read.text.rindex(MARKUP), read.text.index("below"))
+
+    def test_pictures_have_the_colours_of_the_page(self) -> None:
+        """Black and white in their styles, and nothing of their texts."""
+        page = Page("page")
+        page.picture('<svg><path style="fill: #ffffff; stroke: #000000"/><path style="fill: #0072b2"/>'
+                     "<text>#000000</text></svg>", "", "")
+        text = page.html()
+        self.assertIn('<path style="fill: var(--paper); stroke: var(--ink)"/><path style="fill: #0072b2"/>'
+                      "<text>#000000</text>", text)
+        self.assertIn("prefers-color-scheme: dark", text)
+
     def test_a_page_takes_nothing_from_elsewhere(self) -> None:
         read = Elements(Page("alone").html())
         self.assertEqual({"link", "img", "iframe"} & {tag for tag, _ in read.tags}, set())

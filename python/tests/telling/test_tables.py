@@ -4,7 +4,7 @@ from __future__ import annotations
 import unittest
 from fractions import Fraction
 
-from nrm.telling.tables import Table
+from nrm.telling.tables import Table, told_of
 
 
 class Tables(unittest.TestCase):
@@ -15,3 +15,17 @@ class Tables(unittest.TestCase):
     def test_decimals_stand_in_the_place_of_fractions_alone(self) -> None:
         self.assertEqual(Table("", [], [["n", Fraction(1, 3), 7, None]], decimal=True).cells(),
                          [["n", "0.33", "7", ""]])
+
+    def test_numbers_have_commas_but_for_a_spreadsheet(self) -> None:
+        table = Table("", [], [["n", 1234567, Fraction(20000, 10), Fraction(20000, 3), "1234"]])
+        self.assertEqual(table.cells(), [["n", "1,234,567", "2,000", "20000/3", "1234"]])
+        plain = Table("", [], [["n", 1234567, Fraction(20000, 10)]], decimal=True)
+        self.assertEqual(plain.cells(), [["n", "1234567", "2000.00"]])
+
+    def test_tables_of_nothing_but_zeros_go_and_are_named(self) -> None:
+        zeros = [Table(name, ["", "a"], [["0 first", value], ["b", None]])
+                 for name, value in (("A", 0), ("B", "0.0 %"), ("C", Fraction(0)), ("D", "-0.00"))]
+        others = [Table("E", ["", "a"], [["n", value]]) for value in (1, "0.1 %", "most", Fraction(1, 3), "10")]
+        shown, left_out = told_of([zeros[0], *others, *zeros[1:]])
+        self.assertEqual((shown, left_out), (others, ["All numbers are 0 in: A; B; C; D."]))
+        self.assertEqual(told_of(others), (others, []))

@@ -1,15 +1,16 @@
 """What is told of many seasons in words and pictures, and the page with all of it.
 
 The pictures are drawn when they are asked for, since that takes matplotlib.
-May use: nrm.comparing.ranking, nrm.comparing.study, nrm.seasons.drawing, nrm.seasons.results, nrm.telling.charts,
-nrm.telling.page, nrm.telling.tables.
+May use: nrm.comparing.heads, nrm.comparing.ranking, nrm.comparing.study, nrm.seasons.drawing, nrm.seasons.results,
+nrm.telling.charts, nrm.telling.page, nrm.telling.tables.
 """
 from __future__ import annotations
 
 from dataclasses import dataclass
 from pathlib import Path
-from typing import Any, Callable, Iterator, Mapping, Sequence, Tuple
+from typing import Any, Callable, Iterator, Mapping, Sequence
 
+from nrm.comparing.heads import Made
 from nrm.comparing.ranking import Ranking, errors_for
 from nrm.comparing.study import Study
 from nrm.seasons.drawing import Settings
@@ -17,7 +18,7 @@ from nrm.seasons.results import Results, amount, per_cent
 from nrm.telling.page import Page
 from nrm.telling.tables import Table, with_text
 
-Span = Tuple[str, str, Sequence[float], float]  # a name, its look, the shares of seasons, and that of all together
+Span = tuple[str, str, Sequence[float], float]  # a name, its look, the shares of seasons, and that of all together
 MOST_SPANS, MOST_MEANS, MOST_HISTOGRAMS = 60, 12, 12
 DEMAND_IN_WORDS = {"histories": "the requests of a history, each as likely",
                    "independent": "for each product the requests of a history, drawn apart",
@@ -57,9 +58,9 @@ def about(seasons: int, settings: Settings, results: Mapping[str, Results]) -> I
         yield ("They differ in more than their legs: each product's requests are drawn by its name, so those for one "
                "that is the same in two networks are the same.")
     if len(results) > 2:
-        yield (f"Beside the most, intervals are of {errors_for(len(results)):.2f} standard errors to each side, which "
-               "allows for how many are compared: what truly earns most is the one marked so or one whose interval "
-               "reaches 0, in 95 of 100 such runs or more.")
+        yield (f"Beside the most, intervals are of {errors_for(len(results)):.2f} standard errors to each side, so "
+               "that those of all pairs hold at once in 95 of 100 such runs or more. What truly earns most is then the "
+               "one marked so or one whose interval reaches 0.")
     yield f"Seasons whose revenue is above the bound: {sum(it.above_bound for it in results.values())}."
 
 
@@ -106,7 +107,7 @@ def of_authorised(study: Study, leg: str, seats: Mapping[str, int]) -> Picture:
     courses = [(mode, sorted(points_of(it, seats))) for mode, it in study.rankings.items()]
     tops = "; ".join(f"under {mode} at {seats[it.best]}" for mode, it in study.rankings.items())
     words = ("What a season brings beside the authorised seats that earn most in each mode, with its interval at 95 "
-             f"per cent in all. Most is earned {tops}")
+             f"per cent for all. Most is earned {tops}")
     return Picture("authorised", f"What is earned by the authorised seats of {with_text(leg, study.texts)}", words,
                    lambda: charts.courses(courses, f"authorised seats of {leg}", "beside the most, currency units"))
 
@@ -121,11 +122,11 @@ def points_of(ranking: Ranking, seats: Mapping[str, int]) -> Iterator[tuple[floa
 # The page
 
 
-def page(first: str, sentences: Sequence[str], tables: Sequence[Table], shown: Sequence[Picture],
+def page(first: str, made_of: Made, sentences: Sequence[str], tables: Sequence[Table], shown: Sequence[Picture],
          paths: Mapping[str, str]) -> str:
-    """The page of a run, what it says first at its front: its pictures are those whose SVG files are at these paths, by
-    their names."""
-    made = Page("Simulated seasons", first)
+    """The page of a run, with what it says first and what it was made of at its front: its pictures are those whose SVG
+    files are at these paths, by their names."""
+    made = Page("Simulated seasons", first, made_of)
     made.text(" ".join(sentences))
     if paths:
         made.heading("Pictures")

@@ -1,8 +1,8 @@
 """Networks in a mode by what they earn on the same draws: the best, what each other earns less, which are told from it.
 
-So many networks beside the best are so many chances to be misled. So the intervals are wider the more there are, by
-Bonferroni's rule: the network that truly earns most is the first one or one that can't be told from it, in 95 of 100
-such runs or more. May use: nrm.network, nrm.seasons.results.
+Many networks are many chances to be misled. So the intervals are wider the more there are, by Bonferroni's rule over
+each two of them: in 95 of 100 such runs or more all hold at once, and then the network that truly earns most is the
+first one or one that can't be told from it. May use: nrm.network, nrm.seasons.results.
 """
 from __future__ import annotations
 
@@ -17,8 +17,8 @@ MISLED = 0.05  # the share of runs whose intervals may mislead
 
 
 def errors_for(count: int) -> float:
-    """So many standard errors are taken to each side where one network is beside others, so many in all."""
-    return NINETY_FIVE if count <= 2 else NormalDist().inv_cdf(1 - MISLED / 2 / (count - 1))
+    """So many standard errors are taken to each side where so many networks are compared."""
+    return NINETY_FIVE if count <= 2 else NormalDist().inv_cdf(1 - MISLED / (count * (count - 1)))
 
 
 @dataclass(frozen=True)

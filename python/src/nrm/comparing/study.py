@@ -106,7 +106,7 @@ class Study:
         by_what = f"by the authorised seats of {with_text(leg, self.texts)}" if leg else "by network, the best first"
         return Table(f"What is earned under {ranking.mode}, {by_what}, in currency units a season",
                      ["authorised" if leg else "", *(["denied", "empty"] if self.departs else []), "earned",
-                      "less than the most by", "standard error", "from, at 95 % in all", "to"], rows)
+                      "less than the most by", "standard error", "from, at 95 % for all", "to"], rows)
 
     def less_of(self, ranking: Ranking, name: str) -> list[Cell]:
         """How much less than the most a network earns in a mode, with the interval of the ranking."""

@@ -65,8 +65,9 @@ def of_networks(study: Study) -> Iterator[str]:
     told from it."""
     most = max(study.rankings.values(), key=lambda it: it.means[it.best])
     if len(study.rankings) > 1:
-        yield f"Most is earned by {called(study, most.best)} under {most.mode}, {amount(most.means[most.best])} a season."
-    for ranking in study.rankings.values():
+        earned = amount(most.means[most.best])
+        yield f"Most is earned by {called(study, most.best)} under {most.mode}, {earned} a season."
+    for ranking in sorted(study.rankings.values(), key=lambda it: -it.means[it.best]):
         yield of_a_ranking(study, ranking) + "."
 
 
@@ -87,7 +88,7 @@ def of_a_ranking(study: Study, ranking: Ranking) -> str:
     assert nearest, "not all are alike"
     low, high = ranking.less[nearest].ends(ranking.errors)
     return (f"{said}the nearest of the others, {shortly(study, nearest)}, earns "
-            f"{amount(ranking.less[nearest].mean)} less, between {low} and {high} at 95 per cent in all")
+            f"{amount(ranking.less[nearest].mean)} less, between {low} and {high} at 95 per cent for all")
 
 
 def called(study: Study, name: str) -> str:

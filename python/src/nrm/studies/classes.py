@@ -111,11 +111,25 @@ def tables(leg: LegAlone, emsr: Policy) -> list[Table]:
     kept: list[list[Cell]] = [[it.name, it.fare, f"{it.mean_demand():.2f}", best, by_emsr]
                               for it, best, by_emsr in zip(leg.classes, leg.optimal.kept, emsr.kept)]
     value, earned = leg.value(), emsr.values[-1]
-    share = f"{100 * float(earned / value):.3f} %" if value else ""
     return [Table(f"Seats of {leg.name} that are kept from each class, of {leg.seats}",
                   ["class", "fare", "mean demand", "optimum", "EMSR-b"], kept),
             Table("Mean revenue of a history, in currency units", ["", "revenue", "share"],
-                  [["optimum", f"{float(value):,.2f}", ""], ["EMSR-b", f"{float(earned):,.2f}", share]])]
+                  [["optimum", f"{float(value):,.2f}", ""],
+                   ["EMSR-b", f"{float(earned):,.2f}", share_of(earned, value)]])]
+
+
+def verdict(leg: LegAlone, emsr: Policy) -> str:
+    """What the two say first."""
+    value, earned = leg.value(), emsr.values[-1]
+    if not value:
+        return f"Nothing is earned on {leg.name} by itself, by the optimum or by EMSR-b."
+    return (f"On {leg.name} by itself EMSR-b earns {share_of(earned, value)} of the optimum, {float(earned):,.2f} of "
+            f"{float(value):,.2f} a history, if classes come one after the other, the lowest fare first.")
+
+
+def share_of(earned: Fraction, value: Fraction) -> str:
+    """The share of the optimum that is earned."""
+    return f"{100 * float(earned / value):.3f} %" if value else ""
 
 
 def remarks(leg: LegAlone, emsr: Policy) -> list[str]:

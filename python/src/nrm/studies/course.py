@@ -1,7 +1,8 @@
 """The course of one season in the three modes: a stream with looks put in, what each mode answers, tables and page.
 
 How the replies to the lines put in are told apart is said by the manual of the command `season`.
-May use: nrm, nrm.network, nrm.program, nrm.replies, nrm.telling.page, nrm.telling.tables.
+May use: nrm, nrm.comparing.heads, nrm.network, nrm.program, nrm.replies, nrm.seasons.results, nrm.telling.page,
+nrm.telling.tables.
 """
 from __future__ import annotations
 
@@ -12,9 +13,11 @@ from pathlib import Path
 from typing import Iterator, Mapping, Sequence
 
 from nrm import Stop, bytes_in
+from nrm.comparing.heads import Made
 from nrm.network import Network, whole
 from nrm.program import Program
 from nrm.replies import MODES, Cancelled, Hindsight, Leg, NoAnswer, NoFare, NoLeg, Plan, Sold, answer_of
+from nrm.seasons.results import per_cent
 from nrm.telling.page import Page
 from nrm.telling.tables import Cell, Table, with_text
 
@@ -194,7 +197,21 @@ def seats_table(season: Season, course: Course, decimal: bool) -> Table:
                  ["", "sold", "left", *levels], rows, decimal)
 
 
-# The page
+# The verdict and the page
+
+
+def verdict(season: Season) -> str:
+    """What the season says first: what each mode earns, and its share of the bound, the most first."""
+    ends = [(it.mode, it.points[-1]) for it in season.courses]
+    if any(point.revenue is None or point.bound is None for _, point in ends):
+        return ("The bound's linear program is too large for this season, so neither it nor revenues are told. One "
+                "season says little of others.")
+    ranked = sorted(((point.revenue or 0, mode, point.bound or 0) for mode, point in ends), key=lambda it: -it[0])
+    (most, best, bound), *others = ranked
+    share = f", {per_cent(most, float(bound))} of the bound" if bound else ""
+    texts = [f"{mode} {revenue:,}{f', {per_cent(revenue, float(of))}' if of else ''}" for revenue, mode, of in others]
+    return (f"{best} earns {most:,} in this season{share}; {'; '.join(texts)}. One season says little of others: "
+            "`nrm-tools simulate` plays many.")
 
 
 def abouts(season: Season) -> dict[str, tuple[str, str]]:
@@ -213,16 +230,20 @@ def abouts(season: Season) -> dict[str, tuple[str, str]]:
                     f"{refused}, of {sum(courses[0].asked.values()):,}.")}
 
 
-def page(season: Season, told: Sequence[Table], pictures: Sequence[str]) -> str:
-    """The page of a season, with its tables, and its pictures if there are some, the paths of SVG files."""
-    made = Page("A season in three modes")
-    made.heading("Tables")
-    made.text("Each point of the season is behind a line of the stream: "
-              + ", ".join(f"{name} {number}" for number, name in season.stream.points) + ".")
-    for table in told:
-        made.table(table)
+def page(season: Season, made_of: Made, told: Sequence[Table], left_out: Sequence[str],
+         pictures: Sequence[str]) -> str:
+    """The page of a season, with what it was made of, its pictures if there are some, the paths of SVG files, its
+    tables, and which tables are left out."""
+    made = Page("A season in three modes", verdict(season), made_of)
     if pictures:
         made.heading("Pictures")
     for path in pictures:
         made.picture(Path(path).read_text(encoding="utf-8"), *abouts(season)[Path(path).stem], is_large=True)
+    made.heading("Tables")
+    made.text("Each point of the season is behind a line of the stream: "
+              + ", ".join(f"{name} {number:,}" for number, name in season.stream.points) + ".")
+    for text in left_out:
+        made.text(text)
+    for table in told:
+        made.table(table)
     return made.html()

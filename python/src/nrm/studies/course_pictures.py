@@ -1,6 +1,6 @@
 """The pictures of one season in the three modes: bid prices, the seats of a leg, revenue and refusals.
 
-May use: nrm.studies.course, nrm.telling.figures, nrm.telling.tables.
+May use: nrm.seasons.results, nrm.studies.course, nrm.telling.figures, nrm.telling.tables.
 """
 from __future__ import annotations
 
@@ -10,6 +10,7 @@ from typing import Any, Callable, Iterator, Sequence
 from matplotlib.lines import Line2D
 from matplotlib.patches import Patch
 
+from nrm.seasons.results import per_cent
 from nrm.studies.course import Course, Season
 from nrm.telling.figures import (BLACK, BLUE, GREEN, ORANGE, PURPLE, SETTINGS, SHADE, SKY, VERMILLION, YELLOW, Axes,
                                  Figure, in_amounts, label, panels, style, titled)
@@ -138,7 +139,7 @@ def revenue(season: Season) -> Figure:
     courses.update({it.mode: [(point.number, point.revenue) for point in it.points] for it in season.courses})
     for name, course in courses.items():
         drawn = [(number, float(amount)) for number, amount in course if amount is not None]
-        share = f", at the end {100 * drawn[-1][1] / float(last):.0f} % of it" if last and name != "bound" else ""
+        share = f", at the end {per_cent(drawn[-1][1], float(last))} of it" if last and name != "bound" else ""
         look = style(name, "bound of hindsight" if name == "bound" else name + share)
         axis.plot(*zip(*drawn), **look)
         handles.append(Line2D([], [], **look))

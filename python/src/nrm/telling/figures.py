@@ -27,7 +27,7 @@ WIDTH = 8.3  # inches of 100 dots: as wide as a page of a repository
 SETTINGS: dict[str, Any] = {
     "svg.hashsalt": "nrm", "svg.fonttype": "none", "font.size": 8.5, "axes.titlesize": 8.5, "axes.spines.top": False,
     "axes.spines.right": False, "hatch.linewidth": 0.5, "lines.markersize": 4.5, "lines.linewidth": 1.3,
-    "legend.frameon": False, "figure.dpi": 100}
+    "legend.frameon": False, "figure.dpi": 100, "text.parse_math": False}  # a name is no formula; since 3.6
 WITHOUT_DATE: dict[str, dict[str, Any]] = {"png": {"Software": None}, "svg": {"Date": None, "Creator": None}}
 Figure = Any  # matplotlib has no types
 Axes = Any
@@ -85,7 +85,8 @@ def written(figures: Iterable[tuple[str, Callable[[], Figure]]], folder: str,
             kinds: Iterable[str] = tuple(WITHOUT_DATE)) -> Iterator[str]:
     """Writes figures as they are made, each with its name, in files of these kinds, and gives the paths of these."""
     make_folder(folder)
-    with matplotlib.rc_context(SETTINGS):
+    known = {name: value for name, value in SETTINGS.items() if name in matplotlib.rcParams}
+    with matplotlib.rc_context(known):
         for name, make in figures:
             figure = make()
             for kind in kinds:

@@ -1,8 +1,9 @@
 """A page of HTML that stands alone: headings, text, tables and pictures in one file, without scripts or links.
 
-It is made for a wide and a narrow screen, for paper and for a reader that speaks: tables have heads and a caption,
-pictures a title and a description, and what is wider than the screen moves in a box of its own. jinja2 makes it of
-page.html and escapes each name and text; what is put in as it stands is the pictures, which matplotlib has escaped.
+It is made for a wide and a narrow screen, light or dark, for paper and for a reader that speaks: tables have heads and
+a caption, pictures a title and a description, and what is wider than the screen moves in a box of its own. jinja2 makes
+it of page.html and escapes each name and text; what is put in as it stands is the pictures, which matplotlib has
+escaped.
 May use: nrm.telling.tables.
 """
 from __future__ import annotations
@@ -16,6 +17,8 @@ from typing import Sequence, Union
 from nrm.telling.tables import Table
 
 TEMPLATE = Path(__file__).with_name("page.html")
+COLOURS = {"#000000": "var(--ink)", "#ffffff": "var(--paper)", "#eeeeee": "var(--soft)"}  # light or dark, as the page
+STYLE = re.compile(r'style="[^"]*"')
 OF_TITLE = re.compile(r"<(title|desc|metadata)\b.*?</\1>", re.S)
 
 
@@ -28,6 +31,11 @@ class Picture:
     attributes: str
     inside: str
     is_large: bool
+
+
+def with_colours_of_page(style: str) -> str:
+    """A style of a picture in which black, white and the lightest grey are the colours of the page."""
+    return re.sub("#[0-9a-f]{6}", lambda it: COLOURS.get(it[0], it[0]), style)
 
 
 class Page:
@@ -54,6 +62,7 @@ class Page:
         """Adds a picture, the text of an SVG file, with a title and what it shows in words."""
         number = next(self.numbers)
         body = OF_TITLE.sub("", svg[svg.index("<svg"):])
+        body = STYLE.sub(lambda it: with_colours_of_page(it[0]), body)
         body = re.sub(r'\b(id="|href="#|url\(#)', rf"\1picture-{number}-", body)  # no name stands twice on a page
         attributes, _, inside = body[len("<svg"):].partition(">")
         attributes = re.sub(r'\s(width|height|role|aria-\w+)="[^"]*"', "", attributes)

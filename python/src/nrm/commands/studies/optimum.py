@@ -28,7 +28,7 @@ from typing import Sequence
 
 from nrm.commands.running import asked_with_texts, lacking, parser
 from nrm.program import Program
-from nrm.studies.classes import LegAlone, remarks, tables
+from nrm.studies.classes import LegAlone, remarks, tables, verdict
 
 
 def run(given: Sequence[str]) -> int:
@@ -40,6 +40,7 @@ def run(given: Sequence[str]) -> int:
     asked, texts = asked_with_texts(words, given)
     leg = LegAlone(asked.network, asked.leg, Program.found(asked.program))
     emsr = leg.emsr()
+    print(verdict(leg, emsr))
     for table in tables(leg, emsr):
         table.with_texts(texts).show()
     for remark in remarks(leg, emsr):

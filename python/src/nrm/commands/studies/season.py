@@ -3,10 +3,12 @@
     nrm-tools season NETWORK STREAM [--out FOLDER] [--leg LEG] [--decimal] [--names FILE]
                      [--program WORD...]
 
-`nrm` answers the lines of STREAM on NETWORK under `first`, `bid` and `davn`. It prints the revenue of each mode beside
+`nrm` answers the lines of STREAM on NETWORK under `first`, `bid` and `davn`. It says what each mode earns, in a
+sentence, and what it was made of: the files, the day and the versions. Then it prints the revenue of each mode beside
 the bound of hindsight, what it has withheld of cancelled bookings where some product's refund is below 100 per cent,
 and the bid prices of each leg, at the opening, at each line `reoptimise` and at the end; the seats of one leg, sold,
-left and protected; and of how many requests each product was refused. The seats left are those of the authorised seats.
+left and protected; and of how many requests each product was refused. The seats left are those of the authorised
+seats. A table of nothing but zeros is left out, and named.
 
 The tables come on standard output; the pictures go to FOLDER, the current one where nothing is said, each as PNG and as
 SVG, and are the same each time. They need matplotlib (Debian's python3-matplotlib). Tables and pictures are in
@@ -26,11 +28,13 @@ from __future__ import annotations
 import os
 from typing import Iterator, Sequence
 
-from nrm import make_folder
+from nrm import bytes_in, make_folder
 from nrm.commands.running import asked_with_texts, lacking, parser
+from nrm.comparing.heads import lines_of, made_of
 from nrm.program import Program
-from nrm.studies.course import Season, page, tables
+from nrm.studies.course import Season, page, tables, verdict
 from nrm.telling.page import write
+from nrm.telling.tables import told_of
 
 
 def run(given: Sequence[str]) -> int:
@@ -42,8 +46,12 @@ def run(given: Sequence[str]) -> int:
     words.add_argument("--leg")
     words.add_argument("--decimal", action="store_true")
     asked, texts = asked_with_texts(words, given)
-    season = Season.played(asked.network, asked.stream, asked.leg, Program.found(asked.program), texts)
-    told = [it.with_texts(texts) for it in tables(season, asked.decimal)]
+    program = Program.found(asked.program)
+    season = Season.played(asked.network, asked.stream, asked.leg, program, texts)
+    told, left_out = told_of(it.with_texts(texts) for it in tables(season, asked.decimal))
+    made = made_of({"network": {asked.network: bytes_in(asked.network)},
+                    "stream": {asked.stream: bytes_in(asked.stream)}}, program)
+    print(verdict(season), "", *lines_of(made), "", *left_out, *([""] if left_out else []), sep="\n")
     print("Each point of the season is behind a line of the stream:",
           *[f"{name} {number}" for number, name in season.stream.points],
           sep="\n  ")
@@ -57,7 +65,7 @@ def run(given: Sequence[str]) -> int:
     if "jinja2" not in missing:
         make_folder(asked.out)
         print(write(os.path.join(asked.out, "season.html"),
-                    page(season, told, [it for it in pictures if it.endswith(".svg")])))
+                    page(season, made, told, left_out, [it for it in pictures if it.endswith(".svg")])))
     return 0
 
 

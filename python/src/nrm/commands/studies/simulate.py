@@ -13,10 +13,11 @@ the requests for each product that was refused.
 
 SEVERAL NETWORKS are played on the same draws, whatever differs in them, and compared in each mode season by season:
 what each earns less than the one that earns most, and if they are six or fewer, the difference of each two. Beside the
-most the intervals are wider the more networks there are, so that what truly earns most is the one marked so or one
-whose interval reaches 0, in 95 of 100 runs or more. If they differ in the seats, thresholds or refunds alone, their
-seasons are those that each has by itself. If they differ in more, the history is the same and each product's requests
-are drawn by its name: so a product that has the same name and demand in two networks asks for the same there.
+most the intervals are wider the more networks there are, so that those of all pairs hold at once in 95 of 100 runs or
+more; what truly earns most is then the one marked so or one whose interval reaches 0. If they differ in the seats,
+thresholds or refunds alone, their seasons are those that each has by itself. If they differ in more, the history is the
+same and each product's requests are drawn by its name: so a product that has the same name and demand in two networks
+asks for the same there.
 
 HOW A SEASON IS DRAWN. --demand histories: the requests of a history, each as likely (the default); independent: those
 of a history for each product, drawn apart; poisson: numbers about the mean of the histories, for each product and
@@ -39,8 +40,8 @@ with both checksums. If no seasons come back, since a worker was stopped or is l
 ends the run after --patience, by default 300. The results don't depend on where it runs.
 
 WHAT IS WRITTEN. The summary comes on standard output, progress on standard error. With --out FOLDER there are also
-summary.txt, simulate.html with the tables and pictures, each picture as SVG, and for each network NAME-seasons.csv with
-a row for each season and mode. The pictures need matplotlib (Debian's python3-matplotlib), the page jinja2
+summary.txt, simulate.html with the same and the pictures, each picture as SVG, and for each network NAME-seasons.csv
+with a row for each season and mode. The pictures need matplotlib (Debian's python3-matplotlib), the page jinja2
 (python3-jinja2); what isn't there is told, and the rest comes in any case. A run that was cut, by Ctrl-C too, has kept
 the seasons that were done, and the same line goes on from there; so does one with more seasons. Without --out nothing
 is kept.
@@ -58,6 +59,7 @@ from typing import Callable, Iterator, Sequence
 
 from nrm import Stop, make_folder
 from nrm.commands.running import add_names, add_program, lacking, parser, tell
+from nrm.comparing.heads import lines_of, made_of
 from nrm.comparing.pages import Picture, about, page, pictures
 from nrm.comparing.study import Study
 from nrm.comparing.verdicts import verdict
@@ -71,6 +73,7 @@ from nrm.seasons.results import Results
 from nrm.seasons.rows import Seasons, check_same
 from nrm.telling.libraries import DEBIANS_PYTHON, is_debians, lacks
 from nrm.telling.page import write
+from nrm.telling.tables import told_of
 
 DEBIANS_DASK = "/usr/lib/python3/dist-packages/distributed"
 SOURCES = TOP / "python" / "src"
@@ -96,7 +99,7 @@ def run(given: Sequence[str]) -> int:
             it.go_on()
         if any(len(it.rows) < asked.seasons for it in studies):
             play(asked, studies, settings, asked.program or program.words)
-        show(asked, settings, studies)
+        show(asked, settings, studies, program)
     return 0
 
 
@@ -197,12 +200,15 @@ def play(asked: argparse.Namespace, studies: Sequence[Seasons], settings: Settin
     simulate(studies, settings, words, Workers(asked.workers, asked.cluster, asked.tls, asked.patience, on_the_way))
 
 
-def show(asked: argparse.Namespace, settings: Settings, studies: Sequence[Seasons]) -> None:
+def show(asked: argparse.Namespace, settings: Settings, studies: Sequence[Seasons], program: Program) -> None:
     """Tells the summary, and writes the page and the pictures."""
     results = {it.name: Results.read(it.whole) for it in studies}
     study = Study({it.name: it.network for it in studies}, settings, results, texts_in(asked.names))
-    first, sentences, tables = verdict(study), list(about(asked.seasons, settings, results)), list(study.tables())
-    summary = "\n".join([first, "", *sentences, "", *(it.text() for it in tables)])
+    networks = {path: it.source for path, it in zip(asked.networks, studies)}
+    made = made_of({"networks" if len(networks) > 1 else "network": networks}, program, settings.seed)
+    tables, left_out = told_of(study.tables())
+    first, sentences = verdict(study), [*about(asked.seasons, settings, results), *left_out]
+    summary = "\n".join([first, "", *lines_of(made), "", *sentences, "", *(it.text() for it in tables)])
     print(summary, end="")
     if not asked.out:
         return
@@ -211,7 +217,7 @@ def show(asked: argparse.Namespace, settings: Settings, studies: Sequence[Season
     shown = list(pictures(study)) if "matplotlib" not in missing else []
     paths = {Path(it).stem: it for it in drawn(shown, asked.out)} if shown else {}
     if "jinja2" not in missing:
-        print(write(os.path.join(asked.out, "simulate.html"), page(first, sentences, tables, shown, paths)))
+        print(write(os.path.join(asked.out, "simulate.html"), page(first, made, sentences, tables, shown, paths)))
     print(*paths.values(), *(it.whole for it in studies), sep="\n")
 
 
