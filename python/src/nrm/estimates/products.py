@@ -1,7 +1,7 @@
 """What network files say of the products of a sale: their classes, the dear and the cheap, the parts that they are in,
 and the demand that was reckoned with so far.
 
-May use: nrm, nrm.estimates.rates, nrm.sales.sale, nrm.files.parts, nrm.network.
+May use: nrm, nrm.estimates.rates, nrm.network, nrm.sales.sale, nrm.timetables.parts.
 """
 from __future__ import annotations
 
@@ -10,9 +10,9 @@ from typing import Mapping, Sequence
 
 from nrm import Stop
 from nrm.estimates.rates import Known
-from nrm.sales.sale import Sale
-from nrm.files.parts import parts_of
 from nrm.network import Network, Product
+from nrm.sales.sale import Sale
+from nrm.timetables.parts import parts_of
 
 
 def known_of(sale: Sale, names: Mapping[str, str], path: str | None, earlier: str | None, is_by_class: bool) -> Known:

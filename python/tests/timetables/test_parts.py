@@ -53,7 +53,7 @@ class Parts(PlaceTest):
         self.assertEqual((status, len(list((self.folder / "parts").glob("part-*.csv")))), (1, 1))
         self.want_in(out, "too large: 65 legs and 65 products")
         self.assertEqual(sorted(re.search("its legs: (.*)", out)[1].split()), sorted(legs[0]))
-        self.want_in(out, "it would fall apart without any one of these products: P0-")
+        self.want_in(out, "it would fall apart without any one of these products, the cheapest first: P0-")
 
     def test_keeps_the_version_authorised_seats_and_refunds(self) -> None:
         self.told("split", self.file("second.csv", SECOND), "parts")
