@@ -2,13 +2,16 @@
 from __future__ import annotations
 
 import csv
+import json
 import re
 from pathlib import Path
 
 from nrm import Stop
 from nrm.network import Network
 from nrm.replies import MODES
+from nrm.seasons.drawing import Settings
 from nrm.seasons.results import Results
+from nrm.seasons.rows import Seasons, check_same
 from seasons.clusters import LOG, SEASON, SECONDS, SimulateTest, needs_dask
 from seasons.test_drawing import spread
 
@@ -88,6 +91,18 @@ class Told(SimulateTest):
 
 
 class Files(SimulateTest):
+    def test_settings_that_an_older_run_didnt_note_are_as_they_were(self) -> None:
+        folder = str(self.folder)
+        study = Seasons("network", LOG, Settings(), 5, folder)
+        check_same(folder, Settings(), [study])
+        noted = json.loads((self.folder / "settings.json").read_text())
+        self.assertIs(noted["settings"].pop("by_product"), False)
+        self.file("settings.json", json.dumps(noted))
+        check_same(folder, Settings(), [study])
+        self.file("settings.json", json.dumps(noted))
+        with self.assertRaisesRegex(Stop, "differs in: by-product$"):
+            check_same(folder, Settings(by_product=True), [study])
+
     def test_what_isnt_a_file_of_rows_is_told(self) -> None:
         for text in ("", "season,mode\n", "season,mode,bound,earned,revenue\n0,first,1.0000," + "9" * 4301 + ",1\n",
                      "season,mode,bound,earned,revenue\n0,first,1.0000," + "9" * 30 + ",1\n", Path(LOG).read_text()):

@@ -5,7 +5,9 @@ import os
 import sys
 
 from harness import BLINDED, EXAMPLES, PlaceTest, needs
-from made import OF_REFUNDS, SECOND, reference_replies
+from made import FEW, OF_REFUNDS, SECOND, reference_replies
+from nrm import __version__
+from nrm.comparing.heads import today
 from nrm.telling.libraries import is_there
 
 
@@ -16,12 +18,26 @@ class Courses(PlaceTest):
 
     def test_tells_what_the_documents_show(self) -> None:
         out = self.told("season", *self.words("log"))
+        self.assertEqual(out.splitlines()[0], "davn earns 2,840 in this season, 97.3 % of the bound; bid 2,110, 72.3 %; "
+                         "first 1,240, 42.5 %. One season says little of others: `nrm-tools simulate` plays many.")
+        for wanted in ("network: ", "stream: ", f"date: {today()}\n", f"versions: nrm-tools {__version__}, "):
+            self.want_in(out, f"\n{wanted}")
         self.want_in(out, "  period 2  1,080    630    300  1,080\n  period 3  1,240  1,270    620  1,530\n  end       "
                           "1,240  2,110  2,840  2,920\n")
         self.want_in(out, "  ZRH-VIE      110       320       320  320\n")
         decimal = self.told("season", *self.words("log", "--decimal"))
         self.want_in(decimal, "  end        1240  2110  2840  2920.00\n")
         self.assertNotIn("/", decimal.partition("Revenue of")[2], "fractions in decimals")
+
+    def test_tables_of_nothing_but_zeros_are_named(self) -> None:
+        """For nothing was asked in the past, so that each bid price is 0."""
+        stream = self.file("stream", "book P 1\n")
+        out = self.told("season", self.file("few.csv", FEW), stream, "--out", "pictures", *self.with_program)
+        self.assertEqual(out.splitlines()[0].partition(".")[0], "first earns 5 in this season, 100")
+        self.want_in(out, "\nAll numbers are 0 in: Bid prices under bid, in currency units; Bid prices under davn, in "
+                     "currency units.\n")
+        self.assertNotIn("Bid prices", out.partition("Each point of the season")[2])
+        self.assertNotIn("All numbers are 0", self.told("season", *self.words("log")))
 
     @needs("jinja2")
     def test_a_page_has_the_tables_and_the_pictures_that_there_are(self) -> None:

@@ -45,6 +45,17 @@ class Texts(PlaceTest):
         optimum = self.told("optimum", LOG, "VIE-BUD", *self.names, *self.with_program)
         self.want_in(optimum, f"\n  VB-Q: {TEXTS['VB-Q']}  ")
 
+    @unittest.skipUnless(is_there("jinja2") and is_there("matplotlib"), "there is no jinja2 or no matplotlib")
+    def test_a_text_is_no_formula_and_no_markup(self) -> None:
+        """Neither what TeX takes for one, nor what a browser does."""
+        names = self.file("odd.csv", 'name,stands for\nVIE-BUD,"$\\frac{x$ <script>1</script> & $5-$9"\n')
+        words = [LOG, EXAMPLES / "log" / "commands.txt", "--out", "page", "--leg", "VIE-BUD", *self.with_program]
+        self.told("season", *words, "--names", names, env=os.environ)
+        text = (self.folder / "page" / "season.html").read_text()
+        self.want_in(text, "$\\frac{x$ &lt;script&gt;1&lt;/script&gt; &amp; $5-$9")
+        self.assertNotIn("<script", text)
+        self.want_in((self.folder / "page" / "seats.svg").read_text(), "$\\frac{x$ &lt;script&gt;1&lt;/script&gt;")
+
     def test_of_simulated_seasons(self) -> None:
         rows = by_one_process(self.program, LOG, Settings(), 2)
         results = Results.read(self.file("rows.csv", rows))
@@ -70,8 +81,8 @@ class Texts(PlaceTest):
         words = [LOG, EXAMPLES / "log" / "commands.txt", "--out", "page", "--leg", "VIE-BUD", *self.with_program]
         self.told("season", *words, *self.names, env=os.environ)
         page = (self.folder / "page" / "season.html").read_text()
-        for wanted in ('<th scope="row">VB-Q: Wien - Budapest, &lt;light&gt;</th>',
-                       '<th scope="row">VIE-BUD: Wien - Budapest</th>', "The seats of VIE-BUD: Wien - Budapest"):
+        for wanted in ('<th scope="row" class="long">VB-Q: Wien - Budapest, &lt;light&gt;</th>',
+                       '<th scope="row" class="long">VIE-BUD: Wien - Budapest</th>', "The seats of VIE-BUD: Wien - Budapest"):
             self.want_in(page, wanted)
         pictures = {it: (self.folder / "page" / f"{it}.svg").read_text() for it in ("bid-prices", "seats", "refused")}
         for name, wanted in (("bid-prices", ">Wien - Budapest</text>"), ("seats", ">Wien - Budapest</text>"),

@@ -95,7 +95,7 @@ def attracted(start: str, legs: Sequence[str], on_leg: Mapping[str, Sequence[Pro
 def cut_of(order: Sequence[str], sold: Sequence[Product], limits: Limits) -> tuple[Value, list[list[str]]]:
     """The cut of an order into pieces that keeps most, with what it keeps."""
     place = {leg: at for at, leg in enumerate(order)}
-    ending: list[list[tuple[int, int]]] = [[] for _ in order]  # by the last place of a product: its first, and its worth
+    ending: list[list[tuple[int, int]]] = [[] for _ in order]  # by the last place of a product: the first, its worth
     for product in sold:
         places = [place[it] for it in product.legs]
         ending[max(places)].append((min(places), worth(product)))
