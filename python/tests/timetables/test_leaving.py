@@ -125,6 +125,18 @@ class Told(PlaceTest):
             for path in files:
                 path.unlink()
 
+    def test_products_over_more_than_four_legs_are_told(self) -> None:
+        made = self.finished(sys.executable, "-B", EXAMPLES / "line" / "make.py", "whole").out
+        self.file("trains.csv", made)
+        out, status = self.split()
+        self.assertEqual(status, 1)
+        self.assertEqual(out.splitlines()[0], "products over more than 4 legs, which no file takes: L1-5, L2-6, L1-6; "
+                         "docs/network-file.md, 'Why the limits', tells of ways")
+        self.nrm("print", "parts/part-1.csv", status=3)
+        self.file("list.csv", "L1-5\nL2-6\nL1-6\n")
+        self.assertEqual(self.split("--leave-out", "list.csv")[1], 0)
+        self.nrm("print", "parts/part-1.csv")
+
     def test_what_isnt_in_the_timetable_cant_be_left_out(self) -> None:
         path = self.file("trains.csv", "periods,1,1\nleg,A,1\nproduct,P,5,A\n")
         self.stopped("split", path, "parts", "--leave-out", self.file("list.csv", "product\nQ,5\n"),

@@ -10,7 +10,7 @@ import os
 from typing import Iterator, Sequence
 
 from nrm import Stop, bytes_in, make_folder
-from nrm.limits import MOST_LEGS, MOST_PRODUCTS
+from nrm.limits import MOST_LEGS, MOST_LEGS_OF_A_PRODUCT, MOST_PRODUCTS
 from nrm.network import Network, Product, text_of
 from nrm.timetables.leaving import Proposal, proposal, worth
 from nrm.timetables.parts import Part, holding, parts_of
@@ -42,6 +42,7 @@ class Cut:
     def write(self) -> Iterator[str]:
         """Writes the parts, and gives a line for each."""
         make_folder(self.folder)
+        yield from self.too_long()
         with open(os.path.join(self.folder, "parts.csv"), "w", encoding="ascii") as list_of_products:
             list_of_products.write(text_of([["product", "file"], *[[it, ""] for it in self.without]]))
             for part in parts_of(self.network.legs, self.legs_of):
@@ -60,6 +61,15 @@ class Cut:
             yield f"left out: products {len(left_out)}, {self.share(left_out)} of what was asked for at its fare"
         yield from self.propose()
         yield from self.of_earlier_runs()
+
+    def too_long(self) -> Iterator[str]:
+        """What is told of journeys over more legs than a product of a file may have."""
+        found = [it for it, legs in self.legs_of.items() if len(legs) > MOST_LEGS_OF_A_PRODUCT]
+        if found:
+            self.is_whole = False
+            more = f" and {len(found) - MOST_TOLD} more" if len(found) > MOST_TOLD else ""
+            yield (f"products over more than {MOST_LEGS_OF_A_PRODUCT} legs, which no file takes: "
+                   f"{', '.join(found[:MOST_TOLD])}{more}; docs/network-file.md, 'Why the limits', tells of ways")
 
     def share(self, products: Sequence[Product]) -> str:
         """The share of some products in what was asked for in all histories at its fare."""

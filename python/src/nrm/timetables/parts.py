@@ -43,5 +43,15 @@ def parts_of(legs: Iterable[str], products: Mapping[str, Sequence[str]]) -> list
 
 def holding(part: Part, legs_of: Mapping[str, Sequence[str]]) -> list[str]:
     """The products without which, one at a time, a part would fall apart."""
-    return [it for it in part.products if len(legs_of[it]) > 1
+    on_leg: dict[str, list[str]] = {it: [] for it in part.legs}
+    for product in part.products:
+        for leg in legs_of[product]:
+            on_leg[leg].append(product)
+
+    def is_joined_by_another(product: str) -> bool:
+        """Whether one other product alone joins all legs of a product: most are told so, and soon."""
+        legs = {*legs_of[product]}
+        return any(legs <= {*legs_of[it]} for it in on_leg[legs_of[product][0]] if it != product)
+
+    return [it for it in part.products if len(legs_of[it]) > 1 and not is_joined_by_another(it)
             and len(parts_of(part.legs, {other: legs_of[other] for other in part.products if other != it})) > 1]
