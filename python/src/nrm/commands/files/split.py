@@ -14,9 +14,11 @@ A part with more than 64 legs or 256 products is told too, with its legs and the
 would fall apart, and not written; the status is then 1. It is also proposed which products to leave out so that files
 take the rest: those whose worth, which is what was asked for in all histories at its fare, is least in all, with their
 shares of the worth of the whole timetable, the cheapest first. FOLDER/left-out.csv has all of them, with their legs and
-what was asked for in a season. Products over more than four legs are told, and the status is 1 then too. With --leave-out LIST the products in the first fields of LIST, which may be that file
-or an edited one, are left out: they have no file in FOLDER/parts.csv, and are to be sold otherwise, such as by hand on
-seats that are held back. A season of plans is worth at most so much less without them as was asked for of them.
+what was asked for in a season. Products over more than four legs are told, and the status is 1 then too.
+
+With --leave-out LIST the products in the first fields of LIST, which may be that file or an edited one, are left out:
+they have no file in FOLDER/parts.csv, and are to be sold otherwise, such as by hand on seats that are held back. A
+season of plans is worth at most so much less without them as was asked for of them.
 
 WHAT IS TRIED. Legs are put into an order, that of TIMETABLE, and from each leg, or from as many as there is time for,
 the one in which each has most in common with those before it. Each order is cut into files in the best of all ways. So
