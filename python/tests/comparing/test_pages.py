@@ -3,12 +3,20 @@ from __future__ import annotations
 
 import re
 import shutil
+import tempfile
+import unittest
+import warnings
 from pathlib import Path
+from typing import Sequence
 
+from comparing.made_results import network_of, results_of
 from elements import Elements
 from harness import EXAMPLES, needs
 from nrm import __version__
 from nrm.comparing.heads import today
+from nrm.comparing.pages import pictures
+from nrm.comparing.study import Study
+from nrm.network import Network
 from nrm.seasons.drawing import Settings
 from seasons.clusters import LOG, SECONDS, SimulateTest, by_one_process, needs_dask
 
@@ -20,6 +28,32 @@ onload = () => {
 }
 </script>"""
 PICTURES = {"shares", "differences-bid-first", "differences-davn-first", "differences-davn-bid"}
+
+
+@needs("matplotlib")
+class Several(unittest.TestCase):
+    """Networks that weren't played: what each earns in each season is said here."""
+
+    def names(self, networks: dict[str, Network], earned: Sequence[int]) -> list[str]:
+        """The names of the pictures, each of which can be drawn."""
+        from nrm.telling.figures import written  # here, since it takes matplotlib
+        results = {it: results_of({"bid": [at + more for more in earned], "davn": [at + 2 * more for more in earned]})
+                   for at, it in enumerate(networks)}
+        found = list(pictures(Study(networks, Settings(modes=("bid", "davn")), results)))
+        with tempfile.TemporaryDirectory() as folder, warnings.catch_warnings():
+            warnings.simplefilter("error")
+            list(written([(it.name, it.draw) for it in found], folder, kinds=["svg"]))
+        return [it.name for it in found]
+
+    def test_networks_are_shown_beside_the_best(self) -> None:
+        """By their seats if these differ alone; from one season too, which tells no interval."""
+        for earned in ([5, 9, 7], [5]):
+            other = {"A": network_of(), "B": network_of(fare=51)}
+            self.assertEqual(self.names(other, earned), ["networks", "shares", "differences-davn-bid-1",
+                                                         "differences-davn-bid-2"])
+            seats = {"A": network_of(authorised=3), "B": network_of(authorised=4)}
+            self.assertEqual(self.names(seats, earned), ["authorised", "shares"])
+            self.assertEqual(self.names({"A": network_of()}, earned), ["shares", "differences-davn-bid"])
 
 
 @needs_dask

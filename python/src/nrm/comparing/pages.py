@@ -6,6 +6,7 @@ nrm.telling.charts, nrm.telling.page, nrm.telling.tables.
 """
 from __future__ import annotations
 
+import math
 from dataclasses import dataclass
 from pathlib import Path
 from typing import Any, Callable, Iterator, Mapping, Sequence
@@ -71,6 +72,8 @@ def pictures(study: Study) -> Iterator[Picture]:
     """The pictures of a study."""
     if study.seats:
         yield of_authorised(study, *study.seats)
+    elif 1 < len(study.results) <= MOST_SPANS // len(study.settings.modes):
+        yield of_networks(study)
     spans = [(study.named(name, mode), mode, it.shares(mode), 100 * it.share(mode))
              for name, it in study.results.items() for mode in it.modes]
     if all(values for _, _, values, _ in spans) and len(spans) <= MOST_SPANS:
@@ -112,11 +115,31 @@ def of_authorised(study: Study, leg: str, seats: Mapping[str, int]) -> Picture:
                    lambda: charts.courses(courses, f"authorised seats of {leg}", "beside the most, currency units"))
 
 
+def of_networks(study: Study) -> Picture:
+    """What each network earns less than the best, in each mode."""
+    from nrm.telling import charts
+    named = [(study.named(name, mode), mode, *beside_best(it, name))
+             for mode, it in study.rankings.items() for name in it.means]
+    tops = "; ".join(f"under {mode} by {it.best}" for mode, it in study.rankings.items())
+    words = ("What a season brings with each network beside the one that earns most in the mode, with its interval at "
+             f"95 per cent for all. Most is earned {tops}")
+    return Picture("networks", "What each network earns beside the best", words,
+                   lambda: charts.intervals(named, "beside the most, currency units a season"))
+
+
+def beside_best(ranking: Ranking, name: str) -> tuple[float, float]:
+    """How much more a network earns than the best, and half of the interval, or 0 where one season tells none."""
+    less = ranking.less.get(name)
+    if less is None:
+        return 0.0, 0.0
+    half = less.half(ranking.errors)
+    return -less.mean, half if math.isfinite(half) else 0.0
+
+
 def points_of(ranking: Ranking, seats: Mapping[str, int]) -> Iterator[tuple[float, float, float]]:
     """By authorised seats, how much more is earned than with the best, and half of the interval."""
-    yield float(seats[ranking.best]), 0.0, 0.0
-    for name, less in ranking.less.items():
-        yield float(seats[name]), -less.mean, less.half(ranking.errors)
+    for name in ranking.means:
+        yield (float(seats[name]), *beside_best(ranking, name))
 
 
 # The page

@@ -1,4 +1,5 @@
-"""Charts of many numbers, narrow so that their text can be read on a phone: a histogram, spans, courses with intervals.
+"""Charts of many numbers, narrow so that their text can be read on a phone: a histogram, spans, means and courses with
+intervals.
 
 May use: nrm.telling.figures.
 """
@@ -47,6 +48,26 @@ def histogram(values: Sequence[int], across: str, up: str) -> Figure:
     return figure
 
 
+def named_rows(axis: Axes, names: Sequence[str]) -> None:
+    """Has the rows of a chart tell names, the first one at the top."""
+    axis.set_yticks(range(len(names)), names)
+    axis.set_ylim(len(names) - 0.5, -0.5)
+    axis.spines["left"].set_visible(False)
+    axis.tick_params(axis="y", length=0)
+
+
+def intervals(named: Sequence[tuple[str, str, float, float]], across: str) -> Figure:
+    """For each name with its look, a mean with half of its interval to each side; and a line at 0."""
+    figure, axis = chart(0.6 + ROW * len(named), across, "")
+    axis.axvline(0, color=BLACK, linewidth=1)
+    for at, (_, look, mean, half) in enumerate(named):
+        colour, mark, _ = STYLES[look]
+        axis.errorbar([mean], [at], xerr=[half], color=colour, marker=mark, linestyle="", elinewidth=2, capsize=3)
+    named_rows(axis, [name for name, *_ in named])
+    in_amounts(axis.xaxis)
+    return figure
+
+
 def spans(named: Sequence[tuple[str, str, Sequence[float], float]], across: str) -> Figure:
     """For each name with its look, its sorted values and a mark: from the 5th to the 95th of a hundred thin, from the
     25th to the 75th thick, and the mark."""
@@ -57,10 +78,7 @@ def spans(named: Sequence[tuple[str, str, Sequence[float], float]], across: str)
         axis.plot([values[fifth], values[-1 - fifth]], [at, at], color=colour, linewidth=2, solid_capstyle="butt")
         axis.plot([values[quarter], values[-1 - quarter]], [at, at], color=colour, linewidth=9, solid_capstyle="butt")
         axis.plot([middle], [at], color=colour, marker=mark, markersize=8, markeredgecolor="#FFFFFF")
-    axis.set_yticks(range(len(named)), [name for name, *_ in named])
-    axis.set_ylim(len(named) - 0.5, -0.5)
-    axis.spines["left"].set_visible(False)
-    axis.tick_params(axis="y", length=0)
+    named_rows(axis, [name for name, *_ in named])
     return figure
 
 
