@@ -11,7 +11,8 @@ from harness import SOURCES, TOP
 PACKAGE = SOURCES / "nrm"
 STANDS_ALONE = "nrm.audit"
 OF_COMMANDS = "nrm.commands."
-BELOW_COMMANDS = tuple(f"{OF_COMMANDS}{it}" for it in ("running", "log_words", "export_words"))  # that commands share
+SHARED = ("running", "log_words", "export_words", "season_words")  # by commands
+BELOW_COMMANDS = tuple(f"{OF_COMMANDS}{it}" for it in SHARED)
 
 
 def name_of(path: Path) -> str:

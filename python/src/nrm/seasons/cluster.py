@@ -8,6 +8,7 @@ from __future__ import annotations
 
 import concurrent.futures
 import contextlib
+import functools
 import logging
 import os
 import signal
@@ -19,7 +20,7 @@ import uuid
 import warnings
 import zipfile
 from dataclasses import dataclass
-from typing import Any, Callable, Iterator, Sequence, TypeVar
+from typing import Any, Callable, Iterator, Protocol, Sequence, TypeVar
 
 import distributed
 
@@ -59,6 +60,20 @@ class Workers:
     tls: Sequence[str] | None
     patience: int
     tell: Callable[[str], None]
+
+
+class Wanted(Protocol):
+    """Seasons on the bytes of a network file that are to be played, a task of numbers at a time, and are kept."""
+    source: bytes
+
+    def tasks(self) -> Iterator[list[int]]:
+        """Numbers of seasons, as many at a time as one worker gets."""
+
+    def keep(self, batch: Batch) -> None:
+        """Keeps what was played of a task."""
+
+
+Play = Callable[[Sequence[Wanted], Callable[[int], None]], "Spent"]  # it tells on the way how many seasons are done
 
 
 class Progress:
@@ -192,15 +207,15 @@ class Waiting:
     def __init__(self, workers: Workers) -> None:
         self.ended = distributed.as_completed(with_results=True, raise_errors=False)
         self.patience, self.late, self.tell = workers.patience, min(LATE, workers.patience / 2), workers.tell
-        self.studies: dict[Future, Seasons] = {}
+        self.studies: dict[Future, Wanted] = {}
         self.since, self.is_told = time.monotonic(), False
 
-    def add(self, future: Future, study: Seasons) -> None:
+    def add(self, future: Future, study: Wanted) -> None:
         """Waits for a task too."""
         self.studies[future] = study
         self.ended.add(future)
 
-    def next(self) -> tuple[Seasons, object]:
+    def next(self) -> tuple[Wanted, object]:
         """The next task that comes back: its study, and what a worker gave or the fault that it met."""
         while not self.ended.has_ready():
             self.look()
@@ -249,10 +264,17 @@ class Spent:
     in_program: float = 0.0
 
 
-def played_all(client: Client, studies: Sequence[Seasons], settings: Settings, words: Sequence[str], workers: Workers,
-               progress: Progress) -> Spent:
+@contextlib.contextmanager
+def players(settings: Settings, words: Sequence[str], workers: Workers) -> Iterator[Play]:
+    """Workers that have the package and play by some settings, with the program of some words."""
+    with cluster(workers) as client:
+        send_package(client, workers.patience)
+        yield functools.partial(played_all, client, settings, words, workers)
+
+
+def played_all(client: Client, settings: Settings, words: Sequence[str], workers: Workers, studies: Sequence[Wanted],
+               done: Callable[[int], None]) -> Spent:
     """Plays what is to be played: so many tasks ahead of the workers, and as each ends its rows are kept."""
-    send_package(client, workers.patience)
     tasks = ((study, numbers) for study in studies for numbers in study.tasks())
     spent, here, waiting = Spent(), maker(Program.found(words)), Waiting(workers)
 
@@ -268,7 +290,7 @@ def played_all(client: Client, studies: Sequence[Seasons], settings: Settings, w
         batch = batch_told(told, here)
         study.keep(batch)
         spent = Spent(spent.at_work + batch.seconds, spent.in_program + batch.in_program)
-        progress.add(batch.seasons)
+        done(batch.seasons)
         submit()
     return spent
 
@@ -278,8 +300,8 @@ def simulate(studies: Sequence[Seasons], settings: Settings, words: Sequence[str
     done, wanted = sum(len(it.rows) for it in studies), sum(it.wanted for it in studies)
     progress, begun = Progress(wanted, done, workers.tell), time.monotonic()
     try:
-        with cluster(workers) as client:
-            spent = played_all(client, studies, settings, words, workers, progress)
+        with players(settings, words, workers) as play:
+            spent = play(studies, progress.add)
     finally:
         progress.end()
         for it in studies:

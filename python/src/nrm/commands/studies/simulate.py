@@ -50,41 +50,35 @@ from __future__ import annotations
 
 import argparse
 import functools
-import importlib.util
 import os
 import re
 import tempfile
 from pathlib import Path
-from typing import Callable, Iterator, Sequence
+from typing import Iterator, Sequence
 
 from nrm import Stop, make_folder
 from nrm.commands.running import add_names, add_program, lacking, parser, tell
+from nrm.commands.season_words import (add_drawing, add_workers, at_least, probability, see_dask, see_workers)
 from nrm.comparing.heads import lines_of, made_of
 from nrm.comparing.pages import Picture, about, page, pictures
 from nrm.comparing.study import Study
 from nrm.comparing.verdicts import verdict
 from nrm.logs.names import texts_in
-from nrm.network import Network, number
-from nrm.program import TOP, Program
+from nrm.network import Network
+from nrm.program import Program
 from nrm.replies import MODES
 from nrm.seasons.coupled import together
-from nrm.seasons.drawing import DEMANDS, LARGEST_PARTY, ORDERS, Settings
+from nrm.seasons.drawing import Settings
 from nrm.seasons.results import Results
 from nrm.seasons.rows import Seasons, check_same
-from nrm.telling.libraries import DEBIANS_PYTHON, is_debians, lacks
 from nrm.telling.page import write
 from nrm.telling.tables import told_of
-
-DEBIANS_DASK = "/usr/lib/python3/dist-packages/distributed"
-SOURCES = TOP / "python" / "src"
-MOST_SEASONS = 10_000_000
-PATIENCE, MOST_PATIENCE = 300, 1_000_000  # seconds
 
 
 def run(given: Sequence[str]) -> int:
     """Plays the seasons that aren't there yet, and tells what all of them say."""
     asked = words_of(given)
-    see_dask(given)
+    see_dask("simulate", given)
     settings = together(settings_of(asked), [Network.read(it) for it in asked.networks])
     with tempfile.TemporaryDirectory() as spare:
         folder = asked.out or spare
@@ -106,56 +100,22 @@ def run(given: Sequence[str]) -> int:
 # What is asked for
 
 
-def read_parties(text: str) -> tuple[tuple[int, float], ...]:
-    """Sizes of parties and their weights."""
-    pairs = tuple((number(size), number(weight)) for size, weight in (it.split(":") for it in text.split(",")))
-    sizes, weights = zip(*pairs)
-    if not (1 <= min(sizes) and max(sizes) <= LARGEST_PARTY and 0 <= min(weights) and 0 < max(weights)):
-        raise ValueError
-    return pairs
-
-
-def probability(text: str) -> float:
-    """A number from 0 to 1."""
-    if not 0 <= float(text) <= 1:
-        raise ValueError
-    return float(text)
-
-
-def at_least(least: int, most: int = MOST_SEASONS) -> Callable[[str], int]:
-    """A reader of whole numbers within two limits."""
-    def whole_number(text: str) -> int:
-        if not least <= number(text) <= most:
-            raise ValueError
-        return number(text)
-    return whole_number
-
-
 def words_of(given: Sequence[str]) -> argparse.Namespace:
     """What the words ask for."""
     words = parser("simulate", __doc__)
     words.add_argument("networks", nargs="+", metavar="NETWORK")
     words.add_argument("--seasons", type=at_least(1), required=True, metavar="N")
-    words.add_argument("--seed", type=at_least(0, 2 ** 63), default=1)
     words.add_argument("--out", metavar="FOLDER")
     words.add_argument("--modes", nargs="+", choices=MODES, default=MODES)
-    words.add_argument("--demand", choices=DEMANDS, default=DEMANDS[0])
-    words.add_argument("--order", choices=ORDERS, default=ORDERS[0])
-    words.add_argument("--parties", type=read_parties, default=((1, 1),), metavar="SIZE:WEIGHT,...")
-    words.add_argument("--cancel", type=probability, default=0.0, metavar="P")
+    add_drawing(words)
     words.add_argument("--show", type=probability, metavar="P")
     words.add_argument("--denied-cost", type=at_least(0, 2 ** 31), metavar="C")
     words.add_argument("--leave-out", action="store_true")
-    where = words.add_mutually_exclusive_group()
-    where.add_argument("--workers", type=at_least(1, 1024), metavar="N")
-    where.add_argument("--cluster", metavar="ADDRESS")
-    words.add_argument("--tls", nargs=3, metavar=("CA", "CERTIFICATE", "KEY"))
-    words.add_argument("--patience", type=at_least(1, MOST_PATIENCE), default=PATIENCE, metavar="SECONDS")
+    add_workers(words)
     add_names(words)
     add_program(words)
     asked = words.parse_args(given)
-    if asked.tls and not (asked.cluster or "").startswith("tls://"):
-        words.error("--tls goes with --cluster tls://ADDRESS")
+    see_workers(words, asked)
     if (asked.show is None) != (asked.denied_cost is None):
         words.error("--show and --denied-cost go together")
     if asked.leave_out and asked.demand != "histories":
@@ -181,16 +141,6 @@ def names_of(paths: Sequence[str]) -> list[str]:
 
 
 # How it is played and told
-
-
-def see_dask(given: Sequence[str]) -> None:
-    """Sees that there is Dask, or goes on under Debian's Python if that one has it."""
-    if importlib.util.find_spec("distributed"):
-        return
-    is_in_debians = os.path.isdir(DEBIANS_DASK) and os.access(DEBIANS_PYTHON, os.X_OK) and not is_debians()
-    if is_in_debians and (SOURCES / "__main__.py").is_file():
-        os.execv(DEBIANS_PYTHON, [DEBIANS_PYTHON, str(SOURCES), "simulate", *given])
-    raise Stop(lacks(["distributed"]))
 
 
 def play(asked: argparse.Namespace, studies: Sequence[Seasons], settings: Settings, words: Sequence[str]) -> None:

@@ -1,0 +1,111 @@
+"""The words by which commands draw, play and search seasons: what is drawn, where it runs, and Dask, which that takes.
+
+May use: nrm, nrm.commands.running, nrm.network, nrm.program, nrm.searches.trials, nrm.seasons.cluster,
+nrm.seasons.drawing, nrm.telling.libraries.
+"""
+from __future__ import annotations
+
+import argparse
+import functools
+import importlib.util
+import os
+from fractions import Fraction
+from typing import TYPE_CHECKING, Callable, ContextManager, Sequence
+
+from nrm import Stop, bytes_in
+from nrm.commands.running import tell
+from nrm.network import MOST_DIGITS, number
+from nrm.program import TOP, Program
+from nrm.seasons.drawing import DEMANDS, LARGEST_PARTY, ORDERS, Settings
+from nrm.telling.libraries import DEBIANS_PYTHON, is_debians, lacks
+
+if TYPE_CHECKING:
+    from nrm.searches.trials import Trials  # which needs Dask
+
+DEBIANS_DASK = "/usr/lib/python3/dist-packages/distributed"
+SOURCES = TOP / "python" / "src"
+MOST_SEASONS = 10_000_000
+PATIENCE, MOST_PATIENCE = 300, 1_000_000  # seconds
+
+
+def read_parties(text: str) -> tuple[tuple[int, float], ...]:
+    """Sizes of parties and their weights."""
+    pairs = tuple((number(size), number(weight)) for size, weight in (it.split(":") for it in text.split(",")))
+    sizes, weights = zip(*pairs)
+    if not (1 <= min(sizes) and max(sizes) <= LARGEST_PARTY and 0 <= min(weights) and 0 < max(weights)):
+        raise ValueError
+    return pairs
+
+
+def probability(text: str) -> float:
+    """A number from 0 to 1."""
+    if not 0 <= float(text) <= 1:
+        raise ValueError
+    return float(text)
+
+
+def exact_probability(text: str) -> Fraction:
+    """A number from 0 to 1 as it is written, with digits and a point alone."""
+    if len(text) > MOST_DIGITS or not set(text) <= set("0123456789.") or not 0 <= Fraction(text) <= 1:
+        raise ValueError
+    return Fraction(text)
+
+
+def at_least(least: int, most: int = MOST_SEASONS) -> Callable[[str], int]:
+    """A reader of whole numbers within two limits."""
+    def whole_number(text: str) -> int:
+        if not least <= number(text) <= most:
+            raise ValueError
+        return number(text)
+    return whole_number
+
+
+def add_drawing(words: argparse.ArgumentParser) -> None:
+    """The options for how seasons are drawn, but for departures."""
+    words.add_argument("--seed", type=at_least(0, 2 ** 63), default=1)
+    words.add_argument("--demand", choices=DEMANDS, default=DEMANDS[0])
+    words.add_argument("--order", choices=ORDERS, default=ORDERS[0])
+    words.add_argument("--parties", type=read_parties, default=((1, 1),), metavar="SIZE:WEIGHT,...")
+    words.add_argument("--cancel", type=probability, default=0.0, metavar="P")
+
+
+def add_search(words: argparse.ArgumentParser) -> None:
+    """The options for a search by seasons."""
+    words.add_argument("--seasons", type=at_least(2), default=400, metavar="N")
+    words.add_argument("--check", type=at_least(2), default=1000, metavar="N")
+    words.add_argument("--sweeps", type=at_least(1), default=3, metavar="K")
+
+
+def add_workers(words: argparse.ArgumentParser) -> None:
+    """The options for where seasons are played."""
+    where = words.add_mutually_exclusive_group()
+    where.add_argument("--workers", type=at_least(1, 1024), metavar="N")
+    where.add_argument("--cluster", metavar="ADDRESS")
+    words.add_argument("--tls", nargs=3, metavar=("CA", "CERTIFICATE", "KEY"))
+    words.add_argument("--patience", type=at_least(1, MOST_PATIENCE), default=PATIENCE, metavar="SECONDS")
+
+
+def see_workers(words: argparse.ArgumentParser, asked: argparse.Namespace) -> None:
+    """Refuses keys without a scheduler that takes them."""
+    if asked.tls and not (asked.cluster or "").startswith("tls://"):
+        words.error("--tls goes with --cluster tls://ADDRESS")
+
+
+def see_dask(name: str, given: Sequence[str]) -> None:
+    """Sees that there is Dask for a command of some name, or goes on under Debian's Python if that one has it."""
+    if importlib.util.find_spec("distributed"):
+        return
+    is_in_debians = os.path.isdir(DEBIANS_DASK) and os.access(DEBIANS_PYTHON, os.X_OK) and not is_debians()
+    if is_in_debians and (SOURCES / "__main__.py").is_file():
+        os.execv(DEBIANS_PYTHON, [DEBIANS_PYTHON, str(SOURCES), name, *given])
+    raise Stop(lacks(["distributed"]))
+
+
+def trials_of(name: str, asked: argparse.Namespace, settings: Settings, program: Program,
+              path: str | None) -> ContextManager[Trials]:
+    """The trials that the words of a command of some name ask for, kept in the file at a path."""
+    from nrm.searches.trials import Lengths, trials  # here, since Dask takes a second
+    from nrm.seasons.cluster import Workers
+    workers = Workers(asked.workers, asked.cluster, asked.tls, asked.patience, functools.partial(tell, name))
+    return trials(bytes_in(asked.network), settings, program, asked.program or program.words, workers,
+                  Lengths(asked.seasons, asked.check), path)
