@@ -13,7 +13,8 @@ from nrm.searches.fields import Earned, Field, Line, Play, Tries
 from nrm.searches.overbooking import Seats
 from seasons.clusters import LOG, SECONDS, needs_dask
 
-LEGS = b"periods,1,1\nleg,A-1,10\nleg,A-2,10\nleg,B,20\nleg,IDLE,5\nproduct,P,100,A-1,A-2\nproduct,Q,90,B\ndemand,P,1,9\n"
+LEGS = (b"periods,1,1\nleg,A-1,10\nleg,A-2,10\nleg,B,20\nleg,IDLE,5\n"
+        b"product,P,100,A-1,A-2\nproduct,Q,90,B\ndemand,P,1,9\n")
 BEST = {"A-1": 17, "A-2": 9, "B": 31}
 
 
@@ -147,7 +148,8 @@ class Command(PlaceTest):
         """What the file's own numbers earn is what simulate says of these seasons."""
         (self.folder / "more").mkdir()
         words = ["--show", "0.9", "--denied-cost", 300, "--cancel", "0.2", "--workers", 1, *self.with_program]
-        self.told("authorise", LOG, "--seasons", 5, "--check", 15, "--sweeps", 1, "--out", "some", *words, timeout=SECONDS)
+        few = ["--seasons", 5, "--check", 15, "--sweeps", 1]
+        self.told("authorise", LOG, *few, "--out", "some", *words, timeout=SECONDS)
         self.told("simulate", LOG, "--seasons", 20, "--modes", "davn", "--out", "all", *words, timeout=SECONDS)
         head, *rows = ((self.folder / "all" / "network-seasons.csv").read_text()).splitlines()
         at = head.split(",").index("earned")

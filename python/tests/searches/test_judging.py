@@ -18,8 +18,8 @@ class Judging(unittest.TestCase):
         self.assertEqual(judged.sentences(), [
             "found: 20.0 a season more than plain, between 8.7 and 31.3 at 95 per cent; that is 8.00 per cent, give or "
             "take 4.53.",
-            "In the 2 seasons of the search, by which it was picked, it was 45.0: these flatter it by 25.0, give or take "
-            "15.0."])
+            "In the 2 seasons of the search, by which it was picked, it was 45.0: these flatter it by 25.0, give or "
+            "take 15.0."])
         self.assertEqual(judged.table("seats", "denied").text().splitlines()[2:5], [
             "         denied  earned  more  standard error  from, at 95 %    to",
             "  plain    0.50   250.0",

@@ -50,7 +50,7 @@ class Rules(unittest.TestCase):
         half = Boarding(Fraction(1, 2), 100, Fraction(1, 4))
         self.assertEqual(simple(1, half), 2)
         self.assertEqual(by_service(1, half), 2, "both of two come in a quarter of departures")
-        self.assertEqual(by_margin(1, Fraction(25), half), 2, "100 times a half, times the half in which the other comes")
+        self.assertEqual(by_margin(1, Fraction(25), half), 2, "100 times a half, times the half of the other")
         self.assertEqual(by_margin(1, Fraction(249, 10), half), 1)
         self.assertEqual(simple(48, Boarding(Fraction("0.9"), 500, Fraction(0))), 53)
         self.assertEqual(simple(9, Boarding(Fraction("0.9"), 500, Fraction(0))), 10, "though 0.9 is no double")
@@ -69,7 +69,8 @@ class Rules(unittest.TestCase):
         free = Boarding(Fraction(9, 10), 0, Fraction(1))
         self.assertEqual((by_margin(5, Fraction(0), free), by_service(5, free)), (999, 999))
         all_come = Boarding(Fraction(1), 400, Fraction(1, 20))
-        self.assertEqual((simple(5, all_come), by_service(5, all_come), by_margin(5, Fraction(399), all_come)), (5, 5, 5))
+        self.assertEqual((simple(5, all_come), by_service(5, all_come)), (5, 5))
+        self.assertEqual(by_margin(5, Fraction(399), all_come), 5)
         self.assertEqual(by_margin(5, Fraction(400), all_come), 999, "who is denied has paid as much")
 
     def test_a_seat_is_worth_the_mean_of_what_is_asked(self) -> None:

@@ -1,8 +1,8 @@
 """The commands: a file each, whose head is its manual, and whose `run` takes the words behind the name.
 
 Words in, calls out, a status at the end, and nothing else: what a command does stands in the other rooms, and no room
-uses a command. In `files` are those that run no program, in `studies` those that ask it about the past, in `searches`
-those that look for what a file is to say, and in `live` those beside a running session. May use: all but audit, which
+uses a command. In `files` are those that run no program, in `studies` those that ask it about the past, in `seasons`
+those that play many to find something, and in `live` those beside a running session. May use: all but audit, which
 stands alone and is begun by its own module.
 """
 from __future__ import annotations
@@ -20,7 +20,7 @@ NAMED = {
     "season": "nrm.commands.studies.season",
     "simulate": "nrm.commands.studies.simulate",
     "thresholds": "nrm.commands.studies.thresholds",
-    "authorise": "nrm.commands.searches.authorise",
+    "authorise": "nrm.commands.seasons.authorise",
     "desks": "nrm.commands.live.desks",
     "resume": "nrm.commands.live.resume",
 }

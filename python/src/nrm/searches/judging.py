@@ -39,11 +39,12 @@ class Judged:
         base = self.unseen[self.base]
         for name, seasons in self.unseen.items():
             more = beside(seasons, base)
-            ends: list[Cell] = [None] * 4 if name == self.base else [amount(more.mean), amount(more.error), *more.ends()]
+            is_base = name == self.base
+            ends: list[Cell] = [None] * 4 if is_base else [amount(more.mean), amount(more.error), *more.ends()]
             counts = [f"{sum(it.denied for it in seasons) / len(seasons):.2f}"] if denied else []
             rows.append([name, *counts, amount(sum(it.earned for it in seasons) / len(seasons)), *ends])
-        return Table(f"Earned in {len(base):,} other seasons, by the {what}, in currency units a season",
-                     ["", *([denied] if denied else []), "earned", "more", "standard error", "from, at 95 %", "to"], rows)
+        heads = ["", *([denied] if denied else []), "earned", "more", "standard error", "from, at 95 %", "to"]
+        return Table(f"Earned in {len(base):,} other seasons, by the {what}, in currency units a season", heads, rows)
 
     def sentences(self) -> list[str]:
         """What was found earns beside the other choice, and how much better it looked in its own seasons."""
@@ -58,5 +59,5 @@ class Judged:
             f"{self.found}: {amount(more.mean)} a season more than {self.base}{is_told}, between {amount(low)} and "
             f"{amount(high)} at 95 per cent; that is {share * more.mean:.2f} per cent, give or take "
             f"{share * more.half():.2f}.",
-            f"In the {len(self.seen):,} seasons of the search, by which it was picked, it was {amount(seen.mean)}: these "
-            f"flatter it by {amount(flattered)}, give or take {amount(NINETY_FIVE * error)}."]
+            f"In the {len(self.seen):,} seasons of the search, by which it was picked, it was {amount(seen.mean)}: "
+            f"these flatter it by {amount(flattered)}, give or take {amount(NINETY_FIVE * error)}."]

@@ -49,7 +49,7 @@ def chances_of_more(seats: int, show: Fraction) -> Iterator[Fraction]:
 
 
 def by_service(seats: int, boarding: Boarding) -> int:
-    """The most seats that can be booked if more than there are come in no larger share of departures than is allowed."""
+    """The most seats that can be booked if more than there are come in no larger share of departures than is said."""
     for booked, chance in enumerate(chances_of_more(seats, boarding.show)):
         if chance > boarding.service or booked > MOST_SEATS:
             return booked - 1

@@ -30,7 +30,7 @@ def thresholds(groupings: Sequence[Grouping], texts: Mapping[str, str]) -> Figur
         axis.set_title(title)
     label(figure, "fare, currency units", "seats asked for, in all histories",
           [Line2D([], [], color=BLUE, marker="o", markersize=3, linewidth=2, label="a fare"),
-           Line2D([], [], **CUT, label="cut: the least fare of its group"),
+           Line2D([], [], **CUT, label="cut: above it is another group than below"),
            Line2D([], [], **CENTRE, label="centre of a group"), Patch(facecolor=SHADE, label="every other group")])
     return figure
 
@@ -38,7 +38,7 @@ def thresholds(groupings: Sequence[Grouping], texts: Mapping[str, str]) -> Figur
 def draw_fares(axis: Axes, it: Grouping) -> None:
     """Draws the fares of a leg into a panel."""
     fares, asked = list(it.asked), list(it.asked.values())
-    edges = [(cut + below) / 2 for cut, below in zip(fares, fares[1:]) if cut in it.cuts.thresholds]
+    edges = [(fare + below) / 2 for fare, below in zip(fares, fares[1:]) if it.group(fare) < it.group(below)]
     wide = (fares[0] - fares[-1]) / 20 or fares[0] / 20
     ends = [fares[0] + wide, *edges, fares[-1] - wide]
     for high, low in list(zip(ends, ends[1:]))[1::2]:

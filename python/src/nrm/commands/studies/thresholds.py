@@ -1,7 +1,11 @@
-"""Thresholds from the fares: where to cut the fares on each leg, so that those in a bucket lie close together.
+"""Thresholds of the legs: from the fares, from what products bring a leg, or searched for by seasons.
 
-    nrm-tools thresholds NETWORK GROUPS [--out FILE] [--pictures FOLDER] [--names FILE]
+    nrm-tools thresholds NETWORK GROUPS [--adjusted gaps|cost] [--out FILE] [--pictures FOLDER] [--names FILE]
                          [--program WORD...]
+    nrm-tools thresholds NETWORK GROUPS --search [--seasons N] [--check N] [--sweeps K] [--tries FILE] [--out FILE]
+                         [--seed S] [--demand HOW] [--order HOW] [--parties SIZE:WEIGHT,...] [--cancel P]
+                         [--workers N | --cluster ADDRESS [--tls CA CERTIFICATE KEY]] [--patience SECONDS]
+                         [--names FILE] [--program WORD...]
 
 For each leg that a product uses, `nrm cuts` divides the fares on it into at most GROUPS groups, 1 to 10, so that the
 seats that were asked for lie as close to the centres of their groups as can be: the cost is the sum, over the seats of
@@ -9,50 +13,104 @@ all histories, of the distance of the fare from the centre. Prints, for each leg
 the cost for each seat. A cut is the least fare of its group, and as a threshold of the leg it ends a bucket there:
 NETWORK's own thresholds have no say.
 
+WHICH FARES. A product of several legs stands on each of them with its whole fare. Its bucket, though, comes from what
+it brings the leg: its fare less the bid prices of the other legs. --adjusted takes these adjusted fares, of the opening
+plan: `gaps` parts them at the GROUPS - 1 largest gaps, and `cost` as `nrm cuts` would divide them. Each cut is halfway
+between two fares then, since prices change with each plan. Adjusted fares count in whole numbers, rounded down, and at
+least as 1.
+
+THE SEARCH. --search plays seasons as `nrm-tools simulate` draws them, under `davn`. First the thresholds of the file,
+those from the fares, and both from adjusted fares, each with 2 to GROUPS groups, are tried on all legs in the same
+--seasons (400). From the rule that earns most it goes on leg by leg, and gives each the thresholds of the rule that
+earns most there, until --sweeps (3) are done or one changes nothing. What was found is judged in other seasons, --check
+(1000), beside each rule with GROUPS groups, and the file. --tries keeps what was tried in FILE, so that a run that was
+cut goes on if the same line is run again. It needs Dask, as `nrm-tools simulate --help` says.
+
 With --out the network is written to FILE, with the cuts as the thresholds of the legs and all other rows as they stand.
 A leg that no product uses keeps its thresholds. `nrm run davn FILE` then controls by them, and `nrm-tools replay FILE`
 says what they would have earned.
 
 With --pictures the fares of each leg are drawn with their cuts and centres, as thresholds.png and thresholds.svg in
 FOLDER. That needs matplotlib (Debian's python3-matplotlib): without it the fares are told in a table.
-
-WHICH FARES. A product of several legs stands on each of them with its whole fare. Its bucket, though, comes from what
-it brings the leg: its fare less the bid prices of the other legs. So where much is asked for over several legs, try the
-thresholds out before you use them.
 """
 from __future__ import annotations
 
+import argparse
 from typing import Mapping, Sequence
 
 from nrm.commands.running import asked_with_texts, lacking, parser
+from nrm.commands.season_words import add_drawing, add_search, add_workers, see_dask, see_workers, trials_of
 from nrm.limits import MOST_GROUPS
 from nrm.network import Network, fields_in, number, text_of, with_thresholds
 from nrm.program import Program
+from nrm.searches.thresholds import FOUND, OF_FILE, ThresholdSearch, proposed, rows_of_thresholds, table_of_thresholds
+from nrm.seasons.drawing import Settings
+from nrm.studies.adjusted import WAYS, adjusted_groupings
 from nrm.studies.groupings import Grouping, groupings, table_of
 from nrm.telling.tables import with_text
 
 
 def run(given: Sequence[str]) -> int:
-    """It prints the groups, and writes or draws them if that is asked for."""
+    """It prints the groups, or what is found, and writes or draws them if that is asked for."""
     words = parser("thresholds", __doc__)
     words.add_argument("network")
     words.add_argument("groups", type=number, choices=range(1, MOST_GROUPS + 1), metavar="GROUPS")
+    words.add_argument("--adjusted", choices=WAYS)
     words.add_argument("--out", metavar="FILE")
     words.add_argument("--pictures", metavar="FOLDER")
+    words.add_argument("--search", action="store_true")
+    words.add_argument("--tries", metavar="FILE")
+    add_search(words)
+    add_drawing(words)
+    add_workers(words)
     asked, texts = asked_with_texts(words, given)
-    network, rows = Network.read(asked.network), fields_in(asked.network)
-    found = list(groupings(asked.network, network, asked.groups, Program.found(asked.program)))
+    see_workers(words, asked)
+    if asked.search and (asked.adjusted or asked.pictures is not None):
+        words.error("--search tries all rules and draws nothing: without --adjusted and --pictures")
+    if asked.search:
+        see_dask("thresholds", given)
+    network = Network.read(asked.network)
+    found = searched(asked, network, texts) if asked.search else by_a_rule(asked, network, texts)
+    if asked.out is not None:
+        rows = fields_in(asked.network)
+        with open(asked.out, "w", encoding="ascii") as file:
+            file.write(text_of(with_thresholds(rows, found)))
+        print(f"\n{asked.out}")
+    return 0
+
+
+def by_a_rule(asked: argparse.Namespace, network: Network, texts: Mapping[str, str]) -> Mapping[str, Sequence[int]]:
+    """The thresholds of each leg that a product uses by the rule that is asked for, which are told or drawn too."""
+    program = Program.found(asked.program)
+    found = list(adjusted_groupings(asked.network, network, asked.adjusted, asked.groups, program) if asked.adjusted
+                 else groupings(asked.network, network, asked.groups, program))
     table_of(found, asked.groups).with_texts(texts).show()
     unused = [leg for leg in network.legs if leg not in {it.leg for it in found}]
     if unused:
         print(f"\nno product uses {', '.join(with_text(it, texts) for it in unused)}")
     if asked.pictures is not None:
         draw(found, asked.pictures, texts)
-    if asked.out is not None:
-        with open(asked.out, "w", encoding="ascii") as file:
-            file.write(text_of(with_thresholds(rows, {it.leg: it.cuts.thresholds for it in found})))
-        print(f"\n{asked.out}")
-    return 0
+    return {it.leg: it.cuts.thresholds for it in found}
+
+
+def searched(asked: argparse.Namespace, network: Network, texts: Mapping[str, str]) -> Mapping[str, Sequence[int]]:
+    """The thresholds that are found by seasons, which are told too."""
+    program = Program.found(asked.program)
+    program.lines("print", asked.network)  # it takes the network, and is there
+    settings = Settings(seed=asked.seed, modes=("davn",), demand=asked.demand, order=asked.order,
+                        parties=asked.parties, cancel=asked.cancel)
+    rules = dict(proposed(asked.network, network, asked.groups, program))
+    with trials_of("thresholds", asked, settings, program, asked.tries) as trials:
+        search = ThresholdSearch(network, rules, trials.seen, trials.line)
+        best = search.best_rule()
+        found = search.from_rule(best, asked.sweeps)
+        choices = {it: rules[it] for it in rules if it in (OF_FILE, best) or it.endswith(f" {asked.groups}")}
+        choices[FOUND] = found
+        judged = trials.judged({it: rows_of_thresholds(network, one) for it, one in choices.items()}, FOUND, OF_FILE)
+    print(*judged.sentences(), f"Of the rules on all legs at once {best} earned most.", "", sep="\n")
+    table_of_thresholds(choices, texts).show()
+    judged.table("thresholds").show()
+    return found
 
 
 def draw(found: Sequence[Grouping], folder: str, texts: Mapping[str, str]) -> None:

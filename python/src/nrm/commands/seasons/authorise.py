@@ -73,7 +73,8 @@ def run(given: Sequence[str]) -> int:
         choices = {"as in the file": {name: leg.authorised for name, leg in network.legs.items()},
                    **{NAMES[rule]: seats for rule, seats in rules.items()}, FOUND: found}
         judged = trials.judged({it: rows_with(network, seats) for it, seats in choices.items()}, FOUND, SIMPLE)
-    summary = "\n".join([*judged.sentences(), "", *(it.text() for it in tables(network, units, choices, judged, texts))])
+    shown = [it.text() for it in tables(network, units, choices, judged, texts)]
+    summary = "\n".join([*judged.sentences(), "", *shown])
     print(summary, end="")
     if asked.out is not None:
         print("\n" + write(os.path.join(asked.out, "summary.txt"), summary))
