@@ -21,6 +21,7 @@ NAMED = {
     "simulate": "nrm.commands.studies.simulate",
     "thresholds": "nrm.commands.studies.thresholds",
     "authorise": "nrm.commands.seasons.authorise",
+    "averaged": "nrm.commands.seasons.averaged",
     "desks": "nrm.commands.live.desks",
     "resume": "nrm.commands.live.resume",
 }

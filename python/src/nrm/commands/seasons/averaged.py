@@ -1,0 +1,86 @@
+"""Bid prices averaged over the histories, each history's with its certificate, and what they would earn.
+
+    nrm-tools averaged NETWORK [--out FOLDER] [--seasons N] [--seed S] [--demand HOW] [--order HOW]
+                       [--parties SIZE:WEIGHT,...] [--leave-out] [--names FILE] [--program WORD...]
+
+The bid prices of `nrm plan bid` are those of the mean of the histories, as if that were sure to come. Here each history
+has its linear program by itself, with all authorised seats, and the mean of their prices is told beside the plan's: so
+a leg that is scarce in some of the histories alone has a price (randomised linear programming, Talluri and van Ryzin
+1999). With --out FOLDER there are history-H.csv, the network with this history alone, and history-H.txt, the
+certificate of its prices, which `nrm check` has found optimal.
+
+With --seasons N seasons are drawn as `nrm-tools simulate` draws them, and the same requests are sold in the three modes
+and by the averaged prices, which are made anew at the start of each period, of the seats that are left and the demand
+to come in each history. `nrm` hasn't this control. It is played as a desk could: a request whose fare is below the
+prices of its legs isn't asked for, and the others are asked at `nrm run first`, which sells them while there are seats.
+--leave-out makes all plans, and the mean, without the history that is played. All is played in one process, as many
+plans a season as there are histories times periods.
+"""
+from __future__ import annotations
+
+import argparse
+import functools
+import os
+import tempfile
+from typing import Sequence
+
+from nrm import Stop, bytes_in, make_folder
+from nrm.commands.running import asked_with_texts, parser, tell
+from nrm.commands.season_words import add_drawing, at_least
+from nrm.network import Network
+from nrm.outside.averaged import Averaged
+from nrm.outside.comparing import Compared, prices_table
+from nrm.program import Program
+from nrm.replies import plan_of
+from nrm.searches.fields import Line
+from nrm.seasons.drawing import Settings
+
+
+def run(given: Sequence[str]) -> int:
+    """It tells the prices, and what they would earn if that is asked for."""
+    words = parser("averaged", __doc__)
+    words.add_argument("network")
+    words.add_argument("--out", metavar="FOLDER")
+    words.add_argument("--seasons", type=at_least(2), metavar="N")
+    words.add_argument("--leave-out", action="store_true")
+    add_drawing(words)
+    asked, texts = asked_with_texts(words, given)
+    if asked.cancel:
+        words.error("--cancel isn't played by averaged prices")
+    if asked.leave_out and asked.demand != "histories":
+        words.error("--leave-out goes with --demand histories alone: with the others no one history is played")
+    network, program = Network.read(asked.network), Program.found(asked.program)
+    plan = program.told(plan_of, "plan", "bid", asked.network)
+    if asked.leave_out and network.histories < 2:
+        raise Stop(f"{asked.network} has one history: --leave-out takes two, one to play and one to know")
+    with tempfile.TemporaryDirectory() as folder:
+        averaged = Averaged(network, program, folder)
+        averaged.of(1, averaged.full)
+        prices_table(plan.prices, averaged.opening).with_texts(texts).show()
+        if asked.out is not None:
+            certify(network, program, asked.out)
+        if asked.seasons:
+            compare(asked, averaged, program, folder)
+    return 0
+
+
+def certify(network: Network, program: Program, folder: str) -> None:
+    """Writes each history's file and its certificate."""
+    make_folder(folder)
+    averaged = Averaged(network, program, folder)
+    paths = [averaged.certified(it) for it in range(1, network.histories + 1)]
+    print(f"\n{paths[0][1]} to {os.path.basename(paths[-1][1])}: each is optimal for the file beside it")
+
+
+def compare(asked: argparse.Namespace, averaged: Averaged, program: Program, folder: str) -> None:
+    """Plays seasons in all ways, and tells what each earns."""
+    settings = Settings(seed=asked.seed, demand=asked.demand, order=asked.order, parties=asked.parties,
+                        leave_out=asked.leave_out)
+    line = Line(functools.partial(tell, "averaged"))
+    compared = Compared(bytes_in(asked.network), settings, averaged, program, folder)
+    for number in range(asked.seasons):
+        compared.play(number)
+        line.say(f"{number + 1:,} of {asked.seasons:,} seasons")
+    line.end(f"{asked.seasons:,} seasons")
+    for table in compared.tables():
+        table.show()

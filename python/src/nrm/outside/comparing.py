@@ -1,0 +1,68 @@
+"""What averaged prices earn beside the three modes on the same requests, as tables.
+
+May use: nrm.outside.averaged, nrm.outside.playing, nrm.program, nrm.seasons.drawing, nrm.seasons.playing,
+nrm.seasons.results, nrm.telling.tables.
+"""
+from __future__ import annotations
+
+import functools
+import itertools
+from fractions import Fraction
+from typing import Iterator, Mapping
+
+from nrm.outside.averaged import Averaged, Prices, mean_of
+from nrm.outside.playing import sold_by_prices
+from nrm.program import Program
+from nrm.seasons.drawing import Settings
+from nrm.seasons.playing import Player
+from nrm.seasons.results import Estimate, amount
+from nrm.telling.tables import Cell, Table
+
+OUTSIDE = "averaged"
+
+
+def prices_table(plan: Prices, histories: Mapping[int, Prices]) -> Table:
+    """The prices of the plan, and the mean, the least and the greatest of the histories'."""
+    mean = mean_of(list(histories.values()))
+    rows = [[leg, *(f"{float(it):.1f}" for it in (plan[leg], mean[leg], *ends_of(leg, histories)))] for leg in plan]
+    return Table("Bid prices at the opening, in currency units",
+                 ["leg", "of the plan", "averaged", "least of a history", "greatest"], rows)
+
+
+def ends_of(leg: str, histories: Mapping[int, Prices]) -> tuple[Fraction, Fraction]:
+    """The least and the greatest price of a leg."""
+    prices = [it[leg] for it in histories.values()]
+    return min(prices), max(prices)
+
+
+class Compared:
+    """The revenue of seasons in each mode, and by averaged prices."""
+
+    def __init__(self, source: bytes, settings: Settings, averaged: Averaged, program: Program, folder: str) -> None:
+        self.player, self.averaged, self.program = Player(source, settings, program, folder), averaged, program
+        self.revenue: dict[str, list[int]] = {it: [] for it in (*settings.modes, OUTSIDE)}
+
+    def play(self, number: int) -> None:
+        """Plays the season of a number in each way."""
+        season = self.player.season(number)
+        without = season.history if self.player.settings.leave_out else None
+        for mode, outcome in self.player.outcomes(season).items():
+            self.revenue[mode].append(outcome.revenue)
+        prices_at = functools.partial(self.averaged.of, without=without)
+        path = self.player.path_without(None)
+        self.revenue[OUTSIDE].append(sold_by_prices(self.player.network, season, self.program, path, prices_at))
+
+    def tables(self) -> Iterator[Table]:
+        """What each way earns, and by how much any two differ."""
+        rows: list[list[Cell]] = []
+        for name, values in self.revenue.items():
+            it = Estimate.of(values)
+            rows.append([name, amount(it.mean), amount(it.error)])
+        yield Table("A season on the mean, in currency units", ["", "revenue", "standard error"], rows)
+        differ: list[list[Cell]] = []
+        for low, high in itertools.combinations(self.revenue, 2):
+            it = Estimate.of([a - b for a, b in zip(self.revenue[high], self.revenue[low])])
+            share = 100 * it.mean * len(self.revenue[low]) / max(1, sum(self.revenue[low]))
+            differ.append([f"{high} less {low}", amount(it.mean), amount(it.error), *it.ends(), f"{share:.2f} %"])
+        yield Table("What a way earns more than another on the same requests, in currency units a season",
+                    ["", "mean", "standard error", "from, at 95 %", "to", "share"], differ)
