@@ -23,7 +23,8 @@ OWN_STATUSES = {"audit": OF_NRM, "explain": OF_NRM}  # those of the program
 SOLD = ["--departs", "departure", "--booked", "booked on", "--product", "product", "--seats", "seats"]
 SERVE = {"desks"}  # these go on until they are ended, and have tests of their own
 TOLD_ON_THE_WAY = ("nrm-tools season: no pictures", "nrm-tools log: ", "nrm-tools simulate: ", "nrm-tools asked: ",
-                   "nrm-tools demand: ")
+                   "nrm-tools demand: ", "nrm-tools authorise: ", "nrm-tools averaged: ")
+OF_DASK = ("simulate", "authorise")
 OF_LOGS = {"log", "demand"}  # their first file is no network
 
 
@@ -45,16 +46,19 @@ class Running(PlaceTest):
             "season": [network, stream, "--out", "pictures", *program], "replay": [network, *program],
             "resume": [network, "bid", stream, kept, *program], "optimum": [network, "ZRH-VIE", *program],
             "thresholds": [network, "3", "--out", "made.csv", *program],
+            "averaged": [network, "--seasons", 2, *program],
+            "authorise": [network, "--show", "0.9", "--denied-cost", 5, "--seasons", 2, "--check", 2, "--sweeps", 1,
+                          "--workers", 1, "--out", "tried", *program],
             "simulate": [network, "--seasons", 1, "--out", "played", *program]}
         self.assertEqual(self.words.keys() | SERVE, NAMED.keys())
         if not importlib.util.find_spec("distributed"):
-            del self.words["simulate"]  # which needs Dask
+            self.words = {name: words for name, words in self.words.items() if name not in OF_DASK}
         (self.folder / "played").mkdir()  # so simulate has but to tell
         self.file("played/network-seasons.csv", by_one_process(self.program, network, Settings(), 1))
 
     @needs_dask
-    def test_simulate_is_among_them(self) -> None:
-        self.assertIn("simulate", self.words)
+    def test_those_that_need_dask_are_among_them(self) -> None:
+        self.assertTrue(set(OF_DASK) <= self.words.keys())
 
     def test_each_names_itself_and_gives_no_traceback(self) -> None:
         refused = self.file("refused.csv", "leg,AB\n\xff")
@@ -97,7 +101,7 @@ class Running(PlaceTest):
             self.want_in(done.out + done.err, "file fault" if name == "audit" else "/proc/self/mem")
 
     def test_those_that_run_the_program_end_at_ctrl_c(self) -> None:
-        for name in ("season", "replay", "thresholds", "optimum"):
+        for name in ("season", "replay", "thresholds", "optimum", "averaged"):
             begun = self.folder / f"{name}-begun"
             program = self.file("slow", f"touch '{begun}'\nexec sleep 60\n")
             words = self.words[name]

@@ -55,9 +55,14 @@ def trials(source: bytes, settings: Settings, program: Program, words: Sequence[
         workers.tell(f"{len(tries.known)} tries are there already")
     local = TASKS_OF_A_WORKER * (workers.count or len(os.sched_getaffinity(0)))
     tasks = TASKS_OF_A_CLUSTER if workers.address else local
-    with cluster.players(settings, words, workers) as play_all:
+    with contextlib.ExitStack() as stack:
+        begun: list[cluster.Play] = []
+
         def play(text: str, numbers: range) -> Sequence[Earned]:
+            if not begun:  # nobody is started where all is there already
+                begun.append(stack.enter_context(cluster.players(settings, words, workers)))
             tried = Tried(text, settings, numbers, tasks)
-            play_all([tried], lambda _: None)
+            begun[0]([tried], lambda _: None)
             return tried.earned()
+
         yield Trials(play, tries, lengths, workers.tell)

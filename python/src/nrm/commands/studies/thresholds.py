@@ -107,7 +107,7 @@ def searched(asked: argparse.Namespace, network: Network, texts: Mapping[str, st
         choices = {it: rules[it] for it in rules if it in (OF_FILE, best) or it.endswith(f" {asked.groups}")}
         choices[FOUND] = found
         judged = trials.judged({it: rows_of_thresholds(network, one) for it, one in choices.items()}, FOUND, OF_FILE)
-    print(*judged.sentences(), f"Of the rules on all legs at once {best} earned most.", "", sep="\n")
+    print(*judged.sentences(), f"Of the rules on all legs at once {best} earned most.", sep="\n")
     table_of_thresholds(choices, texts).show()
     judged.table("thresholds").show()
     return found
