@@ -11,7 +11,7 @@ from nrm.searches.thresholds import ThresholdSearch, proposed, rows_of_threshold
 from seasons.clusters import LOG, SECONDS, needs_dask
 
 LEGS = b"periods,1,1,2\nleg,A,10,11,50\nleg,B,20,20\nproduct,P,100,A\nproduct,Q,90,B\n"
-RULES = {"as in the file": {"A": (50,), "B": ()}, "one": {"A": (60,), "B": (60,)},
+RULES = {"the file": {"A": (50,), "B": ()}, "one": {"A": (60,), "B": (60,)},
          "two": {"A": (70, 60), "B": (70, 60)}}
 
 
@@ -28,7 +28,7 @@ class Searches(PlaceTest):
     def test_it_begins_with_the_best_rule_and_goes_on_leg_by_leg(self) -> None:
         network = Network.of(rows_of(LEGS))
         for wanted, rule in (({"A": (70, 60), "B": (60,)}, "one"), ({"A": (60,), "B": (70, 60)}, "two"),
-                             ({"A": (60,), "B": ()}, "as in the file"), ({"A": (9,), "B": (9,)}, "as in the file")):
+                             ({"A": (60,), "B": ()}, "the file"), ({"A": (9,), "B": (9,)}, "the file")):
             field = Field(wanting(wanted), Tries(None, {}), range(3))
             search = ThresholdSearch(network, RULES, field, Line(lambda _: None))
             self.assertEqual(search.best_rule(), rule)
@@ -38,14 +38,14 @@ class Searches(PlaceTest):
 
     def test_other_thresholds_leave_all_else_as_it_is(self) -> None:
         network = Network.of(rows_of(LEGS))
-        self.assertEqual(rows_of_thresholds(network, RULES["as in the file"]), list(network.rows()))
+        self.assertEqual(rows_of_thresholds(network, RULES["the file"]), list(network.rows()))
         rows = rows_of_thresholds(network, RULES["two"])
         self.assertEqual(rows[1:3], [["leg", "A", 10, 11, 70, 60], ["leg", "B", 20, 20, 70, 60]])
 
     def test_each_rule_proposes(self) -> None:
         rules = dict(proposed(LOG, Network.read(LOG), 3, self.program))
-        self.assertEqual(list(rules), ["as in the file", "fares 2", "gaps 2", "cost 2", "fares 3", "gaps 3", "cost 3"])
-        self.assertEqual(rules["as in the file"], {"ZRH-VIE": (200, 90), "VIE-BUD": (150, 60)})
+        self.assertEqual(list(rules), ["the file", "fares 2", "gaps 2", "cost 2", "fares 3", "gaps 3", "cost 3"])
+        self.assertEqual(rules["the file"], {"ZRH-VIE": (200, 90), "VIE-BUD": (150, 60)})
         self.assertEqual((rules["fares 3"]["ZRH-VIE"], rules["gaps 3"]["ZRH-VIE"]), ((430, 320), (215, 90)))
 
 

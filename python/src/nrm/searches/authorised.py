@@ -18,8 +18,8 @@ from nrm.searches.overbooking import Seats, Units
 from nrm.telling.tables import Cell, Table, with_text
 
 FIRST_STEPS, LATER_STEPS = (4, 2, 1), (2, 1)
-SIMPLE, FOUND = "seats / share that comes", "found"
-NAMES = {"simple": SIMPLE, "service": "service level", "marginal": "marginal"}
+OF_FILE, SIMPLE, FOUND = "the file", "the simple rule", "found"
+NAMES = {"simple": SIMPLE, "service": "the service level", "marginal": "the marginal rule"}
 
 
 def units_of(network: Network, together: Sequence[Sequence[str]]) -> list[tuple[str, ...]]:

@@ -14,7 +14,7 @@ from nrm.studies.adjusted import WAYS, adjusted_groupings
 from nrm.studies.groupings import groupings
 from nrm.telling.tables import Table, with_text
 
-OF_FILE, FOUND = "as in the file", "found"
+OF_FILE, FOUND = "the file", "found"
 Thresholds = Mapping[str, "tuple[int, ...]"]  # by leg
 
 

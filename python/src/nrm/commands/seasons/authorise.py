@@ -19,10 +19,11 @@ THE JUDGEMENT. What was found was picked by its seasons, and looks better there 
 seasons, --check (1000), beside the numbers of the file and those of the rules, and told are what each earns, by how
 much that is more than by the first rule, with its error, and by how much the seasons of the search flatter it.
 
-THE RULES take each leg to be full, and by itself: the seats divided by the share that comes; the service level, the
-most of which more come than there are seats in at most --service (0.05) of departures; and the marginal rule, the most
-of which the last brings as much as it costs: the mean fare of a seat on the leg, where a product of several legs leaves
-each an equal part, is at least C times the chance that who has booked it comes and finds the seats taken.
+THE RULES take each leg to be full, and by itself: the simple rule, the seats divided by the share that comes; the
+service level, the most of which more come than there are seats in at most --service (0.05) of departures; and the
+marginal rule, the most of which the last brings as much as it costs: the mean fare of a seat on the leg, where a
+product of several legs leaves each an equal part, is at least C times the chance that who has booked it comes and finds
+the seats taken.
 
 LEGS WITH ONE NUMBER. --together alone has one number of authorised seats for all legs, as a train has; --together T1-*
 one for those whose names the pattern fits (quote it), and it may be said several times. These legs must have as many
@@ -49,7 +50,7 @@ from nrm.logs.names import texts_in
 from nrm.network import Network, text_of
 from nrm.program import Program
 from nrm.replies import MODES
-from nrm.searches.authorised import FOUND, NAMES, SIMPLE, Search, rows_with, tables, units_of
+from nrm.searches.authorised import FOUND, NAMES, OF_FILE, SIMPLE, Search, rows_with, tables, units_of
 from nrm.searches.overbooking import Boarding, by_rules
 from nrm.seasons.drawing import Settings
 from nrm.telling.page import write
@@ -70,7 +71,7 @@ def run(given: Sequence[str]) -> int:
     path = None if asked.out is None else os.path.join(asked.out, TRIES)
     with trials_of("authorise", asked, settings_of(asked), program, path) as trials:
         found = Search(network, units, trials.seen, trials.line).from_seats(rules["simple"], asked.sweeps)
-        choices = {"as in the file": {name: leg.authorised for name, leg in network.legs.items()},
+        choices = {OF_FILE: {name: leg.authorised for name, leg in network.legs.items()},
                    **{NAMES[rule]: seats for rule, seats in rules.items()}, FOUND: found}
         judged = trials.judged({it: rows_with(network, seats) for it, seats in choices.items()}, FOUND, SIMPLE)
     shown = [it.text() for it in tables(network, units, choices, judged, texts)]
