@@ -3,7 +3,10 @@ from __future__ import annotations
 
 import functools
 import json
-from typing import Callable, Sequence
+import os
+import signal
+import subprocess
+from typing import Sequence
 
 from harness import EXAMPLES, PlaceTest
 from nrm import Stop
@@ -11,7 +14,7 @@ from nrm.network import Network, rows_of
 from nrm.searches.authorised import Search, rows_with, units_of
 from nrm.searches.fields import Earned, Field, Line, Play, Tries
 from nrm.searches.overbooking import Seats
-from seasons.clusters import LOG, SECONDS, needs_dask
+from seasons.clusters import LOG, SECONDS, needs_dask, wait_for
 
 LEGS = (b"periods,1,1\nleg,A-1,10\nleg,A-2,10\nleg,B,20\nleg,IDLE,5\n"
         b"product,P,100,A-1,A-2\nproduct,Q,90,B\ndemand,P,1,9\n")
@@ -143,6 +146,25 @@ class Command(PlaceTest):
         self.assertEqual({it.name: it.read_bytes() for it in (self.folder / "1").iterdir()}, one)
         self.assertTrue(told.startswith(one["summary.txt"].decode()))
         self.assertEqual(json.loads(lines[0])["denied_cost"], 300)
+
+    def test_it_goes_on_after_ctrl_c(self) -> None:
+        few = ["--show", "0.9", "--denied-cost", 300, "--seasons", 12, "--check", 8, "--sweeps", 1, "--workers", 1]
+        words = " ".join(f"'{it}'" for it in self.program.words)
+        slow = ["--program", "sh", self.file("slow", f'sleep 0.02\nexec {words} "$@"\n')]
+        self.told("authorise", LOG, *few, "--out", "whole", *slow, timeout=SECONDS)
+        tries = self.folder / "cut" / "tries.jsonl"
+        process = self.process("authorise", LOG, *few, "--out", "cut", *slow, stdout=subprocess.PIPE,
+                               stderr=subprocess.PIPE, start_new_session=True,
+                               preexec_fn=lambda: signal.signal(signal.SIGINT, signal.SIG_DFL))
+        wait_for(lambda: tries.exists() and tries.read_text().count("\n") > 3 or process.poll() is not None, "a try")
+        self.assertIsNone(process.poll(), "in the middle")
+        os.killpg(process.pid, signal.SIGINT)
+        _, err = process.communicate(timeout=SECONDS)
+        self.assertEqual((process.returncode, b"Traceback" in err), (-signal.SIGINT, False), err)
+        self.assertFalse((self.folder / "cut" / "summary.txt").exists())
+        self.told("authorise", LOG, *few, "--out", "cut", *slow, timeout=SECONDS)
+        whole, cut = ({it.name: it.read_bytes() for it in (self.folder / name).iterdir()} for name in ("whole", "cut"))
+        self.assertEqual(cut, whole)
 
     def test_it_plays_as_simulate_does(self) -> None:
         """What the file's own numbers earn is what simulate says of these seasons."""

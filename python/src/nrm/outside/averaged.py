@@ -1,5 +1,6 @@
-"""Bid prices averaged over the histories: each history's linear program by itself, solved by `nrm plan bid` (randomised
-linear programming, Talluri and van Ryzin 1999).
+"""Bid prices averaged over the histories: each history's linear program by itself, solved by `nrm plan bid`.
+
+It is randomised linear programming (Talluri and van Ryzin, chapter 3), with the histories in the place of random draws.
 
 May use: nrm, nrm.network, nrm.program, nrm.replies.
 """

@@ -5,9 +5,9 @@
 
 The bid prices of `nrm plan bid` are those of the mean of the histories, as if that were sure to come. Here each history
 has its linear program by itself, with all authorised seats, and the mean of their prices is told beside the plan's: so
-a leg that is scarce in some of the histories alone has a price (randomised linear programming, Talluri and van Ryzin
-1999). With --out FOLDER there are history-H.csv, the network with this history alone, and history-H.txt, the
-certificate of its prices, which `nrm check` has found optimal.
+a leg that is scarce in some of the histories alone has a price. It is randomised linear programming (Talluri and van
+Ryzin, chapter 3). With --out FOLDER there are history-H.csv, the network with this history alone, and history-H.txt,
+the certificate of its prices, which `nrm check` has found optimal.
 
 With --seasons N seasons are drawn as `nrm-tools simulate` draws them, and the same requests are sold in the three modes
 and by the averaged prices, which are made anew at the start of each period, of the seats that are left and the demand
