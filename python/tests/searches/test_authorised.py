@@ -1,11 +1,14 @@
 """Authorised seats are searched for on the same seasons, and a search that was cut goes on."""
 from __future__ import annotations
 
+import contextlib
 import functools
+import io
 import json
 import os
 import signal
 import subprocess
+import unittest
 from typing import Sequence
 
 from harness import EXAMPLES, PlaceTest
@@ -110,6 +113,25 @@ class Searches(PlaceTest):
         for content in ("", "{}\n", "[]\n", '{"seed": 1, "denied_cost": 5}\n{"file": 1}\n', "\x00\n"):
             with self.assertRaisesRegex(Stop, "isn't what a search writes"):
                 Tries(self.file("other.jsonl", content), {"seed": 1, "denied_cost": 5})
+
+
+class Terminal(io.StringIO):
+    """Standard error that is a terminal."""
+
+    def isatty(self) -> bool:
+        return True
+
+
+class Progress(unittest.TestCase):
+    def test_it_is_one_line_of_a_terminal_and_few_lines_else(self) -> None:
+        for stream, wanted in ((Terminal(), "\rone try, 0 s\x1b[K\rtwo tries, 0 s\x1b[K\r\x1b[K"), (io.StringIO(), "")):
+            told: list[str] = []
+            with contextlib.redirect_stderr(stream):
+                line = Line(told.append)
+                line.say("one try")
+                line.say("two tries")
+                line.end("a sweep")
+            self.assertEqual((stream.getvalue(), told), (wanted, ["a sweep, 0 s"]))
 
 
 class Files(PlaceTest):
