@@ -34,6 +34,7 @@ NOT_RUN = {  # by the beginning of the commands; the reason
     "nrm-tools resume network.csv": USERS_OWN, "awk '/^ok /": USERS_OWN,
     "/usr/bin/python3 -m distributed": SERVERS, "openssl req": SERVERS,
     "nrm-tools simulate": MINUTES, "nrm-tools authorise": MINUTES, "nrm-tools thresholds mine/train.csv 5 --search": MINUTES,
+    "nrm-tools thresholds examples/season/network.csv 5 --search": MINUTES,
     "nrm-tools averaged examples/season/network.csv --seasons": MINUTES,
     "git clone": "it proves all crates again", "install -m 755": "it installs into the system",
     "sqlite3 mine/bookings.db 'SELECT * FROM kept WHERE number = N'": "N stands for a number that was told",

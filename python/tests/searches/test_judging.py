@@ -25,6 +25,11 @@ class Judging(unittest.TestCase):
             "  plain    0.50   250.0",
             "  found    0.50   270.0  20.0             5.8            8.7  31.3"])
 
+    def test_what_is_the_same_is_told(self) -> None:
+        same = seasons(100, 200)
+        judged = Judged("found", "plain", {"plain": same, "found": same}, seasons(1, 2), seasons(1, 2))
+        self.assertEqual(judged.sentences(), ["found: as much as plain, in each season."])
+
     def test_what_may_be_nothing_is_told(self) -> None:
         unseen = {"plain": seasons(100, 200), "found": seasons(130, 190)}
         [first, _] = Judged("found", "plain", unseen, seasons(1, 2), seasons(1, 2)).sentences()

@@ -54,6 +54,8 @@ class Judged:
         share = 100 / of_base if of_base > 0 else 0.0
         low, high = more.mean - more.half(), more.mean + more.half()
         is_told = "" if low > 0 or high < 0 else ", which can't be told from nothing"
+        if self.unseen[self.found] == self.unseen[self.base] and self.seen == self.seen_base:
+            return [f"{self.found}: as much as {self.base}, in each season."]
         flattered, error = seen.mean - more.mean, math.hypot(seen.error, more.error)
         return [
             f"{self.found}: {amount(more.mean)} a season more than {self.base}{is_told}, between {amount(low)} and "

@@ -34,7 +34,7 @@ class Trials:
     def __init__(self, play: Play, tries: Tries, lengths: Lengths, tell: Callable[[str], None]) -> None:
         self.seen = Field(play, tries, range(lengths.seen))
         self.unseen = Field(play, tries, range(lengths.seen, lengths.seen + lengths.judged))
-        self.line, self.tell = Line(tell), tell
+        self.line, self.is_judged = Line(tell), False
 
     def judged(self, choices: Mapping[str, Rows], found: str, base: str) -> Judged:
         """What each of some choices earns in the other seasons, beside one of them."""
@@ -42,7 +42,9 @@ class Trials:
         for number, (name, rows) in enumerate(choices.items(), 1):
             self.line.say(f"judged in {len(self.unseen.numbers):,} other seasons: {number} of {len(choices)}")
             unseen[name] = self.unseen.of(rows)
-        self.line.end(f"judged in {len(self.unseen.numbers):,} other seasons")
+        if not self.is_judged:
+            self.line.end(f"judged in {len(self.unseen.numbers):,} other seasons")
+        self.is_judged = True
         return Judged(found, base, unseen, self.seen.of(choices[found]), self.seen.of(choices[base]))
 
 

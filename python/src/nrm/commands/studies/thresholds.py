@@ -106,8 +106,12 @@ def searched(asked: argparse.Namespace, network: Network, texts: Mapping[str, st
         found = search.from_rule(best, asked.sweeps)
         choices = {it: rules[it] for it in rules if it in (OF_FILE, best) or it.endswith(f" {asked.groups}")}
         choices[FOUND] = found
-        judged = trials.judged({it: rows_of_thresholds(network, one) for it, one in choices.items()}, FOUND, OF_FILE)
-    print(*judged.sentences(), f"Of the rules on all legs at once {best} earned most.", sep="\n")
+        rows = {it: rows_of_thresholds(network, one) for it, one in choices.items()}
+        judged = trials.judged(rows, FOUND, OF_FILE)
+        beside_best = trials.judged(rows, FOUND, best)
+    print(*judged.sentences(), f"Of the rules on all legs at once {best} earned most in the search.", sep="\n")
+    if best != OF_FILE:
+        print(*beside_best.sentences(), sep="\n")
     table_of_thresholds(choices, texts).show()
     judged.table("thresholds").show()
     return found
