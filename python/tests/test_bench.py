@@ -3,8 +3,10 @@ from __future__ import annotations
 
 import shutil
 import sys
+from pathlib import Path
 
-from harness import SECONDS, TOP, Done, PlaceTest
+from harness import EXAMPLES, SECONDS, TOP, Done, PlaceTest
+from nrm.network import Network
 
 BENCH = TOP / "bench"
 MEASURE = ("bookings", "desks", "kept", "plan", "read_network", "stream")
@@ -42,6 +44,33 @@ class Scripts(PlaceTest):
                 done = self.bench(name, *words)
                 self.assertEqual((done.out, done.status), ("", 1))
                 self.assertTrue(done.err.startswith(f"{name}.py: no tool, but a part of "), done.err)
+
+    def test_networks_of_studies_are_made_as_they_are_told(self) -> None:
+        for made, legs, products, longest in (("train", 4, 90, 4), ("line", 6, 54, 4), ("spokes", 8, 72, 2)):
+            path = self.file(f"{made}.csv", self.bench("studied", made).out)
+            network = Network.read(path)
+            self.assertEqual((len(network.legs), len(network.products), network.histories, network.periods),
+                             (legs, products, 20, 8), made)
+            self.assertEqual(max(len(it.legs) for it in network.products.values()), longest)
+            asked = sum(len(it.legs) * it.demand_in_all() for it in network.products.values()) / network.histories
+            self.assertAlmostEqual(asked / sum(it.seats for it in network.legs.values()), 1.2, delta=0.2)
+            self.assertEqual(self.bench("studied", made).out.encode(), Path(path).read_bytes())
+            self.assertEqual(self.bench("studied", made, "--seed", 2).out == Path(path).read_text(), False)
+            self.nrm("print", path)
+
+    def test_studies_of_control_play_few_seasons(self) -> None:
+        network = EXAMPLES / "log" / "network.csv"
+        done = self.bench("thresholds", network, "--seasons", 4, "--groups", "2,3", "--beside", "gaps 3",
+                          *self.with_program)
+        self.assertEqual((done.status, len(done.out.splitlines())), (0, 8), done.err)
+        self.want_in(done.out, "beside gaps 3   0.00 % +- 0.00")
+        done = self.bench("misses", network, "--seasons", 4, "--factors", "1,0", *self.with_program)
+        self.assertEqual(done.status, 0, done.err)
+        for line in done.out.splitlines()[1:]:
+            self.want_in(line, "1.0: +0.00 % +- 0.00")
+        self.assertNotIn("0.0: +0.00 %", done.out)
+        done = self.bench("thresholds", network, "--beside", "none", *self.with_program)
+        self.want_in(done.err, "--beside none is none of the rules")
 
     def test_the_export_that_is_an_example_is_made_again(self) -> None:
         words = ["--fridays", "--a-day", 110, "--trains", 2, "--of-a-train", 30]
