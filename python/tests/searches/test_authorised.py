@@ -167,6 +167,8 @@ class Command(PlaceTest):
         told = self.authorised(*few, "--workers", 1, "--out", 1)
         self.assertEqual({it.name: it.read_bytes() for it in (self.folder / "1").iterdir()}, one)
         self.assertTrue(told.startswith(one["summary.txt"].decode()))
+        self.want_in(told, f"\nnetwork: {LOG} (sha256 ")
+        self.want_in(told, "\nseed: 1\n")
         self.assertEqual(json.loads(lines[0])["denied_cost"], 300)
 
     def test_it_goes_on_after_ctrl_c(self) -> None:

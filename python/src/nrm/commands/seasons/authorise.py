@@ -42,10 +42,11 @@ import os
 from pathlib import Path
 from typing import Sequence
 
-from nrm import make_folder
+from nrm import bytes_in, make_folder
 from nrm.commands.running import add_names, add_program, parser
 from nrm.commands.season_words import (add_drawing, add_search, add_workers, at_least, exact_probability, see_dask,
                                        see_workers, trials_of)
+from nrm.comparing.heads import lines_of, made_of
 from nrm.logs.names import texts_in
 from nrm.network import Network, text_of
 from nrm.program import Program
@@ -75,7 +76,8 @@ def run(given: Sequence[str]) -> int:
                    **{NAMES[rule]: seats for rule, seats in rules.items()}, FOUND: found}
         judged = trials.judged({it: rows_with(network, seats) for it, seats in choices.items()}, FOUND, SIMPLE)
     shown = [it.text() for it in tables(network, units, choices, judged, texts)]
-    summary = "\n".join([*judged.sentences(), "", *shown])
+    made = lines_of(made_of({"network": {asked.network: bytes_in(asked.network)}}, program, asked.seed))
+    summary = "\n".join([*judged.sentences(), "", *made, "", *shown])
     print(summary, end="")
     if asked.out is not None:
         print("\n" + write(os.path.join(asked.out, "summary.txt"), summary))

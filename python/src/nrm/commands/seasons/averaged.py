@@ -27,6 +27,7 @@ from typing import Sequence
 from nrm import Stop, bytes_in, make_folder
 from nrm.commands.running import asked_with_texts, parser, tell
 from nrm.commands.season_words import add_drawing, at_least
+from nrm.comparing.heads import lines_of, made_of
 from nrm.network import Network
 from nrm.outside.averaged import Averaged
 from nrm.outside.comparing import Compared, prices_table
@@ -82,5 +83,6 @@ def compare(asked: argparse.Namespace, averaged: Averaged, program: Program, fol
         compared.play(number)
         line.say(f"{number + 1:,} of {asked.seasons:,} seasons")
     line.end(f"{asked.seasons:,} seasons")
+    print("", *lines_of(made_of({"network": {asked.network: bytes_in(asked.network)}}, program, asked.seed)), sep="\n")
     for table in compared.tables():
         table.show()

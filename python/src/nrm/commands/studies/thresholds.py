@@ -38,8 +38,10 @@ from __future__ import annotations
 import argparse
 from typing import Mapping, Sequence
 
+from nrm import bytes_in
 from nrm.commands.running import asked_with_texts, lacking, parser
 from nrm.commands.season_words import add_drawing, add_search, add_workers, see_dask, see_workers, trials_of
+from nrm.comparing.heads import lines_of, made_of
 from nrm.limits import MOST_GROUPS
 from nrm.network import Network, fields_in, number, text_of, with_thresholds
 from nrm.program import Program
@@ -112,6 +114,7 @@ def searched(asked: argparse.Namespace, network: Network, texts: Mapping[str, st
     print(*judged.sentences(), f"Of the rules on all legs at once {best} earned most in the search.", sep="\n")
     if best != OF_FILE:
         print(*beside_best.sentences(), sep="\n")
+    print("", *lines_of(made_of({"network": {asked.network: bytes_in(asked.network)}}, program, asked.seed)), sep="\n")
     table_of_thresholds(choices, texts).show()
     judged.table("thresholds").show()
     return found
