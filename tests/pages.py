@@ -45,7 +45,7 @@ NOT_RUN = {  # by the beginning of the commands; the reason
 NEEDS = ("glpsol", "esolver", "sqlite3")
 ENDS = {  # by the beginning of the commands that end with another status than 0 on purpose: the status
     "python3 examples/line/make.py trains": 1, "python3 examples/line/make.py line": 1, "sed 's/AB 120/AB 119/'": 1,
-    "nrm-tools explain mine/train.csv": 3, 'cp "$store-wal" mine/backup': 1}
+    "sed 's/^protect BC 4 6/": 1, "nrm-tools explain mine/train.csv": 3, 'cp "$store-wal" mine/backup': 1}
 NOT_SHOWN = {}  # by the beginning of what isn't compared: the reason
 
 
