@@ -5,16 +5,19 @@ from __future__ import annotations
 import copy
 import random
 from dataclasses import dataclass
+from fractions import Fraction
 from typing import Iterator
 
 import reference
 import run
 from harness import EXAMPLES, Done, WithinTest
+from nrm import audit
 from nrm.replies import Leg, answer_of, replies_of
 
 MADE = range(1, 61)
 PLANTED_IN_EACH, SEED = 6, 5
 FEWEST_PLANS, FEWEST_LATER = 25, 100
+SMALL, FEWEST_OTHERWISE = 400, 40
 
 # Four histories of two periods. The plan below it is worked out in the remarks of `HAND_PLAN`.
 HAND = """periods,4,2,2
@@ -165,6 +168,23 @@ def later(network: reference.Network, left: dict[str, int], period: int) -> byte
     return reference.canonical(changed)
 
 
+def small_network(draw: random.Random) -> reference.Network:
+    """Fares at thresholds and a little beside them, and products that are asked for in each history, in one or in none:
+    so that some buckets are empty, and some ask for fewer seats than those above them."""
+    network = reference.Network()
+    network.version, network.histories, network.periods = 2, draw.randint(1, 6), 1
+    for leg in (b"A", b"B", b"C"):
+        network.seats[leg], network.authorised[leg] = draw.randint(0, 30), draw.randint(0, 30)
+        network.thresholds[leg] = sorted(draw.sample([30, 21, 20, 19, 6], draw.randint(0, 5)), reverse=True)
+    for number in range(draw.randint(3, 9)):
+        product, legs = b"P%d" % number, draw.sample(list(network.seats), draw.randint(1, 3))
+        network.products[product] = draw.choice([40, 21, 20, 19, 5]), legs
+        asked = draw.choice([0, 1, network.histories])
+        for history in draw.sample(range(1, network.histories + 1), asked):
+            network.demand[product, history] = [draw.randint(1, 30 if asked == 1 else 4)]
+    return network
+
+
 class Nests(WithinTest):
     def audited(self, network: str | bytes, plan: str, *words: str) -> Done:
         return self.ran("audit", self.file("network.csv", network), self.file("plan.txt", plan), *words)
@@ -229,6 +249,28 @@ class Nests(WithinTest):
                                f"    nest X N: printed -21/2, should be 0/1\n"
                                f"{BUCKETS}fails\n    nest X T: printed bucket 3, should be 2\n")
         self.want_in(done.out, "7 the value is the cost: holds\n")
+
+    def test_at_any_prices_of_small_networks_another_account_is_the_same(self) -> None:
+        """That of `tests/reference.py`: fares, buckets and protections."""
+        draw, kept_up, capped, unasked = random.Random(SEED), 0, 0, 0
+        for _ in range(SMALL):
+            network = small_network(draw)
+            read = audit.Network(self.file("small.csv", reference.canonical(network)))
+            prices = {leg: Fraction(draw.choice([0, 0, 0, 1, 40]), draw.choice([1, 2, 3])) for leg in network.seats}
+            nests = reference.Nests(network, prices, 1)
+            for leg, authorised in network.authorised.items():
+                name = leg.decode()
+                nest = audit.nest_of(read, name, {it.decode(): price for it, price in prices.items()}, authorised)
+                on = [it for it, (_, legs) in network.products.items() if leg in legs]
+                self.assertEqual(nest.fares, {it.decode(): nests.adjusted(leg, it) for it in on})
+                self.assertEqual(nest.buckets, {it.decode(): nests.bucket(leg, it) for it in on})
+                self.assertEqual([0, *nest.protections], nests.levels[leg])
+                alone = [nests.computed(leg, it) for it in range(1, len(nest.protections) + 1)]
+                kept_up += alone != nest.protections
+                capped += authorised in alone
+                unasked += 0 in alone
+        self.assertGreater(min(capped, unasked), FEWEST_OTHERWISE)
+        self.assertGreater(kept_up, 0, "a bucket asks for fewer seats than those above it")
 
     def test_the_plans_of_the_cases(self) -> None:
         count = 0
