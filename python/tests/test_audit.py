@@ -14,7 +14,7 @@ from typing import Iterator
 
 import reference
 import run
-from harness import EXAMPLES, SOURCES, PlaceTest
+from harness import EXAMPLES, SOURCES, WithinTest
 from nrm import audit
 
 FEWEST_CERTIFICATES, FEWEST_READ, FEWEST_PLANS = 200, 50, 30
@@ -52,15 +52,6 @@ def plans() -> Iterator[tuple[str, bytes, Fraction]]:
         yield str(path), path.read_bytes(), Fraction(out.split()[1].decode())
 
 
-def audited(network: bytes, certificate: bytes) -> subprocess.CompletedProcess[str]:
-    """The auditor's file, run by itself on two files."""
-    with tempfile.TemporaryDirectory() as folder:
-        Path(folder, "network").write_bytes(network)
-        Path(folder, "certificate").write_bytes(certificate)
-        return subprocess.run([sys.executable, audit.__file__, "network", "certificate"], cwd=folder,
-                              capture_output=True, text=True)
-
-
 def solved(network: bytes) -> tuple[int, Fraction] | None:
     """How many histories a network's program stands for, and the value that `glpsol` finds, or None."""
     with tempfile.TemporaryDirectory() as folder:
@@ -75,18 +66,17 @@ def solved(network: bytes) -> tuple[int, Fraction] | None:
     return (int(histories[1]), Fraction(found[1])) if found and histories else None
 
 
-class Audits(PlaceTest):
+class Audits(WithinTest):
     def test_each_certificate_of_the_cases_is_told_as_by_the_program(self) -> None:
         wanted = list(certificates())
         self.assertGreaterEqual(len(wanted), FEWEST_CERTIFICATES)
-        with ThreadPoolExecutor(AT_ONCE) as pool:
-            ends = pool.map(lambda it: audited(it[1], it[2]), wanted)
-            for (name, _, _, line, status), done in zip(wanted, ends):
-                told = done.stdout.splitlines() or [""]
-                self.assertEqual((told[-1], done.returncode, done.stderr), (line, status, ""), name)
-                sums = [it.split()[1] for it in told if re.match("(gain|cost) ", it)]
-                if line == "optimal":
-                    self.assertTrue(len(sums) == 2 and sums[0] == sums[1], f"{name}: the gain and the cost are {sums}")
+        for name, network, certificate, line, status in wanted:
+            out, err, ended = self.ran("audit", self.file("network", network), self.file("certificate", certificate))
+            told = out.splitlines() or [""]
+            self.assertEqual((told[-1], ended, err), (line, status, ""), name)
+            sums = [it.split()[1] for it in told if re.match("(gain|cost) ", it)]
+            if line == "optimal":
+                self.assertTrue(len(sums) == 2 and sums[0] == sums[1], f"{name}: the gain and the cost are {sums}")
 
     def test_the_command_is_that_file(self) -> None:
         words = EXAMPLES / "certificate" / "network.csv", EXAMPLES / "certificate" / "certificate.txt"

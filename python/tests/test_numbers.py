@@ -1,16 +1,13 @@
 """A number that is longer than any may be is refused, wherever it stands, with a sentence and no traceback."""
 from __future__ import annotations
 
-import contextlib
-import io
 import unittest
 from fractions import Fraction
 from typing import Callable
 
 from files.test_solvers import WITH_THIRDS, WRITTEN_BY_ESOLVER, WRITTEN_BY_GLPSOL
-from harness import Done, PlaceTest
+from harness import PlaceTest, WithinTest
 from made import FEW
-from nrm.__main__ import main
 from nrm.network import MOST_DIGITS, fraction, is_whole, number, whole
 
 LONG = ["9" * 4300, "9" * 4301, "1" + "0" * 20_000]  # Python makes no number of more than 4,300 digits
@@ -36,15 +33,7 @@ class Reading(unittest.TestCase):
         self.assertEqual([is_whole(it) for it in ("7", longest, longest + "9", "x")], [True, True, False, False])
 
 
-class Refusing(PlaceTest):
-    """Most commands are called in this process, since they are so many: what fails at a number fails here too."""
-
-    def ran(self, name: str, *words: object, **_: object) -> Done:
-        out, err = io.StringIO(), io.StringIO()
-        with contextlib.redirect_stdout(out), contextlib.redirect_stderr(err):
-            status = main([name, *map(str, words)])
-        return Done(out.getvalue(), err.getvalue(), status)
-
+class Refusing(WithinTest):
     def network(self, old: str, new: str) -> str:
         self.assertIn(old, OF_EACH_ROW)
         return self.file("long.csv", OF_EACH_ROW.replace(old, new))
@@ -90,7 +79,7 @@ class Refusing(PlaceTest):
         network = self.file("few.csv", OF_EACH_ROW)
         for it in LONG:
             for name, words in (("replay", [network, "--seed", it]), ("thresholds", [network, it])):
-                done = super().ran(name, *words)
+                done = PlaceTest.ran(self, name, *words)
                 self.assertEqual((done.status, "Traceback" in done.err), (2, False), done.err)
                 self.want_in(done.err, f"usage: nrm-tools {name} ")
 
