@@ -106,6 +106,10 @@ class PlaceTest(unittest.TestCase):
                               **{"cwd": self.folder, "timeout": SECONDS, **more})
         return Done(done.stdout.decode(), done.stderr.decode(), done.returncode)
 
+    def bench(self, name: str, *words: object, seconds: float = 4 * SECONDS) -> Done:
+        """A script of bench/ that was run, as its manual writes it but for the folder; one makes a million lines."""
+        return self.finished(sys.executable, "-B", TOP / "bench" / f"{name}.py", *words, timeout=seconds)
+
     def ran(self, name: str, *words: object, **more: object) -> Done:
         """A command that was run in the folder."""
         return self.finished(sys.executable, SOURCES, name, *words, **{"env": self.blind(), **more})

@@ -2,22 +2,15 @@
 from __future__ import annotations
 
 import shutil
-import sys
 from pathlib import Path
 
-from harness import EXAMPLES, SECONDS, TOP, Done, PlaceTest
+from harness import EXAMPLES, TOP, PlaceTest
 from nrm.network import Network
 
-BENCH = TOP / "bench"
 MEASURE = ("bookings", "desks", "kept", "plan", "read_network", "stream")
 
 
 class Scripts(PlaceTest):
-    def bench(self, name: str, *words: object) -> Done:
-        """A script that was run, as its manual writes it but for the folder."""
-        seconds = 4 * SECONDS  # since stream.py makes a million lines first
-        return self.finished(sys.executable, "-B", BENCH / f"{name}.py", *words, timeout=seconds)
-
     def test_each_names_itself_and_gives_no_traceback(self) -> None:
         """With what is no program, or is none that plans."""
         for name in MEASURE:

@@ -37,8 +37,7 @@ class Finding(PlaceTest):
         path.chmod(0o755)
         return str(path)
 
-    def asked(self, path: str, *words: str, name: str = "thresholds",
-              asks: tuple[str, ...] = (NETWORK, "2")) -> Done:
+    def asked(self, path: str, *words: str, name: str = "thresholds", asks: tuple[str, ...] = (NETWORK, "2")) -> Done:
         """What a command tells that runs the program, as by lines of `nrm cuts`, which no program here answers."""
         tools = self.top / "python" / "src"
         done = self.finished(sys.executable, tools, name, *asks, *words, env={**os.environ, "PATH": path})

@@ -20,9 +20,8 @@ LATER_WORDS = {("zip", "strict"), ("dataclass", "slots"), ("dataclass", "kw_only
 FOUND_IN = [
     "match a:\n    case 1:\n        pass\n", "try:\n    pass\nexcept* OSError:\n    pass\n", "zip(a, b, strict=True)",
     "from itertools import pairwise", "itertools.pairwise(a)", "import tomllib",
-    "@dataclass(slots=True)\nclass A:\n    b = 1",
-    "isinstance(a, int | str)", "A = Leg | None", "A = list[int] | Plan", "cast(Leg | Plan, a)",
-    "def f(a: int | None): pass", "with (\n    open(a) as b, open(c) as d\n):\n    pass\n",
+    "@dataclass(slots=True)\nclass A:\n    b = 1", "isinstance(a, int | str)", "A = Leg | None", "A = list[int] | Plan",
+    "cast(Leg | Plan, a)", "def f(a: int | None): pass", "with (\n    open(a) as b, open(c) as d\n):\n    pass\n",
     "with (open(a) as b):\n    pass\n"]
 NOT_FOUND_IN = [
     "a | b", "SOME | OTHERS", "{1} | {2}", "a.keys() | SOME", "fcntl.LOCK_EX | fcntl.LOCK_NB", "zip(a, b)",

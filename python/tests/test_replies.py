@@ -24,11 +24,9 @@ ANSWERS = {
         Fraction(5, 2), {}, {"AB": Fraction(3)}, {("AB", "P"): Nest(Fraction(-4, 3), 2)}, {"AB": (6,)}),
     "value 0/1\nnest AB P -430/3 2": Plan(Fraction(0), nests={("AB", "P"): Nest(Fraction(-430, 3), 2)})}
 NO_ANSWERS = ["", "bad", "ok", "ok one", "ok 1 2", "no", "optimised 1/0", "hindsight 1/0 revenue 1 withheld 0",
-              "hindsight 1 revenue 1 withheld 0",
-              "leg AB", "leg AB seats x authorised 8 sold 3 left 5", "value", "value one", "value 1/0",
-              "value 1/1\nproduct P", "closed idle",
-              "value -1/1", "value 1/1\nleg AB -1/1", "value 1/1\nnest AB P --4/1 2", "value 1/1\nnest AB P -/1 2",
-              "value 1/1\nnest AB P 4/1 -2"]
+              "hindsight 1 revenue 1 withheld 0", "leg AB", "leg AB seats x authorised 8 sold 3 left 5", "value",
+              "value one", "value 1/0", "value 1/1\nproduct P", "closed idle", "value -1/1", "value 1/1\nleg AB -1/1",
+              "value 1/1\nnest AB P --4/1 2", "value 1/1\nnest AB P -/1 2", "value 1/1\nnest AB P 4/1 -2"]
 CUTS = ["cuts AB 400", "centres AB 500 150", "cost AB 1200"]
 VALUE = ["class ABH 400", "class ABL 150", "value AB 4175/2", "protect AB 3"]
 
@@ -59,9 +57,8 @@ class Answers(unittest.TestCase):
     def test_the_value_of_a_leg_is_read(self) -> None:
         self.assertEqual(leg_value_of("AB", VALUE), LegValue((("ABH", 400), ("ABL", 150)), Fraction(4175, 2), (3,)))
         for wrong in ([], VALUE[1:], VALUE[:-1], [*VALUE[:2], "value AB 1/0", VALUE[3]],
-                      [*VALUE[:2], "value BC 1/2", VALUE[3]],
-                      [*VALUE[:3], "protect AB 3 4"], ["class ABH", *VALUE[1:]], ["class ABH x", *VALUE[1:]],
-                      ["nest ABH 4", *VALUE[1:]]):
+                      [*VALUE[:2], "value BC 1/2", VALUE[3]], [*VALUE[:3], "protect AB 3 4"], ["class ABH", *VALUE[1:]],
+                      ["class ABH x", *VALUE[1:]], ["nest ABH 4", *VALUE[1:]]):
             with self.assertRaises(ValueError, msg=wrong):
                 leg_value_of("AB", wrong)
 

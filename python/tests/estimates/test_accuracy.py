@@ -4,36 +4,29 @@ from __future__ import annotations
 
 import csv
 import datetime
-import os
 import random
 import re
 import shutil
-import sys
 import time
-import unittest
 
-from harness import EXAMPLES, SECONDS, TOP, Done
+from harness import EXAMPLES, SECONDS
 from nrm.limits import MOST_HISTORIES, MOST_LEGS, MOST_PERIODS, MOST_PRODUCTS
 from nrm.network import Network, text_of
 from sales.made_sales import BOOKINGS, CLOSURES, COLUMNS, SalePlace
+from seasons.clusters import takes_long
 
 SEASON = EXAMPLES / "season" / "network.csv"
 CUTS, DEPARTURES = [*COLUMNS[:-1], "45,21,7", "--opens", "90"], 10
 MINUTES = 40 * SECONDS
 LINE = re.compile(r"by (\w+): beside requests .*, regained (-?\d+) \+-")
-takes_long = unittest.skipUnless(os.environ.get("NRM_LONG"), "it takes minutes, and is run where NRM_LONG is set")
 
 
 class Made(SalePlace):
     """A test of the scripts of bench/ that play departures by the program."""
 
-    def script(self, name: str, *words: object) -> Done:
-        """How a script ends."""
-        return self.finished(sys.executable, "-B", TOP / "bench" / f"{name}.py", *words, timeout=MINUTES)
-
-    def bench(self, name: str, *words: object) -> str:
+    def printed(self, name: str, *words: object) -> str:
         """What a script prints."""
-        done = self.script(name, *words, *self.with_program)
+        done = self.bench(name, *words, *self.with_program, seconds=MINUTES)
         self.assertEqual(done.status, 0, done.err)
         return done.out
 
@@ -41,21 +34,21 @@ class Made(SalePlace):
 class Scripts(Made):
     def test_each_tells_what_it_lacks(self) -> None:
         for name, words in (("loop", []), ("sold", [self.folder])):
-            self.want_in(self.script(name, "--help").out, f"usage: bench/{name}.py NETWORK")
+            self.want_in(self.bench(name, "--help").out, f"usage: bench/{name}.py NETWORK")
             none, false = self.folder / "none", ["--program", shutil.which("false")]
             for more, status, wanted in (
                     ([none, *words], 1, f"bench/{name}.py: {none}: No such file or directory\n"),
                     ([SEASON, *words, *false], 1, "` ended with status 1\n"),
                     ([SEASON, *words, *false, "--cuts", "7"], 1, "--cuts makes 2 periods, and the network has 4\n"),
                     ([], 2, "usage: ")):
-                done = self.script(name, *more)
+                done = self.bench(name, *more)
                 self.assertEqual((done.status, "Traceback" in done.err), (status, False), done.err)
                 self.want_in(done.err, wanted)
         for words, wanted in ((["--mode", "first"], "--mode first makes no plans"),
                               (["--warm", "20"], "--warm 20: fewer")):
-            self.want_in(self.script("loop", SEASON, *words).err, f"bench/loop.py: {wanted}")
+            self.want_in(self.bench("loop", SEASON, *words).err, f"bench/loop.py: {wanted}")
         for words in ([], ["--help"]):
-            self.want_in(self.script("departures", *words).err, "departures.py: no tool, but a part of ")
+            self.want_in(self.bench("departures", *words).err, "departures.py: no tool, but a part of ")
 
 
 class Logs(Made):
@@ -78,10 +71,10 @@ class Logs(Made):
     def off(self, mode: str, seed: int) -> tuple[float, int, int]:
         """How far a product is off from its requests, as a share of how far its bookings are; and of how many products
         with an error the true mean is within two of these."""
-        self.bench("sold", SEASON, "made", "--mode", mode, "--seed", seed)
+        self.printed("sold", SEASON, "made", "--mode", mode, "--seed", seed)
         self.told("demand", "made/bookings.csv", *CUTS, "--closures", "made/closures.csv", "--network", SEASON,
                   "--report", "report.csv")
-        requests, bookings, truth = self.asked("made/requests.csv"), self.asked("made/bookings.csv"), {}
+        requests, bookings = self.asked("made/requests.csv"), self.asked("made/bookings.csv")
         estimated, errors = self.column("report.csv", "estimated"), self.column("report.csv", "standard error")
         with open(self.folder / "made" / "truth.csv", encoding="ascii", newline="") as file:
             truth = {row["product"]: float(row["mean demand"]) for row in csv.DictReader(file)}
@@ -111,7 +104,7 @@ class Loop(Made):
 
     def regained(self, *words: object) -> dict[str, int]:
         """By the way of planning, how much of what plans of sales lose it regains, in per cent."""
-        told = self.bench("loop", SEASON, *words)
+        told = self.printed("loop", SEASON, *words)
         found = {match[1]: int(match[2]) for match in LINE.finditer(told)}
         self.assertEqual(sorted(found), ["before", "estimate", "sales"], told)
         return found

@@ -2,11 +2,8 @@
 from __future__ import annotations
 
 import re
-import subprocess
-import sys
 
 from exports.made_export import ExportTest
-from harness import TOP
 from nrm.network import Network
 from seasons.clusters import takes_long
 
@@ -20,8 +17,8 @@ UNTIL, SEASON = ["--until", "2025-06-13"], ["--stream", "2025-06-20", "stream.tx
 class Made(ExportTest):
     def made(self, *words: object) -> dict[str, str]:
         """Makes an export, and gives what its maker tells of it."""
-        script = [sys.executable, "-B", TOP / "bench" / "export.py", "export.csv", "seats.csv"]
-        told = subprocess.run([*script, *map(str, words)], capture_output=True, text=True, check=True).stdout
+        told, err, status = self.bench("export", "export.csv", "seats.csv", *words)
+        self.assertEqual(status, 0, err)
         return dict(re.findall(r"(rows|twice|alone|quote in line|total in line|departure on) ([0-9-]+)", told))
 
     def seats_of_bookings(self) -> int:

@@ -1,7 +1,7 @@
 """The stream of one departure, line by line by hand, and that the program takes it with the network."""
 from __future__ import annotations
 
-from exports.made_export import BOOKINGS, COLUMNS, HEADS, STOPS, ExportTest
+from exports.made_export import BOOKINGS, COLUMNS, STOPS, ExportTest
 from exports.test_bookings import CANCELLED, OF_IDS
 
 STREAM = ["--stream", "2025-03-07"]

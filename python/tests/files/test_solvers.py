@@ -66,8 +66,7 @@ class Solvers(PlaceTest):
         made = self.told("lp", network, "--solution", solution)
         self.assertEqual(made.splitlines(),
                          ["value 403/3", *[f"product {it} 1/3" for it in ("ABC", "ABD", "ACD", "BCD")], "leg A 97/3",
-                          "leg B 103/3",
-                          "leg C 100/3", "leg D 103/3", "leg IDLE 0/1"])
+                          "leg B 103/3", "leg C 100/3", "leg D 103/3", "leg IDLE 0/1"])
         path = self.file("certificate", made)
         self.assertEqual(self.nrm("check", network, path), "optimal\n")
         self.assertEqual(self.told("audit", network, path).splitlines()[-1], "optimal")

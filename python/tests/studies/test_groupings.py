@@ -49,8 +49,7 @@ class Groupings(PlaceTest):
         self.assertEqual((err.startswith("nrm-tools thresholds: no pictures, since "), status), (True, 0), err)
         self.assertEqual(out.partition("The fares on AB\n")[2].splitlines()[1:6],
                          ["  group  fare  seats  centre", "  1       500      4     400",
-                          "  1       400      6     400",
-                          "  2       150     10     150", ""])
+                          "  1       400      6     400", "  2       150     10     150", ""])
 
     @needs("matplotlib")
     def test_are_drawn(self) -> None:

@@ -62,9 +62,8 @@ class Parts(PlaceTest):
         rows = {it: (self.folder / "parts" / it).read_text().splitlines() for it in ("part-1.csv", "part-2.csv")}
         self.assertEqual(rows["part-1.csv"],
                          ["periods,2,2,2", "leg,AB,3,5,300,90", "leg,BC,9,2", "product,AC,500,AB,BC",
-                          "product,AB,200,AB",
-                          "product,BC,120,BC", "refund,AC,0", "refund,AB,33", "demand,AC,1,1,2", "demand,AB,1,5,0",
-                          "demand,AB,2,4,3", "demand,BC,1,6,1"])
+                          "product,AB,200,AB", "product,BC,120,BC", "refund,AC,0", "refund,AB,33", "demand,AC,1,1,2",
+                          "demand,AB,1,5,0", "demand,AB,2,4,3", "demand,BC,1,6,1"])
         self.assertEqual(rows["part-2.csv"], ["periods,2,2,2", "leg,CD,4,4,80", "product,CD,90,CD", "demand,CD,2,0,3"])
         parts = [self.folder / "parts" / it for it in rows]
         self.assertEqual(sum(value_of(self, it) for it in parts), value_of(self, "second.csv"))

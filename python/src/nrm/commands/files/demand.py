@@ -52,7 +52,6 @@ from __future__ import annotations
 import argparse
 from typing import Callable, Sequence
 
-from nrm import Stop
 from nrm.commands import running
 from nrm.commands.log_words import add_log, demand_of, names_told, requests_of, see_limits
 from nrm.commands.running import parser
