@@ -66,20 +66,22 @@ class Answers(unittest.TestCase):
 class Dealing(PlaceTest):
     LINES = [b"plan", b"leg VIE-BUD", b"book VB-Q 2", b"leg VIE-BUD", b"plan", b"plan", b"hindsight", b"bad"]
 
+    def answered(self, mode: str) -> bytes:
+        """What the program writes."""
+        given = b"".join(it + b"\n" for it in self.LINES)
+        return self.nrm("run", mode, EXAMPLES / "log" / "network.csv", given=given).encode()
+
     def test_replies_are_dealt_one_to_a_line(self) -> None:
         for mode, lines_of_a_plan in (("first", 1), ("bid", 9), ("davn", 19)):
-            out = self.nrm("run", mode, EXAMPLES / "log" / "network.csv",
-                           given=b"".join(it + b"\n" for it in self.LINES)).encode()
+            out = self.answered(mode)
             dealt = [it.count(b"\n") for it in replies_of(io.BytesIO(out))]
-            self.assertEqual(dealt,
-                             [lines_of_a_plan, 1, 1, 2 if b"ok 1\n" in out else 1, lines_of_a_plan, lines_of_a_plan,
-                              1, 1], mode)
+            booked = 2 if b"ok 1\n" in out else 1
+            self.assertEqual(dealt, [lines_of_a_plan, 1, 1, booked, lines_of_a_plan, lines_of_a_plan, 1, 1], mode)
 
     def test_replies_are_whole_in_any_pieces(self) -> None:
         """Each reply comes once it is known to be whole, and the last text is held."""
         for mode in MODES:
-            out = self.nrm("run", mode, EXAMPLES / "log" / "network.csv",
-                           given=b"".join(it + b"\n" for it in self.LINES)).encode()
+            out = self.answered(mode)
             for size in (1, 7, len(out)):
                 found, left = [], b""
                 for at in range(0, len(out), size):
@@ -88,10 +90,7 @@ class Dealing(PlaceTest):
                 self.assertEqual((found, left), (list(replies_of(io.BytesIO(out))), b""), f"{mode} in pieces of {size}")
 
     def test_the_program_writes_what_is_read(self) -> None:
-        out = self.nrm("run", "davn", EXAMPLES / "log" / "network.csv",
-                       given=b"".join(it + b"\n" for it in self.LINES[:-1])).encode()
-        kinds = [type(answer_of(it)) for it in replies_of(io.BytesIO(out))]
+        kinds = [type(answer_of(it)) for it in list(replies_of(io.BytesIO(self.answered("davn"))))[:-1]]
         self.assertEqual([kinds[0], kinds[1], kinds[3], kinds[6]], [Plan, Leg, Leg, Hindsight])
-        self.assertEqual(leg_value_of("AB",
-                                      self.program.lines("dp", str(EXAMPLES / "certificate" / "network.csv"), "AB")),
-                         leg_value_of("AB", VALUE))
+        lines = self.program.lines("dp", str(EXAMPLES / "certificate" / "network.csv"), "AB")
+        self.assertEqual(leg_value_of("AB", lines), leg_value_of("AB", VALUE))

@@ -186,13 +186,18 @@ class ExplainedRows(PlaceTest):
         self.assertGreaterEqual(refused, 300, "there are fewer cases than there were")
         self.assertGreaterEqual(taken, 20, "there are fewer cases than there were")
 
-    def test_tells_every_row_with_its_line_and_how_to_mend_it(self) -> None:
-        out, _, status = self.ran("explain", self.file("many.csv", MANY_FAULTS))
+    def entries(self, text, faults):
+        """What is told of each row of a file that is refused, which must be the faults that are wanted."""
+        out, _, status = self.ran("explain", self.file("many.csv", text))
         entries = re.split(r"^(?=refused )", out, flags=re.M)[1:]
-        self.assertEqual((len(entries), status), (len(FAULTS_OF_MANY), 3))
-        for entry, (row, why, line, field, advice) in zip(entries, FAULTS_OF_MANY):
+        self.assertEqual((len(entries), status), (len(faults), 3), out)
+        for entry, (row, why, line, field, advice) in zip(entries, faults):
             self.want_in(entry, f"refused row {row} why {why}\n    line {line}{f', {field}' if field else ''}\n")
             self.want_in(entry, advice)
+        return entries
+
+    def test_tells_every_row_with_its_line_and_how_to_mend_it(self) -> None:
+        entries = self.entries(MANY_FAULTS, FAULTS_OF_MANY)
         self.want_in(entries[6], "    line 8, field 5, leg 2: ZRH-VIE\n        the product has this leg already")
         few = self.file("few.csv", "periods,33,17\nleg,AB,3,9,9\nproduct,P,5,AB\ndemand,P,1,1000\n")
         out = self.ran("explain", few).out
@@ -201,12 +206,8 @@ class ExplainedRows(PlaceTest):
             self.want_in(out, f", {wanted}\n")
 
     def test_tells_every_row_of_version_2(self) -> None:
-        out, _, status = self.ran("explain", self.file("many.csv", FAULTS_OF_VERSION_2))
-        entries = re.split(r"^(?=refused )", out, flags=re.M)[1:]
-        self.assertEqual((len(entries), status), (len(FAULTS_TOLD_OF_VERSION_2), 3), out)
-        for entry, (row, why, field, advice) in zip(entries, FAULTS_TOLD_OF_VERSION_2):
-            self.want_in(entry, f"refused row {row} why {why}\n    line {row}{f', {field}' if field else ''}\n")
-            self.want_in(entry, advice)
+        faults = [(row, why, row, *told) for row, why, *told in FAULTS_TOLD_OF_VERSION_2]
+        entries = self.entries(FAULTS_OF_VERSION_2, faults)
         self.want_in(entries[5], "    line 6, field 3, the seats: 1000\n")
         self.want_in(entries[7], "    line 10, field 2, the product: ZV-Y\n        line 1 has the refund of ZV-Y")
 
