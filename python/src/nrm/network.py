@@ -2,7 +2,7 @@
 
 It sees what a network needs to be one. That a file is within all its limits is for `nrm print` to say, and what is
 wrong with it for `nrm.files.explained`. Numbers are refused by their length first, since Python makes none of more than
-4,300 digits, and fails at one. May use: nrm.
+4,300 digits, and fails at one. May use: nrm, nrm.limits.
 """
 from __future__ import annotations
 
@@ -14,6 +14,7 @@ from functools import cached_property
 from typing import Iterable, Iterator, Mapping, Sequence
 
 from nrm import Stop, bytes_in
+from nrm.limits import MOST_DEMAND
 
 NAME = re.compile(r"[A-Z0-9-]{1,12}")
 WHOLE = re.compile(r"0|[1-9][0-9]*")
@@ -112,6 +113,15 @@ def fields_in(path: str) -> list[list[str]]:
 def text_of(rows: Iterable[Sequence[object]]) -> str:
     """The text of a network file with these rows, each a list of fields."""
     return "".join(",".join(map(str, fields)) + "\n" for fields in rows)
+
+
+def demand_row(name: str, history: int, seats: Sequence[int], what: str) -> list[list[object]]:
+    """The row of demand of a product in a history, and none where nothing was asked for. A Stop says what it is, if it
+    is more than a row takes."""
+    if sum(seats) > MOST_DEMAND:
+        raise Stop(f"{what}, and a row of demand takes {MOST_DEMAND}: make two products of it, such as one for each "
+                   "class of its fares")
+    return [["demand", name, history, *seats]] if any(seats) else []
 
 
 def with_thresholds(rows: Sequence[Sequence[object]],

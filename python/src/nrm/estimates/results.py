@@ -1,7 +1,7 @@
 """What an estimate makes: whole numbers, the rows of demand, the report, and what is told of it.
 
 What wasn't seen is drawn several times rather than rounded, so that the spread of the histories is that of demand;
-this is multiple imputation. May use: nrm, nrm.estimates.rates, nrm.limits, nrm.seasons.drawing.
+this is multiple imputation. May use: nrm, nrm.estimates.rates, nrm.limits, nrm.network, nrm.seasons.drawing.
 """
 from __future__ import annotations
 
@@ -14,7 +14,8 @@ from typing import Iterator, Mapping, Sequence
 
 from nrm import Stop
 from nrm.estimates.rates import Rates
-from nrm.limits import MOST_DEMAND, MOST_HISTORIES
+from nrm.limits import MOST_HISTORIES
+from nrm.network import demand_row
 from nrm.seasons.drawing import poisson
 
 MOST_COPIES = 3  # that are made unasked
@@ -78,11 +79,8 @@ class Estimate:
         texts = self.rates.sale.products
         for j in sorted(self.rates.products, key=lambda it: self.names[texts[it]]):
             for history, seats in enumerate(self.whole[j], 1):
-                if sum(seats) > MOST_DEMAND:
-                    raise Stop(f"{texts[j]} has a demand of {sum(seats)} seats in a history, and a row of demand takes "
-                               f"{MOST_DEMAND}: make two products of it, such as one for each class of its fares")
-                if any(seats):
-                    yield ["demand", self.names[texts[j]], history, *seats]
+                what = f"{texts[j]} has a demand of {sum(seats)} seats in a history"
+                yield from demand_row(self.names[texts[j]], history, seats, what)
 
     # The report
 

@@ -16,7 +16,7 @@ from nrm import Stop
 from nrm.exports.amounts import Amounts
 from nrm.logs.dates import Dates
 from nrm.logs.requests import Columns, Request, all_made, lines_told, rows_and_dates, tell_departures
-from nrm.logs.rows import Log, LogRow, cut_short
+from nrm.logs.rows import Log, LogRow, cut_short, some_of
 
 CANCELLED = re.compile(r"-\d.*|x|xx|hx|cxl|yes|ja|oui|si|sì|sí|"
                        r"(cancel|storn|annul|anul|refund|erstatt|rembours|rimbors|reembols)\w*", re.IGNORECASE)
@@ -189,8 +189,7 @@ def separator_of(texts: Iterable[str]) -> str:
 
 def counted(texts: Mapping[str, int]) -> str:
     """Some texts, each with how often it is there, and how many other texts there are."""
-    more = f" and {len(texts) - MOST_TEXTS} other texts" if len(texts) > MOST_TEXTS else ""
-    return ", ".join(f"{cut_short(text)} {count}" for text, count in list(texts.items())[:MOST_TEXTS]) + more
+    return some_of([f"{cut_short(text)} {count}" for text, count in texts.items()], MOST_TEXTS, "other texts")
 
 
 def bookings_in(path: str, columns: ExportColumns, order: str | None, is_multiline: bool, most: int,

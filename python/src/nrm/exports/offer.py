@@ -18,10 +18,9 @@ from nrm.exports.codes import Names, Parts
 from nrm.exports.lines import Leg, Lines
 from nrm.files.names import fitting, free_name
 from nrm.limits import MOST_FARE, MOST_LEGS, MOST_LEGS_OF_A_PRODUCT, MOST_PRODUCTS, MOST_SEATS
-from nrm.logs.rows import SEPARATORS, text_in
+from nrm.logs.rows import SEPARATORS, some_of, text_in
 from nrm.network import is_whole
 
-MOST_SHOWN = 5
 CENTS = 100
 
 
@@ -167,9 +166,3 @@ def seats_of(path: str, offer: Offer, names: Mapping[str, str], tell: Callable[[
     if idle := [f"{it!r} in line {line}" for it, (_, line) in there.items() if it not in used]:
         tell(f"no leg of the export is {some_of(idle)} of {path}")
     return seats
-
-
-def some_of(texts: Sequence[str]) -> str:
-    """Some texts, and how many more there are."""
-    more = f" and {len(texts) - MOST_SHOWN} more" if len(texts) > MOST_SHOWN else ""
-    return f"{', '.join(texts[:MOST_SHOWN])}{more}"

@@ -9,10 +9,10 @@ from collections import Counter
 from typing import Callable, Iterator, Mapping, Sequence
 
 from nrm import Stop
-from nrm.limits import MOST_DEMAND, MOST_HISTORIES, MOST_PERIODS
+from nrm.limits import MOST_HISTORIES, MOST_PERIODS
 from nrm.logs.dates import WEEKDAYS
 from nrm.logs.requests import Request
-from nrm.network import fields_in, number
+from nrm.network import demand_row, fields_in, number
 
 
 class Demand:
@@ -41,11 +41,8 @@ class Demand:
         for product in sorted(self.products, key=lambda it: names[it]):
             for history, day in enumerate(self.departures, 1):
                 seats = [self.seats[product, history, period] for period in range(1, self.periods + 1)]
-                if sum(seats) > MOST_DEMAND:
-                    raise Stop(f"{product} was asked for {sum(seats)} seats for {day}, and a row of demand takes "
-                               f"{MOST_DEMAND}: make two products of it, such as one for each class of its fares")
-                if any(seats):
-                    yield ["demand", names[product], history, *seats]
+                what = f"{product} was asked for {sum(seats)} seats for {day}"
+                yield from demand_row(names[product], history, seats, what)
 
     def told(self, days: set[datetime.date]) -> str:
         """What was made of a log that has some days of departure."""

@@ -11,7 +11,7 @@ from typing import Callable, Sequence, TypeVar
 
 from nrm import Stop
 from nrm.logs.dates import Dates, departures_told, has_short_year
-from nrm.logs.rows import Log, LogRow, cut_short
+from nrm.logs.rows import Log, LogRow, cut_short, some_of
 
 Made = TypeVar("Made")
 MOST_TOLD = 20  # rows that can't be read, and days without a departure
@@ -101,10 +101,9 @@ def rows_kept(rows: Sequence[LogRow], without: Sequence[Sequence[str]], tell: Ca
     return kept
 
 
-def lines_told(lines: Sequence[int], most: int = MOST_TOLD) -> str:
+def lines_told(lines: Sequence[int]) -> str:
     """Some lines, and how many more there are."""
-    more = f" and {len(lines) - most} more" if len(lines) > most else ""
-    return f"line{'s' if len(lines) > 1 else ''} {', '.join(map(str, lines[:most]))}{more}"
+    return f"line{'s' if len(lines) > 1 else ''} {some_of(list(map(str, lines)), MOST_TOLD)}"
 
 
 def requests_in(path: str, columns: Columns, order: str | None, is_multiline: bool,

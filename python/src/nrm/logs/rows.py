@@ -16,6 +16,7 @@ from nrm import Stop, bytes_in
 SEPARATORS = [",", ";", "\t", "|"]
 MOST_ABOVE = 100  # rows above the headings
 MOST_TEXT = 60  # that is shown of a line
+MOST_SHOWN = 5  # texts
 OF_A_SPREADSHEET = (b"PK\x03\x04", b"\xd0\xcf\x11\xe0")  # how .xlsx and .ods begin, and .xls
 
 
@@ -37,6 +38,12 @@ def text_in(path: str) -> str:
 def cut_short(text: str) -> str:
     """A text as it is told, and of a long one the beginning."""
     return text if len(text) <= MOST_TEXT else text[:MOST_TEXT] + ".."
+
+
+def some_of(texts: Sequence[str], most: int = MOST_SHOWN, others: str = "more") -> str:
+    """Some texts, and how many others there are."""
+    more = f" and {len(texts) - most} {others}" if len(texts) > most else ""
+    return f"{', '.join(texts[:most])}{more}"
 
 
 @dataclass(frozen=True)

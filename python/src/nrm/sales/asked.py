@@ -11,8 +11,8 @@ from dataclasses import dataclass, field
 from typing import Iterable, Iterator, Mapping, Sequence
 
 from nrm import Stop, bytes_in
-from nrm.limits import MOST_DEMAND, MOST_HISTORIES
-from nrm.network import Network
+from nrm.limits import MOST_HISTORIES
+from nrm.network import Network, demand_row
 
 REQUEST = re.compile(rb"book ([A-Z0-9-]{1,12}) ([1-9][0-9]{0,2})\r?")
 NEW_PERIOD = re.compile(rb"reoptimise ([1-9][0-9]?)\r?")
@@ -131,8 +131,5 @@ def rows_of_demand(products: Iterable[str], histories: Sequence[Mapping[str, Seq
     """The rows of demand that histories make."""
     for name in products:
         for number, history in enumerate(histories, 1):
-            if sum(history[name]) > MOST_DEMAND:
-                raise Stop(f"{name} was asked for {sum(history[name])} seats in history {number}, and a row of demand "
-                           f"takes {MOST_DEMAND}: make two products of it")
-            if any(history[name]):
-                yield ["demand", name, number, *history[name]]
+            what = f"{name} was asked for {sum(history[name])} seats in history {number}"
+            yield from demand_row(name, number, history[name], what)

@@ -14,7 +14,6 @@ from nrm.logs.demand import Demand
 from nrm.logs.requests import Request
 
 
-
 class Calendar:
     """The time of a sale, in days before departure, and how much of its period each day is.
 

@@ -96,11 +96,12 @@ from nrm.commands.log_words import add_log, demand_of, names_told, see_limits
 from nrm.commands.running import parser
 from nrm.exports.bookings import Booking
 from nrm.exports.lines import Lines
-from nrm.exports.offer import Offer, fares_of, seats_of, some_of, with_fares
+from nrm.exports.offer import Offer, fares_of, seats_of, with_fares
 from nrm.exports.streams import Stream
 from nrm.files.names import named
 from nrm.logs.demand import Demand, completed
 from nrm.logs.names import names_in, write_names
+from nrm.logs.rows import some_of
 from nrm.network import text_of
 
 Rows = Sequence[Sequence[object]]
