@@ -1,8 +1,6 @@
 """Every refused row is told, with its line, its field and how to mend it; the first is the program's."""
 from __future__ import annotations
 
-import contextlib
-import io
 import os
 import random
 import re
@@ -13,10 +11,8 @@ from pathlib import Path
 
 import reference
 import run
-from harness import EXAMPLES, SOURCES, PlaceTest
+from harness import EXAMPLES, SOURCES, WithinTest
 from made import SECOND
-from nrm import Stop
-from nrm.commands.files import explain
 from nrm.files.explained import refusals_of
 from nrm.network import rows_of, text_of
 
@@ -125,27 +121,6 @@ def files_of(case):
     return words[begin:end]
 
 
-def explained(case, folder):
-    """What `nrm-tools explain` writes of the files of a case, and its status."""
-    words = files_of(case)
-    if case.fifos or case.stdin or case.stdin_missing or case.stdin_fails or case.stdin_breaks:
-        case.words = [it.encode("utf-8", "surrogateescape") for it in words]
-        told = run.Run(case, [sys.executable, str(SOURCES), "explain", "--"], folder)
-        return told.out.decode(), told.status
-    case.lay(folder)
-    before = os.getcwd()
-    os.chdir(folder)
-    try:
-        with contextlib.redirect_stdout(io.StringIO()) as out:
-            try:
-                status = explain.explain(*words)
-            except Stop as stop:
-                status = stop.status
-    finally:
-        os.chdir(before)
-    return out.getvalue(), status
-
-
 def spoilt(fields, draw):
     """A row with one fault."""
     kind, *rest = fields
@@ -164,10 +139,19 @@ def spoilt_anywhere(data, draw):
     return data
 
 
-class ExplainedRows(PlaceTest):
+class ExplainedRows(WithinTest):
     def explained(self, case):
+        """What `nrm-tools explain` writes of the files of a case, and its status."""
+        words = files_of(case)
         with tempfile.TemporaryDirectory() as folder:
-            return explained(case, folder)
+            if case.fifos or case.stdin or case.stdin_missing or case.stdin_fails or case.stdin_breaks:
+                case.words = [it.encode("utf-8", "surrogateescape") for it in words]
+                told = run.Run(case, [sys.executable, str(SOURCES), "explain", "--"], folder)
+                return told.out.decode(), told.status
+            case.lay(folder)
+            os.chdir(folder)
+            out, _, status = self.ran("explain", "--", *words)
+            return out, status
 
     def test_tells_first_what_the_program_tells(self) -> None:
         refused, taken = 0, 0

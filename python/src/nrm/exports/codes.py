@@ -9,7 +9,7 @@ import itertools
 from dataclasses import dataclass
 from typing import Callable, Iterable, Iterator, Sequence
 
-from nrm.files.names import words_in
+from nrm.files.names import joined, words_in
 from nrm.limits import MOST_NAME_BYTES
 
 SIZES = range(MOST_NAME_BYTES, 0, -1)
@@ -37,11 +37,7 @@ def of_numbers(words: Sequence[str], size: int) -> str:
 
 def of_all_words(words: Sequence[str], size: int) -> str:
     """Something of each word, the longest ones shortened."""
-    shorter = list(words)
-    while len("".join(shorter)) > size and max(map(len, shorter)) > 1:
-        longest = max(shorter, key=len)
-        shorter[shorter.index(longest)] = longest[:-1]
-    return "".join(shorter)[:size]
+    return joined(words, size)[:size]
 
 
 def codes(texts: Iterable[str], size: int, best: Best) -> dict[str, str]:

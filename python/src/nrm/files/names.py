@@ -3,7 +3,7 @@ from __future__ import annotations
 
 import re
 import unicodedata
-from typing import Iterable, Mapping
+from typing import Iterable, Mapping, Sequence
 
 from nrm.limits import MOST_NAME_BYTES
 from nrm.network import NAME
@@ -15,13 +15,19 @@ def words_in(text: str) -> list[str]:
     return re.findall("[A-Z0-9]+", "".join(it for it in plain if not unicodedata.combining(it))) or ["X"]
 
 
+def joined(words: Sequence[str], size: int, between: str = "") -> str:
+    """Words as one, of which the longest are shortened until it is no longer than a size, or each has one letter."""
+    shorter = list(words)
+    while len(between.join(shorter)) > size and max(map(len, shorter)) > 1:
+        longest = max(shorter, key=len)
+        shorter[shorter.index(longest)] = longest[:-1]
+    return between.join(shorter)
+
+
 def fitting(text: str) -> str:
     """A name for a text: in capitals, accents left out, a `-` for all else, and each word shorter until it fits."""
-    words = words_in(text)
-    while len("-".join(words)) > MOST_NAME_BYTES and max(map(len, words)) > 1:
-        longest = max(words, key=len)
-        words[words.index(longest)] = longest[:-1]
-    return "-".join(words) if len("-".join(words)) <= MOST_NAME_BYTES else "".join(words)[:MOST_NAME_BYTES]
+    name = joined(words_in(text), MOST_NAME_BYTES, "-")
+    return name if len(name) <= MOST_NAME_BYTES else name.replace("-", "")[:MOST_NAME_BYTES]
 
 
 def named(texts: Iterable[str], known: Mapping[str, str] | None = None) -> dict[str, str]:

@@ -266,15 +266,13 @@ def seats_counted(path: Path, lines: list[bytes], told: list[bytes]) -> None:
             if answer[1] in numbers:
                 raise AssertionError(f"number {answer[1]} was given twice")
             numbers.add(answer[1])
-            standing[answer[1]] = network.products[words[1].decode()].legs, int(words[2])
-        elif answer[0] == b"cancelled":
-            legs, party = standing.pop(answer[1])
-            sold.subtract({leg: party for leg in legs})
-        if answer[0] == b"ok":
-            legs, party = standing[answer[1]]
+            legs, party = standing[answer[1]] = network.products[words[1].decode()].legs, int(words[2])
             sold.update({leg: party for leg in legs})
             if any(sold[leg] > network.legs[leg].authorised for leg in legs):
                 raise AssertionError(f"{sold} seats are sold after {line}")
+        elif answer[0] == b"cancelled":
+            legs, party = standing.pop(answer[1])
+            sold.subtract({leg: party for leg in legs})
     if not numbers:
         raise AssertionError("at least one booking")
 
