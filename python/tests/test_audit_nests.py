@@ -242,6 +242,21 @@ class Nests(WithinTest):
         done = self.audited(HAND, HAND_PLAN.replace("nest X H 400/1 1", large))
         self.assertEqual((done.status, done.out), (3, "refused certificate line 16 large\n"))
 
+    def test_a_plan_may_be_longer_than_a_certificate(self) -> None:
+        """One of as many legs and products as there may be, without demand, whose fractions aren't in lowest terms."""
+        legs = [f"LEG-{it:08}" for it in range(64)]
+        on = {f"PROD-{it:07}": [legs[(it + at) % 64] for at in range(4)] for it in range(256)}
+        products = [f"product,{it},7,{','.join(used)}" for it, used in on.items()]
+        network = "\n".join(["periods,1,1", *[f"leg,{it},9" for it in legs], *products])
+        for size, last in ((20, "optimal"), (36, "optimal"), (120, "refused certificate long")):
+            fare = f"7{'0' * size}/1{'0' * size}"
+            plan = "".join(f"{line}\n" for line in [
+                "value 0/1", *[f"product {it} 0/1" for it in on], *[f"leg {it} 0/1" for it in legs],
+                *[f"nest {leg} {it} {fare} 1" for it, used in on.items() for leg in used],
+                *[f"protect {it}" for it in legs]])
+            self.assertGreater(len(plan), audit.LONGEST_CERTIFICATE)
+            self.assertEqual(self.audited(network, plan).out.splitlines()[-1], last)
+
     def test_the_prices_in_the_file_are_those_that_count(self) -> None:
         """With 40 for Y, another optimal price, T brings X 210 and falls into bucket 2, and N brings X nothing."""
         done = self.audited(HAND, HAND_PLAN.replace("leg Y 101/2", "leg Y 40/1"))
