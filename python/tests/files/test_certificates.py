@@ -7,12 +7,11 @@ LINES_AT_FAULT = [  # of a certificate's lines, what is put in their place, and 
     ("\ufeffvalue 4130,5", "write `value` and a fraction, without the byte order mark before it, as 3/2"),
     ("product abh 3/1", "write `product ABH 3/1`"),
     ("product ABL 3/1 ", "write `product ABL 3/1`"), ("product;ACH;4", "write `product ACH 4/1`"),
-    ("", "no blank lines and no remarks"),
-    ("# seats", "no blank lines and no remarks"), ("product BCL 06/01", "write `product BCL 6/1`"),
-    ("product ACL", "write `product ACL` and a fraction"),
+    ("", "no blank lines and no remarks"), ("# seats", "no blank lines and no remarks"),
+    ("product BCL 06/01", "write `product BCL 6/1`"), ("product ACL", "write `product ACL` and a fraction"),
     ("product ACL 0/0", "write `product ACL` and a fraction"), ("LEG AB 150/1", "write `leg AB 150/1`"),
-    ("leg CD 1/1", "it is none of"),
-    ("leg BC 80.00", "a decimal is to be"), ("nest AB ABH 400/1 1", "under davn"), ("protect AB 5", "under davn")]
+    ("leg CD 1/1", "it is none of"), ("leg BC 80.00", "a decimal is to be"), ("nest AB ABH 400/1 1", "under davn"),
+    ("protect AB 5", "under davn")]
 
 
 class Certificates(PlaceTest):
@@ -28,8 +27,7 @@ class Certificates(PlaceTest):
 
     def test_tells_how_to_mend_a_line(self) -> None:
         """And of no line that it is missing which stands there with a fault."""
-        network, text = EXAMPLES / "certificate" / "network.csv", "\r\n".join(line
-                                                                              for line, _ in LINES_AT_FAULT) + "\r\n"
+        network, text = EXAMPLES / "certificate" / "network.csv", "".join(f"{it}\r\n" for it, _ in LINES_AT_FAULT)
         out, _, status = self.ran("explain", network, self.file("cert", text))
         found = out.splitlines()
         self.assertEqual((found[:-2:2], status),

@@ -83,8 +83,8 @@ class Desk:
 
     def __init__(self, place: Place, network: Path | Network | None = None, seconds: float = SECONDS) -> None:
         try:
-            made = socket.create_connection(place,
-                                            seconds) if isinstance(place, tuple) else unix_connection(place, seconds)
+            made = (socket.create_connection(place, seconds) if isinstance(place, tuple)
+                    else unix_connection(place, seconds))
         except (TimeoutError, socket.timeout):  # which isn't one under Python 3.9
             raise Late(f"{place}: no connection in {seconds} seconds")
         except (OSError, OverflowError) as fault:
