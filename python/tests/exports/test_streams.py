@@ -70,6 +70,8 @@ class Streams(ExportTest):
         self.assertEqual(self.nrm("run", "first", "network.csv", given=stream.encode()).splitlines(),
                          ["ok 1", "ok 2", "optimised none", "ok 3", "ok 4", "ok 5", "cancelled 2 186"])
         told = self.told("season", "network.csv", "stream.txt", "--names", "names.csv", *self.with_program)
-        self.want_in(told, "AAC-BON: Aachen - Bonn  ")
+        self.want_in(told, "All numbers are 0 in: Bid prices under bid, in currency units; Bid prices under davn, "
+                           "in currency units.\n")
+        self.want_in(told, "AAC-BON-FLEX: Aachen - Bonn Flex  ")
         self.want_in(told, "AAC-CAS-FLEX: Aachen - Cassel Flex  ")
         self.want_in(told, "Seats of BON-CAS: Bonn - Cassel under first: sold, left\n")
