@@ -2,17 +2,19 @@
 from __future__ import annotations
 
 from fractions import Fraction
+from pathlib import Path
 
-from harness import EXAMPLES, PlaceTest
+from harness import PlaceTest, needs
 from nrm import Stop
 from nrm.network import Network, rows_of, text_of
-from nrm.outside.averaged import Averaged, mean_of, to_come
-from nrm.outside.playing import periods_of, sold_by_prices
+from nrm.outside.averaged import AVERAGED, Averaged, mean_of, to_come
+from nrm.outside.playing import NEW_PRICES, NOT_ASKED, periods_of, replies_by_prices
 from nrm.program import Program
-from nrm.replies import plan_of
-from nrm.seasons.drawing import DrawnSeason
+from nrm.replies import Hindsight, answer_of, plan_of
+from nrm.seasons.drawing import DrawnSeason, Settings
+from nrm.seasons.playing import Clock, Player
+from seasons.clusters import LOG, SECONDS, SimulateTest, needs_dask
 
-LOG = str(EXAMPLES / "log" / "network.csv")
 # two seats; in history 1 three dear requests come, in history 2 none, so the mean of both, one and a half, fits
 ONE_LEG = b"""periods,2,2,2
 leg,A,2,2,150
@@ -69,8 +71,25 @@ class Averages(PlaceTest):
             return {"A": Fraction(91 if period == 1 else 90)}
         lines = ["book CHEAP 1", "book DEAR 1", "reoptimise 2", "book CHEAP 1", "book DEAR 1", "hindsight"]
         self.assertEqual(periods_of(DrawnSeason(None, lines)), [lines[:2], lines[3:5]])
-        revenue = sold_by_prices(self.network, DrawnSeason(None, lines), self.program, path, prices_at)
-        self.assertEqual((revenue, asked), (200 + 90, [(1, {"A": 2}), (2, {"A": 1})]))
+        replies = replies_by_prices(self.network, DrawnSeason(None, lines), self.program, path, prices_at, Clock())
+        self.assertEqual(replies[:-1], [NOT_ASKED, b"ok 1", NEW_PRICES, b"ok 2", b"no A"])
+        last = answer_of(replies[-1])
+        self.assertTrue(isinstance(last, Hindsight) and last.revenue == 290, last)
+        self.assertEqual(asked, [(1, {"A": 2}), (2, {"A": 1})])
+
+    def test_an_outcome_is_of_all_requests_and_its_bound_too(self) -> None:
+        """Of three requests that fit two seats' prices one isn't asked for: it is refused, and the bound knows it."""
+        settings = Settings(modes=("first", AVERAGED), show=1.0)
+        player = Player(ONE_LEG, settings, self.program, str(self.folder))
+        lines = ["book CHEAP 1", "book CHEAP 1", "reoptimise 2", "book DEAR 1", "hindsight"]
+        season = DrawnSeason(None, lines, shows=[1, 1, 0, 1, 0])
+        found = player.outcomes(season)
+        first, averaged = found["first"], found[AVERAGED]
+        self.assertEqual((first.revenue, averaged.revenue), (180, 200))
+        self.assertEqual((first.bound, averaged.bound), (290, 290))
+        self.assertEqual((first.refused, averaged.refused), ({"CHEAP": 0, "DEAR": 1}, {"CHEAP": 2, "DEAR": 0}))
+        self.assertEqual((first.booked, averaged.booked, averaged.shown), ({"A": 2}, {"A": 1}, {"A": 1}))
+        self.assertGreater(player.clock.spent, 0)
 
     def test_prices_of_the_plan_sell_as_bid_does(self) -> None:
         """One history's mean is itself: so where there is one, both ways sell each request alike."""
@@ -93,3 +112,37 @@ class Averages(PlaceTest):
             self.stopped("averaged", LOG, *words, *self.with_program, status=status, says=says)
         one = self.file("one.csv", "periods,1,1\nleg,A,1\nproduct,P,5,A\n")
         self.stopped("averaged", one, "--leave-out", *self.with_program, says="one history")
+
+
+@needs_dask
+class Beside(SimulateTest):
+    """Averaged prices beside the modes, as simulate plays them."""
+
+    @needs("matplotlib", "jinja2")
+    def test_simulate_plays_what_averaged_plays(self) -> None:
+        words = ["--seasons", 6, "--leave-out", "--seed", 3]
+        out = self.simulated(LOG, *words, "--averaged", "--workers", 2, "--out", "beside", env=None)
+        alone = self.told("averaged", LOG, *words, *self.with_program)
+        for name in ("averaged less first", "averaged less bid", "averaged less davn"):
+            of_both = [[line.split()[3:7] for line in text.splitlines() if line.startswith(f"  {name}")]
+                       for text in (out, alone)]
+            self.assertEqual((len(of_both[0]), of_both[0]), (1, of_both[1]), name)
+        self.want_in(out, "Under averaged the prices were the mean of those of each history by itself")
+        self.want_in(out, "Seasons whose revenue is above the bound: 0.")
+        pictures = {it.stem for it in (self.folder / "beside").glob("*.svg")}
+        self.assertEqual(pictures, {"shares", *(f"differences-{it}" for it in (
+            "bid-first", "davn-first", "davn-bid", "averaged-first", "averaged-bid", "averaged-davn"))})
+        self.assertEqual([line.split(",")[1] for line in self.rows()[1:5]], ["first", "bid", "davn", AVERAGED])
+
+    def rows(self) -> list[str]:
+        """The rows that the run has written."""
+        return (self.folder / "beside" / "network-seasons.csv").read_text().splitlines()
+
+    def test_it_goes_with_networks_and_departures_and_without_cancellations(self) -> None:
+        more = self.file("more.csv", Path(LOG).read_text().replace("leg,ZRH-VIE,8,", "leg,ZRH-VIE,9,"))
+        out = self.simulated(LOG, more, "--seasons", 4, "--averaged", "--modes", "bid", "--workers", 2, "--show", "0.9",
+                             "--denied-cost", 5)
+        self.want_in(out, "What a network earns more than another under averaged on the same draws")
+        self.want_in(out, "more averaged less bid")
+        self.stopped("simulate", LOG, "--seasons", 2, "--averaged", "--cancel", "0.1", status=2, timeout=SECONDS,
+                     says="--cancel isn't played by averaged prices")

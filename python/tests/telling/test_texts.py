@@ -82,7 +82,8 @@ class Texts(PlaceTest):
         self.told("season", *words, *self.names, env=os.environ)
         page = (self.folder / "page" / "season.html").read_text()
         for wanted in ('<th scope="row" class="long">VB-Q: Wien - Budapest, &lt;light&gt;</th>',
-                       '<th scope="row" class="long">VIE-BUD: Wien - Budapest</th>', "The seats of VIE-BUD: Wien - Budapest"):
+                       '<th scope="row" class="long">VIE-BUD: Wien - Budapest</th>',
+                       "The seats of VIE-BUD: Wien - Budapest"):
             self.want_in(page, wanted)
         pictures = {it: (self.folder / "page" / f"{it}.svg").read_text() for it in ("bid-prices", "seats", "refused")}
         for name, wanted in (("bid-prices", ">Wien - Budapest</text>"), ("seats", ">Wien - Budapest</text>"),

@@ -1,8 +1,8 @@
 """What is told of many seasons in words and pictures, and the page with all of it.
 
 The pictures are drawn when they are asked for, since that takes matplotlib.
-May use: nrm.comparing.heads, nrm.comparing.ranking, nrm.comparing.study, nrm.seasons.drawing, nrm.seasons.results,
-nrm.telling.charts, nrm.telling.page, nrm.telling.tables.
+May use: nrm.comparing.heads, nrm.comparing.ranking, nrm.comparing.study, nrm.outside.averaged, nrm.seasons.drawing,
+nrm.seasons.results, nrm.telling.charts, nrm.telling.page, nrm.telling.tables.
 """
 from __future__ import annotations
 
@@ -14,6 +14,7 @@ from typing import Any, Callable, Iterator, Mapping, Sequence
 from nrm.comparing.heads import Made
 from nrm.comparing.ranking import Ranking, errors_for
 from nrm.comparing.study import Study
+from nrm.outside.averaged import AVERAGED
 from nrm.seasons.drawing import Settings
 from nrm.seasons.results import Results, amount, per_cent
 from nrm.telling.page import Page
@@ -53,6 +54,9 @@ def about(seasons: int, settings: Settings, results: Mapping[str, Results]) -> I
                "that nobody took. The bound knows of neither.")
     if settings.leave_out:
         yield "Plans were made without the history that was played."
+    if AVERAGED in settings.modes:
+        yield (f"Under {AVERAGED} the prices were the mean of those of each history by itself, made anew at the start of "
+               "each period; a request below them wasn't asked for, and the others were asked at `nrm run first`.")
     if len(results) > 1:
         yield "Season by season all networks get the same draws."
     if settings.by_product:

@@ -6,16 +6,18 @@ May use: nrm, nrm.network, nrm.program, nrm.replies.
 """
 from __future__ import annotations
 
+import contextlib
 import dataclasses
 import os
 from fractions import Fraction
-from typing import Mapping, Sequence
+from typing import ContextManager, Mapping, Sequence
 
 from nrm import Stop
 from nrm.network import Network, Product, text_of
 from nrm.program import Program
 from nrm.replies import plan_of
 
+AVERAGED = "averaged"  # what selling by them is called beside the modes
 Prices = Mapping[str, Fraction]  # by leg
 Left = Mapping[str, int]  # seats by leg
 
@@ -37,10 +39,13 @@ def mean_of(prices: Sequence[Prices]) -> dict[str, Fraction]:
 
 
 class Averaged:
-    """The prices of the histories of a network, each by itself; files are written into a folder."""
+    """The prices of the histories of a network, each by itself; files are written into a folder. A clock counts the
+    time in the program."""
 
-    def __init__(self, network: Network, program: Program, folder: str) -> None:
+    def __init__(self, network: Network, program: Program, folder: str,
+                 clock: ContextManager[object] | None = None) -> None:
         self.network, self.program, self.folder = network, program, folder
+        self.clock = clock or contextlib.nullcontext()
         self.full = {name: it.authorised for name, it in network.legs.items()}
         self.opening: dict[int, Prices] = {}
 
@@ -50,7 +55,8 @@ class Averaged:
         if is_opening and history in self.opening:
             return self.opening[history]
         path = self.written("to-come.csv", history, period, left)
-        prices = self.program.told(plan_of, "plan", "bid", path).prices
+        with self.clock:
+            prices = self.program.told(plan_of, "plan", "bid", path).prices
         if is_opening:
             self.opening[history] = prices
         return prices

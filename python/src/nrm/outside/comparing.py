@@ -1,24 +1,17 @@
 """What averaged prices earn beside the three modes on the same requests, as tables.
 
-May use: nrm.outside.averaged, nrm.outside.playing, nrm.program, nrm.seasons.drawing, nrm.seasons.playing,
-nrm.seasons.results, nrm.telling.tables.
+May use: nrm.outside.averaged, nrm.seasons.playing, nrm.seasons.results, nrm.telling.tables.
 """
 from __future__ import annotations
 
-import functools
 import itertools
 from fractions import Fraction
 from typing import Iterator, Mapping
 
-from nrm.outside.averaged import Averaged, Prices, mean_of
-from nrm.outside.playing import sold_by_prices
-from nrm.program import Program
-from nrm.seasons.drawing import Settings
+from nrm.outside.averaged import Prices, mean_of
 from nrm.seasons.playing import Player
 from nrm.seasons.results import Estimate, amount
 from nrm.telling.tables import Cell, Table
-
-OUTSIDE = "averaged"
 
 
 def prices_table(plan: Prices, histories: Mapping[int, Prices]) -> Table:
@@ -36,21 +29,16 @@ def ends_of(leg: str, histories: Mapping[int, Prices]) -> tuple[Fraction, Fracti
 
 
 class Compared:
-    """The revenue of seasons in each mode, and by averaged prices."""
+    """The revenue of seasons in each mode, averaged prices among them."""
 
-    def __init__(self, source: bytes, settings: Settings, averaged: Averaged, program: Program, folder: str) -> None:
-        self.player, self.averaged, self.program = Player(source, settings, program, folder), averaged, program
-        self.revenue: dict[str, list[int]] = {it: [] for it in (*settings.modes, OUTSIDE)}
+    def __init__(self, player: Player) -> None:
+        self.player = player
+        self.revenue: dict[str, list[int]] = {it: [] for it in player.settings.modes}
 
     def play(self, number: int) -> None:
         """Plays the season of a number in each way."""
-        season = self.player.season(number)
-        without = season.history if self.player.settings.leave_out else None
-        for mode, outcome in self.player.outcomes(season).items():
+        for mode, outcome in self.player.outcomes(self.player.season(number)).items():
             self.revenue[mode].append(outcome.revenue)
-        prices_at = functools.partial(self.averaged.of, without=without)
-        path = self.player.path_without(None)
-        self.revenue[OUTSIDE].append(sold_by_prices(self.player.network, season, self.program, path, prices_at))
 
     def tables(self) -> Iterator[Table]:
         """What each way earns, and by how much any two differ."""

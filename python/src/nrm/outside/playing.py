@@ -6,17 +6,18 @@ nrm.outside.averaged, nrm.program, nrm.replies, nrm.seasons.drawing.
 """
 from __future__ import annotations
 
-from typing import Callable
+from typing import Callable, ContextManager
 
 from nrm import Stop
 from nrm.network import Network
 from nrm.outside.averaged import Left, Prices
 from nrm.program import Dialogue, Program
-from nrm.replies import Hindsight, NoLeg, Sold, answer_of
+from nrm.replies import NoLeg, Sold, answer_of
 from nrm.seasons.drawing import DrawnSeason, request_of
 
 PricesAt = Callable[[int, Left], Prices]  # at the start of a period, with so many seats left
 NEW_PLAN = "reoptimise "
+NOT_ASKED, NEW_PRICES = b"no fare", b"optimised"  # as a session under `bid` answers such lines
 
 
 def periods_of(season: DrawnSeason) -> list[list[str]]:
@@ -31,23 +32,30 @@ def periods_of(season: DrawnSeason) -> list[list[str]]:
 
 
 class Desk:
-    """What is sold at a session, and what is left."""
+    """What is left of the seats as a session sells what it is asked for."""
 
-    def __init__(self, network: Network, dialogue: Dialogue) -> None:
-        self.network, self.dialogue, self.revenue = network, dialogue, 0
+    def __init__(self, network: Network, dialogue: Dialogue, clock: ContextManager[object]) -> None:
+        self.network, self.dialogue, self.clock = network, dialogue, clock
         self.left = {name: it.authorised for name, it in network.legs.items()}
 
-    def sell(self, lines: list[str], prices: Prices) -> None:
-        """Asks for what fits the prices, and takes note of what is sold."""
-        wanted = [(line, it) for line in lines if (it := request_of(line)) and self.fits(it[0], prices)]
-        for (_, (name, party)), reply in zip(wanted, self.dialogue.ask([line for line, _ in wanted])):
-            answer = answer_of(reply)
-            if isinstance(answer, Sold):
-                self.revenue += party * self.network.products[name].fare
-                for leg in self.network.products[name].legs:
-                    self.left[leg] -= party
-            elif not isinstance(answer, NoLeg):
-                raise Stop(f"`run first` answers a request by {reply.decode('latin-1')}: is that another program?")
+    def sell(self, lines: list[str], prices: Prices) -> list[bytes]:
+        """Asks for what fits the prices, and takes note of what is sold: a reply to each line."""
+        wanted = [it is not None and self.fits(it[0], prices) for it in map(request_of, lines)]
+        with self.clock:
+            told = iter(self.dialogue.ask([line for line, is_wanted in zip(lines, wanted) if is_wanted]))
+        replies = [next(told) if it else NOT_ASKED for it in wanted]
+        for line, reply in zip(lines, replies):
+            self.note(line, reply)
+        return replies
+
+    def note(self, line: str, reply: bytes) -> None:
+        """Takes the seats of a request that was sold from those that are left."""
+        answer, request = answer_of(reply), request_of(line)
+        if isinstance(answer, Sold) and request:
+            for leg in self.network.products[request[0]].legs:
+                self.left[leg] -= request[1]
+        elif reply != NOT_ASKED and not isinstance(answer, NoLeg):
+            raise Stop(f"`run first` answers a request by {reply.decode('latin-1')}: is that another program?")
 
     def fits(self, name: str, prices: Prices) -> bool:
         """Whether a product's fare is at least the prices of its legs."""
@@ -55,19 +63,20 @@ class Desk:
         return product.fare >= sum(prices[leg] for leg in product.legs)
 
 
-def sold_by_prices(network: Network, season: DrawnSeason, program: Program, path: str, prices_at: PricesAt) -> int:
-    """The revenue of a season in which prices are made at the start of each period."""
+def replies_by_prices(network: Network, season: DrawnSeason, program: Program, path: str, prices_at: PricesAt,
+                      clock: ContextManager[object]) -> list[bytes]:
+    """A reply to each line of a season without cancellations in which prices are made at the start of each period. The
+    bound in the last is one of what was asked for alone. The clock counts the time in the session."""
     dialogue = Dialogue(program, "first", path)
     try:
-        desk = Desk(network, dialogue)
+        desk, replies = Desk(network, dialogue, clock), list[bytes]()
         for period, lines in enumerate(periods_of(season), 1):
-            desk.sell(lines, prices_at(period, desk.left))
-        told = answer_of(dialogue.ask(["hindsight"])[0])
+            replies += [NEW_PRICES] * (period > 1) + desk.sell(lines, prices_at(period, desk.left))
+        with clock:
+            replies += dialogue.ask(["hindsight"])
         dialogue.end()
     except BrokenPipeError:
         raise dialogue.broke()
     finally:
         dialogue.kill()
-    if not isinstance(told, Hindsight) or told.revenue != desk.revenue:
-        raise Stop(f"`run first` has another revenue than its replies, {desk.revenue}: is that another program?")
-    return desk.revenue
+    return replies

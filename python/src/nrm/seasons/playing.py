@@ -1,9 +1,12 @@
 """What a mode makes of a season, by a run of the program, and the seasons that are played again or in batches.
 
-May use: nrm, nrm.limits, nrm.network, nrm.program, nrm.replies, nrm.seasons.coupled, nrm.seasons.drawing.
+May use: nrm, nrm.limits, nrm.network, nrm.outside.averaged, nrm.outside.playing, nrm.program, nrm.replies,
+nrm.seasons.coupled, nrm.seasons.drawing.
 """
 from __future__ import annotations
 
+import dataclasses
+import functools
 import itertools
 import operator
 import os
@@ -16,6 +19,8 @@ from typing import Iterable, Iterator
 from nrm import Stop
 from nrm.limits import LAST_BOOKING
 from nrm.network import Network, text_of
+from nrm.outside.averaged import AVERAGED, Averaged
+from nrm.outside.playing import replies_by_prices
 from nrm.program import Dialogue, Program
 from nrm.replies import Answer, Hindsight, NoAnswer, Overflow, Sold, answer_of
 from nrm.seasons.coupled import season_of
@@ -164,6 +169,11 @@ def played(network: Network, season: DrawnSeason, program: Program, mode: str, p
         replies, cancelled = replies_with_cancellations(program, mode, path, season, clock)
     else:
         replies = program.replies_of_a_line(mode, path, season.stream, clock)
+    return outcome_of(network, season, mode, replies, cancelled)
+
+
+def outcome_of(network: Network, season: DrawnSeason, mode: str, replies: list[bytes], cancelled: set[int]) -> Outcome:
+    """The outcome of a season of which a mode's run gives these replies, where some lines' bookings were cancelled."""
     last = hindsight_of(mode, replies[-1] if replies else b"")
     letters = letters_of(mode, season, replies)
     sold = letters.translate(ARE_OK)
@@ -208,9 +218,12 @@ def by_leg(network: Network, seats_of_products: Iterable[tuple[str, int]]) -> di
 class Player:
     """Plays seasons of a network: keeps its file, and those without one history, in a folder."""
 
-    def __init__(self, source: bytes, settings: Settings, program: Program, folder: str) -> None:
+    def __init__(self, source: bytes, settings: Settings, program: Program, folder: str,
+                 clock: Clock | None = None) -> None:
         self.source, self.settings, self.program, self.folder = source, settings, program, folder
         self.network, self.identity = network_in(source)
+        self.clock = clock or Clock()
+        self.averaged = Averaged(self.network, program, folder, self.clock)
 
     def path_without(self, history: int | None) -> str:
         """The path of the network's file, or of that without a history."""
@@ -224,11 +237,22 @@ class Player:
         """The season of a number."""
         return season_of(self.network, self.settings, self.identity, number)
 
-    def outcomes(self, season: DrawnSeason, clock: Clock | None = None) -> dict[str, Outcome]:
-        """The outcome of a season in each mode."""
-        path = self.path_without(season.history if self.settings.leave_out else None)
-        clock = clock or Clock()
-        return {it: played(self.network, season, self.program, it, path, clock) for it in self.settings.modes}
+    def outcomes(self, season: DrawnSeason) -> dict[str, Outcome]:
+        """The outcome of a season in each mode, and last by averaged prices if they are among the modes."""
+        without = season.history if self.settings.leave_out else None
+        path = self.path_without(without)
+        modes = [it for it in self.settings.modes if it != AVERAGED]
+        outcomes = {it: played(self.network, season, self.program, it, path, self.clock) for it in modes}
+        if AVERAGED in self.settings.modes:
+            outcomes[AVERAGED] = dataclasses.replace(self.by_averaged_prices(season, without),
+                                                     bound=outcomes[modes[0]].bound)
+        return outcomes
+
+    def by_averaged_prices(self, season: DrawnSeason, without: int | None) -> Outcome:
+        """The outcome of a season by averaged prices, whose bound is one of what was asked for alone."""
+        replies = replies_by_prices(self.network, season, self.program, self.path_without(None),
+                                    functools.partial(self.averaged.of, without=without), self.clock)
+        return outcome_of(self.network, season, "first", replies, set())
 
 
 def replayed(player: Player) -> Iterator[tuple[int, Fraction, list[int]]]:

@@ -170,10 +170,10 @@ def batch_of(source: bytes, settings: Settings, words: Sequence[str], numbers: S
         program = Program.found(words)
         by = maker(program)
         with tempfile.TemporaryDirectory() as folder, no_collector():
-            player = Player(source, settings, program, folder)
+            player = Player(source, settings, program, folder, clock)
             for number in numbers:
                 season = player.season(number)
-                rows += rows_of_season(player.network, settings, number, season, player.outcomes(season, clock))
+                rows += rows_of_season(player.network, settings, number, season, player.outcomes(season))
         before, by = by, maker(program)
         if by.program != before.program:
             raise Stop(f"`{' '.join(words)}` on {by.machine} became another program meanwhile")

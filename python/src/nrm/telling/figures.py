@@ -19,7 +19,7 @@ import matplotlib.pyplot as pyplot  # noqa: E402, behind the choice of what draw
 BLACK, ORANGE, SKY, GREEN, YELLOW, BLUE, VERMILLION, PURPLE = (
     "#000000", "#E69F00", "#56B4E9", "#009E73", "#F0E442", "#0072B2", "#D55E00", "#CC79A7")
 STYLES = {"first": (ORANGE, "o", ":"), "bid": (BLUE, "s", "-"), "davn": (VERMILLION, "^", "--"),
-          "bound": (BLACK, "D", "-.")}
+          "averaged": (GREEN, "v", (0, (6, 1, 1, 1))), "bound": (BLACK, "D", "-.")}
 SHADE = "#EEEEEE"
 MOST_LINES, LINE_OF_A_TITLE = 2, 0.14  # of a text below a title, and its inches
 AMOUNTS = "{x:,.0f}"

@@ -14,7 +14,7 @@ and by the averaged prices, which are made anew at the start of each period, of 
 to come in each history. `nrm` hasn't this control. It is played as a desk could: a request whose fare is below the
 prices of its legs isn't asked for, and the others are asked at `nrm run first`, which sells them while there are seats.
 --leave-out makes all plans, and the mean, without the history that is played. All is played in one process, as many
-plans a season as there are histories times periods.
+plans a season as there are histories times periods; `nrm-tools simulate --averaged` plays the same on all processors.
 """
 from __future__ import annotations
 
@@ -29,12 +29,13 @@ from nrm.commands.running import asked_with_texts, parser, tell
 from nrm.commands.season_words import add_drawing, at_least
 from nrm.comparing.heads import lines_of, made_of
 from nrm.network import Network
-from nrm.outside.averaged import Averaged
+from nrm.outside.averaged import AVERAGED, Averaged
 from nrm.outside.comparing import Compared, prices_table
 from nrm.program import Program
-from nrm.replies import plan_of
+from nrm.replies import MODES, plan_of
 from nrm.searches.fields import Line
 from nrm.seasons.drawing import Settings
+from nrm.seasons.playing import Player
 
 
 def run(given: Sequence[str]) -> int:
@@ -61,7 +62,7 @@ def run(given: Sequence[str]) -> int:
         if asked.out is not None:
             certify(network, program, asked.out)
         if asked.seasons:
-            compare(asked, averaged, program, folder)
+            compare(asked, program, folder)
     return 0
 
 
@@ -73,12 +74,12 @@ def certify(network: Network, program: Program, folder: str) -> None:
     print(f"\n{paths[0][1]} to {os.path.basename(paths[-1][1])}: each is optimal for the file beside it")
 
 
-def compare(asked: argparse.Namespace, averaged: Averaged, program: Program, folder: str) -> None:
+def compare(asked: argparse.Namespace, program: Program, folder: str) -> None:
     """Plays seasons in all ways, and tells what each earns."""
-    settings = Settings(seed=asked.seed, demand=asked.demand, order=asked.order, parties=asked.parties,
-                        leave_out=asked.leave_out)
+    settings = Settings(seed=asked.seed, modes=(*MODES, AVERAGED), demand=asked.demand, order=asked.order,
+                        parties=asked.parties, leave_out=asked.leave_out)
     line = Line(functools.partial(tell, "averaged"))
-    compared = Compared(bytes_in(asked.network), settings, averaged, program, folder)
+    compared = Compared(Player(bytes_in(asked.network), settings, program, folder))
     for number in range(asked.seasons):
         compared.play(number)
         line.say(f"{number + 1:,} of {asked.seasons:,} seasons")

@@ -1,7 +1,7 @@
 """Many seasons in the three modes on the same requests: what each earns, by how much they differ, and how sure that is.
 
     nrm-tools simulate NETWORK... --seasons N [--seed S] [--out FOLDER] [--modes MODE...] [--demand HOW] [--order HOW]
-                       [--parties SIZE:WEIGHT,...] [--cancel P] [--show P --denied-cost C] [--leave-out]
+                       [--parties SIZE:WEIGHT,...] [--cancel P] [--show P --denied-cost C] [--leave-out] [--averaged]
                        [--workers N | --cluster ADDRESS [--tls CA CERTIFICATE KEY]] [--patience SECONDS]
                        [--names FILE] [--program WORD...]
 
@@ -27,6 +27,11 @@ a product in a period may be smaller. --cancel 0.1: each booking is cancelled wi
 from those after it. --show 0.9: each seat booked at the end is taken with this probability; those taken beyond the
 physical seats of a leg are denied boardings, at --denied-cost each. --leave-out: plans are made without the history
 that is played. The same --seed gives the same seasons.
+
+BESIDE THE MODES --averaged plays bid prices that are averaged over the histories, a control that `nrm` hasn't: a desk
+makes them anew at the start of each period, asks only for requests whose fare is at least the prices of their legs, and
+has them sold by `nrm run first`. `nrm-tools averaged` says more of them. They take as many plans a season as there are
+histories times periods, and aren't played with --cancel.
 
 WHERE IT RUNS. It needs Dask (Debian's python3-distributed, which is for /usr/bin/python3: if the Python that was asked
 has no Dask and that one has, a checkout's command goes on under that one). It starts as many processes as there are
@@ -65,6 +70,7 @@ from nrm.comparing.study import Study
 from nrm.comparing.verdicts import verdict
 from nrm.logs.names import texts_in
 from nrm.network import Network
+from nrm.outside.averaged import AVERAGED
 from nrm.program import Program
 from nrm.replies import MODES
 from nrm.seasons.coupled import together
@@ -111,6 +117,7 @@ def words_of(given: Sequence[str]) -> argparse.Namespace:
     words.add_argument("--show", type=probability, metavar="P")
     words.add_argument("--denied-cost", type=at_least(0, 2 ** 31), metavar="C")
     words.add_argument("--leave-out", action="store_true")
+    words.add_argument("--averaged", action="store_true")
     add_workers(words)
     add_names(words)
     add_program(words)
@@ -120,14 +127,16 @@ def words_of(given: Sequence[str]) -> argparse.Namespace:
         words.error("--show and --denied-cost go together")
     if asked.leave_out and asked.demand != "histories":
         words.error("--leave-out goes with --demand histories alone: with the others no one history is played")
+    if asked.averaged and asked.cancel:
+        words.error("--cancel isn't played by averaged prices")
     return asked
 
 
 def settings_of(asked: argparse.Namespace) -> Settings:
-    """The settings that are asked for; modes in their usual order."""
-    return Settings(seed=asked.seed, modes=tuple(it for it in MODES if it in asked.modes), demand=asked.demand,
-                    order=asked.order, parties=asked.parties, cancel=asked.cancel, show=asked.show,
-                    denied_cost=asked.denied_cost or 0, leave_out=asked.leave_out)
+    """The settings that are asked for; modes in their usual order, and behind them averaged prices."""
+    modes = (*(it for it in MODES if it in asked.modes), *([AVERAGED] if asked.averaged else []))
+    return Settings(seed=asked.seed, modes=modes, demand=asked.demand, order=asked.order, parties=asked.parties,
+                    cancel=asked.cancel, show=asked.show, denied_cost=asked.denied_cost or 0, leave_out=asked.leave_out)
 
 
 def names_of(paths: Sequence[str]) -> list[str]:
