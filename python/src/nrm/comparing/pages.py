@@ -55,8 +55,8 @@ def about(seasons: int, settings: Settings, results: Mapping[str, Results]) -> I
     if settings.leave_out:
         yield "Plans were made without the history that was played."
     if AVERAGED in settings.modes:
-        yield (f"Under {AVERAGED} the prices were the mean of those of each history by itself, made anew at the start of "
-               "each period; a request below them wasn't asked for, and the others were asked at `nrm run first`.")
+        yield (f"Under {AVERAGED} the prices were the mean of those of each history by itself, made anew at the start "
+               "of each period; a request below them wasn't asked for, and the others were asked at `nrm run first`.")
     if len(results) > 1:
         yield "Season by season all networks get the same draws."
     if settings.by_product:
