@@ -106,6 +106,11 @@ class Averages(PlaceTest):
         out = self.told("averaged", LOG, "--out", "kept", "--seasons", 5, "--leave-out", *self.with_program)
         self.want_in(out, "\nkept/history-1.txt to history-3.txt: each is optimal for the file beside it\n")
         self.want_in(out, "averaged less davn")
+        first, second, *_ = out.splitlines()
+        self.assertRegex(first, r"^(averaged|davn|bid) .*averaged.*, with these thresholds and demand drawn so\.$")
+        self.assertEqual(second, "Averaged over 3 histories, the opening bid price is above the plan's on 0 of 2 legs, "
+                         "and below it on 2.")
+        self.assertIn("\nseed: 1\n", out)
         self.assertEqual(len(list((self.folder / "kept").glob("history-*.csv"))), 3)
         for words, status, says in ((["--cancel", "0.1"], 2, "--cancel"), (["--seasons", "1"], 2, "--seasons"),
                                     (["--leave-out", "--demand", "poisson"], 2, "--leave-out")):

@@ -1,6 +1,7 @@
 """What averaged prices earn beside the three modes on the same requests, as tables.
 
-May use: nrm.outside.averaged, nrm.seasons.playing, nrm.seasons.results, nrm.telling.tables.
+May use: nrm.comparing.verdicts, nrm.outside.averaged, nrm.seasons.playing, nrm.seasons.results,
+nrm.telling.tables.
 """
 from __future__ import annotations
 
@@ -8,7 +9,8 @@ import itertools
 from fractions import Fraction
 from typing import Iterator, Mapping
 
-from nrm.outside.averaged import Prices, mean_of
+from nrm.comparing.verdicts import beside
+from nrm.outside.averaged import AVERAGED, Prices, mean_of
 from nrm.seasons.playing import Player
 from nrm.seasons.results import Estimate, amount
 from nrm.telling.tables import Cell, Table
@@ -20,6 +22,13 @@ def prices_table(plan: Prices, histories: Mapping[int, Prices]) -> Table:
     rows = [[leg, *(f"{float(it):.1f}" for it in (plan[leg], mean[leg], *ends_of(leg, histories)))] for leg in plan]
     return Table("Bid prices at the opening, in currency units",
                  ["leg", "of the plan", "averaged", "least of a history", "greatest"], rows)
+
+
+def beside_plan(plan: Prices, mean: Prices, histories: int) -> str:
+    """How many legs the mean prices otherwise than the plan does, in a sentence."""
+    above, below = sum(mean[leg] > plan[leg] for leg in plan), sum(mean[leg] < plan[leg] for leg in plan)
+    return (f"Averaged over {histories} histories, the opening bid price is above the plan's on {above} of {len(plan)} "
+            f"legs, and below it on {below}.")
 
 
 def ends_of(leg: str, histories: Mapping[int, Prices]) -> tuple[Fraction, Fraction]:
@@ -39,6 +48,13 @@ class Compared:
         """Plays the season of a number in each way."""
         for mode, outcome in self.player.outcomes(self.player.season(number)).items():
             self.revenue[mode].append(outcome.revenue)
+
+    def verdict(self) -> str:
+        """What averaged prices earn beside the mode that earns most."""
+        best = max((it for it in self.revenue if it != AVERAGED), key=lambda it: sum(self.revenue[it]))
+        most, other = sorted((AVERAGED, best), key=lambda it: -sum(self.revenue[it]))
+        differences = [a - b for a, b in zip(self.revenue[most], self.revenue[other])]
+        return f"{beside(most, other, differences)}, with these thresholds and demand drawn so."
 
     def tables(self) -> Iterator[Table]:
         """What each way earns, and by how much any two differ."""

@@ -30,7 +30,7 @@ from nrm.commands.season_words import add_drawing, at_least
 from nrm.comparing.heads import lines_of, made_of
 from nrm.network import Network
 from nrm.outside.averaged import AVERAGED, Averaged
-from nrm.outside.comparing import Compared, prices_table
+from nrm.outside.comparing import Compared, beside_plan, prices_table
 from nrm.program import Program
 from nrm.replies import MODES, plan_of
 from nrm.searches.fields import Line
@@ -57,12 +57,15 @@ def run(given: Sequence[str]) -> int:
         raise Stop(f"{asked.network} has one history: --leave-out takes two, one to play and one to know")
     with tempfile.TemporaryDirectory() as folder:
         averaged = Averaged(network, program, folder)
-        averaged.of(1, averaged.full)
-        prices_table(plan.prices, averaged.opening).with_texts(texts).show()
-        if asked.out is not None:
-            certify(network, program, asked.out)
-        if asked.seasons:
-            compare(asked, program, folder)
+        mean = averaged.of(1, averaged.full)
+        compared = compare(asked, program, folder) if asked.seasons else None
+    print(*([compared.verdict()] if compared else []), beside_plan(plan.prices, mean, network.histories), "", sep="\n")
+    seed = asked.seed if compared else None
+    print(*lines_of(made_of({"network": {asked.network: bytes_in(asked.network)}}, program, seed)), sep="\n")
+    for table in [prices_table(plan.prices, averaged.opening), *(compared.tables() if compared else [])]:
+        table.with_texts(texts).show()
+    if asked.out is not None:
+        certify(network, program, asked.out)
     return 0
 
 
@@ -74,8 +77,8 @@ def certify(network: Network, program: Program, folder: str) -> None:
     print(f"\n{paths[0][1]} to {os.path.basename(paths[-1][1])}: each is optimal for the file beside it")
 
 
-def compare(asked: argparse.Namespace, program: Program, folder: str) -> None:
-    """Plays seasons in all ways, and tells what each earns."""
+def compare(asked: argparse.Namespace, program: Program, folder: str) -> Compared:
+    """Plays seasons in all ways."""
     settings = Settings(seed=asked.seed, modes=(*MODES, AVERAGED), demand=asked.demand, order=asked.order,
                         parties=asked.parties, leave_out=asked.leave_out)
     line = Line(functools.partial(tell, "averaged"))
@@ -84,6 +87,4 @@ def compare(asked: argparse.Namespace, program: Program, folder: str) -> None:
         compared.play(number)
         line.say(f"{number + 1:,} of {asked.seasons:,} seasons")
     line.end(f"{asked.seasons:,} seasons")
-    print("", *lines_of(made_of({"network": {asked.network: bytes_in(asked.network)}}, program, asked.seed)), sep="\n")
-    for table in compared.tables():
-        table.show()
+    return compared
