@@ -30,6 +30,7 @@ SeatsAskedFor = Mapping[str, Sequence[int]]  # by product and period
 class Settings:
     """How seasons are drawn and played.
 
+    modes        in which they are played, those of the program; behind them `averaged` if averaged prices are too
     demand       histories, independent or poisson
     order        mixed or low-first, of the requests of a period
     parties      sizes of parties and their weights; a request is for a seat if there is one pair (1, weight)
