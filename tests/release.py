@@ -87,7 +87,7 @@ def has_what_one_begins_with(release):
               "docs/nrm.1", "docs/nrm_kept.1",
               "docs/analyst.md", "docs/operating.md", "docs/auditor.md", "examples/log/network.csv",
               "python/src/nrm/audit.py",
-              "python/src/nrm/telling/page.html"}
+              "python/src/nrm/telling/page.html", "bench/misses.py", "bench/nrm/__init__.py"}
     want(wanted - files, set(), "files")
     want([it for it in files if "__pycache__" in it
           or it.startswith(("python/tests", "python/src/nrm.egg", "crates", "build"))], [])

@@ -47,7 +47,7 @@ done
 
 sources=$(mktemp -d)
 trap 'rm -rf "$sources"' EXIT
-git -C "$top" archive "$commit" nrm-tools python/pyproject.toml python/src docs examples LICENSE CHANGELOG.md CONTRIBUTING.md README.md |
+git -C "$top" archive "$commit" nrm-tools python/pyproject.toml python/src bench docs examples LICENSE CHANGELOG.md CONTRIBUTING.md README.md |
   tar -x -C "$sources"
 mkdir -p "$made/licences" || stop "$made can't be made"
 cp -r "$sources/." "$made"
