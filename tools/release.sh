@@ -4,12 +4,12 @@
 #     tools/release.sh FOLDER
 #
 # FOLDER/nrm-VERSION gets the two programs, which are built first if need be; nrm-tools with the package in python/, and the wheel of it;
-# README.md, CHANGELOG.md, all pages of docs/ with the man pages, examples/, LICENSE, licences/ of the kit's crates that the programs have
-# code of; VERSION, which says the version and the commit, and SHA256SUMS of all of them: `sha256sum -c SHA256SUMS` there sees that they
-# are as they were made. Of README.md stays what is for who has no checkout. It is made of what is committed, with the kit's `rt` on the
-# path, and Debian's python3-pip, python3-setuptools and python3-wheel: where something isn't, or the folder is there, nothing is made, and
-# the status is 1; it is 2 where the words ask for nothing. NRM_PYTHON names the Python that makes the wheel, /usr/bin/python3 if it isn't
-# said.
+# README.md, CHANGELOG.md, all pages of docs/ with the man pages, examples/, bench/, LICENSE, licences/ of the kit's crates that the
+# programs have code of; VERSION, which says the version and the commit, and SHA256SUMS of all of them: `sha256sum -c SHA256SUMS` there
+# sees that they are as they were made. Of README.md stays what is for who has no checkout. It is made of what is committed, with the kit's
+# `rt` on the path, and Debian's python3-pip, python3-setuptools and python3-wheel: where something isn't, or the folder is there, nothing
+# is made, and the status is 1; it is 2 where the words ask for nothing. NRM_PYTHON names the Python that makes the wheel,
+# /usr/bin/python3 if it isn't said.
 set -euo pipefail
 top=$(dirname "$(dirname "$(readlink -f "${BASH_SOURCE[0]}")")")
 python=${NRM_PYTHON:-/usr/bin/python3}
@@ -47,8 +47,8 @@ done
 
 sources=$(mktemp -d)
 trap 'rm -rf "$sources"' EXIT
-git -C "$top" archive "$commit" nrm-tools python/pyproject.toml python/src bench docs examples LICENSE CHANGELOG.md CONTRIBUTING.md README.md |
-  tar -x -C "$sources"
+git -C "$top" archive "$commit" nrm-tools python/pyproject.toml python/src bench docs examples LICENSE CHANGELOG.md CONTRIBUTING.md \
+  README.md | tar -x -C "$sources"
 mkdir -p "$made/licences" || stop "$made can't be made"
 cp -r "$sources/." "$made"
 SOURCE_DATE_EPOCH=$(git -C "$top" show -s --format=%ct "$commit") "$python" -m pip wheel --quiet --no-deps --no-index \
