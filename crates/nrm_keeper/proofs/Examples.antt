@@ -1,16 +1,21 @@
--- Rows, faults and answers, by hand.
-use Rattle.std.proofs.Common.{◌≡◌, [], ◌∷◌, true, false, pos, negsuc, refl}
-use Rattle.std.specs.Prelude.{ℕ, ◌^◌, ◌-◌, List, Some, None, Ok, Err, codes}
+-- Rows, faults and answers, and what a file shows, by hand.
+use Rattle.std.proofs.Common.{◌≡◌, [], ◌∷◌, true, false, pos, negsuc, refl, ap}
+use Rattle.std.specs.Prelude.{ℕ, ◌^◌, ◌-◌, Bool, List, Option, Some, None, IsSome, Ok, Err, codes}
+use Rattle.sqlite_trees.specs.declared.store.Store.{Ghosts}
 use Rattle.sqlite_value.specs.declared.value.Value.TheVariants.{Null, Int, Text, Blob}
 use Rattle.sqlite.specs.declared.error.Error.TheVariants.{SqliteFailure, QueryReturnedNoRows}
 use Rattle.sqlite.specs.declared.error.ErrorCode.TheVariants as code
+use Rattle.sqlite.specs.Held.{Held, state}
 use Rattle.nrm_keeper.specs.declared.row.KeptRow.{KeptRow}
 use Rattle.nrm_keeper.specs.declared.row.KeepFault.TheVariants.{Failed, NoMemory}
 use Rattle.nrm_keeper.specs.Inner.Faults.{fault_of, added_by, dropped_by}
 use Rattle.nrm_keeper.specs.Memory.{HeldRows, fails_next, after_call}
 use Rattle.nrm_keeper.specs.Rows.{rise, told_if_rising, is_kept, without, has_failed}
-use Rattle.nrm_keeper.specs.Stored.{kept_of, kept_row, kept_rows}
+use Rattle.nrm_keeper.specs.File.{Seen, FileRows, seen, file_view, IsTrusted, shown_in, Same, Done, Failed as FailedCall, ListsIn}
+use Rattle.nrm_keeper.specs.Steady.{IsSteady}
+use Rattle.nrm_keeper.specs.Stored.{kept_of, kept_row, kept_rows, told as told_by_store}
 use Rattle.nrm_keeper.specs.Inner.Table.{stored}
+use Rattle.nrm_keeper.proofs.FileLemmas.{unsteadied}
 
 -- ---- rows
 
@@ -150,3 +155,87 @@ fails_at_the_last = refl
 
 counts_stay_at_the_last : after_call (after ((2 ^ 64 - 1) ∷ []) (2 ^ 64 - 1) (2 ^ 64 - 1)) ≡ after ((2 ^ 64 - 1) ∷ []) (2 ^ 64 - 1) (2 ^ 64 - 1)
 counts_stay_at_the_last = refl
+
+-- ---- what a file shows
+
+-- a file that was not opened yet, one that is open and tells these rows, clean and open or not, and one that was let go
+abbrev unopened : FileRows
+unopened = record { file = None; is_lost = false; faults = 0 }
+
+abbrev telling : Bool → Option (List KeptRow) → Seen
+telling steady rows = record { is_steady = steady; rows = rows }
+
+abbrev opened : Bool → List KeptRow → FileRows
+opened steady rows = record { file = Some (telling steady (Some rows)); is_lost = false; faults = 0 }
+
+abbrev let_go : FileRows
+let_go = record { file = None; is_lost = true; faults = 1 }
+
+unopened_is_trusted : IsTrusted unopened
+unopened_is_trusted = record { found = refl; steady = tt }
+
+open_is_trusted : IsTrusted (opened true [])
+open_is_trusted = record { found = refl; steady = refl }
+
+unsteady_is_not_trusted : IsTrusted (opened false []) → ⊥
+unsteady_is_not_trusted trusted = let steady : false ≡ true = trusted.steady in cc
+
+let_go_is_not_trusted : IsTrusted let_go → ⊥
+let_go_is_not_trusted trusted = let found : true ≡ false = trusted.found in cc
+
+-- before it is opened it shows the rows that are assumed, and then those that it tells
+unopened_shows : shown_in (Some (row 1 ∷ [])) unopened ≡ Some (row 1 ∷ [])
+unopened_shows = refl
+
+unopened_and_empty : shown_in (Some []) unopened ≡ Some []
+unopened_and_empty = refl
+
+open_shows : shown_in None (opened true []) ≡ Some []
+open_shows = refl
+
+open_shows_its_own : shown_in (Some (row 1 ∷ [])) (opened true (row 2 ∷ [])) ≡ Some (row 2 ∷ [])
+open_shows_its_own = refl
+
+listed : ListsIn (row 1 ∷ []) (Some (telling true (Some (row 1 ∷ []))))
+listed steady = refl
+
+not_all_listed : ListsIn [] (Some (telling true (Some (row 1 ∷ [])))) → ⊥
+not_all_listed lists = let same : [] ≡ row 1 ∷ [] = lists refl in cc
+
+-- a call that was done leaves the file open, and lets none go
+done_but_not_open : Done (Some []) Same unopened unopened → ⊥
+done_but_not_open done = let there : IsSome unopened.file = done.there refl in cc
+
+done_but_let_go : Done (Some []) Same (opened true []) let_go → ⊥
+done_but_let_go done = let lost : true ≡ false = done.lost in cc
+
+-- what is clean now was clean before, and the file that is opened tells the rows that are assumed
+clean_again : Done (Some []) Same (opened false []) (opened true []) → ⊥
+clean_again done = let before : false ≡ true = (done.rows refl).0 in cc
+
+opened_with_other_rows : Done (Some []) Same unopened (opened true (row 1 ∷ [])) → ⊥
+opened_with_other_rows done = let same : Some (row 1 ∷ []) ≡ Some [] = done.rows refl in cc
+
+-- a call that failed changes no row, shuts no file but by letting it go, and what was let go stays so
+failed_with_a_row_more : FailedCall (Some []) (opened true []) (opened true (row 1 ∷ [])) → ⊥
+failed_with_a_row_more failed = let same : Some (row 1 ∷ []) ≡ Some [] = (failed.rows refl refl).1 in cc
+
+failed_and_shut : FailedCall (Some []) (opened true []) unopened → ⊥
+failed_and_shut failed = failed.rows refl
+
+failed_and_back : FailedCall (Some []) let_go unopened → ⊥
+failed_and_back failed = let lost : false ≡ true = failed.lost refl in cc
+
+-- a connection that is clean and open is seen so, with the rows that it tells; none is seen before an opening, nor once the file was let go
+seen_if_steady : (S : Type 0) (g : Ghosts S) (h : Held S) → IsSteady (state g h) → seen g h ≡ telling true (told_by_store (state g h).now)
+unfolding seen
+seen_if_steady S g h steady = ap (λ (is : Bool). telling is (told_by_store (state g h).now)) (unsteadied (Some []) g h steady)
+
+seen_in_view : (S : Type 0) (g : Ghosts S) (h : Held S) → file_view g (Some h) false 3 ≡ record { file = Some (seen g h); is_lost = false; faults = 3 }
+seen_in_view S g h = refl
+
+none_in_view : (S : Type 0) (g : Ghosts S) → file_view g None false 3 ≡ record { file = None; is_lost = false; faults = 3 }
+none_in_view S g = refl
+
+let_go_in_view : (S : Type 0) (g : Ghosts S) (h : Held S) → file_view g (Some h) true 3 ≡ record { file = None; is_lost = true; faults = 3 }
+let_go_in_view S g h = refl

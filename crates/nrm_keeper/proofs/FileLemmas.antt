@@ -87,7 +87,7 @@ module _ (at_first : Option (List KeptRow)) where
     unfolding seen
     steadied h is = let b = both (state g h).is_clean (state g h).is_open is in record { clean = no_doubt (state g h).is_clean b.0; live = b.1 }
 
-    unsteadied : (h : Held S) → IsSteady (state g h) → IsTrue (seen g h).is_steady
+    pub unsteadied : (h : Held S) → IsSteady (state g h) → IsTrue (seen g h).is_steady
     unfolding seen
     unsteadied h is = and_back (state g h).is_clean (state g h).is_open (clean_of (state g h).is_clean is.clean) is.live
 

@@ -21,6 +21,11 @@ pub record FileRows : Type 0 where
   pub is_lost : Bool
   pub faults : ℕ
 
+-- what the opener of a path shows: whether the file of the path belongs to this run, and how often an opening has failed
+pub record OwnedPath : Type 0 where
+  pub is_owned : Bool
+  pub faults : ℕ
+
 unfoldable pub seen : {S : Type 0} → Ghosts S → Held S → Seen
 seen g h = record { is_steady = (state g h).is_clean && (state g h).is_open; rows = told (state g h).now }
 

@@ -3,6 +3,8 @@
 //! connection is let go, and the change is undone as soon as the file can be opened again. What the file tells is said as long
 //! as it is the one that was first opened, and is clean.
 ghost use Rattle.std.specs.Prelude.{◌≡◌, ◌<◌, ◌^◌, None, Some, IfOk, OnOk, OnErr, IfSome, IsSome};
+ghost use Rattle.nrm_edge.specs.Causes.{counted};
+ghost use Rattle.nrm_keeper.specs.Rows.{has_failed};
 ghost use Rattle.nrm_keeper.specs.Steady.{IsSettled};
 ghost use Rattle.nrm_keeper.specs.Passes.{TellsRows};
 
@@ -194,6 +196,7 @@ fn open_if_shut<T: Alter + Drop, O: Opener<T>>(
     connection: &mut Option<Connection<T>>,
 ) -> Result<(), KeepFault>
     requires settled { IsSettled T.Store connection.old }
+    ensures counts { O.faults opener.new ≡ counted (has_failed result) (O.faults opener.old) }
     ensures settled { IsSettled T.Store connection.new }
     ensures there { OnOk result (IsSome connection.new) }
     ensures stays { IsSome connection.old → connection.new ≡ connection.old }

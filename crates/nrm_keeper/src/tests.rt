@@ -1,9 +1,16 @@
-//! What no clause tells: that the calls succeed with ample memory, what the store keeps, and what a file does.
-ghost use Rattle.std.specs.Prelude.{◌≡◌, ◌<◌, ◌^◌, [], ◌∷◌, Some, IfOk};
+//! What no clause tells: that the calls succeed with ample memory, what the store keeps, and what a file does. And what each keeper
+//! tells through its trait alone: one that tells or shows no rows, that is never trusted, or whose count stands, is refused here.
+ghost use Rattle.std.specs.Prelude.{◌≡◌, ◌<◌, ◌^◌, [], ◌∷◌, Some, IfOk, OnOk, OnErr};
+ghost use Rattle.nrm_edge.specs.Causes.{counted};
+ghost use Rattle.nrm_keeper.specs.File.{IsTrusted, shown_in};
+ghost use Rattle.nrm_keeper.specs.Rows.{Adds, has_failed, told_if_rising};
 
-use crate::{Beginning, FileKeeper, KeepFault, Keeper, KeptRow, MemKeeper, SqlKeeper};
+use crate::{
+    Beginning, FileKeeper, KeepFault, Keeper, KeptRow, MemKeeper, Opener, PathOpener, SqlKeeper,
+    StoreKeeper,
+};
 use nrm_text::{Name, name_of};
-use sqlite::{Connection, Unknown};
+use sqlite::{Alter, Connection, FileFrom, FileStore, Unknown};
 use std::alloc::{AllocError, Global};
 use std::rt::HostRuntime;
 use std::test::Fail;
@@ -136,6 +143,89 @@ fn with_row(alloc: Global, row: KeptRow) -> Result<SqlKeeper, KeepFault>
     Ok(keeper)
 }
 
+// Adds a row to any keeper: what it tells of its rows, and what it shows of them and counts.
+fn add_told<P: Keeper>(keeper: &mut P, alloc: Global, row: KeptRow) -> Result<(), KeepFault>
+    requires { row.number < 10 ^ 12 }
+    ensures added { OnOk result (Adds row (P.rows keeper.old) (P.rows keeper.new)) }
+    ensures same { OnErr result (P.rows keeper.new ≡ P.rows keeper.old) }
+{
+    keeper.add(alloc, row)
+}
+
+fn add_shown<P: Keeper>(keeper: &mut P, alloc: Global, row: KeptRow) -> Result<(), KeepFault>
+    requires { row.number < 10 ^ 12 }
+    ensures shows { P.trusted keeper.new → P.trusted keeper.old × OnOk result (Adds row (P.shown keeper.old) (P.shown keeper.new))
+        × OnErr result (P.shown keeper.new ≡ P.shown keeper.old) }
+    ensures counts { P.faults keeper.new ≡ counted (has_failed result) (P.faults keeper.old) }
+{
+    keeper.add(alloc, row)
+}
+
+// The same of each keeper: of a file that is trusted, and of rows in memory outright.
+fn add_shown_in_store<T: Alter + Drop, O: Opener<T>>(
+    keeper: &mut StoreKeeper<T, O>,
+    alloc: Global,
+    row: KeptRow,
+) -> Result<(), KeepFault>
+    requires { row.number < 10 ^ 12 }
+    ensures trusted { IsTrusted keeper.new → IsTrusted keeper.old }
+    ensures added { IsTrusted keeper.new → OnOk result (Adds row (shown_in O.first keeper.old) (shown_in O.first keeper.new)) }
+    ensures same { IsTrusted keeper.new → OnErr result (shown_in O.first keeper.new ≡ shown_in O.first keeper.old) }
+    ensures counts { keeper.new.faults ≡ counted (has_failed result) keeper.old.faults }
+{
+    add_shown(keeper, alloc, row)
+}
+
+fn add_shown_in_table(keeper: &mut SqlKeeper, alloc: Global, row: KeptRow) -> Result<(), KeepFault>
+    requires { row.number < 10 ^ 12 }
+    ensures added { OnOk result (Adds row keeper.old.rows keeper.new.rows) }
+    ensures same { OnErr result (keeper.new.rows ≡ keeper.old.rows) }
+    ensures counts { keeper.new.faults ≡ counted (has_failed result) keeper.old.faults }
+{
+    add_shown(keeper, alloc, row)
+}
+
+fn add_shown_in_memory(keeper: &mut MemKeeper, alloc: Global, row: KeptRow) -> Result<(), KeepFault>
+    requires { row.number < 10 ^ 12 }
+    ensures added { OnOk result (Adds row (told_if_rising keeper.old.rows) (told_if_rising keeper.new.rows)) }
+    ensures same { OnErr result (told_if_rising keeper.new.rows ≡ told_if_rising keeper.old.rows) }
+    ensures counts { keeper.new.faults ≡ counted (has_failed result) keeper.old.faults }
+{
+    add_shown(keeper, alloc, row)
+}
+
+fn add_told_in_memory(keeper: &mut MemKeeper, alloc: Global, row: KeptRow) -> Result<(), KeepFault>
+    requires { row.number < 10 ^ 12 }
+    ensures added { OnOk result (Adds row (told_if_rising keeper.old.rows) (told_if_rising keeper.new.rows)) }
+    ensures same { OnErr result (told_if_rising keeper.new.rows ≡ told_if_rising keeper.old.rows) }
+{
+    add_told(keeper, alloc, row)
+}
+
+// Opens a store: what any opener counts, and the opener of a path.
+fn open_counted<T: Alter + Drop, O: Opener<T>>(opener: &mut O) -> Result<(), KeepFault>
+    ensures { O.faults opener.new ≡ counted (has_failed result) (O.faults opener.old) }
+{
+    match opener.open() {
+        Ok(_) => Ok(()),
+        Err(fault) => Err(fault),
+    }
+}
+
+fn open_path<S: Beginning>(opener: &mut PathOpener<'_, S>) -> Result<(), KeepFault>
+    ensures { opener.new.faults ≡ counted (has_failed result) opener.old.faults }
+{
+    open_counted::<FileStore<FileFrom<S>>, PathOpener<'_, S>>(opener)
+}
+
+// A keeper of a file is trusted before it is opened, and shows the rows that are assumed.
+fn new_in_file<'a, S: Beginning>(rt: &'a HostRuntime, path: &'a str) -> FileKeeper<'a, S>
+    ensures trusted { IsTrusted result }
+    ensures shows { shown_in S.rows result ≡ S.rows }
+{
+    FileKeeper::new(rt, path)
+}
+
 #[test]
 fn rows_are_kept_in_memory(rt: HostRuntime) -> Result<(), Fail> {
     let mut keeper = MemKeeper::new(Vec::new(rt.alloc()), Vec::new(rt.alloc()));
@@ -153,10 +243,10 @@ fn the_third_call_fails(rt: HostRuntime) -> Result<(), Fail> {
     let failing = Vec::from_array(rt.alloc(), [3])?;
     let mut keeper = MemKeeper::new(Vec::new(rt.alloc()), failing);
     assert!(rt; keeps(&mut keeper, rt.alloc(), &[]));
-    assert!(rt; keeper.add(rt.alloc(), row((1, b"THRU", 2))?).is_ok());
+    assert!(rt; add_told_in_memory(&mut keeper, rt.alloc(), row((1, b"THRU", 2))?).is_ok());
     assert!(rt;
         matches!(
-            keeper.add(rt.alloc(), row((2, b"LOC", 1))?),
+            add_shown_in_memory(&mut keeper, rt.alloc(), row((2, b"LOC", 1))?),
             Err(KeepFault::Failed)
         )
     );
@@ -181,7 +271,8 @@ fn a_row_is_added_before_any_other_call(rt: HostRuntime) -> Result<(), Fail> {
     let Ok(mut keeper) = with_row(rt.alloc(), row((2, b"LOC", 1))?) else {
         return Err(Fail::from("not added"));
     };
-    assert!(rt; keeps(&mut keeper, rt.alloc(), &[(2, b"LOC", 1)]));
+    assert!(rt; add_shown_in_table(&mut keeper, rt.alloc(), row((3, b"LOC", 2))?).is_ok());
+    assert!(rt; keeps(&mut keeper, rt.alloc(), &[(2, b"LOC", 1), (3, b"LOC", 2)]));
     Ok(())
 }
 
@@ -326,12 +417,32 @@ fn a_store_that_is_gone_is_not_made_again(rt: HostRuntime) -> Result<(), Fail> {
 
 fn closed_and_opened<S: Beginning>(rt: &HostRuntime, place: &Place) -> Result<(), Fail> {
     let one = (1, b"THRU".as_slice(), 2);
-    let mut keeper = FileKeeper::<S>::new(rt, &place.store);
-    holds(keeper.add(rt.alloc(), row(one)?).is_ok(), "a row is added")?;
+    let mut keeper = new_in_file::<S>(rt, &place.store);
+    holds(
+        add_shown_in_store(&mut keeper, rt.alloc(), row(one)?).is_ok(),
+        "a row is added",
+    )?;
     holds(keeper.close().is_ok(), "it is closed")?;
     fs::remove_file(rt, &place.log)?;
     let mut keeper = FileKeeper::<S>::new(rt, &place.store);
     holds(keeps(&mut keeper, rt.alloc(), &[one]), "the row is there")
+}
+
+// A path without its folder is a fault of each opening, and then it can be opened.
+fn path_opened_late<S: Beginning>(rt: &HostRuntime, place: &Place) -> Result<(), Fail> {
+    let beyond = format!(in rt.alloc(); "{}/store", place.store)?;
+    let mut opener = PathOpener::<S>::new(rt, &beyond);
+    holds(open_path(&mut opener).is_err(), "there is no folder")?;
+    fs::create_dir(rt, &place.store)?;
+    holds(open_path(&mut opener).is_ok(), "now there is one")
+}
+
+#[test]
+fn an_opener_may_succeed_after_a_fault(rt: HostRuntime) -> Result<(), Fail> {
+    let place = new_place(&rt, "nrm_keeper_opener")?;
+    path_opened_late::<Unknown>(&rt, &place)?;
+    fs::remove_dir_all(&rt, &place.folder)?;
+    Ok(())
 }
 
 #[test]
