@@ -1,6 +1,6 @@
 -- Rows, faults and answers, and what a file shows, by hand.
 use Rattle.std.proofs.Common.{◌≡◌, [], ◌∷◌, true, false, pos, negsuc, refl, ap}
-use Rattle.std.specs.Prelude.{ℕ, ◌^◌, ◌-◌, Bool, List, Option, Some, None, IsSome, Ok, Err, codes}
+use Rattle.std.specs.Prelude.{ℕ, ◌^◌, ◌-◌, Bool, List, Option, Some, None, IsSome, IsTrue, Ok, Err, codes}
 use Rattle.sqlite_trees.specs.declared.store.Store.{Ghosts}
 use Rattle.sqlite_value.specs.declared.value.Value.TheVariants.{Null, Int, Text, Blob}
 use Rattle.sqlite.specs.declared.error.Error.TheVariants.{SqliteFailure, QueryReturnedNoRows}
@@ -15,7 +15,7 @@ use Rattle.nrm_keeper.specs.File.{Seen, FileRows, seen, file_view, IsTrusted, sh
 use Rattle.nrm_keeper.specs.Steady.{IsSteady}
 use Rattle.nrm_keeper.specs.Stored.{kept_of, kept_row, kept_rows, told as told_by_store}
 use Rattle.nrm_keeper.specs.Inner.Table.{stored}
-use Rattle.nrm_keeper.proofs.FileLemmas.{unsteadied}
+use Rattle.nrm_keeper.proofs.FileLemmas.{steadied, unsteadied}
 
 -- ---- rows
 
@@ -226,10 +226,14 @@ failed_and_shut failed = failed.rows refl
 failed_and_back : FailedCall (Some []) let_go unopened → ⊥
 failed_and_back failed = let lost : false ≡ true = failed.lost refl in cc
 
--- a connection that is clean and open is seen so, with the rows that it tells; none is seen before an opening, nor once the file was let go
+-- A connection that is clean and open is seen so, with the rows that it tells, and no other is. None is seen before an opening, nor once the
+-- file was let go.
 seen_if_steady : (S : Type 0) (g : Ghosts S) (h : Held S) → IsSteady (state g h) → seen g h ≡ telling true (told_by_store (state g h).now)
 unfolding seen
 seen_if_steady S g h steady = ap (λ (is : Bool). telling is (told_by_store (state g h).now)) (unsteadied (Some []) g h steady)
+
+steady_if_seen : (S : Type 0) (g : Ghosts S) (h : Held S) → IsTrue (seen g h).is_steady → IsSteady (state g h)
+steady_if_seen S g h is = steadied (Some []) g h is
 
 seen_in_view : (S : Type 0) (g : Ghosts S) (h : Held S) → file_view g (Some h) false 3 ≡ record { file = Some (seen g h); is_lost = false; faults = 3 }
 seen_in_view S g h = refl

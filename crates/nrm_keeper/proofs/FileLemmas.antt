@@ -83,7 +83,7 @@ module _ (at_first : Option (List KeptRow)) where
   compose P (Some a) (Some b) (Some c) h k = λ steady. let s = k steady in let t = h s.0 in (t.0, subst (λ (r : Option (List KeptRow)). P r c.rows) t.1 s.1)
 
   module _ {S : Type 0} (g : Ghosts S) where
-    steadied : (h : Held S) → IsTrue (seen g h).is_steady → IsSteady (state g h)
+    pub steadied : (h : Held S) → IsTrue (seen g h).is_steady → IsSteady (state g h)
     unfolding seen
     steadied h is = let b = both (state g h).is_clean (state g h).is_open is in record { clean = no_doubt (state g h).is_clean b.0; live = b.1 }
 
