@@ -1,0 +1,3 @@
+-- What private functions serve.
+pub mod Bases
+pub mod Priced

@@ -1,0 +1,9 @@
+pub mod Account
+pub mod Inner
+pub mod Largest
+pub mod Laws
+pub mod Lines
+pub mod Nests
+pub mod Readings
+pub mod Tellers
+pub mod Texts

@@ -1,0 +1,17 @@
+//! Laws of accounts. Each is the contract of a function that does nothing.
+ghost use Rattle.nrm_account.specs.Laws.{AccountsAreOfTheirLines, AccountsGiveReplies, LargestPartiesAreSold};
+
+/// The numbers of the account of a request give its reply by the rule alone.
+pub fn accounts_give_replies()
+    ensures { AccountsGiveReplies }
+{}
+
+/// A request is sold exactly if its party is no larger than the largest.
+pub fn largest_parties_are_sold()
+    ensures { LargestPartiesAreSold }
+{}
+
+/// What is written as a session is read is the account of the line that is asked for, in the state that a run over the lines before it comes to.
+pub fn accounts_are_of_their_lines()
+    ensures { AccountsAreOfTheirLines }
+{}
