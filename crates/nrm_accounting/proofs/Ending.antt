@@ -1,0 +1,192 @@
+-- How a call ends, out of how its parts went.
+use Rattle.std.proofs.Common.{ℕ, ◌≡◌, ◌∙◌, ◌<◌, ◌⊎◌, true, false, List, [], ◌++◌, take, Option, Some, None, Ok, Err, refl, sym, ap, subst, inl, inr}
+use Rattle.std.specs.Prelude.{⊤}
+use Rattle.nrm_edge.specs.Causes.{Rose}
+use Rattle.nrm_model.specs.Network.{NetworkValue}
+use Rattle.nrm_simplex.specs.declared.fault.SolveFault.{SolveFault}
+use Rattle.nrm_simplex.specs.declared.fault.SolveFault.TheVariants as fault
+use Rattle.nrm_hindsight.specs.Requests.{tallies_of}
+use Rattle.nrm_hindsight.specs.Selections.ChosenFrom.{none as none_chosen}
+use Rattle.nrm_control.specs.State.{opening}
+use Rattle.nrm_control.specs.Standing.{ControlValue, IsStartFault, StandsFor}
+use Rattle.nrm_stream.specs.Commands.{commands_of, whole_commands}
+use Rattle.nrm_stream.specs.declared.command.Command.{Command}
+use Rattle.nrm_outside.specs.NetworkFile.{CountsFetch, OpensFile, reason_line}
+use Rattle.nrm_outside.specs.Outside.{LeftStream, OnFile, Outside, Wrote, WroteCut}
+use Rattle.nrm_outside.specs.Refusals.{at_row, file_fault_line, network_under, no_file, refusal_line}
+use Rattle.nrm_outside.specs.Words.{overflow_line, told_pivots}
+use Rattle.nrm_outside.specs.declared.network_file.NoNetwork.{NoNetwork}
+use Rattle.nrm_outside.specs.declared.network_file.NoNetwork.TheVariants as none
+use Rattle.nrm_session.specs.Serving.{CountsFaults, ServesBy, Streams}
+use Rattle.nrm_session.specs.declared.serving.End.{End}
+use Rattle.nrm_session.specs.declared.serving.End.TheVariants as end
+use Rattle.nrm_account.specs.Tellers.{Tells, TellsCut, reading_of}
+use Rattle.nrm_account.specs.Readings.{Reading, Reads, unread}
+use Rattle.nrm_account.specs.declared.teller.Teller.{Teller}
+use Rattle.nrm_accounting.specs.Ends.{Begins, Ends, Lacks, Ran, ReadsCut, ReadsTo, file_fault, overflow, refused, stream_limit, streams_at, usage}
+use Rattle.nrm_accounting.specs.Ends.{Tells as TellsLine}
+use Rattle.nrm_accounting.specs.Jobs.{WhyJob, absent_line}
+use Rattle.nrm_accounting.specs.Inner.Parts.{EndsReading, EndsSession, PutsIfSome, PutsLine, accounted, lacking, ran_out, status_for, unplanned_line}
+use Rattle.nrm_accounting.specs.declared.status.WhyStatus.{WhyStatus}
+use Rattle.nrm_accounting.specs.declared.status.WhyStatus.TheVariants as status
+
+-- ---- a line in place of a session
+module _ (asked : Option WhyJob) (before after : Outside) (left : LeftStream before after) where
+  whole : (s : WhyStatus) (text : List ℕ) → TellsLine asked before after s text → Wrote before after text → Ends asked before after s
+  whole s text (usage none) wrote = record { text = text; tells = usage none; wrote = wrote; left = left }
+  whole s text (refused job refusal asks on) wrote = record { text = text; tells = refused job refusal asks on; wrote = wrote; left = left }
+  whole s text (file_fault job asks rose) wrote = record { text = text; tells = file_fault job asks rose; wrote = wrote; left = left }
+  whole s text (overflow job net n number asks on large) wrote = record { text = text; tells = overflow job net n number asks on large; wrote = wrote; left = left }
+
+  pub told-ends : (goes s : WhyStatus) (text : List ℕ) → TellsLine asked before after goes text → PutsLine text goes before.held after.held before.sink_faults after.sink_faults s → Ends asked before after s
+  told-ends goes s text tells (inl (is, wrote, same)) = rw is (whole goes text tells wrote)
+  told-ends goes s text tells (inr (is, front, rose)) = rw is (rose, inr (inl (record { status = goes; text = text; tells = tells; wrote = front; left = left })))
+
+module _ (job : WhyJob) (before after : Outside) (left : LeftStream before after) where
+  -- no network
+  pub without-network : (reason : NoNetwork) (s : WhyStatus) → OpensFile before.files job.file (Err reason) → CountsFetch before.file_faults after.file_faults (Err reason)
+      → PutsIfSome (reason_line reason) (status_for reason) before.held after.held before.sink_faults after.sink_faults s → Ends (Some job) before after s
+  without-network none.Absent s file counts puts = told-ends (Some job) before after left status.Refused s (refusal_line no_file) (refused job no_file refl file) puts
+  without-network (none.Refused row cause) s file counts puts = told-ends (Some job) before after left status.Refused s (refusal_line (at_row row cause)) (refused job (at_row row cause) refl file) puts
+  without-network none.Fault s file counts puts = told-ends (Some job) before after left status.FileFault s file_fault_line (file_fault job refl counts.1) puts
+  without-network none.NoMemory s file counts (is, kept, same) = rw is (inl (record { job = job; asks = refl; wrote = kept; left = left }))
+
+  -- no plan
+  pub without-plan : (net : NetworkValue) → OnFile before.files job.file (λ contents. network_under contents ≡ Ok net) → (why : SolveFault) (s : WhyStatus) → IsStartFault net job.mode why
+      → PutsIfSome (unplanned_line why) status.Overflow before.held after.held before.sink_faults after.sink_faults s → Ends (Some job) before after s
+  without-plan net on fault.NoMemory s is (told, kept, same) = rw told (inl (record { job = job; asks = refl; wrote = kept; left = left }))
+  without-plan net on (fault.Overflow pivots number) s (n, large, is) puts =
+      told-ends (Some job) before after left status.Overflow s (overflow_line (told_pivots n) number) (overflow job net n number refl on large)
+      (subst (λ (k : ℕ). PutsLine (overflow_line k number) status.Overflow before.held after.held before.sink_faults after.sink_faults s) is puts)
+
+-- ---- a session
+-- what is served by one meaning is served by a weaker one
+pub serves-weaker : (whole cut whole' cut' : List Command → List ℕ → Type 0) → ((c : List Command) (o : List ℕ) → whole c o → whole' c o) → ((c : List Command) (o : List ℕ) → cut c o → cut' c o)
+    → (before after : Streams) (limit : ℕ) (e : End) → ServesBy whole cut before after limit e → ServesBy whole' cut' before after limit e
+serves-weaker whole cut whole' cut' w k before after limit end.Done (taken, output, did, ended, is) = (taken, output, did, ended, w (commands_of taken) output is)
+serves-weaker whole cut whole' cut' w k before after limit end.ReadFault (taken, output, did, is) = (taken, output, did, w (whole_commands taken) output is)
+serves-weaker whole cut whole' cut' w k before after limit end.WriteFault (taken, output, did, inl (inl is)) = (taken, output, did, inl (inl (k (whole_commands taken) output is)))
+serves-weaker whole cut whole' cut' w k before after limit end.WriteFault (taken, output, did, inl (inr is)) = (taken, output, did, inl (inr (w (whole_commands taken) output is)))
+serves-weaker whole cut whole' cut' w k before after limit end.WriteFault (taken, output, did, inr (ended, inl is)) = (taken, output, did, inr (ended, inl (k (commands_of taken) output is)))
+serves-weaker whole cut whole' cut' w k before after limit end.WriteFault (taken, output, did, inr (ended, inr is)) = (taken, output, did, inr (ended, inr (w (commands_of taken) output is)))
+serves-weaker whole cut whole' cut' w k before after limit end.TooLong (taken, output, took, long, wrote, is) = (taken, output, took, long, wrote, w (whole_commands (take limit taken)) output is)
+
+-- what both meanings imply
+served-as : (X : Type 0) (whole cut : List Command → List ℕ → Type 0) → ((c : List Command) (o : List ℕ) → whole c o → X) → ((c : List Command) (o : List ℕ) → cut c o → X)
+    → (before after : Streams) (limit : ℕ) (e : End) → ServesBy whole cut before after limit e → X
+served-as X whole cut w k before after limit end.Done (taken, output, did, ended, is) = w (commands_of taken) output is
+served-as X whole cut w k before after limit end.ReadFault (taken, output, did, is) = w (whole_commands taken) output is
+served-as X whole cut w k before after limit end.WriteFault (taken, output, did, inl (inl is)) = k (whole_commands taken) output is
+served-as X whole cut w k before after limit end.WriteFault (taken, output, did, inl (inr is)) = w (whole_commands taken) output is
+served-as X whole cut w k before after limit end.WriteFault (taken, output, did, inr (ended, inl is)) = k (commands_of taken) output is
+served-as X whole cut w k before after limit end.WriteFault (taken, output, did, inr (ended, inr is)) = w (commands_of taken) output is
+served-as X whole cut w k before after limit end.TooLong (taken, output, took, long, wrote, is) = w (whole_commands (take limit taken)) output is
+
+-- a controller that has just begun stands for the opening with its plan
+abbrev pub HasBegun : NetworkValue → ControlValue → Type 0
+HasBegun net start = start ≡ record { net = net; plan = start.plan; bookings = []; next = 1; tallies = tallies_of net []; withheld = 0 }
+
+pub opened : (start : ControlValue) (net : NetworkValue) → HasBegun net start → StandsFor start (opening start.plan)
+opened start net begun = record {
+  plan = refl;
+  bookings = sym (ap (λ (c : ControlValue). c.bookings) begun);
+  next = sym (ap (λ (c : ControlValue). c.next) begun);
+  tallies = ap (λ (n : NetworkValue). tallies_of n []) (ap (λ (c : ControlValue). c.net) begun) ∙ sym (ap (λ (c : ControlValue). c.tallies) begun);
+  choice = none_chosen;
+  withheld = sym (ap (λ (c : ControlValue). c.withheld) begun);
+}
+
+module _ (asked : Option WhyJob) (before : Outside) (begins : Begins asked before) (start new : ControlValue) (teller now : Teller)
+    (begun : HasBegun begins.net start) (plan : start.plan ≡ begins.plan) (fresh : teller ≡ record { asked = begins.job.number; left = begins.job.number; planned = 0; ran_out = false }) where
+  net-is : start.net ≡ begins.net
+  net-is = ap (λ (c : ControlValue). c.net) begun
+
+  pub reads-to : (P : Reading → Type 0) → ((r : Reading) → r.left ≡ now.left → r.ran_out ≡ now.ran_out → P r) → (commands : List Command) (output : List ℕ)
+      → Tells (start, teller) (new, now) commands output → ReadsTo begins P commands output
+  reads-to P has commands output tells =
+      let (s', stands, reads) = tells.run (opening start.plan) (opened start begins.net begun) in (
+        reading_of s' now,
+        has (reading_of s' now) refl refl,
+        subst (λ (r : Reading). Reads begins.net begins.job.number r commands output (reading_of s' now))
+            (λ n. reading_of (opening (plan n)) (fresh n))
+            (subst (λ (k : ℕ). Reads begins.net k (reading_of (opening start.plan) teller) commands output (reading_of s' now))
+            (ap (λ (t : Teller). t.asked) fresh)
+            (subst (λ (net : NetworkValue). Reads net teller.asked (reading_of (opening start.plan) teller) commands output (reading_of s' now)) net-is reads)),
+      )
+
+  pub reads-cut : (commands : List Command) (output : List ℕ) → TellsCut (start, teller) (new, now) commands output → ReadsCut begins commands output
+  reads-cut commands output cut =
+      (cut.done, cut.after, cut.whole, cut.count, cut.commands_are, cut.front, reads-to (λ last. ⊤) (λ r left out. tt) cut.done cut.whole cut.tells)
+
+  abbrev pub ran : (after : Outside) (P : Reading → Type 0) → ((r : Reading) → r.left ≡ now.left → r.ran_out ≡ now.ran_out → P r) → (e : End)
+      → ServesBy (Tells (start, teller) (new, now)) (TellsCut (start, teller) (new, now)) (streams_at before) (streams_at after) stream_limit e
+      → Ran asked before after P e
+  ran after P has e serves = record {
+    begins = begins;
+    serves = serves-weaker _ _ (ReadsTo begins P) (ReadsCut begins) (reads-to P has) reads-cut (streams_at before) (streams_at after) stream_limit e serves;
+  }
+
+  -- the stream was read to its end, and what became of the account is said
+  pub done-ends : (read after : Outside) (result : WhyStatus)
+      → ServesBy (Tells (start, teller) (new, now)) (TellsCut (start, teller) (new, now)) (streams_at before) (streams_at read) stream_limit end.Done
+      → after.coming ≡ read.coming → after.source_faults ≡ read.source_faults → read.sink_faults ≡ before.sink_faults → now.asked ≡ begins.job.number
+      → EndsReading now read.held after.held read.sink_faults after.sink_faults result → Ends asked before after result
+  done-ends read after result serves coming source sank number (accounted left out is held faults) =
+      rw is (ran after (λ last. (last.left ≡ 0) × (last.ran_out ≡ false)) (λ r l o. (l ∙ left, o ∙ out)) end.Done
+      (subst (λ (at : Streams). ServesBy (Tells (start, teller) (new, now)) (TellsCut (start, teller) (new, now)) (streams_at before) at stream_limit end.Done)
+      (λ n. record { coming = sym coming n; held = sym held n; source_faults = sym source n; sink_faults = sym faults n }) serves))
+  done-ends read after result serves coming source sank number (ran_out out is held faults) =
+      rw is (inr (ran after (λ last. last.ran_out ≡ true) (λ r l o. o ∙ out) end.Done
+      (subst (λ (at : Streams). ServesBy (Tells (start, teller) (new, now)) (TellsCut (start, teller) (new, now)) (streams_at before) at stream_limit end.Done)
+      (λ n. record { coming = sym coming n; held = sym held n; source_faults = sym source n; sink_faults = sym faults n }) serves)))
+  done-ends read after result serves coming source sank number (lacking left out (inl (is, wrote, same))) =
+      rw is (record {
+        read = read;
+        ran = ran read (λ last. (0 < last.left) × (last.ran_out ≡ false)) (λ r l o. (subst (λ (k : ℕ). 0 < k) (sym l) left, o ∙ out)) end.Done serves;
+        wrote = subst (λ (k : ℕ). Wrote read after (absent_line k)) number wrote;
+      })
+  done-ends read after result serves coming source sank number (lacking left out (inr (is, front, rose))) =
+      rw is (
+        subst (λ (k : ℕ). Rose k after.sink_faults) sank rose,
+        inr (inr (record {
+          read = read;
+          ran = ran read (λ last. (0 < last.left) × (last.ran_out ≡ false)) (λ r l o. (subst (λ (k : ℕ). 0 < k) (sym l) left, o ∙ out)) end.Done serves;
+          wrote = subst (λ (k : ℕ). WroteCut read after (absent_line k)) number front;
+        })),
+      )
+
+  -- and so at each end
+  pub session-ends : (read after : Outside) (e : End) (result : WhyStatus)
+      → ServesBy (Tells (start, teller) (new, now)) (TellsCut (start, teller) (new, now)) (streams_at before) (streams_at read) stream_limit e
+      → CountsFaults (streams_at before) (streams_at read) e
+      → after.coming ≡ read.coming → after.source_faults ≡ read.source_faults → now.asked ≡ begins.job.number
+      → EndsSession e now read.held after.held read.sink_faults after.sink_faults result → Ends asked before after result
+  session-ends read after end.Done result serves (took, sank) coming source number ends = done-ends read after result serves coming source sank number ends
+  session-ends read after end.ReadFault result serves counts coming source number (is, held, faults) =
+      rw is (
+        subst (λ (k : ℕ). Rose before.source_faults k) (sym source) counts.0,
+        ran after (λ last. ⊤) (λ r l o. tt) end.ReadFault
+            (subst (λ (at : Streams). ServesBy (Tells (start, teller) (new, now)) (TellsCut (start, teller) (new, now)) (streams_at before) at stream_limit end.ReadFault)
+            (λ n. record { coming = sym coming n; held = sym held n; source_faults = sym source n; sink_faults = sym faults n }) serves),
+      )
+  session-ends read after end.WriteFault result serves counts coming source number (is, held, faults) =
+      rw is (
+        subst (λ (k : ℕ). Rose before.sink_faults k) (sym faults) counts.0,
+        inl (ran after (λ last. ⊤) (λ r l o. tt) end.WriteFault
+            (subst (λ (at : Streams). ServesBy (Tells (start, teller) (new, now)) (TellsCut (start, teller) (new, now)) (streams_at before) at stream_limit end.WriteFault)
+            (λ n. record { coming = sym coming n; held = sym held n; source_faults = sym source n; sink_faults = sym faults n }) serves)),
+      )
+  session-ends read after end.TooLong result serves counts coming source number (is, held, faults) =
+      rw is (ran after (λ last. ⊤) (λ r l o. tt) end.TooLong
+      (subst (λ (at : Streams). ServesBy (Tells (start, teller) (new, now)) (TellsCut (start, teller) (new, now)) (streams_at before) at stream_limit end.TooLong)
+      (λ n. record { coming = sym coming n; held = sym held n; source_faults = sym source n; sink_faults = sym faults n }) serves))
+
+  -- all that was read is of the line that was asked for
+  pub asked-still : (e : End) (a b : Streams) (limit : ℕ) → ServesBy (Tells (start, teller) (new, now)) (TellsCut (start, teller) (new, now)) a b limit e → now.asked ≡ begins.job.number
+  asked-still e a b limit serves =
+      served-as (now.asked ≡ begins.job.number) (Tells (start, teller) (new, now)) (TellsCut (start, teller) (new, now))
+      (λ c o tells. tells.asked ∙ ap (λ (t : Teller). t.asked) fresh) (λ c o cut. cut.tells.asked ∙ ap (λ (t : Teller). t.asked) fresh) a b limit e serves
+
+-- what holds of a job holds of the words that ask for it
+pub same-job-ends : (asked known : Option WhyJob) (before after : Outside) (s : WhyStatus) → asked ≡ known → Ends asked before after s → Ends known before after s
+same-job-ends asked known before after s is ends = subst (λ (a : Option WhyJob). Ends a before after s) is ends

@@ -1,0 +1,2 @@
+-- What private functions serve.
+pub mod Parts

@@ -1,0 +1,48 @@
+//! Statuses.
+ghost use Rattle.std.specs.Prelude.{◌≡◌};
+ghost use Rattle.nrm_accounting.specs.Numbers.{number_of};
+
+/// How the program ended. Those that come with a line of text write it to standard output.
+#[derive(Clone, Copy, Debug, PartialEq, Eq)]
+pub enum WhyStatus {
+    /// The account was written whole.
+    Done,
+    /// The words ask for nothing that is known; the usage line was written.
+    Usage,
+    /// The network file is refused; a line says why.
+    Refused,
+    /// Standard input failed.
+    ReadFault,
+    /// Standard output failed.
+    WriteFault,
+    /// Memory ran out, and nothing was written.
+    NoMemory,
+    /// The opening program leaves the range of the solver's numbers.
+    Overflow,
+    /// The stream is too long.
+    TooLong,
+    /// The files failed; a line says so.
+    FileFault,
+    /// The stream has no such line; a line says so.
+    NoLine,
+}
+
+impl WhyStatus {
+    /// The exit status.
+    pub fn number(self) -> u8
+        ensures { result ≡ number_of self }
+    {
+        match self {
+            WhyStatus::Done => 0,
+            WhyStatus::Usage => 2,
+            WhyStatus::Refused => 3,
+            WhyStatus::ReadFault => 4,
+            WhyStatus::WriteFault => 5,
+            WhyStatus::NoMemory => 6,
+            WhyStatus::Overflow => 7,
+            WhyStatus::TooLong => 8,
+            WhyStatus::FileFault => 9,
+            WhyStatus::NoLine => 10,
+        }
+    }
+}
