@@ -2,9 +2,10 @@
 import argparse
 import os
 import subprocess
+import tempfile
 
 TOP = os.path.dirname(os.path.dirname(os.path.realpath(__file__)))
-NOT_BUILT = 70  # what the scripts `nrm` and `nrm_kept` end with if there is no program to run
+NOT_BUILT = 70  # what the scripts `nrm`, `nrm_kept` and `nrm_why` end with if there is no program to run
 MOST_SHOWN = 600
 
 
@@ -72,6 +73,20 @@ def placed(words):
 def is_built(program):
     """Whether there is a program; its script builds it if need be."""
     return subprocess.run(program, stdin=subprocess.DEVNULL, stdout=subprocess.DEVNULL).returncode != NOT_BUILT
+
+
+def tried(tests, place_of):
+    """Runs tests, each with what is made of a folder of its own, tells what fails, and gives the status."""
+    passed, failed = 0, 0
+    for it in tests:
+        with tempfile.TemporaryDirectory() as folder:
+            try:
+                it(place_of(folder))
+                passed += 1
+            except Wrong as wrong:
+                failed += 1
+                print(f"{it.__name__}: {wrong}")
+    return ended(passed, failed)
 
 
 def ended(passed, failed):

@@ -17,7 +17,7 @@ import time
 
 sys.dont_write_bytecode = True
 import checks
-from checks import Wrong, want, want_in
+from checks import want, want_in
 
 RT = r'''#!/usr/bin/env bash
 echo "$*" >>"$CALLS"
@@ -239,16 +239,7 @@ def without_the_kit_it_says_so(door):
 
 def main():
     pattern = sys.argv[1] if len(sys.argv) > 1 else ""
-    passed, failed = 0, 0
-    for it in test.picked(pattern):
-        with tempfile.TemporaryDirectory() as folder:
-            try:
-                it(Door(folder))
-                passed += 1
-            except Wrong as wrong:
-                failed += 1
-                print(f"{it.__name__}: {wrong}")
-    return checks.ended(passed, failed)
+    return checks.tried(test.picked(pattern), Door)
 
 
 if __name__ == "__main__":

@@ -1,7 +1,8 @@
 #!/usr/bin/env python3
-"""Want of memory at every place: the built program, where one of the times that it takes memory fails.
+"""Want of memory at every place: `nrm` and `nrm_why` as they are built, where one of the times that they take memory
+fails.
 
-    tests/memory.py [PATTERN] [--all] [--program FILE]
+    tests/memory.py [PATTERN] [--all] [--program FILE] [--why FILE]
 
 It isn't part of the gate, since it needs a C compiler, `cc`. With that it builds a small library, which is loaded
 before the C library and stands before its malloc, calloc, realloc, memalign, aligned_alloc and posix_memalign: it
@@ -9,21 +10,24 @@ counts these calls, and makes the Nth fail, alone or with all that come after it
 given back filled with other bytes (MALLOC_PERTURB_), so that what is read of it shows.
 
 The runs are `run` in the three modes on the network of examples/hub, over its lines and some that take memory, `run` on
-a file of version 2, and `check`, `plan`, `print`, `gen`, `cuts`, `dp` and some that end early. Each is done for every
-N, from 1 to the number of calls. Where there are more than 3,000, it is done for the first 1,000 and then in steps of a
-prime, or with --all for every one. Each must end
+a file of version 2, and `check`, `plan`, `print`, `gen`, `cuts`, `dp` and some that end early; and of `nrm_why`, in the
+three modes over the same lines, the accounts of a request, of a cancellation, of a `reoptimise` and of a `hindsight`,
+and of a line that there isn't. Each is done for every N, from 1 to the number of calls. Where there are more than
+3,000, it is done for the first 1,000 and then in steps of a prime, or with --all for every one. Each must end
 
     as with ample memory,
     with status 6, with nothing written and, under `run`, with nothing read of standard input,
     or, under `run`, with `memory` in reply to a line `hindsight`, or to a line `reoptimise` under `bid` and `davn`, and
     else with the replies to the lines without that one. Where all calls fail from the Nth on, all such lines from one
-    on must be answered so.
+    on must be answered so. So it is of an account: it is whole, and that of the session with `memory` in reply to such
+    a line, the last of which may be the one that it is of.
 
 What is wanted with ample memory comes from tests/reference.py and the documents, never from the program. A crash,
 another status, other text or anything on standard error is a failure.
 
-PATTERN picks the runs that have it in their name. With no --program it is the program that the script `nrm` builds;
-FILE must be the program itself, and no script. Each failure is told; the last line is `N passed, M failed`.
+PATTERN picks the runs that have it in their name; those of `nrm_why` begin with `why`. With no --program it is the
+program that the script `nrm` builds, with no --why that of the script `nrm_why`; FILE must be the program itself, and
+no script. Each failure is told; the last line is `N passed, M failed`.
 """
 import argparse
 import collections
@@ -45,6 +49,10 @@ import run
 HUB = os.path.join(TOP, "examples", "hub", "network.csv")
 CERTIFICATE = os.path.join(TOP, "examples", "certificate")
 MODES = ["first", "bid", "davn"]
+# whose accounts are asked for: the last such line; of the request under `bid` the prices are told, under `davn` the
+# demand for which seats are protected
+ACCOUNTS = {"request": b"book MN-Q 25", "cancellation": b"cancel 3", "reoptimise": b"reoptimise 3",
+            "hindsight": b"hindsight"}
 MANY, EACH_OF_THE_FIRST, STEPS = 3_000, 1_000, 1_000
 SECONDS = 60
 MOST_TOLD = 10  # failures of one run
@@ -117,10 +125,27 @@ def cases():
     return {case.name: case for case in run.cases_of("")}
 
 
+class Wanting(reference.Session):
+    """A session that answers `memory` to the lines at some places."""
+
+    def __init__(self, path, mode, wanting):
+        super().__init__(reference.network_in(path), mode)
+        self.at, self.wanting = 0, wanting
+
+    def reply(self, line):
+        self.at += 1
+        return b"memory\n" if self.at - 1 in self.wanting else super().reply(line)
+
+
 def replies(mode, lines, wanting=(), path=HUB):
     """The replies of the reference, with `memory` at the places where it is wanting."""
-    session = reference.Session(reference.network_in(path), mode)
-    return b"".join(b"memory\n" if at in wanting else session.reply(line) for at, line in enumerate(lines))
+    return b"".join(map(Wanting(path, mode, wanting).reply, lines))
+
+
+def account(mode, lines, wanting=()):
+    """The account of the last line by the reference, with `memory` at the places where it is wanting."""
+    teller = reference.Teller(Wanting(HUB, mode, wanting), len(lines))
+    return b"".join(map(teller.reply, lines))
 
 
 def places_for_memory(mode, lines, path):
@@ -133,6 +158,8 @@ def places_for_memory(mode, lines, path):
 
 class Job:
     """One run: its words and standard input, and how it may end, each end with what it is called."""
+    program = "nrm"
+    is_read_first = False  # whether lines may be read before it ends for want of memory
 
     def __init__(self, name, words, output, status=0):
         self.name, self.words, self.stdin = name, words, b""
@@ -144,12 +171,24 @@ class Job:
     def session(name, mode, lines, path=HUB):
         """The lines of a run, some of which may want for memory."""
         job = Job(name, ["run", mode, path], replies(mode, lines, path=path))
-        job.stdin = b"".join(line + b"\n" for line in lines)
-        places = places_for_memory(mode, lines, path)
+        return job.over(lines, places_for_memory(mode, lines, path), lambda it: replies(mode, lines, it, path))
+
+    @staticmethod
+    def account(mode, kind, lines):
+        """The account of the last line of its kind, before which some may want for memory."""
+        number = len(lines) - lines[::-1].index(ACCOUNTS[kind])
+        until = lines[:number]
+        job = Job(f"why {mode} {kind}", [mode, HUB, str(number)], account(mode, until))
+        job.program, job.is_read_first = "nrm_why", True
+        return job.over(lines, places_for_memory(mode, until, HUB), lambda it: account(mode, until, it))
+
+    def over(self, lines, places, output):
+        """The same with some lines, at some of which it may want for memory, and the output that it then has."""
+        self.stdin = b"".join(line + b"\n" for line in lines)
         for count, (at, word) in enumerate(places):
-            job.ends[False][0, replies(mode, lines, {at}, path)] = f"memory at {word}"
-            job.ends[True][0, replies(mode, lines, {it for it, _ in places[count:]}, path)] = f"memory at {word}"
-        return job
+            self.ends[False].setdefault((0, output({at})), f"memory at {word}")
+            self.ends[True].setdefault((0, output({it for it, _ in places[count:]})), f"memory at {word}")
+        return self
 
 
 def all_jobs(folder):
@@ -188,6 +227,12 @@ def all_jobs(folder):
     yield Job("run folder", ["run", "davn", folder], b"file fault\n", 9)
     yield Job("usage", ["help"], reference.USAGE.encode() + b"\n", 2)
     yield Job("gen davn 1", ["gen", "davn", "1"], reference.summary("davn", 1))
+    for mode in MODES:
+        for kind in ACCOUNTS:
+            yield Job.account(mode, kind, lines_on_the_hub())
+    absent = Job("why no line", ["bid", HUB, "3"], b"absent line 3\n", 10)
+    absent.program, absent.is_read_first = "nrm_why", True
+    yield absent.over([b"plan", b"reoptimise 2"], [], None)
 
 
 def wrong_certificate(path):
@@ -210,11 +255,12 @@ def refused_certificate(path):
 
 
 class Runs:
-    """Runs of the program behind the library."""
+    """Runs of the programs behind the library."""
 
-    def __init__(self, program, folder):
-        self.program, self.folder = program, folder
-        preload.must_be_a_program(program)
+    def __init__(self, programs, folder):
+        self.programs, self.folder = programs, folder
+        for it in programs.values():
+            preload.must_be_a_program(it)
         self.library = preload.built(LIBRARY, folder)
 
     def run(self, job, **variables):
@@ -224,13 +270,13 @@ class Runs:
             stdin.write(job.stdin)
             stdin.seek(0)
             try:
-                words = [self.program, *job.words]
+                words = [self.programs[job.program], *job.words]
                 done = subprocess.run(words, stdin=stdin, capture_output=True, env=environment, timeout=SECONDS)
             except subprocess.TimeoutExpired:
                 return None, b"", "it doesn't end"
             read = os.lseek(stdin.fileno(), 0, os.SEEK_CUR)  # the place in the file is the program's too
         also = f"standard error {done.stderr[:300]!r}" if done.stderr else ""
-        if done.returncode == NO_MEMORY and read:
+        if done.returncode == NO_MEMORY and read and not job.is_read_first:
             also = f"{read} bytes read of standard input"
         return done.returncode, done.stdout, also
 
@@ -241,7 +287,7 @@ class Runs:
         if (status, output) != job.ample or also:
             raise preload.Wrong(f"{job.name} with ample memory: {told(status, output, also)}")
         if not os.path.exists(path):
-            raise preload.Wrong(f"{self.program} doesn't load the library")
+            raise preload.Wrong(f"{self.programs[job.program]} doesn't load the library")
         with open(path, "rb") as file:
             count = int(file.read())
         os.remove(path)
@@ -288,27 +334,42 @@ def tried(runs, job, is_all):
     return len(ends) - len(wrong), len(wrong)
 
 
-def main():
+def programs_of(given, names):
+    """The programs of some names, which their scripts build where they aren't there; None where one can't be."""
+    found = {}
+    for name in names:
+        said = {"nrm": given.program, "nrm_why": given.why}[name]
+        if not said and not checks.is_built([os.path.join(TOP, name)]):
+            return None
+        found[name] = os.path.abspath(said or os.path.join(TOP, "crates", name, "out", name))
+    return found
+
+
+def words_given():
     parser = argparse.ArgumentParser(usage=__doc__)
     parser.add_argument("pattern", nargs="?", default="")
     parser.add_argument("--all", action="store_true")
     parser.add_argument("--program")
-    given = parser.parse_args()
+    parser.add_argument("--why")
+    return parser.parse_args()
+
+
+def main():
+    given = words_given()
     if not preload.is_there():
         print(f"Want of memory wasn't tried: {preload.WANTING}.")
         return 0
-    script = os.path.join(TOP, "nrm")  # builds the program where it isn't
-    if not given.program and not checks.is_built([script]):
-        return checks.NOT_BUILT
-    program = os.path.abspath(given.program or os.path.join(TOP, "crates", "nrm", "out", "nrm"))
     passed = failed = 0
     with tempfile.TemporaryDirectory() as folder:
         try:
-            runs = Runs(program, folder)
-            for job in all_jobs(folder):
-                if given.pattern in job.name:
-                    good, bad = tried(runs, job, given.all)
-                    passed, failed = passed + good, failed + bad
+            jobs = [it for it in all_jobs(folder) if given.pattern in it.name]
+            programs = programs_of(given, sorted({it.program for it in jobs}))
+            if programs is None:
+                return checks.NOT_BUILT
+            runs = Runs(programs, folder)
+            for job in jobs:
+                good, bad = tried(runs, job, given.all)
+                passed, failed = passed + good, failed + bad
         except (preload.Wrong, OSError) as wrong:
             print(wrong)
             return 1

@@ -6,7 +6,8 @@
 The pages are README.md and those of docs/, of which PATTERN picks those with it in their name. The commands of each run
 in a copy of what is committed or added, in their order, with the program that is tested in the place of the built one.
 What isn't run or compared is listed below, each with the reason. With no --program it is the script `nrm` at the top of
-the repository; the script `nrm_kept` is always that at the top. What fails is told; the last line is `N passed, M
+the repository; the script `nrm_kept` is always that at the top, and so is `nrm_why`, where the words of NRM_WHY name no
+other program. What fails is told; the last line is `N passed, M
 failed`.
 """
 import concurrent.futures
@@ -80,8 +81,9 @@ def copied(top, program):
 
 
 def lay_programs(top, program):
-    """Lays the program, and that of the script `nrm_kept`, in the place of the built ones of a folder."""
-    for name, words in (("nrm", program), ("nrm_kept", [str(TOP / "nrm_kept")])):
+    """Lays the program, `nrm_kept` and `nrm_why` in the place of the built ones of a folder."""
+    why = checks.placed(shlex.split(os.environ.get("NRM_WHY", ""))) or [str(TOP / "nrm_why")]
+    for name, words in (("nrm", program), ("nrm_kept", [str(TOP / "nrm_kept")]), ("nrm_why", why)):
         built = top / "crates" / name / "out" / name
         built.parent.mkdir(parents=True, exist_ok=True)
         built.write_text(f'#!/bin/sh\nexec {shlex.join(words)} "$@"\n')

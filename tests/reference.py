@@ -11,6 +11,7 @@
     tests/reference.py cuts FILE LEG GROUPS   the fares of LEG in at most GROUPS groups, at the least cost
     tests/reference.py dp FILE LEG            the dynamic program of LEG alone: its classes, its value and its
                                               protections
+    tests/reference.py why MODE FILE NUMBER   the account of line NUMBER of standard input, as `nrm_why` writes it
     tests/reference.py stream MODE FILE SEED N
                                               a made stream of N mixed lines for the network of FILE; a seed gives
                                               one stream
@@ -22,7 +23,10 @@ whole numbers of any size; only then is it asked whether one is too large. Bucke
 and a protection level by trying one number of seats after the other. Of a leg's fares every division into groups is
 tried, and in its dynamic program every number of seats that a class could be sold.
 
-The words but `stream`, the texts and the statuses are those of the program, so `tests/run.py --program
+Of an account each number is worked out anew from the session before its line, and the largest party by asking for one
+seat more until that isn't sold.
+
+The words but `stream` and `why`, the texts and the statuses are those of the program, so `tests/run.py --program
 tests/reference.py` takes it as the program for the cases. The files in tests/streams are streams of `stream` and the
 replies of `run`.
 """
@@ -44,6 +48,7 @@ MOST_GROUPS, MOST_CLASSES = 10, 10
 MOST_MONEY = 99_999_999
 GREATEST = 2**63 - 1  # of a number in a certificate
 LIMIT = 2**48  # no number of a tableau's row or of a certificate, over their common denominators, reaches it
+LAST_LINE = 2**32  # the last line that can be asked about: a stream has no more bytes
 
 NAME = re.compile(rb"[A-Z0-9-]{1,12}")
 WHOLE = re.compile(rb"0|[1-9][0-9]*")
@@ -577,14 +582,18 @@ class Session:
         if product not in self.network.products:
             return b"unknown\n"
         self.asked[product] += party
-        for leg in self.network.products[product][1]:
-            if self.left(leg) < party + (self.nests.protected(leg, product) if self.mode == "davn" else 0):
-                return b"no %s\n" % leg
-        if self.mode == "bid" and self.is_too_cheap(product):
-            return b"no fare\n"
+        if refusal := self.refusal(product, party):
+            return refusal
         self.book.append((self.next, product, party))
         self.next += 1
         return b"ok %d\n" % (self.next - 1)
+
+    def refusal(self, product, party):
+        """What a request is answered that isn't sold, or nothing."""
+        for leg in self.network.products[product][1]:
+            if self.left(leg) < party + (self.nests.protected(leg, product) if self.mode == "davn" else 0):
+                return b"no %s\n" % leg
+        return b"no fare\n" if self.mode == "bid" and self.is_too_cheap(product) else b""
 
     def is_too_cheap(self, product):
         fare, legs = self.network.products[product]
@@ -643,21 +652,28 @@ class Session:
 
     def reply(self, line):
         """The reply to a line that comes without its line feed."""
-        words = without_return(line).split(b" ")
-        numbers = [int(word) if WHOLE.fullmatch(word) and len(word) <= 12 else -1 for word in words]
-        if len(words) == 3 and words[0] == b"book" and NAME.fullmatch(words[1]) and 1 <= numbers[2] <= 999:
-            return self.request(words[1], numbers[2])
-        if len(words) == 2 and words[0] == b"cancel" and numbers[1] >= 0:
-            return self.cancel(numbers[1])
-        if len(words) == 2 and words[0] == b"reoptimise" and 1 <= numbers[1] <= 99:
-            return self.reoptimise(numbers[1])
-        if words == [b"plan"]:
-            return self.plan()
-        if words == [b"hindsight"]:
-            return self.hindsight()
-        if len(words) == 2 and words[0] == b"leg" and NAME.fullmatch(words[1]):
-            return self.report(words[1])
-        return b"bad\n"
+        kind, *rest = command_of(line)
+        if kind == "bad":
+            return b"bad\n"
+        return {"book": self.request, "cancel": self.cancel, "reoptimise": self.reoptimise, "plan": self.plan,
+                "hindsight": self.hindsight, "leg": self.report}[kind](*rest)
+
+
+def command_of(line):
+    """What a line asks for: the word of its kind, and its names and numbers."""
+    words = without_return(line).split(b" ")
+    numbers = [int(word) if WHOLE.fullmatch(word) and len(word) <= 12 else -1 for word in words]
+    if len(words) == 3 and words[0] == b"book" and NAME.fullmatch(words[1]) and 1 <= numbers[2] <= 999:
+        return "book", words[1], numbers[2]
+    if len(words) == 2 and words[0] == b"cancel" and numbers[1] >= 0:
+        return "cancel", numbers[1]
+    if len(words) == 2 and words[0] == b"reoptimise" and 1 <= numbers[1] <= 99:
+        return "reoptimise", numbers[1]
+    if words in ([b"plan"], [b"hindsight"]):
+        return words[0].decode(),
+    if len(words) == 2 and words[0] == b"leg" and NAME.fullmatch(words[1]):
+        return "leg", words[1]
+    return "bad",
 
 
 def piece_given():
@@ -680,6 +696,122 @@ def replies(session):
             raise Ended("", 8)
     if line:
         yield session.reply(line)
+
+
+# The account of a line
+
+
+def line_of(*words):
+    """The words of a line; a number or a fraction is a word too."""
+    return b" ".join(it if isinstance(it, bytes) else fraction(it) if isinstance(it, Fraction) else b"%d" % it
+                     for it in words) + b"\n"
+
+
+class Teller:
+    """A session whose lines are accounted for: each from what stands before it, and from its reply.
+
+    Beside the session it knows which line is asked for, how many have come, and which line made the plan in force.
+    """
+
+    def __init__(self, session, asked):
+        self.session, self.network, self.asked = session, session.network, asked
+        self.lines, self.planned, self.period = 0, [b"opening"], 1
+
+    def reply(self, line):
+        """What is written as a line is answered: the account of the line that is asked for, and of others nothing."""
+        if self.lines + 1 == self.asked:
+            return self.account(line)
+        self.pass_on(command_of(line), self.session.reply(line))
+        return b""
+
+    def pass_on(self, command, reply):
+        """The next line is the one behind this."""
+        self.lines += 1
+        if reply.startswith(b"optimised "):
+            self.planned, self.period = [b"line", self.lines], command[1]
+
+    def account(self, line):
+        """The account of the next line, which is answered."""
+        command = command_of(line)
+        words = [it.encode() if isinstance(it, str) else it for it in command]
+        text = line_of(b"line", self.lines + 1, *words) + self.reasons(*command)
+        reply = self.session.reply(line)
+        self.pass_on(command, reply)
+        return text + (b"" if command[0] in ("leg", "plan") else b"answer " + reply)
+
+    def reasons(self, kind, *rest):
+        """What a line is answered for."""
+        if kind == "book" and rest[0] in self.network.products:
+            return self.of_request(*rest)
+        if kind == "cancel":
+            return b"".join(self.of_cancellation(*it) for it in self.session.book if it[0] == rest[0])
+        if kind == "reoptimise" and rest[0] <= self.network.periods:
+            return b"".join(line_of(b"left", leg, self.session.left(leg)) for leg in self.network.seats)
+        return b""
+
+    def of_cancellation(self, number, product, party):
+        fare, refund = self.network.products[product][0], self.network.refund(product)
+        back = party * fare * refund // 100
+        return (line_of(b"booking", number, b"product", product, b"party", party, b"fare", fare, b"worth", party * fare,
+                        b"refund", refund)
+                + line_of(b"back", back, b"withheld", party * fare - back))
+
+    def of_request(self, product, party):
+        fare, legs = self.network.products[product]
+        text = line_of(b"plan", self.session.mode.encode(), *self.planned, b"period", self.period)
+        text += line_of(b"product", product, b"fare", fare, b"refund", self.network.refund(product))
+        text += b"".join(self.of_nest(leg, product) + self.of_leg(leg, product, party) for leg in legs)
+        if self.session.mode == "bid" and all(self.session.left(leg) >= party for leg in legs):
+            text += self.of_fare(fare, legs)
+        largest = 0
+        while largest < 999 and not self.session.refusal(product, largest + 1):
+            largest += 1
+        beyond = self.session.refusal(product, largest + 1) if largest < 999 else b"bad\n"
+        return text + b"largest %d then " % largest + beyond
+
+    def of_fare(self, fare, legs):
+        prices = [Fraction(self.session.certificate.p[leg]) for leg in legs]
+        below = sum(prices) - fare
+        return (b"".join(line_of(b"price", *it) for it in zip(legs, prices))
+                + line_of(b"sum", sum(prices), b"fare", fare, *([b"below", below] if below > 0 else [b"reaches"])))
+
+    def of_leg(self, leg, product, party):
+        left = self.session.left(leg)
+        protected = self.session.nests.protected(leg, product) if self.session.mode == "davn" else 0
+        short = party + protected - left
+        return line_of(b"leg", leg, b"authorised", self.network.authorised[leg], b"sold", self.session.sold(leg),
+                       b"left", left, b"protected", protected, b"needs", party,
+                       *([b"short", short] if short > 0 else [b"covers"]))
+
+    def of_nest(self, leg, product):
+        """Under `davn` the bucket with its bounds, and what the seats that are protected from it come from."""
+        if self.session.mode != "davn":
+            return b""
+        nests, thresholds = self.session.nests, self.network.thresholds[leg]
+        bucket = nests.bucket(leg, product)
+        text = line_of(b"nest", leg, b"fare", Fraction(nests.adjusted(leg, product)), b"bucket", bucket, b"of",
+                       len(thresholds) + 1,
+                       *([b"from", thresholds[bucket - 1]] if bucket <= len(thresholds) else []),
+                       *([b"below", thresholds[bucket - 2]] if bucket > 1 else []))
+        level = nests.protected(leg, product)
+        if level == 0:
+            return text
+        count = nests.levels[leg].index(level)  # the least number of buckets for which as many are protected
+        above = list(range(1, count + 1))
+        demand = nests.demand(nests.products_in(leg, above))
+        return (text + line_of(b"enough", leg, b"seats", level, b"buckets", count,
+                               b"mean", Fraction(nests.fare(leg, above)),
+                               b"next", Fraction(nests.fare(leg, [count + 1])), b"histories", self.network.histories,
+                               b"over", len([1 for it in demand if it > level]))
+                + line_of(b"demand", leg, *demand))
+
+
+def accounts(mode, path, number):
+    """The account of a line of standard input."""
+    teller = Teller(Session(network_in(path), mode), int(number))
+    yield from replies(teller)
+    if teller.lines < teller.asked:
+        raise Ended(f"absent line {number}", 10)
 
 
 # A made network, and the commands after it
@@ -899,6 +1031,7 @@ def made_stream(session, seed, count):
 
 USAGE = ("usage: nrm run MODE FILE, plan MODE FILE, check FILE CERT, print FILE, gen MODE NUMBER, cuts FILE LEG "
          "GROUPS, dp FILE LEG")
+USAGE_OF_WHY = "usage: nrm_why MODE FILE NUMBER"
 
 
 def is_name(word):
@@ -908,6 +1041,11 @@ def is_name(word):
 def is_groups(word):
     """Whether a word is a number of groups."""
     return bool(WHOLE.fullmatch(word.encode())) and len(word) <= 2 and 1 <= int(word) <= MOST_GROUPS
+
+
+def is_line(word):
+    """Whether a word is the number of a line."""
+    return bool(WHOLE.fullmatch(word.encode())) and len(word) <= 10 and 1 <= int(word) <= LAST_LINE
 
 
 def is_mode(word):
@@ -936,6 +1074,7 @@ COMMANDS = {  # by the first word: what each of the others must be, and the text
     "cuts": ([is_any, is_name, is_groups],
              lambda path, leg, groups: [cuts_text(network_in(path), leg.encode(), int(groups))]),
     "dp": ([is_any, is_name], lambda path, leg: [dp_text(network_in(path), leg.encode())]),
+    "why": ([is_mode, is_any, is_line], accounts),
     "stream": ([is_mode, is_any, is_any, is_any],
                lambda mode, path, seed, count: [made_stream(Session(network_in(path), mode), int(seed), int(count))])}
 
@@ -945,7 +1084,7 @@ def told(words):
     verb, *rest = words or [""]
     wanted, texts = COMMANDS.get(verb, ([], None))
     if not texts or len(rest) != len(wanted) or not all(fits(word) for fits, word in zip(wanted, rest)):
-        raise Ended(USAGE, 2)
+        raise Ended(USAGE_OF_WHY if verb == "why" else USAGE, 2)
     return texts(*rest)
 
 

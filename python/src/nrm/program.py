@@ -24,7 +24,7 @@ PIECE = 65_536
 LINES_AT_ONCE = 1000  # that are sent before their replies are read: they and their replies fit into a pipe
 REFUSED = 3
 INPUT_FAULT = 4
-DOORS = ("nrm", "nrm_kept")  # the scripts at the top of a checkout, which may build
+DOORS = ("nrm", "nrm_kept", "nrm_why")  # the scripts at the top of a checkout, which may build
 WHICH = "--program says which to run"
 Told = TypeVar("Told")
 

@@ -21,6 +21,7 @@ NETWORK = str(EXAMPLES / "log" / "network.csv")
 OF_NRM = {"none": 3, "folder": 9, "refused": 3}
 OWN_STATUSES = {"audit": OF_NRM, "explain": OF_NRM}  # those of the program
 SOLD = ["--departs", "departure", "--booked", "booked on", "--product", "product", "--seats", "seats"]
+ACCOUNTS = [sys.executable, str(TOP / "tests" / "reference.py"), "why"]  # in the place of `nrm_why`
 SERVE = {"desks"}  # these go on until they are ended, and have tests of their own
 TOLD_ON_THE_WAY = ("nrm-tools season: no pictures", "nrm-tools log: ", "nrm-tools simulate: ", "nrm-tools asked: ",
                    "nrm-tools demand: ", "nrm-tools authorise: ", "nrm-tools averaged: ")
@@ -46,6 +47,7 @@ class Running(PlaceTest):
             "season": [network, stream, "--out", "pictures", *program], "replay": [network, *program],
             "resume": [network, "bid", stream, kept, *program], "optimum": [network, "ZRH-VIE", *program],
             "thresholds": [network, "3", "--out", "made.csv", *program],
+            "why": [network, "bid", stream, 1, "--why", *ACCOUNTS, *program],
             "averaged": [network, "--seasons", 2, *program],
             "authorise": [network, "--show", "0.9", "--denied-cost", 5, "--seasons", 2, "--check", 2, "--sweeps", 1,
                           "--workers", 1, "--out", "tried", *program],

@@ -19,7 +19,8 @@ class Courses(PlaceTest):
     def test_tells_what_the_documents_show(self) -> None:
         out = self.told("season", *self.words("log"))
         self.assertEqual(out.splitlines()[0], "davn earns 2,840 in this season, 97.3 % of the bound; bid 2,110, "
-                         "72.3 %; first 1,240, 42.5 %. One season says little of others: `nrm-tools simulate` plays many.")
+                         "72.3 %; first 1,240, 42.5 %. One season says little of others: `nrm-tools simulate` plays "
+                         "many.")
         for wanted in ("network: ", "stream: ", f"date: {today()}\n", f"versions: nrm-tools {__version__}, "):
             self.want_in(out, f"\n{wanted}")
         self.want_in(out, "  period 2  1,080    630    300  1,080\n  period 3  1,240  1,270    620  1,530\n  end       "

@@ -111,8 +111,15 @@ class Told(PlaceTest):
             for it in listed:
                 self.assertAlmostEqual(float(it["share %"]), 100 * worth(network.products[it["product"]]) / every, 2)
             self.assertRegex(out, f"proposed: without {len(listed)} of its products, [0-9.]+ % of what was asked for")
+            left_out = sum(worth(network.products[it["product"]]) for it in listed)
+            share = f"{100 * left_out / every:.2f} % of what was asked for at its fare"
+            self.assertEqual(out.splitlines()[0], "No file was written of trains.csv; 1 part is too large, and would "
+                             f"fit into files without {len(listed)} of the products, {share}.")
             out, status = self.split("--leave-out", "parts/left-out.csv")
             self.assertEqual(status, 0, out)
+            kept, in_all = len(network.products) - len(listed), len(network.products)
+            self.assertRegex(out.splitlines()[0], f"^[23] files have {kept} of {in_all} products of trains.csv; left "
+                             f"out: {len(listed)}, {share}.$")
             self.assertRegex(out, f"left out: products {len(listed)}, [0-9.]+ % of what was asked for at its fare")
             files = sorted((self.folder / "parts").glob("part-*.csv"))
             self.assertEqual(len(files), len(re.findall("^parts/part-.*: legs", out, re.M)))
@@ -130,8 +137,10 @@ class Told(PlaceTest):
         self.file("trains.csv", made)
         out, status = self.split()
         self.assertEqual(status, 1)
-        self.assertEqual(out.splitlines()[0], "products over more than 4 legs, which no file takes: L1-5, L2-6, L1-6; "
-                         "docs/network-file.md, 'Why the limits', tells of ways")
+        self.assertEqual(out.splitlines()[:3], [
+            "1 file has all 21 products of trains.csv; `nrm` refuses those over more than 4 legs, 3 in all.", "",
+            "products over more than 4 legs, which no file takes: L1-5, L2-6, L1-6; docs/network-file.md, 'Why the "
+            "limits', tells of ways"])
         self.nrm("print", "parts/part-1.csv", status=3)
         self.file("list.csv", "L1-5\nL2-6\nL1-6\n")
         self.assertEqual(self.split("--leave-out", "list.csv")[1], 0)

@@ -20,6 +20,7 @@ class Parts(PlaceTest):
         rows, legs = made_timetable(random.Random(2), [30, 64, 1, 25])
         out = self.told("split", self.file("timetable.csv", text_of([*rows, ["leg", "IDLE", 7]])), "parts")
         self.want_in(out, "the leg IDLE is in no file")
+        self.assertEqual(out.splitlines()[0], f"4 files have all 120 products of {self.folder}/timetable.csv.")
         files = sorted((self.folder / "parts").glob("part-*.csv"))
         parts = [Network.read(it) for it in files]
         self.assertEqual(sorted(sorted(it.legs) for it in parts), sorted(map(sorted, legs)))
@@ -52,6 +53,7 @@ class Parts(PlaceTest):
         out, _, status = self.ran("split", self.file("timetable.csv", text_of(rows)), "parts")
         self.assertEqual((status, len(list((self.folder / "parts").glob("part-*.csv")))), (1, 1))
         self.want_in(out, "too large: 65 legs and 65 products")
+        self.assertRegex(out, "^1 file has 3 of 68 products of .*; 1 part is too large, and would fit into files ")
         self.assertEqual(sorted(re.search("its legs: (.*)", out)[1].split()), sorted(legs[0]))
         self.want_in(out, "it would fall apart without any one of these products, the cheapest first: P0-")
 

@@ -20,6 +20,7 @@ NAMED = {
     "season": "nrm.commands.studies.season",
     "simulate": "nrm.commands.studies.simulate",
     "thresholds": "nrm.commands.studies.thresholds",
+    "why": "nrm.commands.studies.why",
     "authorise": "nrm.commands.seasons.authorise",
     "averaged": "nrm.commands.seasons.averaged",
     "desks": "nrm.commands.live.desks",

@@ -59,6 +59,19 @@ def grouping(leg: str, asked: dict[int, int], lines: Sequence[str]) -> Grouping:
     return Grouping(leg, asked, cuts)
 
 
+def verdict(path: str, found: Sequence[Grouping], rule: str) -> str:
+    """What is said first of the thresholds that a rule gives the legs of the file at a path."""
+    buckets = [len(it.cuts.thresholds) + 1 for it in found]
+    each = "" if len(found) == 1 else f", {' to '.join(map(str, sorted({min(buckets), max(buckets)})))} on each"
+    return (f"On {counted(len(found), 'leg')} of {path} the thresholds {rule} make {counted(sum(buckets), 'bucket')}"
+            f"{each}; what they earn wasn't measured.")
+
+
+def counted(number: int, name: str) -> str:
+    """How many things of a name there are."""
+    return f"{number:,} {name}{'' if number == 1 else 's'}"
+
+
 def table_of(found: Sequence[Grouping], groups: int) -> Table:
     """The cuts, the centres, the cost and the cost for a seat of each leg, and of all legs together."""
     rows: list[list[Cell]] = []

@@ -37,7 +37,14 @@ class Cut:
         self.in_all = sum(map(worth, network.products.values()))
         self.written: list[str] = []
         self.proposed: list[Product] = []
-        self.is_whole = True
+        self.in_files = 0  # products
+        self.too_large_parts = 0
+        self.long = [it for it, legs in self.legs_of.items() if len(legs) > MOST_LEGS_OF_A_PRODUCT]
+
+    @property
+    def is_whole(self) -> bool:
+        """Whether files that the program takes have all that isn't left out."""
+        return not self.too_large_parts and not self.long
 
     def write(self) -> Iterator[str]:
         """Writes the parts, and gives a line for each."""
@@ -47,7 +54,7 @@ class Cut:
             list_of_products.write(text_of([["product", "file"], *[[it, ""] for it in self.without]]))
             for part in parts_of(self.network.legs, self.legs_of):
                 if part.is_too_large():
-                    self.is_whole = False
+                    self.too_large_parts += 1
                     yield from self.too_large(part)
                 elif part.products:
                     name = self.write_part(part)
@@ -62,14 +69,32 @@ class Cut:
         yield from self.propose()
         yield from self.of_earlier_runs()
 
+    def verdict(self, path: str) -> str:
+        """What is said first of the timetable at a path, once its parts are written."""
+        return f"{'; '.join(self.said(path))}."
+
+    def said(self, path: str) -> Iterator[str]:
+        """How many products files have, and what of the others and of those that no file takes."""
+        every, files = len(self.network.products), len(self.written)
+        share = "all" if self.in_files == every else f"{self.in_files:,} of"
+        yield (f"{files:,} {'file has' if files == 1 else 'files have'} {share} {every:,} products of {path}" if files
+               else f"No file was written of {path}")
+        if self.without:
+            left_out = self.share([self.network.products[it] for it in self.without])
+            yield f"left out: {len(self.without):,}, {left_out} of what was asked for at its fare"
+        if self.too_large_parts:
+            parts = "1 part is" if self.too_large_parts == 1 else f"{self.too_large_parts:,} parts are"
+            yield (f"{parts} too large, and would fit into files without {len(self.proposed):,} of the products, "
+                   f"{self.share(self.proposed)} of what was asked for at its fare")
+        if self.long:
+            yield f"`nrm` refuses those over more than {MOST_LEGS_OF_A_PRODUCT} legs, {len(self.long):,} in all"
+
     def too_long(self) -> Iterator[str]:
         """What is told of journeys over more legs than a product of a file may have."""
-        found = [it for it, legs in self.legs_of.items() if len(legs) > MOST_LEGS_OF_A_PRODUCT]
-        if found:
-            self.is_whole = False
-            more = f" and {len(found) - MOST_TOLD} more" if len(found) > MOST_TOLD else ""
+        if self.long:
+            more = f" and {len(self.long) - MOST_TOLD} more" if len(self.long) > MOST_TOLD else ""
             yield (f"products over more than {MOST_LEGS_OF_A_PRODUCT} legs, which no file takes: "
-                   f"{', '.join(found[:MOST_TOLD])}{more}; docs/network-file.md, 'Why the limits', tells of ways")
+                   f"{', '.join(self.long[:MOST_TOLD])}{more}; docs/network-file.md, 'Why the limits', tells of ways")
 
     def share(self, products: Sequence[Product]) -> str:
         """The share of some products in what was asked for in all histories at its fare."""
@@ -83,6 +108,7 @@ class Cut:
         """Writes the file of a part, and gives its name."""
         name = f"part-{len(self.written) + 1}.csv"
         self.written.append(os.path.join(self.folder, name))
+        self.in_files += len(part.products)
         with open(self.written[-1], "w", encoding="ascii") as file:
             file.write(text_of(self.network.rows(part.legs, part.products)))
         return name

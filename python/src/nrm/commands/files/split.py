@@ -6,9 +6,9 @@ TIMETABLE is written like a network file, but may have any number of legs and pr
 together, and so do those that products join to them in their turn: what is sold on such a part is worth the same
 whatever happens in another. Each part becomes a file of its own, FOLDER/part-1.csv and so on in the order of their
 first legs, with its products, their refunds and demand, and the row of periods; it is of the version that TIMETABLE
-has. FOLDER/parts.csv says of each product in which file it is, so that a request goes to the right session. A line for
-each part is told. A leg without a product is in no file, and told; and so is a part of an earlier run that is still in
-the folder.
+has. FOLDER/parts.csv says of each product in which file it is, so that a request goes to the right session. How many
+products the files have is said first, then a line for each part is told. A leg without a product is in no file, and
+told; and so is a part of an earlier run that is still in the folder.
 
 A part with more than 64 legs or 256 products is told too, with its legs and the products without any one of which it
 would fall apart, and not written; the status is then 1. It is also proposed which products to leave out so that files
@@ -42,6 +42,6 @@ def run(given: Sequence[str]) -> int:
     words.add_argument("--leave-out", metavar="LIST")
     asked = words.parse_args(given)
     cut = Cut(Network.read(asked.timetable), asked.folder, names_in(asked.leave_out) if asked.leave_out else ())
-    for line in cut.write():
-        print(line)
+    told = list(cut.write())
+    print(cut.verdict(asked.timetable), "", *told, sep="\n")
     return 0 if cut.is_whole else 1

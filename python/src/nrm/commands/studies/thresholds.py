@@ -9,9 +9,9 @@
 
 For each leg that a product uses, `nrm cuts` divides the fares on it into at most GROUPS groups, 1 to 10, so that the
 seats that were asked for lie as close to the centres of their groups as can be: the cost is the sum, over the seats of
-all histories, of the distance of the fare from the centre. Prints, for each leg, the cuts, the centres, the cost, and
-the cost for each seat. A cut is the least fare of its group, and as a threshold of the leg it ends a bucket there:
-NETWORK's own thresholds have no say.
+all histories, of the distance of the fare from the centre. Says how many buckets that makes, and prints, for each leg,
+the cuts, the centres, the cost, and the cost for each seat. A cut is the least fare of its group, and as a threshold of
+the leg it ends a bucket there: NETWORK's own thresholds have no say.
 
 WHICH FARES. A product of several legs stands on each of them with its whole fare. Its bucket, though, comes from what
 it brings the leg: its fare less the bid prices of the other legs. --adjusted takes these adjusted fares, of the opening
@@ -48,8 +48,11 @@ from nrm.program import Program
 from nrm.searches.thresholds import FOUND, OF_FILE, ThresholdSearch, proposed, rows_of_thresholds, table_of_thresholds
 from nrm.seasons.drawing import Settings
 from nrm.studies.adjusted import WAYS, adjusted_groupings
-from nrm.studies.groupings import Grouping, groupings, table_of
+from nrm.studies.groupings import Grouping, groupings, table_of, verdict
 from nrm.telling.tables import with_text
+
+RULES = {None: "of least cost by the fares", "cost": "of least cost by adjusted fares of the opening plan",
+         "gaps": "at the largest gaps of adjusted fares of the opening plan"}
 
 
 def run(given: Sequence[str]) -> int:
@@ -86,6 +89,7 @@ def by_a_rule(asked: argparse.Namespace, network: Network, texts: Mapping[str, s
     program = Program.found(asked.program)
     found = list(adjusted_groupings(asked.network, network, asked.adjusted, asked.groups, program) if asked.adjusted
                  else groupings(asked.network, network, asked.groups, program))
+    print(verdict(asked.network, found, RULES[asked.adjusted]), "", *made_lines(asked, program), sep="\n")
     table_of(found, asked.groups).with_texts(texts).show()
     unused = [leg for leg in network.legs if leg not in {it.leg for it in found}]
     if unused:
@@ -114,10 +118,15 @@ def searched(asked: argparse.Namespace, network: Network, texts: Mapping[str, st
     print(*judged.sentences(), f"Of the rules on all legs at once {best} earned most in the search.", sep="\n")
     if best != OF_FILE:
         print(*beside_best.sentences(), sep="\n")
-    print("", *lines_of(made_of({"network": {asked.network: bytes_in(asked.network)}}, program, asked.seed)), sep="\n")
+    print("", *made_lines(asked, program, asked.seed), sep="\n")
     table_of_thresholds(choices, texts).show()
     judged.table("thresholds").show()
     return found
+
+
+def made_lines(asked: argparse.Namespace, program: Program, seed: int | None = None) -> list[str]:
+    """What the thresholds were made of."""
+    return lines_of(made_of({"network": {asked.network: bytes_in(asked.network)}}, program, seed))
 
 
 def draw(found: Sequence[Grouping], folder: str, texts: Mapping[str, str]) -> None:
