@@ -3,7 +3,7 @@
 #
 #     tools/release.sh FOLDER
 #
-# FOLDER/nrm-VERSION gets the two programs, which are built first if need be; nrm-tools with the package in python/, and the wheel of it;
+# FOLDER/nrm-VERSION gets the three programs, which are built first if need be; nrm-tools with the package in python/, and the wheel of it;
 # README.md, CHANGELOG.md, all pages of docs/ with the man pages, examples/, bench/, LICENSE, licences/ of the kit's crates that the
 # programs have code of; VERSION, which says the version and the commit, and SHA256SUMS of all of them: `sha256sum -c SHA256SUMS` there
 # sees that they are as they were made. Of README.md stays what is for who has no checkout. It is made of what is committed, with the kit's
@@ -29,14 +29,16 @@ made=$1/nrm-$version
 [ ! -e "$made" ] || stop "$made is there already"
 commit=$(git -C "$top" rev-parse HEAD 2>/dev/null) || stop "$top is no git repository, or git isn't there: which commit it is can't be told"
 [ -z "$(git -C "$top" status --porcelain)" ] || stop "$top has changes that aren't committed: \`git status\` tells them"
-for page in nrm.1 nrm_kept.1; do
+for page in nrm.1 nrm_kept.1 nrm_why.1; do
   grep -q "\"nrm $version\"" "$top/docs/$page" || stop "docs/$page isn't of version $version"
 done
 
 "$top/nrm" print "$top/examples/two-legs/network.csv" >/dev/null || stop "there is no program to put into it"
-status=0
-"$top/nrm_kept" >/dev/null || status=$?
-[ "$status" = 2 ] || stop "there is no program nrm_kept to put into it"  # it was called with no words
+for name in nrm_kept nrm_why; do
+  status=0
+  "$top/$name" >/dev/null || status=$?
+  [ "$status" = 2 ] || stop "there is no program $name to put into it"  # it was called with no words
+done
 start=$(rt doc 2>/dev/null) || stop "the kit's \`rt\` isn't on the path, and its crates have licences to be handed on"
 licences=("$(dirname "$start")"/rattle/{csv,indexmap,itoa,sqlite,thiserror,memchr,ryu,serde}/LICENSE*)  # the last three are for csv
 for licence in "${licences[@]}"; do
@@ -54,7 +56,7 @@ cp -r "$sources/." "$made"
 SOURCE_DATE_EPOCH=$(git -C "$top" show -s --format=%ct "$commit") "$python" -m pip wheel --quiet --no-deps --no-index \
   --no-build-isolation --wheel-dir "$made" "$sources/python" || stop "the wheel wasn't made"
 sed '/^<!-- checkout -->$/,/^<!-- end -->$/d; /^<!-- release$/d; /^end -->$/d' "$sources/README.md" >"$made/README.md"
-install -m 755 "$top/crates/nrm/out/nrm" "$top/crates/nrm_kept/out/nrm_kept" "$made"
+install -m 755 "$top"/crates/{nrm/out/nrm,nrm_kept/out/nrm_kept,nrm_why/out/nrm_why} "$made"
 for licence in "${licences[@]}"; do
   install -m 644 "$licence" "$made/licences/$(basename "$(dirname "$licence")")-$(basename "$licence")"
 done
