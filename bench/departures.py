@@ -144,6 +144,7 @@ class Sale:
 
     asked    of each period, the times and products of the requests
     sold     of each period, whether each request was sold
+    opening  the bid prices of its first plan, by leg
     closed   times at which products were closed: the product, and where it begins and ends, each a period and a time
              in it
     since    of the products that are closed, where that begins
@@ -157,6 +158,8 @@ class Sale:
 
     def begin(self, plan):
         """Begins a period, with the plan in force."""
+        if not self.asked:
+            self.opening = plan.prices
         self.asked.append([])
         self.sold.append([])
         self.levels = {it.name: self.levels_of(it, plan) for it in self.products.values()}

@@ -9,7 +9,8 @@ departures' requests, each later one of what a way makes of the season before: o
 sales as they are; of the `estimate` of `nrm-tools demand`; or of that with the file of the season `before`. All ways
 get the same customers. KIND is poisson, factor or rough: bench/departures.py says what they are. Told are, of the
 seasons behind the first --warm ones, what a departure earns in each way beside plans of the requests, how much of what
-the sales lose is regained, and how far the demand of dear and of cheap products is off.
+the sales lose is regained, and how far the demand of dear and of cheap products is off; and of the seasons 1, 2, 3, 5
+and 10 by themselves what a departure earns by the sales beside the requests, and the opening prices of both.
 
 Of the customers the share of --down takes the cheapest open product of the journey, if it is no dearer than the one
 that they want, and the share of --again asks for the next dearer one if that is refused. Then the way `wanted` plans
@@ -45,28 +46,30 @@ from sold import FIRST
 WAYS = ("requests", "wanted", "sales", "estimate", "before")
 OPENS = 90
 WEEK = 7
+BY_THEMSELVES = (1, 2, 3, 5, 10)  # seasons
+
+
+@dataclass(frozen=True)
+class Season:
+    """What a departure of a season earned on the mean, and the opening prices of its legs."""
+    revenue: float
+    prices: list
 
 
 @dataclass(frozen=True)
 class Played:
-    """What a departure earned on the mean, and the demand that was reckoned with, by product."""
+    """What a departure earned on the mean, and the demand that was reckoned with, by product; and all seasons."""
     revenue: float
     demand: dict
+    seasons: list
 
 
-class Loop:
-    """What stays the same in all seasons. A season is a list of sales."""
+class Estimates:
+    """The estimate of demand of departures that were sold, of a network."""
 
-    def __init__(self, given, folder):
-        self.network, self.given = Network.read(given.network), given
-        self.demand = Demand(self.network, given)
-        self.clock = Clock(self.network, given.cuts, OPENS)
-        self.board = Board(self.network, Program.found(given.program), given.mode, folder)
-        self.ways = WAYS if given.down or given.again else [it for it in WAYS if it != "wanted"]
-
-    def departures(self):
-        """The customers of a season's departures."""
-        return [self.demand.departure(self.draw) for _ in range(self.given.departures)]
+    def __init__(self, network, given):
+        self.network, self.given = network, given
+        self.clock = Clock(network, given.cuts, OPENS)
 
     def log(self, sales):
         """The bookings and the closures of a season, as a log has them, to the day and to the moment."""
@@ -81,16 +84,35 @@ class Loop:
                 closures.append(Closure(departs, name, self.clock.moment(since), ends))
         return requests, closures
 
-    def estimate(self, sales, earlier, seed):
-        """Histories of the estimate of a season, which may know the file of an earlier network."""
+    def rates(self, sales, earlier=None):
+        """The rates of a season, which may know the file of an earlier network."""
         requests, closures = self.log(sales)
         sale = LoggedSale(requests, logs.Demand(requests, self.given.cuts), closures)
         known = known_of(sale, {it: it for it in sale.products}, self.given.network, earlier, False)
-        rates = estimated(sale, Calendar(self.given.cuts, OPENS), known)
+        return estimated(sale, Calendar(self.given.cuts, OPENS), known)
+
+    def histories(self, rates, seed):
+        """Histories that are drawn by rates."""
+        sale = rates.sale
         made = dict(zip(sale.products, drawn(rates, copies_of(len(sale.departures), None), seed)))
         none = [[0] * self.network.periods] * len(next(iter(made.values())))
         histories = zip(*(made.get(it, none) for it in self.network.products))
         return [dict(zip(self.network.products, it)) for it in histories]
+
+
+class Loop:
+    """What stays the same in all seasons. A season is a list of sales."""
+
+    def __init__(self, given, folder):
+        self.network, self.given = Network.read(given.network), given
+        self.demand = Demand(self.network, given)
+        self.estimates = Estimates(self.network, given)
+        self.board = Board(self.network, Program.found(given.program), given.mode, folder)
+        self.ways = WAYS if given.down or given.again else [it for it in WAYS if it != "wanted"]
+
+    def departures(self):
+        """The customers of a season's departures."""
+        return [self.demand.departure(self.draw) for _ in range(self.given.departures)]
 
     def histories_after(self, way, season, sales, number):
         """The histories by which a way plans the season after one."""
@@ -98,7 +120,8 @@ class Loop:
             return [counted(self.network, it) for it in season]
         if way in ("requests", "sales"):
             return [counted(self.network, it.asked, it.sold if way == "sales" else None) for it in sales]
-        return self.estimate(sales, self.board.path if way == "before" and number else None, number)
+        earlier = self.board.path if way == "before" and number else None
+        return self.estimates.histories(self.estimates.rates(sales, earlier), number)
 
     def run(self, number):
         """Plays all seasons in each way."""
@@ -109,15 +132,16 @@ class Loop:
 
     def played(self, way, histories, seasons):
         """What a way makes of seasons, the first of which is planned by some histories."""
-        revenues, told = [], Counter()
+        made, told = [], Counter()
         for number, season in enumerate(seasons):
             self.board.plan_by(histories)
             sales = [self.board.sell(it) for it in season]
             histories = self.histories_after(way, season, sales, number)
+            made.append(Season(statistics.mean(it.revenue for it in sales), list(sales[0].opening.values())))
             if number >= self.given.warm:
-                revenues.append(statistics.mean(it.revenue for it in sales))
                 told.update({it: statistics.mean(sum(h[it]) for h in histories) for it in self.network.products})
-        return Played(statistics.mean(revenues), {name: told[name] / len(revenues) for name in self.network.products})
+        late = [it.revenue for it in made[self.given.warm:]]
+        return Played(statistics.mean(late), {name: told[name] / len(late) for name in self.network.products}, made)
 
 
 def words_given():
@@ -156,6 +180,22 @@ def tell(loop, results):
               f"{cheap:.1f} % of cheap products")
 
 
+def tell_seasons(results):
+    """Prints a line for each of some seasons: what plans of sales earn there, and the opening prices."""
+    for number in BY_THEMSELVES:
+        if number > len(results[0]["sales"].seasons):
+            break
+        requests, sales = ([it[way].seasons[number - 1] for it in results] for way in ("requests", "sales"))
+        best = statistics.mean(it.revenue for it in requests) / 100
+        less = [a.revenue - b.revenue for a, b in zip(sales, requests)]
+        means = " and ".join(f"{statistics.mean(means):.1f} +- {error_of(means):.1f}" for means in (
+            [float(statistics.mean(it.prices)) for it in some] for some in (requests, sales)))
+        highest = float(max(max(it.prices) for it in sales))
+        print(f"season {number}: by sales beside requests {statistics.mean(less) / best:.2f} +- "
+              f"{error_of(less) / best:.2f} %; opening price of a leg by requests and by sales {means}, by sales at most "
+              f"{highest:.1f}")
+
+
 def off(loop, results, way, dear):
     """By how many per cent the demand of the dear or the cheap products is off in a way."""
     products = [it for it in loop.network.products if (it in loop.demand.dear) == dear]
@@ -174,6 +214,7 @@ def main():
             earned = ", ".join(f"{way} {it.revenue:.0f}" for way, it in results[-1].items())
             print(f"run {number + 1}: a departure earns by {earned}", file=sys.stderr, flush=True)
     tell(loop, results)
+    tell_seasons(results)
     departures = len(loop.ways) * given.runs * given.seasons * given.departures
     print(f"runs {given.runs}, departures {departures}, seconds {time.perf_counter() - begun:.0f}")
 
