@@ -192,8 +192,8 @@ def tell_seasons(results):
             [float(statistics.mean(it.prices)) for it in some] for some in (requests, sales)))
         highest = float(max(max(it.prices) for it in sales))
         print(f"season {number}: by sales beside requests {statistics.mean(less) / best:.2f} +- "
-              f"{error_of(less) / best:.2f} %; opening price of a leg by requests and by sales {means}, by sales at most "
-              f"{highest:.1f}")
+              f"{error_of(less) / best:.2f} %; opening price of a leg by requests and by sales {means}, by sales at "
+              f"most {highest:.1f}")
 
 
 def off(loop, results, way, dear):

@@ -1,6 +1,7 @@
 """The scripts of bench/ begin and end as the commands do."""
 from __future__ import annotations
 
+import re
 import shutil
 from pathlib import Path
 
@@ -64,6 +65,33 @@ class Scripts(PlaceTest):
         self.assertNotIn("0.0: +0.00 %", done.out)
         done = self.bench("thresholds", network, "--beside", "none", *self.with_program)
         self.want_in(done.err, "--beside none is none of the rules")
+
+    def test_studies_of_plans_of_sales_tell_the_same_of_like_plans(self) -> None:
+        """In the first season all plans are of requests; sales leave no bid prices behind; and periods that are cut and
+        joined to as many as they were are as they were."""
+        season = EXAMPLES / "season" / "network.csv"
+        few = ["--mode", "bid", "--runs", 2, "--departures", 4, *self.with_program]
+        done = self.bench("loop", season, *few, "--seasons", 3, "--warm", 1)
+        self.assertEqual(done.status, 0, done.err)
+        first, second, third = [line for line in done.out.splitlines() if line.startswith("season ")]
+        self.want_in(first, "season 1: by sales beside requests 0.00 +- 0.00 %;")
+        price, same = re.findall(r"([1-9][0-9.]*) \+- ", first.partition(";")[2])
+        self.assertEqual(price, same)
+        for line in (second, third):
+            self.want_in(line, "by requests and by sales ")
+            self.want_in(line, " and 0.0 +- 0.0, by sales at most 0.0")
+        done = self.bench("newcomer", season, *few, "--counts", "2,2,4", "--periods", "4,4,2,16", "--played", 2)
+        self.assertEqual(done.status, 0, done.err)
+        told = done.out.splitlines()
+        self.assertEqual(told[0], "bid, factor: the mean demand of a product is 8.69 seats")
+        self.assertEqual([line.partition(":")[0] for line in told[1:4]],
+                         ["departures 2", "departures 2", "departures 4"])
+        self.assertEqual(told[1], told[2])
+        self.assertNotEqual(told[2].partition(":")[2], told[3].partition(":")[2])
+        for mode in ("bid", "davn"):
+            self.assertIn(f"{mode}, periods 4: earns 0.00 +- 0.00 % more", told)
+            for periods in (2, 16):
+                self.assertNotIn(f"{mode}, periods {periods}: earns 0.00 +- 0.00 % more", told)
 
     def test_the_export_that_is_an_example_is_made_again(self) -> None:
         words = ["--fridays", "--a-day", 110, "--trains", 2, "--of-a-train", 30]

@@ -33,7 +33,7 @@ class Made(SalePlace):
 
 class Scripts(Made):
     def test_each_tells_what_it_lacks(self) -> None:
-        for name, words in (("loop", []), ("sold", [self.folder])):
+        for name, words in (("loop", []), ("newcomer", []), ("sold", [self.folder])):
             self.want_in(self.bench(name, "--help").out, f"usage: bench/{name}.py NETWORK")
             none, false = self.folder / "none", ["--program", shutil.which("false")]
             for more, status, wanted in (
@@ -47,6 +47,11 @@ class Scripts(Made):
         for words, wanted in ((["--mode", "first"], "--mode first makes no plans"),
                               (["--warm", "20"], "--warm 20: fewer")):
             self.want_in(self.bench("loop", SEASON, *words).err, f"bench/loop.py: {wanted}")
+        for words, wanted in ((["--mode", "first"], "--mode first makes no plans"),
+                              (["--counts", "5,33"], "--counts: each is to be 1 to 32"),
+                              (["--periods", "0"], "--periods: each is to be 1 to 16"),
+                              (["--runs", "0"], "--runs 0: one at least")):
+            self.want_in(self.bench("newcomer", SEASON, *words).err, f"bench/newcomer.py: {wanted}")
         for words in ([], ["--help"]):
             self.want_in(self.bench("departures", *words).err, "departures.py: no tool, but a part of ")
 
