@@ -84,17 +84,19 @@ class Estimates:
                 closures.append(Closure(departs, name, self.clock.moment(since), ends))
         return requests, closures
 
-    def rates(self, sales, earlier=None):
-        """The rates of a season, which may know the file of an earlier network."""
-        requests, closures = self.log(sales)
+    def rates(self, requests, closures, earlier=None):
+        """The rates of a season's log, which may know the file of an earlier network."""
         sale = LoggedSale(requests, logs.Demand(requests, self.given.cuts), closures)
         known = known_of(sale, {it: it for it in sale.products}, self.given.network, earlier, False)
         return estimated(sale, Calendar(self.given.cuts, OPENS), known)
 
-    def histories(self, rates, seed):
-        """Histories that are drawn by rates."""
-        sale = rates.sale
-        made = dict(zip(sale.products, drawn(rates, copies_of(len(sale.departures), None), seed)))
+    def drawn(self, rates, seed):
+        """The histories that are drawn by rates, as often as `nrm-tools demand` does unasked."""
+        return self.histories(rates, drawn(rates, copies_of(len(rates.departures), None), seed))
+
+    def histories(self, rates, whole_numbers):
+        """The histories that whole numbers by product make, in the order of the products of rates."""
+        made = dict(zip(rates.sale.products, whole_numbers))
         none = [[0] * self.network.periods] * len(next(iter(made.values())))
         histories = zip(*(made.get(it, none) for it in self.network.products))
         return [dict(zip(self.network.products, it)) for it in histories]
@@ -121,7 +123,7 @@ class Loop:
         if way in ("requests", "sales"):
             return [counted(self.network, it.asked, it.sold if way == "sales" else None) for it in sales]
         earlier = self.board.path if way == "before" and number else None
-        return self.estimates.histories(self.estimates.rates(sales, earlier), number)
+        return self.estimates.drawn(self.estimates.rates(*self.estimates.log(sales), earlier), number)
 
     def run(self, number):
         """Plays all seasons in each way."""

@@ -1,22 +1,26 @@
 """How many departures and how many periods plans are to be made of.
 
-    bench/newcomer.py NETWORK [--counts N,N..] [--periods N,N..] [--runs N] [--played N] [--mode MODE] [--demand KIND]
-                      [--scale X] [--down P] [--again P] [--departures N] [--seed S] [--cuts DAYS,DAYS..]
-                      [--program WORD...]
+    bench/newcomer.py NETWORK [--counts N,N..] [--periods N,N..] [--runs N] [--played N] [--others] [--mode MODE]
+                      [--demand KIND] [--scale X] [--down P] [--again P] [--departures N] [--seed S]
+                      [--cuts DAYS,DAYS..] [--program WORD...]
 
 A newcomer has so many departures that were sold first come, first served, as --counts says, and makes a plan of their
 requests, of the estimate of `nrm-tools demand` from their sales and closures, or of their sales as they are. Told is
-what is lost by each in --played further departures under --mode, beside a plan of the requests of 32 others, the most
-that a network file takes; and how far the mean demand of a product is off, by requests and by the estimate, as the root
-of the mean square, beside the standard error that the estimate tells. Products that were never open in some period
-have no error, and are left out of the three last.
+what is lost by each in --played further departures under --mode, in per cent, beside a plan of the requests of 32
+others, the most that a network file takes; and how far the mean demand of a product is off, by requests and by the
+estimate, as the root of the mean square, beside the standard error that the estimate tells. Products that were never
+open in some period have no error, and are left out of the three last. With --others plans are made by the estimate in
+other ways too, and told is what is lost more than by the estimate: of one draw, of the mean, and of readings of what
+is open at noon of each day, or of each seventh, in the place of closures.
 
 Then each period of NETWORK is cut, or several are joined, to as many as --periods says, at like times. Plans of the
 requests of --departures departures, made again at the start of each period, sell --played further ones under `bid` and
 `davn`. Told is what they earn more than by the first of these numbers. All get the same customers. KIND is poisson,
-factor or rough: bench/departures.py says what they are.
+factor or rough: bench/departures.py says what they are. Where --counts or --periods is empty, its part is left out.
 """
+import collections
 import dataclasses
+import itertools
 import math
 import random
 import statistics
@@ -25,15 +29,18 @@ import tempfile
 import time
 
 from departures import Board, Demand, add_departures, counted
-from loop import Estimates, error_of
+from loop import OPENS, Estimates, error_of
 from nrm import Stop
 from nrm.commands.running import parser
+from nrm.estimates.results import carried, drawn
 from nrm.limits import MOST_HISTORIES, MOST_PERIODS
 from nrm.network import Network, whole
 from nrm.program import Program
+from nrm.sales.closures import NOON, Reading, closures_between
 from running import NAME, end
 
 MODES = ("bid", "davn")
+WAYS = ("requests", "estimate", "sales")
 
 
 def recut(periods, count):
@@ -45,6 +52,18 @@ def recut(periods, count):
             period = min(int(at), count - 1)
             made[period].append(it._replace(time=at - period))
     return made
+
+
+def readings(network, closures, departures, days):
+    """Whether each product of some departures is open, at a noon in so many days."""
+    closed = collections.defaultdict(list)
+    for it in closures:
+        closed[it.departs, it.product].append((it.first, it.last))
+    for departs, name in itertools.product(departures, network.products):
+        for at in range(-OPENS, 1, days):
+            moment = at + NOON
+            is_closed = any(first <= moment < last for first, last in closed[departs, name])
+            yield Reading(departs, name, moment, not is_closed)
 
 
 def mean_of(values):
@@ -99,13 +118,21 @@ class Newcomer:
         """What is found of some sales, where plans of many departures earn so much: losses in per cent, the rest in
         seats."""
         requests = [counted(self.network, it.asked) for it in sales]
-        rates = self.estimates.rates(sales)
+        requested, closures = self.estimates.log(sales)
+        rates = self.estimates.rates(requested, closures)
         names = rates.sale.products
         known = [j for j in rates.products if not rates.never_open(j)]
-        plans = {"requests": requests, "estimate": self.estimates.histories(rates, number),
+        plans = {"requests": requests, "estimate": self.estimates.drawn(rates, number),
                  "sales": [counted(self.network, it.asked, it.sold) for it in sales]}
-        found = {f"lost by {way}": 100 * (1 - self.earned(self.later, histories, fresh) / best)
-                 for way, histories in plans.items()}
+        if self.given.others:
+            plans["one draw"] = self.estimates.histories(rates, drawn(rates, 1, number))
+            plans["the mean"] = self.estimates.histories(rates, carried(rates))
+            for name, days in (("daily readings", 1), ("weekly readings", 7)):
+                known_by = list(closures_between(readings(self.network, closures, rates.sale.departures, days)))
+                plans[name] = self.estimates.drawn(self.estimates.rates(requested, known_by), number)
+        lost = {way: 100 * (1 - self.earned(self.later, histories, fresh) / best) for way, histories in plans.items()}
+        found = {f"lost by {way}": lost[way] for way in WAYS}
+        found.update({f"more by {way}": it - lost["estimate"] for way, it in lost.items() if way not in WAYS})
         asked = {name: statistics.mean(sum(it[name]) for it in requests) for name in self.truth}
         off = [rates.mean(j) - self.truth[names[j]] for j in known]
         errors = [rates.error(j) for j in known]
@@ -137,10 +164,11 @@ def numbers(text):
 def words_given():
     words = parser(NAME, __doc__)
     add_departures(words)
-    words.add_argument("--counts", type=numbers, default=[5, 10, 20, 32])
-    words.add_argument("--periods", type=numbers, default=[4, 1, 8, 16])
+    words.add_argument("--counts", type=numbers, default=numbers("5,10,20,32"))
+    words.add_argument("--periods", type=numbers, default=numbers("4,1,8,16"))
     words.add_argument("--runs", type=whole, default=40)
     words.add_argument("--played", type=whole, default=20)
+    words.add_argument("--others", action="store_true")
     given = words.parse_args()
     for word, some, most in (("--counts", given.counts, MOST_HISTORIES), ("--periods", given.periods, MOST_PERIODS)):
         if any(not 1 <= it <= most for it in some):

@@ -80,7 +80,14 @@ class Scripts(PlaceTest):
         for line in (second, third):
             self.want_in(line, "by requests and by sales ")
             self.want_in(line, " and 0.0 +- 0.0, by sales at most 0.0")
-        done = self.bench("newcomer", season, *few, "--counts", "2,2,4", "--periods", "4,4,2,16", "--played", 2)
+        few += ["--played", 2]
+        done = self.bench("newcomer", season, *few, "--counts", "32", "--periods=", "--others")
+        self.assertEqual((done.status, len(done.out.splitlines())), (0, 3), done.err)
+        self.want_in(done.out, "more by one draw 0.00 +- 0.00, ")
+        for way in ("the mean", "daily readings", "weekly readings"):
+            self.want_in(done.out, f"more by {way} ")
+            self.assertNotIn(f"more by {way} 0.00 +- 0.00, ", done.out)
+        done = self.bench("newcomer", season, *few, "--counts", "2,2,4", "--periods", "4,4,2,16")
         self.assertEqual(done.status, 0, done.err)
         told = done.out.splitlines()
         self.assertEqual(told[0], "bid, factor: the mean demand of a product is 8.69 seats")
