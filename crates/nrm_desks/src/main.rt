@@ -1,0 +1,30 @@
+//! `nrm_desks`, the program: the real files, standard input and standard output around the top call.
+#![tactic(auto)]
+
+use nrm_desking::{DesksStatus, asks_for_desks, run_desks};
+use nrm_edge::{DirFiles, GatheringSink, StdSink, StdSource};
+use nrm_outside::words_given;
+use std::io;
+use std::process::ExitCode;
+
+// How many bytes of output are gathered before they are sent on.
+const GATHERED: usize = 65_536;
+
+// The program, around its words. Memory to gather the output is taken only for words that ask for desks.
+fn status_of(rt: &HostRuntime) -> io::Result<DesksStatus> {
+    let alloc = rt.alloc();
+    let words = words_given(rt)?;
+    let mut files = DirFiles::new(rt);
+    let mut source = StdSource::new(rt.stdin());
+    let mut output = StdSink::new(io::writer(rt));
+    if !asks_for_desks(&words) {
+        return Ok(run_desks(alloc, &words, &mut files, &mut source, &mut output));
+    }
+    let mut sink = GatheringSink::new(alloc, output, GATHERED)?;
+    Ok(run_desks(alloc, &words, &mut files, &mut source, &mut sink))
+}
+
+fn main(rt: HostRuntime) -> ExitCode {
+    let status = status_of(&rt).unwrap_or(DesksStatus::NoMemory);
+    ExitCode::from(status.number())
+}

@@ -1,0 +1,5 @@
+pub mod Cuts
+pub mod Cutting
+pub mod Frames
+pub mod Headers
+pub mod Outgoing

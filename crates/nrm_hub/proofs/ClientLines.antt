@@ -1,0 +1,201 @@
+-- The lines of one client: where the next one ends, what becomes of it, and that desks don't get fewer.
+use Rattle.std.proofs.Common.{ℕ, ◌≡◌, ◌≢◌, ◌∙◌, ◌+◌, ◌-◌, ◌<◌, ◌≤◌, Bool, true, false, List, [], ◌∷◌, ◌++◌, length, take, drop, map, get_or, Option, Some, None}
+use Rattle.std.proofs.Common.{refl, sym, ap, subst, arith, length-append, length-drop}
+use Rattle.std.specs.Prelude.{All, position, slice_set, unwrap_or, ◌==◌}
+use Rattle.std.specs.List.{position_or_len}
+use Rattle.std.proofs.lemmas.List.{get_or-take, length-set, length-take}
+use Rattle.std.proofs.lemmas.List.Sums.{fails_before_first, passes_at_first}
+use Rattle.nrm_text.proofs.Places.{found, missing, placed}
+use Rattle.nrm_model.proofs.NameLemmas.{number-below, number-same}
+use Rattle.nrm_stream.specs.declared.command.Command.{Command}
+use Rattle.nrm_frames.specs.declared.rights.Rights.{Rights}
+use Rattle.nrm_frames.specs.declared.why.Why.{Why}
+use Rattle.nrm_frames.specs.declared.why.Why.TheVariants as why
+use Rattle.nrm_hub.specs.Clients.{ClientValue, Hears, after_line, closed_for, cut, joined_as, whole}
+use Rattle.nrm_hub.specs.Inner.Answered.{Hears as Joined, IsAnswered, IsJoinFault}
+use Rattle.nrm_hub.specs.Inner.Taking.{Begins, Excuses, GoesWithout, IsLine, IsTook, Takes, TakesIts, answered_as, joined, line, nothing, settled, taken, too_long}
+use Rattle.nrm_hub.specs.Seats.{IsBelow}
+use Rattle.nrm_hub.specs.Asked.{asked_in}
+use Rattle.nrm_hub.specs.Lines.{at_line, denied_line, is_beyond, memory_line}
+use Rattle.nrm_hub.specs.Lines.{Answers, How, asks, greets_late, is_carried, is_denied, lacks, looks, may_not_ask, otherwise, repeats, runs_out}
+use Rattle.nrm_hub.specs.Register.{DeskValue, Joins, RegisterValue, added, desk_at, desk_named, new_desk, there, with_row}
+use Rattle.nrm_hub.specs.Taking.{TakesLine, answers, greets, lacks_memory, may_greet, may_not_greet, refuses, too_many}
+use Rattle.nrm_hub.specs.declared.asked.Asked.TheVariants as asked
+use Rattle.nrm_hub.specs.declared.limits.TheConstants.{LAST_SEQUENCE, MOST_LINE}
+use Rattle.nrm_hub.specs.declared.register.JoinFault.{JoinFault}
+use Rattle.nrm_hub.specs.declared.register.JoinFault.TheVariants as join
+use Rattle.nrm_hub.specs.declared.client.Took.{Took}
+use Rattle.nrm_hub.specs.declared.client.Took.TheVariants as took
+use Rattle.nrm_hub.specs.declared.line.Taken.{Taken}
+use Rattle.nrm_hub.specs.declared.line.Taken.TheVariants as become
+
+-- the number of a desk that was found is below theirs
+pub named-below : (r : RegisterValue) (name : List ℕ) (d : ℕ) → desk_named r name ≡ Some d → d < length r.desks
+named-below r name d named =
+    let names : List (List ℕ) = map (λ (desk : DeskValue). desk.name) r.desks in
+    number-below (λ (desk : DeskValue). desk.name) name r.desks names d refl
+    (sym (number-same (λ (desk : DeskValue). desk.name) name r.desks names refl ∙ named))
+
+-- who joins is a desk, and none is lost
+pub joins-below : (old : RegisterValue) (name : List ℕ) (new : RegisterValue) (d : ℕ) → Joins old name new d
+    → (length old.desks ≤ length new.desks) × (d < length new.desks)
+joins-below old name new d (there e named) = (omega arith, named-below old name e named)
+joins-below old name new d (added none) = let more : length new.desks ≡ length old.desks + 1 = length-append old.desks (new_desk name ∷ []) in (omega (arith, more), omega (arith, more))
+
+pub answers-desks : (r : RegisterValue) (rights : Rights) (d n : ℕ) (bytes : List ℕ) (r' : RegisterValue) (how : How) (text : List ℕ)
+    → Answers r rights d n bytes r' how text → length r'.desks ≡ length r.desks
+answers-desks r rights d n bytes r' how text (greets_late name number asked) = refl
+answers-desks r rights d n bytes r' how text (asks name asked may) = refl
+answers-desks r rights d n bytes r' how text (may_not_ask name asked may) = refl
+answers-desks r rights d n bytes r' how text (is_denied c asked may) = refl
+answers-desks r rights d n bytes r' how text (is_carried c mid reply asked may changes new few carries) =
+    ap (λ (desks : List DeskValue). length desks) carries.desks ∙ length-set r.desks d _
+answers-desks r rights d n bytes r' how text (runs_out c mid asked may changes passes) = ap (λ (r : RegisterValue). length r.desks) passes.rest
+answers-desks r rights d n bytes r' how text (lacks c asked may changes) = refl
+answers-desks r rights d n bytes r' how text (looks c mid reply asked may changes passes) = ap (λ (r : RegisterValue). length r.desks) passes.rest
+answers-desks r rights d n bytes r' how text (repeats c row asked may changes used at same) = refl
+
+pub hears-desk : (old : ClientValue) (text : List ℕ) (new : ClientValue) → Hears old text new → new.desk ≡ old.desk
+hears-desk old text new whole = refl
+hears-desk old text new (cut count few) = refl
+
+-- a client is seated, and none of the desks is lost
+abbrev pub IsSeatedOn : RegisterValue → RegisterValue → ClientValue → Type 0
+IsSeatedOn r r' c = IsBelow c.desk (length r'.desks) × (length r.desks ≤ length r'.desks)
+
+seated-as : (r r' : RegisterValue) (desk : Option ℕ) (c : ClientValue) → c.desk ≡ desk → IsBelow desk (length r'.desks) → length r.desks ≤ length r'.desks
+    → IsSeatedOn r r' c
+seated-as r r' desk c is below grown = (subst (λ (o : Option ℕ). IsBelow o (length r'.desks)) (sym is) below, grown)
+
+pub takes-line-seated : (r : RegisterValue) (c : ClientValue) (bytes rest : List ℕ) (r' : RegisterValue) (c' : ClientValue) (how : How) (text : List ℕ)
+    → TakesLine r c bytes rest r' c' how text → IsBelow c.desk (length r.desks) → IsSeatedOn r r' c'
+takes-line-seated r c bytes rest r' c' how text (greets name number mid d n after first asked_is may joins is hears) below =
+    let (grown, seat) = joins-below r name mid d joins in
+    seated-as r mid (Some d) after (hears-desk _ _ after hears) seat grown
+takes-line-seated r c bytes rest r' c' how text (may_not_greet name number after first asked may hears) below =
+    seated-as r r c.desk after (hears-desk _ _ after hears) below (omega arith)
+takes-line-seated r c bytes rest r' c' how text (lacks_memory after first hears) below = seated-as r r c.desk after (hears-desk _ _ after hears) below (omega arith)
+takes-line-seated r c bytes rest r' c' how text (too_many first many) below = (below, omega arith)
+takes-line-seated r c bytes rest r' c' how text (answers d mid after done told is given hears) below =
+    let same : length mid.desks ≡ length r.desks = answers-desks r c.rights d c.number bytes mid done told given in
+    let still : IsBelow c.desk (length mid.desks) = subst (λ (count : ℕ). IsBelow c.desk count) (sym same) below in
+    seated-as r mid c.desk after (hears-desk _ _ after hears) still (omega (arith, same))
+takes-line-seated r c bytes rest r' c' how text (refuses d reason is given) below = (below, omega arith)
+
+begins-seated : (r r' : RegisterValue) (c c' : ClientValue) (end : ℕ) → Begins r r' c c' end → IsBelow c.desk (length r.desks) → IsSeatedOn r r' c'
+begins-seated r r' c c' end (taken its) below = takes-line-seated r c _ _ r' c' its.how its.text its.takes below
+begins-seated r r' c c' end (joined mid d first joins its) below =
+    let (grown, first_seat) = joins-below r c.name mid d joins in
+    let (seat, more) = takes-line-seated mid (joined_as c d (desk_at mid d).next) _ _ r' c' its.how its.text its.takes first_seat in
+    (seat, omega (arith, grown, more))
+
+pub takes-seated : (r : RegisterValue) (c : ClientValue) (r' : RegisterValue) (c' : ClientValue) → Takes r c r' c' → IsBelow c.desk (length r.desks) → IsSeatedOn r r' c'
+takes-seated r c r' c' nothing below = (below, omega arith)
+takes-seated r c r' c' (line end mid after at short begins) below = begins-seated r mid c after end begins below
+takes-seated r c r' c' (too_long long none) below = (below, omega arith)
+
+-- a place that was found in a front is the first
+pub front-place : (p : ℕ → Bool) (xs : List ℕ) (n i : ℕ) → position p (take n xs) ≡ Some i → (position p xs ≡ Some i) × (i < n) × (i < length xs)
+front-place p xs n i is =
+    let front : List ℕ = take n xs in
+    let (place, within) = found p front i is in
+    let short : i < n = omega (arith, length-take n xs) in
+    let inside : i < length xs = omega (arith, length-take n xs) in
+    let fails : (k : ℕ) → k < i → p (get_or xs k 0) ≡ false = λ k before.
+    let there : k < n = omega arith in
+    let fails : p (get_or front k 0) ≡ false = fails_before_first p front k 0 (omega arith) in
+    subst (λ (x : ℕ). p x ≡ false) (get_or-take n xs k 0 there) fails
+    in
+    let last : p (get_or front i 0) ≡ true = subst (λ (k : ℕ). p (get_or front k 0) ≡ true) place (passes_at_first p front 0 (omega arith)) in
+    let passes : p (get_or xs i 0) ≡ true = subst (λ (x : ℕ). p x ≡ true) (get_or-take n xs i 0 short) last in
+    (placed p xs i inside fails passes, short, inside)
+
+-- where there is none, none passes
+pub none-passes : (p : ℕ → Bool) (xs : List ℕ) → position p xs ≡ None → All (λ c. p c ≡ false) xs
+none-passes p xs is = λ k d short. fails_before_first p xs k d (omega (arith, missing p xs is))
+
+-- what became of a line of a client that is a desk
+pub answered-line : (r r' : RegisterValue) (c : ClientValue) (d end : ℕ) (told : List ℕ) (result : Taken) → c.desk ≡ Some d
+    → IsAnswered r r' c.rights d c.number (take end c.coming) c.told told result
+    → TakesIts r r' c (answered_as (record c { told = told }) (take end c.coming) (drop (end + 1) c.coming) result) end
+answered-line r r' c d end told become.Told is given = record {
+  how = given.how;
+  text = given.text;
+  takes = subst (λ (t : List ℕ). TakesLine r c (take end c.coming) (drop (end + 1) c.coming) r'
+      (record (after_line c (take end c.coming) (drop (end + 1) c.coming)) { told = t; number = c.number + 1 }) given.how given.text)
+      (sym given.hears) (answers d r' _ given.how given.text is given.answers whole);
+}
+answered-line r r' c d end told become.Cut is given = record {
+  how = given.how;
+  text = given.text;
+  takes = subst (λ (t : List ℕ). TakesLine r c (take end c.coming) (drop (end + 1) c.coming) r'
+      (closed_for (record (after_line c (take end c.coming) (drop (end + 1) c.coming)) { told = t; number = c.number + 1 }) why.Memory) given.how given.text)
+      (sym given.hears.2) (answers d r' _ given.how given.text is given.answers (cut given.hears.0 given.hears.1));
+}
+answered-line r r' c d end told (become.Refused reason) is given = record {
+  how = otherwise;
+  text = [];
+  takes = subst (λ (mid : RegisterValue). TakesLine r c (take end c.coming) (drop (end + 1) c.coming) mid
+      (closed_for (record (after_line c (take end c.coming) (drop (end + 1) c.coming)) { told = told }) reason) otherwise []) (sym given.1)
+      (subst (λ (t : List ℕ). TakesLine r c (take end c.coming) (drop (end + 1) c.coming) r
+      (closed_for (record (after_line c (take end c.coming) (drop (end + 1) c.coming)) { told = t }) reason) otherwise []) (sym given.2)
+      (refuses d reason is given.0));
+}
+
+-- what became of a text of the hub itself
+pub heard : (c : ClientValue) (end : ℕ) (text told : List ℕ) (result : Taken) → Joined c.told told text result
+    → Excuses c (settled (after_line (record c { told = told }) (take end c.coming) (drop (end + 1) c.coming)) result) end text
+heard c end text told become.Told is = subst (λ (t : List ℕ). Excuses c (after_line (record c { told = t }) (take end c.coming) (drop (end + 1) c.coming)) end text)
+    (sym is) whole
+heard c end text told become.Cut is =
+    subst (λ (t : List ℕ). Excuses c (closed_for (after_line (record c { told = t }) (take end c.coming) (drop (end + 1) c.coming)) why.Memory) end text)
+    (sym is.2) (cut is.0 is.1)
+heard c end text told (become.Refused reason) is = absurd is
+
+-- a client whose name has no desk
+pub without : (r r' : RegisterValue) (c c' : ClientValue) (end : ℕ) (fault : JoinFault) → c.desk ≡ None → r' ≡ r → IsJoinFault r fault → GoesWithout c c' end fault
+    → TakesIts r r' c c' end
+without r r' c c' end fault first same cause goes =
+    subst (λ (mid : RegisterValue). TakesIts r mid c c' end) (sym same) (by fault cause goes)
+  where
+    by : (fault : JoinFault) → IsJoinFault r fault → GoesWithout c c' end fault → TakesIts r r c c' end
+    by join.NoMemory cause goes = record { how = otherwise; text = memory_line; takes = lacks_memory c' first goes }
+    by join.TooMany cause goes = record {
+      how = otherwise;
+      text = [];
+      takes = subst (λ (c' : ClientValue). TakesLine r c (take end c.coming) (drop (end + 1) c.coming) r c' otherwise []) (sym goes) (too_many first cause);
+    }
+
+-- a greeting is answered by the number of the next line
+pub greeted : (r r' : RegisterValue) (c c' : ClientValue) (end : ℕ) (name : List ℕ) (number : Option ℕ) (d n : ℕ) → c.desk ≡ None
+    → asked_in (take end c.coming) ≡ asked.Greeting name number → may_greet c name ≡ true → Joins r name r' d → n ≡ unwrap_or number (desk_at r' d).next
+    → Excuses (joined_as c d n) c' end (at_line n) → TakesIts r r' c c' end
+greeted r r' c c' end name number d n first asked_is may joins is hears =
+    record { how = otherwise; text = at_line n; takes = greets name number r' d n c' first asked_is may joins is hears }
+
+-- or it isn't allowed
+pub not-greeted : (r : RegisterValue) (c c' : ClientValue) (end : ℕ) (name : List ℕ) (number : Option ℕ) → c.desk ≡ None
+    → asked_in (take end c.coming) ≡ asked.Greeting name number → may_greet c name ≡ false → Excuses c c' end denied_line → TakesIts r r c c' end
+not-greeted r c c' end name number first asked_is may hears = record {
+  how = otherwise;
+  text = denied_line;
+  takes = may_not_greet name number c' first asked_is may hears;
+}
+
+-- a client has used up its numbers
+pub used-up : (r : RegisterValue) (c c' : ClientValue) (d end : ℕ) → c.desk ≡ Some d → LAST_SEQUENCE < c.number
+    → c' ≡ closed_for (after_line c (take end c.coming) (drop (end + 1) c.coming)) why.Sequence → TakesIts r r c c' end
+used-up r c c' d end is beyond same = record {
+  how = otherwise;
+  text = [];
+  takes = subst (λ (c' : ClientValue). TakesLine r c (take end c.coming) (drop (end + 1) c.coming) r c' otherwise []) (sym same)
+      (refuses d why.Sequence is (is_beyond beyond));
+}
+
+-- what is said of a line that was taken
+pub took-line : (r r' : RegisterValue) (c c' : ClientValue) (end : ℕ) (result : Took) → position (λ byte. byte == 10) c.coming ≡ Some end
+    → end < MOST_LINE → Begins r r' c c' end → IsLine result → IsTook r r' c c' result
+took-line r r' c c' end took.Line ends short begins is = record { end = end; ends = ends; short = short; begins = begins }
+took-line r r' c c' end took.LongLine ends short begins is = record { end = end; ends = ends; short = short; begins = begins }
+took-line r r' c c' end took.Nothing ends short begins is = absurd is
+took-line r r' c c' end took.TooLong ends short begins is = absurd is

@@ -1,0 +1,202 @@
+-- What a call of the hub does, by what may happen in the world that the hub stands in.
+use Rattle.std.proofs.Common.{ℕ, ◌≤◌, ◌≡◌, ◌≢◌, ◌∙◌, ◌+◌, ◌<◌, List, [], ◌∷◌, ◌++◌, length, Option, Some, None, refl, sym, ap, subst}
+use Rattle.std.proofs.Common.{append-nil, append_assoc}
+use Rattle.std.specs.Prelude.{All, ◌==◌, false, replicate, ⊤}
+use Rattle.nrm_frames.specs.Frames.{Frame}
+use Rattle.nrm_frames.specs.Outgoing.{Output, close, keep, send}
+use Rattle.nrm_frames.specs.declared.header.Header.TheVariants as header
+use Rattle.nrm_frames.specs.declared.rights.Rights.{Rights}
+use Rattle.nrm_frames.specs.declared.why.Why.{Why}
+use Rattle.nrm_frames.specs.declared.why.Why.TheVariants as why
+use Rattle.nrm_hub.specs.Clients.{ClientValue, after_telling, closed_for, joined_as, new_client, with_piece}
+use Rattle.nrm_hub.specs.Goes.{Goes, GoesTo}
+use Rattle.nrm_hub.specs.Hub.{HubValue, client_at, with_client, with_places}
+use Rattle.nrm_hub.specs.Lines.{How}
+use Rattle.nrm_hub.specs.Register.{Joins, RegisterValue, desk_at}
+use Rattle.nrm_hub.specs.Rows.{Entry, rows_text}
+use Rattle.nrm_hub.specs.Taking.{TakesLine}
+use Rattle.nrm_hub.specs.World.{Comes, GivesAgain, Happens, IsCause, IsNothing, IsTooMuch, World, after_frame, after_output, exchange_of, frame}
+use Rattle.nrm_hub.specs.World.{at_one, with_answered, with_opened, with_piece_of}
+use Rattle.nrm_hub.specs.World.{asked_to_keep, becomes_desk, here, left, line_taken, next, opened, passed_over, piece_came, places_made, rows_again}
+use Rattle.nrm_hub.specs.World.{said_to_be_kept, then, to_be_closed, too_much_came, was_closed, was_not_opened, was_told}
+use Rattle.nrm_hub.specs.declared.limits.TheConstants.{MOST_LINE, MOST_WAITING}
+use Rattle.nrm_hub.specs.declared.phase.Phase.TheVariants as phase
+
+-- ---- one after another
+comes-on : (a b c : World) → Comes a b → Comes b c → Comes a c
+comes-on a b _ first here = first
+comes-on a b _ first (then w w' rest step) = then w w' (comes-on a b w first rest) step
+
+pub goes-nothing : (h : HubValue) → Goes h h [] []
+goes-nothing h w stands = record {
+  world = w;
+  comes = here;
+  stands = stands;
+  came = sym (append-nil w.inputs);
+  written = sym (append-nil w.outputs);
+}
+
+pub goes-then : (a b c : HubValue) (i i' : List Frame) (o o' : List Output) → Goes a b i o → Goes b c i' o' → Goes a c (i ++ i') (o ++ o')
+goes-then a b c i i' o o' first rest w stands =
+    let one : GoesTo w b i o = first w stands in
+    let two : GoesTo one.world c i' o' = rest one.world one.stands in
+    record {
+      world = two.world;
+      comes = comes-on w one.world two.world one.comes two.comes;
+      stands = two.stands;
+      came = two.came ∙ ap (λ (fs : List Frame). fs ++ i') one.came ∙ append_assoc w.inputs i i';
+      written = two.written ∙ ap (λ (fs : List Output). fs ++ o') one.written ∙ append_assoc w.outputs o o';
+    }
+
+-- where no frame comes or is written
+pub goes-on : (a b c : HubValue) (i : List Frame) (o : List Output) → Goes a b i o → Goes b c [] [] → Goes a c i o
+goes-on a b c i o first rest =
+    subst (λ (fs : List Frame). Goes a c fs o) (append-nil i)
+    (subst (λ (fs : List Output). Goes a c (i ++ []) fs) (append-nil o) (goes-then a b c i [] o [] first rest))
+
+-- the hubs by other terms
+pub goes-same : (a a' b b' : HubValue) (i : List Frame) (o : List Output) → a ≡ a' → b ≡ b' → Goes a b i o → Goes a' b' i o
+goes-same a a' b b' i o one other goes =
+    subst (λ (h : HubValue). Goes h b' i o) one (subst (λ (h : HubValue). Goes a h i o) other goes)
+
+-- ---- one step
+-- what a hub does in each world that it stands in, by what holds of it
+goes-at : (P : HubValue → Type 0) (f : HubValue → HubValue) (i : List Frame) (o : HubValue → List Output) (h : HubValue) → P h
+    → ((w : World) → P w.hub → GoesTo w (f w.hub) i (o w.hub)) → Goes h (f h) i (o h)
+goes-at P f i o h holds step w stands =
+    subst (λ (h' : HubValue). GoesTo w (f h') i (o h')) stands (step w (subst P (sym stands) holds))
+
+went : (w w' : World) (i : List Frame) (o : List Output) → Happens w w' → w'.inputs ≡ w.inputs ++ i → w'.outputs ≡ w.outputs ++ o
+    → GoesTo w w'.hub i o
+went w w' i o happens came written = record {
+  world = w';
+  comes = then w w' here happens;
+  stands = refl;
+  came = came;
+  written = written;
+}
+
+pub goes-again : (h : HubValue) (payload : List ℕ) (rows : List Entry) (r : RegisterValue) → h.clients ≡ [] → h.phase ≡ phase.Settled
+    → h.register.text ≡ [] → payload ≡ rows_text h.register.rows rows → GivesAgain h.register rows r
+    → Goes h (record h { register = r }) (frame (header.Again (length payload)) payload ∷ []) []
+goes-again h payload rows r nobody settled given is again =
+    goes-at
+    (λ h. (h.clients ≡ []) × (h.phase ≡ phase.Settled) × (h.register.text ≡ []) × (payload ≡ rows_text h.register.rows rows)
+    × GivesAgain h.register rows r)
+    (λ h. record h { register = r }) (frame (header.Again (length payload)) payload ∷ []) (λ _. []) h (nobody, settled, given, is, again)
+    (λ w p. went w (record (after_frame w (frame (header.Again (length payload)) payload) (record w.hub { register = r })) {
+      again = w.again ++ rows;
+    }) (frame (header.Again (length payload)) payload ∷ []) [] (rows_again payload rows r p.0 p.1 p.2 p.3 p.4) refl (sym (append-nil w.outputs)))
+
+pub goes-places : (h : HubValue) (count : ℕ) → Goes h (with_places h (replicate count None)) [] []
+goes-places h count =
+    goes-at (λ _. ⊤) (λ h. with_places h (replicate count None)) [] (λ _. []) h tt
+    (λ w _. went w (record w { hub = with_places w.hub (replicate count None) }) [] [] (places_made count) (sym (append-nil w.inputs))
+    (sym (append-nil w.outputs)))
+
+pub goes-opened : (h : HubValue) (place : ℕ) (name : List ℕ) (rights : Rights) → place < length h.clients → client_at h place ≡ None
+    → Goes h (record (with_client h place (Some (new_client h.opened name rights))) { opened = h.opened + 1 })
+    (frame (header.Open place name rights) [] ∷ []) []
+goes-opened h place name rights within free =
+    goes-at (λ h. (place < length h.clients) × (client_at h place ≡ None))
+    (λ h. record (with_client h place (Some (new_client h.opened name rights))) { opened = h.opened + 1 })
+    (frame (header.Open place name rights) [] ∷ []) (λ _. []) h (within, free)
+    (λ w p. went w (with_opened w place name rights) (frame (header.Open place name rights) [] ∷ []) []
+    (opened place name rights p.0 p.1) refl (sym (append-nil w.outputs)))
+
+pub goes-unopened : (h : HubValue) (place : ℕ) (name : List ℕ) (rights : Rights) → client_at h place ≡ None
+    → Goes h h (frame (header.Open place name rights) [] ∷ []) (close place why.Memory ∷ [])
+goes-unopened h place name rights free =
+    goes-at (λ h. client_at h place ≡ None) (λ h. h) (frame (header.Open place name rights) [] ∷ []) (λ _. close place why.Memory ∷ []) h free
+    (λ w p. went w (after_output (after_frame w (frame (header.Open place name rights) []) w.hub) (close place why.Memory) w.hub)
+    (frame (header.Open place name rights) [] ∷ []) (close place why.Memory ∷ []) (was_not_opened place name rights p) refl refl)
+
+pub goes-piece : (h : HubValue) (place : ℕ) (c : ClientValue) (piece : List ℕ) → client_at h place ≡ Some c → c.closing ≡ None
+    → length c.coming + length piece ≤ MOST_WAITING → Goes h (with_client h place (Some (with_piece c piece))) (frame (header.Came place (length piece)) piece ∷ []) []
+goes-piece h place c piece there whole fits =
+    goes-at (λ h. client_at h place ≡ Some c) (λ h. with_client h place (Some (with_piece c piece)))
+    (frame (header.Came place (length piece)) piece ∷ []) (λ _. []) h there
+    (λ w p. went w (with_piece_of w place c piece) (frame (header.Came place (length piece)) piece ∷ []) []
+    (piece_came place c piece p whole fits) refl (sym (append-nil w.outputs)))
+
+pub goes-too_much : (h : HubValue) (place : ℕ) (c : ClientValue) (piece : List ℕ) (reason : Why) → client_at h place ≡ Some c
+    → c.closing ≡ None → IsTooMuch c piece reason
+    → Goes h (with_client h place (Some (closed_for c reason))) (frame (header.Came place (length piece)) piece ∷ []) []
+goes-too_much h place c piece reason there whole much =
+    goes-at (λ h. client_at h place ≡ Some c) (λ h. with_client h place (Some (closed_for c reason)))
+    (frame (header.Came place (length piece)) piece ∷ []) (λ _. []) h there
+    (λ w p. went w
+    (after_frame w (frame (header.Came place (length piece)) piece) (with_client w.hub place (Some (closed_for c reason))))
+    (frame (header.Came place (length piece)) piece ∷ []) [] (too_much_came place c piece reason p whole much) refl (sym (append-nil w.outputs)))
+
+pub goes-past : (h : HubValue) (f : Frame) → IsNothing h f.header → Goes h h (f ∷ []) []
+goes-past h f is =
+    goes-at (λ h. IsNothing h f.header) (λ h. h) (f ∷ []) (λ _. []) h is
+    (λ w p. went w (after_frame w f w.hub) (f ∷ []) [] (passed_over f p) refl (sym (append-nil w.outputs)))
+
+pub goes-left : (h : HubValue) (place : ℕ) (c : ClientValue) → client_at h place ≡ Some c → c.closing ≡ None
+    → Goes h (with_client h place (Some (closed_for c why.Gone))) (frame (header.Gone place) [] ∷ []) []
+goes-left h place c there whole =
+    goes-at (λ h. client_at h place ≡ Some c) (λ h. with_client h place (Some (closed_for c why.Gone)))
+    (frame (header.Gone place) [] ∷ []) (λ _. []) h there
+    (λ w p. went w (after_frame w (frame (header.Gone place) []) (with_client w.hub place (Some (closed_for c why.Gone))))
+    (frame (header.Gone place) [] ∷ []) [] (left place c p whole) refl (sym (append-nil w.outputs)))
+
+pub goes-closing : (h : HubValue) (place : ℕ) (c : ClientValue) (reason : Why) → client_at h place ≡ Some c → c.closing ≡ None
+    → IsCause h place c reason → Goes h (with_client h place (Some (closed_for c reason))) [] []
+goes-closing h place c reason there whole cause =
+    goes-at (λ h. (client_at h place ≡ Some c) × IsCause h place c reason) (λ h. with_client h place (Some (closed_for c reason)))
+    [] (λ _. []) h (there, cause)
+    (λ w p. went w (record w { hub = with_client w.hub place (Some (closed_for c reason)) }) [] []
+    (to_be_closed place c reason p.0 whole p.1) (sym (append-nil w.inputs)) (sym (append-nil w.outputs)))
+
+pub goes-desk : (h : HubValue) (place : ℕ) (c : ClientValue) (d : ℕ) (r : RegisterValue) → client_at h place ≡ Some c → c.desk ≡ None
+    → Joins h.register c.name r d
+    → Goes h (record (with_client h place (Some (joined_as c d (desk_at r d).next))) { register = r }) [] []
+goes-desk h place c d r there none joins =
+    goes-at (λ h. (client_at h place ≡ Some c) × Joins h.register c.name r d)
+    (λ h. record (with_client h place (Some (joined_as c d (desk_at r d).next))) { register = r }) [] (λ _. []) h (there, joins)
+    (λ w p. went w (record w { hub = record (with_client w.hub place (Some (joined_as c d (desk_at r d).next))) { register = r } }) [] []
+    (becomes_desk place c d r p.0 none p.1) (sym (append-nil w.inputs)) (sym (append-nil w.outputs)))
+
+pub goes-line : (h : HubValue) (place : ℕ) (c c' : ClientValue) (line rest : List ℕ) (r : RegisterValue) (how : How) (text : List ℕ)
+    → client_at h place ≡ Some c → c.closing ≡ None → h.phase ≢ phase.Asked → c.coming ≡ line ++ 10 ∷ rest
+    → All (λ byte. (byte == 10) ≡ false) line → length line < MOST_LINE → TakesLine h.register c line rest r c' how text
+    → Goes h (record (with_client h place (Some c')) { register = r; phase = phase.Answering }) [] []
+goes-line h place c c' line rest r how text there whole unasked is none short takes =
+    goes-at (λ h. (client_at h place ≡ Some c) × (h.phase ≢ phase.Asked) × TakesLine h.register c line rest r c' how text)
+    (λ h. record (with_client h place (Some c')) { register = r; phase = phase.Answering }) [] (λ _. []) h (there, unasked, takes)
+    (λ w p. went w (with_answered w place r c' (exchange_of r c c' line how text)) [] []
+    (line_taken place c c' line rest r how text p.0 whole p.1 is none short p.2) (sym (append-nil w.inputs)) (sym (append-nil w.outputs)))
+
+pub goes-asked : (h : HubValue) → h.phase ≢ phase.Asked
+    → Goes h (record h { register = record h.register { text = [] }; phase = phase.Asked }) [] (keep h.register.text ∷ [])
+goes-asked h unasked =
+    goes-at (λ h. h.phase ≢ phase.Asked) (λ h. record h { register = record h.register { text = [] }; phase = phase.Asked }) []
+    (λ h. keep h.register.text ∷ []) h unasked
+    (λ w p. went w
+    (after_output w (keep w.hub.register.text) (record w.hub { register = record w.hub.register { text = [] }; phase = phase.Asked })) []
+    (keep w.hub.register.text ∷ []) (asked_to_keep p) (sym (append-nil w.inputs)) refl)
+
+pub goes-kept : (h : HubValue) → h.phase ≡ phase.Asked → Goes h (record h { phase = phase.Settled }) (frame header.Kept [] ∷ []) []
+goes-kept h is =
+    goes-at (λ h. h.phase ≡ phase.Asked) (λ h. record h { phase = phase.Settled }) (frame header.Kept [] ∷ []) (λ _. []) h is
+    (λ w p. went w (record (after_frame w (frame header.Kept []) (record w.hub { phase = phase.Settled })) { safe = length w.answered })
+    (frame header.Kept [] ∷ []) [] (said_to_be_kept p) refl (sym (append-nil w.outputs)))
+
+pub goes-told : (h : HubValue) (place : ℕ) (c : ClientValue) → client_at h place ≡ Some c → h.phase ≡ phase.Settled
+    → Goes h (with_client h place (Some (after_telling c))) [] (send place c.used c.told ∷ [])
+goes-told h place c there settled =
+    goes-at (λ h. (client_at h place ≡ Some c) × (h.phase ≡ phase.Settled)) (λ h. with_client h place (Some (after_telling c))) []
+    (λ _. send place c.used c.told ∷ []) h (there, settled)
+    (λ w p. went w (record (after_output w (send place c.used c.told) (with_client w.hub place (Some (after_telling c)))) {
+      sent = at_one w.sent c.serial (w.sent c.serial ++ c.told);
+    }) [] (send place c.used c.told ∷ []) (was_told place c p.0 p.1) (sym (append-nil w.inputs)) refl)
+
+pub goes-closed : (h : HubValue) (place : ℕ) (c : ClientValue) (reason : Why) → client_at h place ≡ Some c → c.closing ≡ Some reason
+    → h.phase ≡ phase.Settled → Goes h (with_client h place None) [] (close place reason ∷ [])
+goes-closed h place c reason there is settled =
+    goes-at (λ h. (client_at h place ≡ Some c) × (h.phase ≡ phase.Settled)) (λ h. with_client h place None) []
+    (λ _. close place reason ∷ []) h (there, settled)
+    (λ w p. went w (after_output w (close place reason) (with_client w.hub place None)) [] (close place reason ∷ [])
+    (was_closed place c reason p.0 is p.1) (sym (append-nil w.inputs)) refl)

@@ -1,0 +1,25 @@
+pub mod Going
+pub mod HubLines
+pub mod HubPlaces
+pub mod HubPuts
+pub mod AskingWords  -- a line of more than three words asks nothing of the hub itself
+pub mod LineAnswers  -- one line of a client that is a desk, answered
+pub mod Entered  -- what holds of a register once something is entered
+pub mod ClientLines  -- the lines of one client
+pub mod AgainRows  -- rows that are given again
+pub mod RegisterFits  -- what a register has of the rows that were carried out, and how it goes on
+pub mod RegisterLines  -- what a register has after a line of a client
+pub mod RegisterLists  -- lists of a register: a place that changes, a desk by its name, rows one behind another
+pub mod RegisterReplies  -- replies that rows have
+pub mod RegisterRights  -- a line beyond a client's rights changes nothing
+pub mod ClientPlaces  -- who is at a place, once one place changed or places were added
+pub mod ClientAnswers  -- the lines of one client among those that were answered
+pub mod ClientTells  -- what a line that is taken leaves of its client
+pub mod ClientSeats  -- what stands of the clients at their places
+pub mod ClientsServed  -- what stands of the register and what stands of the clients, in one
+pub mod ClientsStand  -- whatever happens at the desks, each client is told the replies to its own lines
+pub mod RegisterStates  -- what leaves no row leaves the state as it is, so the rows give it
+pub mod Registers  -- what a register stands for in every world
+pub mod RegisterSame  -- registers that have the same rows have the same controller
+pub mod HubSteps
+mod Examples  -- worked by hand

@@ -1,0 +1,417 @@
+-- What a register stands for in every world: all that was carried out is one run, and the rows are just those of it.
+use Rattle.std.proofs.Common.{ℕ, ◌≡◌, ◌∙◌, ◌+◌, ◌<◌, ◌≤◌, List, [], ◌∷◌, ◌++◌, All, AllPairs, flat_map, length, get_or, set, map, replicate, take}
+use Rattle.std.proofs.Common.{Option, Some, None, refl, sym, ap, ap₂, subst, arith, append_assoc, append-nil, length-append}
+use Rattle.std.proofs.lemmas.Grind.{flat_map-append}
+use Rattle.std.proofs.lemmas.List.{map-append, take-append-le}
+use Rattle.std.proofs.lemmas.List.Elements.{All-nil, All-push, All-weaker}
+use Rattle.std.proofs.Math.Seq.{take-length}
+use Rattle.nrm_control.specs.State.{SeatState}
+use Rattle.nrm_control.specs.Standing.{ControlValue, IsControl, StandsFor}
+use Rattle.nrm_control.proofs.States.{some-state}
+use Rattle.nrm_frames.specs.Frames.{Frame}
+use Rattle.nrm_frames.specs.Outgoing.{Output, close, keep, ready, send}
+use Rattle.nrm_frames.specs.declared.header.Header.{Header}
+use Rattle.nrm_frames.specs.declared.header.Header.TheVariants as header
+use Rattle.nrm_frames.specs.declared.why.Why.TheVariants as why
+use Rattle.nrm_stream.specs.Lines.{whole_lines}
+use Rattle.nrm_hub.specs.Clients.{ClientValue, after_telling, closed_for, joined_as, new_client, with_piece}
+use Rattle.nrm_hub.specs.Desks.{IsFrontOf, IsOneRun, NumbersRise, RepeatsIts, Turn, entry_of, rows_again, rows_given, rows_in, rows_out, seller_of}
+use Rattle.nrm_hub.specs.Desks.{AreServed, lines_in, of_client, told_in, turn_again, turn_of, turns_in}
+use Rattle.nrm_hub.specs.Hub.{HubValue, client_at}
+use Rattle.nrm_hub.specs.Lines.{How, carried, otherwise, passed, repeated}
+use Rattle.nrm_hub.specs.Register.{Joins, RegisterValue, desk_at, name_at}
+use Rattle.nrm_hub.specs.Rows.{Entry, rows_text}
+use Rattle.nrm_hub.specs.Taking.{TakesLine}
+use Rattle.nrm_hub.specs.World.{Comes, Exchange, GivesAgain, Happens, IsNothing, World, after_frame, after_output, at_one, beginning, exchange_of}
+use Rattle.nrm_hub.specs.World.{frame, with_answered}
+use Rattle.nrm_hub.specs.World.{asked_to_keep, becomes_desk, here, left, line_taken, opened, passed_over, piece_came, places_made, readied}
+use Rattle.nrm_hub.specs.World.{rows_again as given_again, said_to_be_kept, then, to_be_closed, too_much_came, was_closed, was_not_opened, was_told}
+use Rattle.nrm_hub.specs.declared.phase.Phase.TheVariants as phase
+use Rattle.nrm_hub.proofs.RegisterFits.{FitsIn, fits-again, fits-joined, fits-new, joined, text-again}
+use Rattle.nrm_hub.proofs.RegisterLines.{IsBelow, IsSeated, became-taken, seated-more}
+use Rattle.nrm_hub.proofs.RegisterLists.{among-longer, at-nones, at-set, front-nil, rows-joined, set-nil}
+
+-- ---- what is said of rows that were given, and of what is kept
+pub record Given (w : World) : Type 0 where
+  pub rows : rows_given w ++ w.hub.register.text ≡ rows_text 0 (rows_in w)
+  pub asked : w.hub.phase ≡ phase.Asked → w.hub.register.text ≡ []
+  pub within : w.safe ≤ length w.answered
+  pub settled : w.hub.phase ≡ phase.Settled → w.safe ≡ length w.answered
+  pub kept : IsFrontOf (rows_text 0 (w.again ++ flat_map entry_of (take w.safe w.answered))) (rows_given w)
+  pub nobody : w.hub.clients ≡ [] → (w.answered ≡ []) × (w.hub.register.text ≡ []) × (flat_map rows_out w.outputs ≡ [])
+
+pub record Stands (start : ControlValue) (w : World) : Type 0 where
+  pub fits : FitsIn start w.hub.register (rows_in w) (turns_in w)
+  pub repeats : All (λ (e : Exchange). RepeatsIts (rows_in w) e e.how) w.answered
+  pub given : Given w
+  pub seated : (place : ℕ) → IsSeated (length w.hub.register.desks) (client_at w.hub place)
+
+stands-new : (start : ControlValue) → Stands start (beginning start)
+stands-new start = record {
+  fits = fits-new start;
+  repeats = All-nil (λ (e : Exchange). RepeatsIts [] e e.how);
+  given = record {
+    rows = refl;
+    asked = λ e. refl;
+    within = omega arith;
+    settled = λ e. refl;
+    kept = ([], refl);
+    nobody = λ e. (refl, refl, refl);
+  };
+  seated = λ place. tt;
+}
+
+-- ---- frames that bring no rows, and give none out
+no-rows-came : (inputs : List Frame) (f : Frame) → rows_again f ≡ [] → flat_map rows_again (inputs ++ f ∷ []) ≡ flat_map rows_again inputs
+no-rows-came inputs f none = flat_map-append rows_again inputs (f ∷ [])
+    ∙ ap (λ (rows : List ℕ). flat_map rows_again inputs ++ (rows ++ [])) none ∙ append-nil (flat_map rows_again inputs)
+
+no-rows-out : (outputs : List Output) (o : Output) → rows_out o ≡ [] → flat_map rows_out (outputs ++ o ∷ []) ≡ flat_map rows_out outputs
+no-rows-out outputs o none = flat_map-append rows_out outputs (o ∷ [])
+    ∙ ap (λ (rows : List ℕ). flat_map rows_out outputs ++ (rows ++ [])) none ∙ append-nil (flat_map rows_out outputs)
+
+nothing-came : (hub : HubValue) (h : Header) (payload : List ℕ) → IsNothing hub h → rows_again (frame h payload) ≡ []
+nothing-came hub (header.Again size) payload nothing = absurd nothing
+nothing-came hub (header.Open place name rights) payload nothing = refl
+nothing-came hub (header.Came place size) payload nothing = refl
+nothing-came hub (header.Gone place) payload nothing = refl
+nothing-came hub header.Kept payload nothing = refl
+nothing-came hub header.End payload nothing = refl
+
+-- ---- what leaves the register, the lines that were answered and what is kept as they are
+module _ (start : ControlValue) (w : World) (s : Stands start w) where
+  still : (clients : List (Option ClientValue)) (many : ℕ) (inputs : List Frame) (outputs : List Output) (came sent : ℕ → List ℕ)
+      → flat_map rows_again inputs ≡ flat_map rows_again w.inputs → flat_map rows_out outputs ≡ flat_map rows_out w.outputs
+      → (clients ≡ [] → w.hub.clients ≡ [])
+      → ((place : ℕ) → IsSeated (length w.hub.register.desks) (get_or clients place None))
+      → Stands start (record w {
+        hub = record w.hub { clients = clients; opened = many };
+        inputs = inputs;
+        outputs = outputs;
+        came = came;
+        sent = sent;
+      })
+  still clients many inputs outputs came sent ins outs nobody seats = record {
+    fits = s.fits;
+    repeats = s.repeats;
+    given = record {
+      rows = ap₂ (λ (a b : List ℕ). (a ++ b) ++ w.hub.register.text) ins outs ∙ s.given.rows;
+      asked = s.given.asked;
+      within = s.given.within;
+      settled = s.given.settled;
+      kept = subst (λ (rows : List ℕ). IsFrontOf (rows_text 0 (w.again ++ flat_map entry_of (take w.safe w.answered))) rows)
+          (sym (ap₂ (λ (a b : List ℕ). a ++ b) ins outs)) s.given.kept;
+      nobody = λ none. let (lines, text, out) = s.given.nobody (nobody none) in (lines, text, outs ∙ out);
+    };
+    seated = seats;
+  }
+
+  -- the client at a place changes
+  seats-set : (place : ℕ) (c : Option ClientValue) → IsSeated (length w.hub.register.desks) c → (k : ℕ)
+      → IsSeated (length w.hub.register.desks) (get_or (set w.hub.clients place c) k None)
+  seats-set place c one = at-set (IsSeated (length w.hub.register.desks)) None w.hub.clients place c one s.seated
+
+  seat-of : (place : ℕ) (c : ClientValue) → client_at w.hub place ≡ Some c → IsBelow c.desk (length w.hub.register.desks)
+  seat-of place c at = subst (λ (o : Option ClientValue). IsSeated (length w.hub.register.desks) o) at (s.seated place)
+
+  changed : (place : ℕ) (c : Option ClientValue) (many : ℕ) (inputs : List Frame) (outputs : List Output) (came sent : ℕ → List ℕ)
+      → flat_map rows_again inputs ≡ flat_map rows_again w.inputs → flat_map rows_out outputs ≡ flat_map rows_out w.outputs
+      → IsSeated (length w.hub.register.desks) c
+      → Stands start (record w {
+        hub = record w.hub { clients = set w.hub.clients place c; opened = many };
+        inputs = inputs;
+        outputs = outputs;
+        came = came;
+        sent = sent;
+      })
+  changed place c many inputs outputs came sent ins outs one =
+      still (set w.hub.clients place c) many inputs outputs came sent ins outs (set-nil w.hub.clients place c) (seats-set place c one)
+
+  -- ---- rows are given again
+  on-again : (payload : List ℕ) (rows : List Entry) (r : RegisterValue) → (s : SeatState) × StandsFor start s → w.hub.clients ≡ []
+      → w.hub.phase ≡ phase.Settled → w.hub.register.text ≡ [] → payload ≡ rows_text w.hub.register.rows rows
+      → GivesAgain w.hub.register rows r
+      → Stands start (record (after_frame w (frame (header.Again (length payload)) payload) (record w.hub { register = r })) {
+        again = w.again ++ rows;
+      })
+  on-again payload rows r begun none settled empty payload_is again =
+      let (unanswered, text, out) = s.given.nobody none in
+      let all : (w.again ++ rows) ++ flat_map entry_of w.answered ≡ rows_in w ++ rows =
+      ap (λ (l : List Exchange). (w.again ++ rows) ++ flat_map entry_of l) unanswered ∙ append-nil (w.again ++ rows)
+      ∙ ap (λ (l : List Entry). l ++ rows) (sym (append-nil w.again))
+      ∙ ap (λ (l : List Exchange). (w.again ++ flat_map entry_of l) ++ rows) (sym unanswered) in
+      let turns : map turn_again (w.again ++ rows) ++ flat_map turn_of w.answered ≡ turns_in w ++ map turn_again rows =
+      ap (λ (l : List Exchange). map turn_again (w.again ++ rows) ++ flat_map turn_of l) unanswered
+      ∙ append-nil (map turn_again (w.again ++ rows)) ∙ map-append turn_again w.again rows
+      ∙ ap (λ (l : List Turn). l ++ map turn_again rows) (sym (append-nil (map turn_again w.again)))
+      ∙ ap (λ (l : List Exchange). (map turn_again w.again ++ flat_map turn_of l) ++ map turn_again rows) (sym unanswered) in
+      let r_text : r.text ≡ [] = text-again w.hub.register rows r again empty in
+      let came : flat_map rows_again (w.inputs ++ frame (header.Again (length payload)) payload ∷ []) ≡ flat_map rows_again w.inputs ++ payload =
+      flat_map-append rows_again w.inputs (frame (header.Again (length payload)) payload ∷ [])
+      ∙ ap (λ (l : List ℕ). flat_map rows_again w.inputs ++ l) (append-nil payload) in
+      let before : flat_map rows_again w.inputs ≡ rows_text 0 (rows_in w) =
+      sym (append-nil (flat_map rows_again w.inputs)) ∙ ap (λ (l : List ℕ). flat_map rows_again w.inputs ++ l) (sym out)
+      ∙ sym (append-nil (rows_given w)) ∙ ap (λ (l : List ℕ). rows_given w ++ l) (sym text) ∙ s.given.rows in
+      let count : w.hub.register.rows ≡ 0 + length (rows_in w) = let same = s.fits.counted in omega (arith, same) in
+      let given : flat_map rows_again (w.inputs ++ frame (header.Again (length payload)) payload ∷ []) ++ flat_map rows_out w.outputs
+      ≡ rows_text 0 ((w.again ++ rows) ++ flat_map entry_of w.answered) =
+      ap₂ (λ (a b : List ℕ). a ++ b) came out ∙ append-nil (flat_map rows_again w.inputs ++ payload)
+      ∙ ap₂ (λ (a b : List ℕ). a ++ b) before (payload_is ∙ ap (λ (n : ℕ). rows_text n rows) count)
+      ∙ sym (rows-joined 0 (rows_in w) rows) ∙ ap (λ (l : List Entry). rows_text 0 l) (sym all) in
+      let taken : take w.safe w.answered ≡ w.answered =
+      ap (λ (n : ℕ). take n w.answered) (s.given.settled settled) ∙ take-length w.answered in
+      record {
+        fits = subst (λ (l : List Entry). FitsIn start r l (map turn_again (w.again ++ rows) ++ flat_map turn_of w.answered)) (sym all)
+            (subst (λ (l : List Turn). FitsIn start r (rows_in w ++ rows) l) (sym turns)
+            (fits-again start begun w.hub.register rows r again (rows_in w) (turns_in w) s.fits));
+        repeats = subst (λ (l : List Exchange). All (λ (e : Exchange). RepeatsIts ((w.again ++ rows) ++ flat_map entry_of w.answered) e e.how) l)
+            (sym unanswered) (All-nil (λ (e : Exchange). RepeatsIts ((w.again ++ rows) ++ flat_map entry_of w.answered) e e.how));
+        given = record {
+          rows = ap (λ (l : List ℕ). (flat_map rows_again (w.inputs ++ frame (header.Again (length payload)) payload ∷ [])
+              ++ flat_map rows_out w.outputs) ++ l) r_text ∙ append-nil (flat_map rows_again (w.inputs ++ frame (header.Again (length payload)) payload ∷ [])
+              ++ flat_map rows_out w.outputs) ∙ given;
+          asked = λ e. r_text;
+          within = s.given.within;
+          settled = s.given.settled;
+          kept = (
+            [],
+            given ∙ ap (λ (l : List Exchange). rows_text 0 ((w.again ++ rows) ++ flat_map entry_of l)) (sym taken)
+                ∙ sym (append-nil (rows_text 0 ((w.again ++ rows) ++ flat_map entry_of (take w.safe w.answered)))),
+          );
+          nobody = λ e. (unanswered, r_text, out);
+        };
+        seated = λ place. subst (λ (l : List (Option ClientValue)). IsSeated (length r.desks) (get_or l place None)) (sym none) tt;
+      }
+
+  -- ---- a client becomes a desk
+  on-desk : (place : ℕ) (c : ClientValue) (d : ℕ) (r : RegisterValue) → Joins w.hub.register c.name r d
+      → Stands start (record w { hub = record w.hub { register = r; clients = set w.hub.clients place (Some (joined_as c d (desk_at r d).next)) } })
+  on-desk place c d r joins =
+      let j = joined w.hub.register r c.name d joins in
+      record {
+        fits = fits-joined start w.hub.register r c.name d (rows_in w) (turns_in w) s.fits joins;
+        repeats = s.repeats;
+        given = record {
+          rows = ap (λ (l : List ℕ). rows_given w ++ l) j.text ∙ s.given.rows;
+          asked = λ e. j.text ∙ s.given.asked e;
+          within = s.given.within;
+          settled = s.given.settled;
+          kept = s.given.kept;
+          nobody = λ e. let (lines, text, out) =
+              s.given.nobody (set-nil w.hub.clients place (Some (joined_as c d (desk_at r d).next)) e) in (lines, j.text ∙ text, out);
+        };
+        seated = at-set (IsSeated (length r.desks)) None w.hub.clients place (Some (joined_as c d (desk_at r d).next)) j.within
+            (λ k. seated-more (get_or w.hub.clients k None) (length w.hub.register.desks) (length r.desks) j.longer (s.seated k));
+      }
+
+  -- ---- a line is taken
+  repeats-longer : (rows more : List Entry) (e : Exchange) (how : How) → RepeatsIts rows e how → RepeatsIts (rows ++ more) e how
+  repeats-longer rows more e (repeated row) (entry, among, desk, number, says, text) =
+      (entry, among-longer entry rows more among, desk, number, says, text)
+  repeats-longer rows more e (carried c reply) is = tt
+  repeats-longer rows more e (passed c reply) is = tt
+  repeats-longer rows more e otherwise is = tt
+
+  on-line : (place : ℕ) (c c' : ClientValue) (line rest : List ℕ) (r : RegisterValue) (how : How) (text : List ℕ)
+      → (s : SeatState) × StandsFor start s → client_at w.hub place ≡ Some c → TakesLine w.hub.register c line rest r c' how text
+      → Stands start (with_answered w place r c' (exchange_of r c c' line how text))
+  on-line place c c' line rest r how text begun at takes =
+      let e : Exchange = exchange_of r c c' line how text in
+      let (became, seat) = became-taken start begun w.hub.register (rows_in w) (turns_in w) s.fits c line rest r c' how text
+      (seat-of place c at) takes in
+      let more : List Entry = entry_of e ++ [] in
+      let rows : w.again ++ flat_map entry_of (w.answered ++ e ∷ []) ≡ rows_in w ++ more =
+      ap (λ (l : List Entry). w.again ++ l) (flat_map-append entry_of w.answered (e ∷ []))
+      ∙ sym (append_assoc w.again (flat_map entry_of w.answered) more) in
+      let turns : map turn_again w.again ++ flat_map turn_of (w.answered ++ e ∷ []) ≡ turns_in w ++ (turn_of e ++ []) =
+      ap (λ (l : List Turn). map turn_again w.again ++ l) (flat_map-append turn_of w.answered (e ∷ []))
+      ∙ sym (append_assoc (map turn_again w.again) (flat_map turn_of w.answered) (turn_of e ++ [])) in
+      let zero_more : length (rows_in w) ≡ 0 + length (rows_in w) = omega arith in
+      let taken : take w.safe (w.answered ++ e ∷ []) ≡ take w.safe w.answered = take-append-le w.safe w.answered (e ∷ []) s.given.within in
+      let long : length (w.answered ++ e ∷ []) ≡ length w.answered + 1 = length-append w.answered (e ∷ []) in
+      let few : w.safe ≤ length w.answered = s.given.within in
+      record {
+        fits = subst (λ (l : List Entry). FitsIn start r l (map turn_again w.again ++ flat_map turn_of (w.answered ++ e ∷ []))) (sym rows)
+            (subst (λ (l : List Turn). FitsIn start r (rows_in w ++ more) l) (sym turns) became.fits);
+        repeats = subst (λ (l : List Entry). All (λ (x : Exchange). RepeatsIts l x x.how) (w.answered ++ e ∷ [])) (sym rows)
+            (All-push (λ (x : Exchange). RepeatsIts (rows_in w ++ more) x x.how) w.answered e
+            (All-weaker (λ (x : Exchange). RepeatsIts (rows_in w) x x.how) (λ (x : Exchange). RepeatsIts (rows_in w ++ more) x x.how)
+            (λ x is. repeats-longer (rows_in w) more x x.how is) w.answered s.repeats)
+            became.repeats_its);
+        given = record {
+          rows = ap (λ (l : List ℕ). rows_given w ++ l) (became.text ∙ ap (λ (n : ℕ). w.hub.register.text ++ rows_text n more) zero_more)
+              ∙ sym (append_assoc (rows_given w) w.hub.register.text (rows_text (0 + length (rows_in w)) more))
+              ∙ ap (λ (l : List ℕ). l ++ rows_text (0 + length (rows_in w)) more) s.given.rows
+              ∙ sym (rows-joined 0 (rows_in w) more) ∙ ap (λ (l : List Entry). rows_text 0 l) (sym rows);
+          asked = λ is. absurd (cc);
+          within = omega (arith, long, few);
+          settled = λ is. absurd (cc);
+          kept = subst (λ (l : List Exchange). IsFrontOf (rows_text 0 (w.again ++ flat_map entry_of l)) (rows_given w)) (sym taken) s.given.kept;
+          nobody = λ none.
+              let nobody : w.hub.clients ≡ [] = set-nil w.hub.clients place (Some c') none in
+              let there : None ≡ Some c = sym (ap (λ (l : List (Option ClientValue)). get_or l place None) nobody) ∙ at in
+              absurd (cc);
+        };
+        seated = at-set (IsSeated (length r.desks)) None w.hub.clients place (Some c') seat
+            (λ k. seated-more (get_or w.hub.clients k None) (length w.hub.register.desks) (length r.desks) became.longer (s.seated k));
+      }
+
+  -- ---- rows are given out, and kept
+  on-asked : Stands start (after_output w (keep w.hub.register.text) (record w.hub {
+    register = record w.hub.register { text = [] };
+    phase = phase.Asked;
+  }))
+  on-asked =
+      let out : flat_map rows_out (w.outputs ++ keep w.hub.register.text ∷ []) ≡ flat_map rows_out w.outputs ++ w.hub.register.text =
+      flat_map-append rows_out w.outputs (keep w.hub.register.text ∷ [])
+      ∙ ap (λ (l : List ℕ). flat_map rows_out w.outputs ++ l) (append-nil w.hub.register.text) in
+      let given : flat_map rows_again w.inputs ++ flat_map rows_out (w.outputs ++ keep w.hub.register.text ∷ [])
+      ≡ rows_given w ++ w.hub.register.text =
+      ap (λ (l : List ℕ). flat_map rows_again w.inputs ++ l) out
+      ∙ sym (append_assoc (flat_map rows_again w.inputs) (flat_map rows_out w.outputs) w.hub.register.text) in
+      record {
+        fits = s.fits;
+        repeats = s.repeats;
+        given = record {
+          rows = append-nil (flat_map rows_again w.inputs ++ flat_map rows_out (w.outputs ++ keep w.hub.register.text ∷ [])) ∙ given
+              ∙ s.given.rows;
+          asked = λ e. refl;
+          within = s.given.within;
+          settled = λ e. absurd (cc);
+          kept = let (rest, is) = s.given.kept in (
+            rest ++ w.hub.register.text,
+            given ∙ ap (λ (l : List ℕ). l ++ w.hub.register.text) is
+                ∙ append_assoc (rows_text 0 (w.again ++ flat_map entry_of (take w.safe w.answered))) rest w.hub.register.text,
+          );
+          nobody = λ none. let (lines, text, empty) = s.given.nobody none in
+              (lines, refl, out ∙ ap₂ (λ (a b : List ℕ). a ++ b) empty text);
+        };
+        seated = s.seated;
+      }
+
+  on-kept : w.hub.phase ≡ phase.Asked
+      → Stands start (record (after_frame w (frame header.Kept []) (record w.hub { phase = phase.Settled })) { safe = length w.answered })
+  on-kept is_asked =
+      let f : Frame = frame header.Kept [] in
+      let came : flat_map rows_again (w.inputs ++ f ∷ []) ≡ flat_map rows_again w.inputs = no-rows-came w.inputs f refl in
+      let same : flat_map rows_again (w.inputs ++ f ∷ []) ++ flat_map rows_out w.outputs ≡ rows_given w =
+      ap (λ (l : List ℕ). l ++ flat_map rows_out w.outputs) came in
+      let all : rows_given w ≡ rows_text 0 (rows_in w) =
+      sym (append-nil (rows_given w)) ∙ ap (λ (l : List ℕ). rows_given w ++ l) (sym (s.given.asked is_asked)) ∙ s.given.rows in
+      record {
+        fits = s.fits;
+        repeats = s.repeats;
+        given = record {
+          rows = ap (λ (l : List ℕ). l ++ w.hub.register.text) same ∙ s.given.rows;
+          asked = λ e. absurd (cc);
+          within = omega arith;
+          settled = λ e. refl;
+          kept = (
+            [],
+            same ∙ all ∙ ap (λ (l : List Exchange). rows_text 0 (w.again ++ flat_map entry_of l)) (sym (take-length w.answered))
+                ∙ sym (append-nil (rows_text 0 (w.again ++ flat_map entry_of (take (length w.answered) w.answered)))),
+          );
+          nobody = s.given.nobody;
+        };
+        seated = s.seated;
+      }
+
+-- ---- whatever happens
+stands-on : (start : ControlValue) (w w' : World) → (s : SeatState) × StandsFor start s → Stands start w → Happens w w' → Stands start w'
+stands-on start w _ begun s (given_again payload rows r none settled empty payload_is again) =
+    on-again start w s payload rows r begun none settled empty payload_is again
+stands-on start w _ begun s (readied none) = still start w s w.hub.clients w.hub.opened w.inputs (w.outputs ++ ready w.hub.register.rows ∷ [])
+    w.came w.sent refl (no-rows-out w.outputs (ready w.hub.register.rows) refl) (λ e. e) s.seated
+stands-on start w _ begun s (places_made count) = still start w s (w.hub.clients ++ replicate count None) w.hub.opened w.inputs w.outputs
+    w.came w.sent refl refl (front-nil w.hub.clients (replicate count None))
+    (λ k. subst (λ (o : Option ClientValue). IsSeated (length w.hub.register.desks) o) (sym (at-nones w.hub.clients count k)) (s.seated k))
+stands-on start w _ begun s (opened place name rights within free) =
+    let f : Frame = frame (header.Open place name rights) [] in
+    changed start w s place (Some (new_client w.hub.opened name rights)) (w.hub.opened + 1) (w.inputs ++ f ∷ []) w.outputs w.came w.sent
+    (no-rows-came w.inputs f refl) refl tt
+stands-on start w _ begun s (was_not_opened place name rights free) =
+    let f : Frame = frame (header.Open place name rights) [] in
+    still start w s w.hub.clients w.hub.opened (w.inputs ++ f ∷ []) (w.outputs ++ close place why.Memory ∷ []) w.came w.sent
+    (no-rows-came w.inputs f refl) (no-rows-out w.outputs (close place why.Memory) refl) (λ e. e) s.seated
+stands-on start w _ begun s (piece_came place c piece at open_still fits) =
+    let f : Frame = frame (header.Came place (length piece)) piece in
+    changed start w s place (Some (with_piece c piece)) w.hub.opened (w.inputs ++ f ∷ []) w.outputs
+    (at_one w.came c.serial (w.came c.serial ++ piece)) w.sent (no-rows-came w.inputs f refl) refl (seat-of start w s place c at)
+stands-on start w _ begun s (passed_over f nothing) = still start w s w.hub.clients w.hub.opened (w.inputs ++ f ∷ []) w.outputs w.came w.sent
+    (no-rows-came w.inputs f (nothing-came w.hub f.header f.payload nothing)) refl (λ e. e) s.seated
+stands-on start w _ begun s (left place c at open_still) =
+    let f : Frame = frame (header.Gone place) [] in
+    changed start w s place (Some (closed_for c why.Gone)) w.hub.opened (w.inputs ++ f ∷ []) w.outputs w.came w.sent
+    (no-rows-came w.inputs f refl) refl (seat-of start w s place c at)
+stands-on start w _ begun s (too_much_came place c piece reason at open_still much) =
+    let f : Frame = frame (header.Came place (length piece)) piece in
+    changed start w s place (Some (closed_for c reason)) w.hub.opened (w.inputs ++ f ∷ []) w.outputs w.came w.sent
+    (no-rows-came w.inputs f refl) refl (seat-of start w s place c at)
+stands-on start w _ begun s (to_be_closed place c reason at open_still cause) =
+    changed start w s place (Some (closed_for c reason)) w.hub.opened w.inputs w.outputs w.came w.sent refl refl (seat-of start w s place c at)
+stands-on start w _ begun s (becomes_desk place c d r at no_desk joins) = on-desk start w s place c d r joins
+stands-on start w _ begun s (line_taken place c c' line rest r how text at open_still not_asked coming unended short takes) =
+    on-line start w s place c c' line rest r how text begun at takes
+stands-on start w _ begun s (asked_to_keep not_asked) = on-asked start w s
+stands-on start w _ begun s (said_to_be_kept is_asked) = on-kept start w s is_asked
+stands-on start w _ begun s (was_told place c at settled) =
+    changed start w s place (Some (after_telling c)) w.hub.opened w.inputs (w.outputs ++ send place c.used c.told ∷ []) w.came
+    (at_one w.sent c.serial (w.sent c.serial ++ c.told)) refl (no-rows-out w.outputs (send place c.used c.told) refl) (seat-of start w s place c at)
+stands-on start w _ begun s (was_closed place c reason at closing settled) =
+    changed start w s place None w.hub.opened w.inputs (w.outputs ++ close place reason ∷ []) w.came w.sent refl
+    (no-rows-out w.outputs (close place reason) refl) tt
+
+stands-always : (start : ControlValue) (first w : World) → (s : SeatState) × StandsFor start s → Stands start first → Comes first w → Stands start w
+stands-always start first _ begun s here = s
+stands-always start first _ begun s (then w w' comes happens) = stands-on start w w' begun (stands-always start first w begun s comes) happens
+
+-- ---- so it is in every world
+pub record RegisterStands (start : ControlValue) (w : World) : Type 0 where
+  pub run : IsOneRun start w.hub.register.control (turns_in w)
+  pub rows : rows_given w ++ w.hub.register.text ≡ rows_text 0 (rows_in w)
+  pub once : AllPairs NumbersRise (rows_in w)
+  pub repeats : All (λ (e : Exchange). RepeatsIts (rows_in w) e e.how) w.answered
+  pub owners : map (name_at w.hub.register) w.hub.register.owners ≡ flat_map seller_of (rows_in w)
+  pub asked : w.hub.phase ≡ phase.Asked → w.hub.register.text ≡ []
+  pub within : w.safe ≤ length w.answered
+  pub settled : w.hub.phase ≡ phase.Settled → w.safe ≡ length w.answered
+  pub kept : IsFrontOf (rows_text 0 (w.again ++ flat_map entry_of (take w.safe w.answered))) (rows_given w)
+  pub seated : (place d : ℕ) (c : ClientValue) → client_at w.hub place ≡ Some c → c.desk ≡ Some d → d < length w.hub.register.desks
+  -- more of the desks, the rows and the owners, and of a world in which nobody was
+  pub fits : FitsIn start w.hub.register (rows_in w) (turns_in w)
+  pub nobody : w.hub.clients ≡ [] → (w.answered ≡ []) × (w.hub.register.text ≡ []) × (flat_map rows_out w.outputs ≡ [])
+
+seat-below : (count d : ℕ) (o : Option ℕ) → o ≡ Some d → IsBelow o count → d < count
+seat-below count d o is below = subst (λ (x : Option ℕ). IsBelow x count) is below
+
+pub register-stands : (start : ControlValue) (w : World) → IsControl start → Comes (beginning start) w → RegisterStands start w
+register-stands start w is comes =
+    let s = stands-always start (beginning start) w (some-state start is) (stands-new start) comes in
+    record {
+      run = s.fits.run;
+      rows = s.given.rows;
+      once = s.fits.rise;
+      repeats = s.repeats;
+      owners = s.fits.fit.sellers;
+      asked = s.given.asked;
+      within = s.given.within;
+      settled = s.given.settled;
+      kept = s.given.kept;
+      seated = λ place d c at is_desk. seat-below (length w.hub.register.desks) d c.desk is_desk (seat-of start w s place c at);
+      fits = s.fits;
+      nobody = s.given.nobody;
+    }
+
+-- with what is said of the lines of each client, and of what was sent to it, it is all that is served
+pub with-clients : (start : ControlValue) (w : World) → RegisterStands start w
+    → ((k : ℕ) → IsFrontOf (lines_in (of_client k w.answered)) (whole_lines (w.came k)))
+    → ((k : ℕ) → IsFrontOf (w.sent k) (told_in (of_client k (take w.safe w.answered)))) → AreServed start w
+with-clients start w s lines sent = record {
+  run = s.run;
+  rows = s.rows;
+  lines = lines;
+  sent = λ k. record { within = s.within; kept = s.kept; sent = sent k };
+  once = s.once;
+  repeats = s.repeats;
+  owners = s.owners;
+}

@@ -1,0 +1,51 @@
+-- The rows are given out.
+use Rattle.std.proofs.Common.{ℕ, ◌≡◌, ◌≢◌, ◌∙◌, [], ◌∷◌, List, refl, sym, ap, subst}
+use Rattle.std.proofs.lemmas.Result.{on_err_weaker, on_ok_weaker}
+use Rattle.std.specs.Io.KnownBytes.{Appends}
+use Rattle.nrm_edge.specs.Pieces.{AppendsFront}
+use Rattle.nrm_frames.specs.Outgoing.{keep, output_text}
+use Rattle.nrm_hub.specs.Goes.{Goes}
+use Rattle.nrm_hub.specs.Hub.{HubValue}
+use Rattle.nrm_hub.specs.Register.{RegisterValue}
+use Rattle.nrm_hub.specs.declared.phase.Phase.TheVariants as phase
+use Rattle.nrm_hub.proofs.Going.{goes-asked, goes-same}
+use Rattle.nrm_hub.proofs.HubPuts.{puts-one, puts-one-cut}
+use Rattle.nrm_hub.proofs.hub.Hub.ask_to_keep.Goals as goal
+
+pub returns-clause-puts : goal.returns-clause-puts
+returns-clause-puts g c =
+    let held = g.K.Sink.held in
+    let old : HubValue = record {
+      register = c.self.inside.register;
+      clients = c.self.inside.clients.items;
+      opened = c.self.inside.opened;
+      phase = c.self.inside.phase;
+    } in
+    let new : HubValue = record old { register = c.clear_text.new.self; phase = phase.Asked } in
+    let goes : Goes c.args.self.now new [] (keep old.register.text ∷ []) =
+    goes-same old c.args.self.now (record old { register = record old.register { text = [] }; phase = phase.Asked }) new [] (keep old.register.text ∷ [])
+    c.self.view_is (ap (λ (r : RegisterValue). let h : HubValue = record old { register = r; phase = phase.Asked } in h) (sym c.clear_text.ensures))
+    (goes-asked old (subst (λ (h : HubValue). h.phase ≢ phase.Asked) (sym c.self.view_is) c.requires)) in
+    on_ok_weaker c.put_keep-put.result
+    (λ whole. puts-one c.args.self.now new (keep old.register.text) (held c.args.sink.now) (held c.put_keep-put.new.sink) goes
+    (subst (λ (rows : List ℕ). Appends (held c.args.sink.now) (held c.put_keep-put.new.sink) (output_text (keep rows))) c.text.ensures whole))
+    c.put_keep-put.ensures.whole
+
+pub returns-clause-cut : goal.returns-clause-cut
+returns-clause-cut g c =
+    let held = g.K.Sink.held in
+    let old : HubValue = record {
+      register = c.self.inside.register;
+      clients = c.self.inside.clients.items;
+      opened = c.self.inside.opened;
+      phase = c.self.inside.phase;
+    } in
+    let new : HubValue = record old { register = c.clear_text.new.self; phase = phase.Asked } in
+    let goes : Goes c.args.self.now new [] (keep old.register.text ∷ []) =
+    goes-same old c.args.self.now (record old { register = record old.register { text = [] }; phase = phase.Asked }) new [] (keep old.register.text ∷ [])
+    c.self.view_is (ap (λ (r : RegisterValue). let h : HubValue = record old { register = r; phase = phase.Asked } in h) (sym c.clear_text.ensures))
+    (goes-asked old (subst (λ (h : HubValue). h.phase ≢ phase.Asked) (sym c.self.view_is) c.requires)) in
+    on_err_weaker c.put_keep-put.result
+    (λ front. puts-one-cut c.args.self.now new (keep old.register.text) (held c.args.sink.now) (held c.put_keep-put.new.sink) goes
+    (subst (λ (rows : List ℕ). AppendsFront (held c.args.sink.now) (held c.put_keep-put.new.sink) (output_text (keep rows))) c.text.ensures front))
+    c.put_keep-put.ensures.cut

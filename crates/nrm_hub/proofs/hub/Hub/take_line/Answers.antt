@@ -1,0 +1,40 @@
+-- A line of the client at the place was taken, or none.
+use Rattle.std.proofs.Common.{◌≡◌, ◌≢◌, ◌∙◌, [], refl, subst, sym}
+use Rattle.nrm_hub.specs.Hub.{HubValue}
+use Rattle.nrm_hub.specs.declared.phase.Phase.TheVariants as phase
+use Rattle.nrm_hub.proofs.Going.{goes-on, goes-same}
+use Rattle.nrm_hub.proofs.HubSteps.{goes-take_line, goes-take_none}
+use Rattle.nrm_hub.proofs.hub.Hub.take_line.Goals as goal
+
+pub returns-in-Line-clause-goes : goal.returns-in-Line-clause-goes
+returns-in-Line-clause-goes c =
+    let old : HubValue = record {
+      register = c.self.inside.register;
+      clients = c.self.inside.clients.items;
+      opened = c.self.inside.opened;
+      phase = c.self.inside.phase;
+    } in
+    let unasked : old.phase ≢ phase.Asked = subst (λ (h : HubValue). h.phase ≢ phase.Asked) (sym c.self.view_is) c.requires in
+    let taken : HubValue = record old {
+      register = c.take_at-took.new.register;
+      clients = c.take_at-took.new.clients.items;
+      phase = phase.Answering;
+    } in
+    goes-on c.args.self.now taken c.seat.new.self [] []
+    (goes-same old c.args.self.now taken taken [] [] c.self.view_is refl
+    (goes-take_line old c.args.place taken.register taken.clients c.take_at-took.result unasked c.take_at-took.ensures.takes c.in-Line.is))
+    c.seat.ensures.goes
+
+pub returns-in_default-clause-goes : goal.returns-in_default-clause-goes
+returns-in_default-clause-goes c =
+    let old : HubValue = record {
+      register = c.self.inside.register;
+      clients = c.self.inside.clients.items;
+      opened = c.self.inside.opened;
+      phase = c.self.inside.phase;
+    } in
+    let unasked : old.phase ≢ phase.Asked = subst (λ (h : HubValue). h.phase ≢ phase.Asked) (sym c.self.view_is) c.requires in
+    let new : HubValue = record old { register = c.take_at-took.new.register; clients = c.take_at-took.new.clients.items } in
+    goes-same old c.args.self.now new new [] [] c.self.view_is refl
+    (goes-take_none old c.args.place new.register new.clients c.take_at-took.result unasked c.take_at-took.ensures.takes c.in_default.not-Line
+    c.in_default.not-LongLine)

@@ -1,0 +1,13 @@
+pub mod Again
+pub mod Asked
+pub mod Clients
+pub mod Desks
+pub mod Goes
+pub mod Hub
+pub mod Inner
+pub mod Lines
+pub mod Register
+pub mod Rows
+pub mod Seats
+pub mod Taking
+pub mod World

@@ -1,0 +1,214 @@
+-- The world of desks: the hub, and what has been. It is what a reader must believe; the theorem above it is in `Desks`.
+use Rattle.std.specs.Prelude.{ℕ, ◌≡◌, ◌≢◌, ◌==◌, ◌+◌, ◌<◌, ◌≤◌, ◌⊎◌, true, false, List, [], ◌∷◌, ◌++◌, All, drop, length, map, replicate, take, Option, Some, None, IsSome, ⊤, if◌then◌else◌}
+use Rattle.nrm_control.specs.Standing.{ControlValue}
+use Rattle.nrm_frames.specs.Frames.{Frame}
+use Rattle.nrm_frames.specs.Outgoing.{Output, close, keep, ready, send}
+use Rattle.nrm_frames.specs.declared.header.Header.{Header}
+use Rattle.nrm_frames.specs.declared.header.Header.TheVariants as header
+use Rattle.nrm_frames.specs.declared.rights.Rights.{Rights}
+use Rattle.nrm_frames.specs.declared.why.Why.{Why}
+use Rattle.nrm_frames.specs.declared.why.Why.TheVariants as why
+use Rattle.nrm_stream.specs.declared.command.Command.{Command}
+use Rattle.nrm_session.specs.Answering.{reply_in}
+use Rattle.nrm_session.specs.Replies.{Reply}
+use Rattle.nrm_hub.specs.Asked.{is_change}
+use Rattle.nrm_hub.specs.Clients.{ClientValue, after_telling, closed_for, joined_as, new_client, with_piece}
+use Rattle.nrm_hub.specs.Hub.{HubValue, client_at, new_hub, with_client, with_places}
+use Rattle.nrm_hub.specs.Lines.{How, carried, otherwise, passed, repeated}
+use Rattle.nrm_hub.specs.Register.{Carries, Joins, RegisterValue, desk_at, name_at}
+use Rattle.nrm_hub.specs.Rows.{Entry, entry_text, rows_text}
+use Rattle.nrm_hub.specs.Taking.{TakesLine}
+use Rattle.nrm_hub.specs.declared.limits.TheConstants.{MOST_LINE, MOST_WAITING}
+use Rattle.nrm_hub.specs.declared.phase.Phase.TheVariants as phase
+
+-- A line of a client that was answered: the client's serial number, its desk and that desk's own number of the line, the line, what became of it,
+-- and the text of its reply.
+pub record Exchange : Type 0 where
+  pub client : ℕ
+  pub desk : List ℕ
+  pub sequence : ℕ
+  pub line : List ℕ
+  pub how : How
+  pub text : List ℕ
+
+-- The hub; the frames that came and those that were written; the rows that were given again; the lines that were answered, in their order;
+-- and, of each client by its serial number, what came from it and what was sent to it. Of the lines, so many stand before the last word that
+-- all is kept.
+pub record World : Type 0 where
+  pub hub : HubValue
+  pub inputs : List Frame
+  pub outputs : List Output
+  pub again : List Entry
+  pub answered : List Exchange
+  pub came : ℕ → List ℕ
+  pub sent : ℕ → List ℕ
+  pub safe : ℕ
+
+-- nothing has been yet
+abbrev pub beginning : ControlValue → World
+beginning control = record {
+  hub = new_hub control;
+  inputs = [];
+  outputs = [];
+  again = [];
+  answered = [];
+  came = λ k. [];
+  sent = λ k. [];
+  safe = 0;
+}
+
+-- a function that is changed at one number
+abbrev pub at_one : {A : Type 0} → (ℕ → A) → ℕ → A → ℕ → A
+at_one f k value = λ other. if k == other then value else f other
+
+abbrev pub frame : Header → List ℕ → Frame
+frame h payload = record { header = h; payload = payload }
+
+-- a frame came, and the hub is this one after it
+abbrev pub after_frame : World → Frame → HubValue → World
+after_frame w f hub = record w { hub = hub; inputs = w.inputs ++ f ∷ [] }
+
+-- a frame was written
+abbrev pub after_output : World → Output → HubValue → World
+after_output w output hub = record w { hub = hub; outputs = w.outputs ++ output ∷ [] }
+
+-- a client is opened at a place
+abbrev pub with_opened : World → ℕ → List ℕ → Rights → World
+with_opened w place name rights =
+    after_frame w (frame (header.Open place name rights) [])
+    (record (with_client w.hub place (Some (new_client w.hub.opened name rights))) { opened = w.hub.opened + 1 })
+
+-- a piece came from the client at a place
+abbrev pub with_piece_of : World → ℕ → ClientValue → List ℕ → World
+with_piece_of w place c piece =
+    record (after_frame w (frame (header.Came place (length piece)) piece) (with_client w.hub place (Some (with_piece c piece)))) {
+      came = at_one w.came c.serial (w.came c.serial ++ piece);
+    }
+
+-- the name of a client's desk, once it has one
+abbrev pub desk_name : RegisterValue → Option ℕ → List ℕ
+desk_name r None = []
+desk_name r (Some d) = name_at r d
+
+-- a line of a client was answered
+abbrev pub exchange_of : RegisterValue → ClientValue → ClientValue → List ℕ → How → List ℕ → Exchange
+exchange_of r c c' line how text = record {
+  client = c.serial;
+  desk = desk_name r c'.desk;
+  sequence = c.number;
+  line = line;
+  how = how;
+  text = text;
+}
+
+abbrev pub with_answered : World → ℕ → RegisterValue → ClientValue → Exchange → World
+with_answered w place r c exchange = record w {
+  hub = record (with_client w.hub place (Some c)) { register = r; phase = phase.Answering };
+  answered = w.answered ++ exchange ∷ [];
+}
+
+-- rows were given again: each is carried out under the number that it has, for the desk of its name, and leaves just this row
+pub data GivesAgain : RegisterValue → List Entry → RegisterValue → Type 0 where
+  none : (r : RegisterValue) → GivesAgain r [] r
+  next : (r joined mid r' : RegisterValue) (d sequence : ℕ) (name : List ℕ) (command : Command) (reply : _) (more : List Entry)
+      → Joins r name joined d → is_change command ≡ true → (desk_at joined d).next ≤ sequence → Carries joined mid d sequence command reply
+      → GivesAgain (record mid { text = [] }) more r'
+      → GivesAgain r (record { desk = name; sequence = sequence; command = command; reply = reply_in mid.control reply } ∷ more) r'
+
+-- a client that is not there, or is to be closed
+abbrev pub TakesNothing : Option ClientValue → Type 0
+TakesNothing None = ⊤
+TakesNothing (Some c) = c.closing ≢ None
+
+-- a frame that changes nothing: for such a client, or the last
+abbrev pub IsNothing : HubValue → Header → Type 0
+IsNothing hub (header.Came place size) = TakesNothing (client_at hub place)
+IsNothing hub (header.Gone place) = TakesNothing (client_at hub place)
+IsNothing hub header.End = ⊤
+IsNothing hub header.Kept = ⊥
+IsNothing hub (header.Again size) = ⊥
+IsNothing hub (header.Open place name rights) = ⊥
+
+-- more bytes came than may wait, or memory ran out for them
+abbrev pub IsTooMuch : ClientValue → List ℕ → Why → Type 0
+IsTooMuch c piece why.Window = MOST_WAITING < length c.coming + length piece
+IsTooMuch c piece why.Memory = ⊤
+IsTooMuch c piece why.Gone = ⊥
+IsTooMuch c piece why.Elsewhere = ⊥
+IsTooMuch c piece why.Long = ⊥
+IsTooMuch c piece why.Sequence = ⊥
+IsTooMuch c piece why.Old = ⊥
+IsTooMuch c piece why.Desks = ⊥
+IsTooMuch c piece why.Rows = ⊥
+
+-- a client at another place is the same desk
+pub record IsElsewhere (hub : HubValue) (place : ℕ) (c : ClientValue) : Type 0 where
+  pub other : ℕ
+  pub client : ClientValue
+  pub differs : other ≢ place
+  pub there : client_at hub other ≡ Some client
+  pub is_desk : IsSome c.desk
+  pub same : client.desk ≡ c.desk
+
+-- why a client is to be closed, beside what it sends: its desk is elsewhere, a line of it is too long, memory ran out for it
+abbrev pub IsCause : HubValue → ℕ → ClientValue → Why → Type 0
+IsCause hub place c why.Elsewhere = IsElsewhere hub place c
+IsCause hub place c why.Long = (MOST_LINE ≤ length c.coming) × All (λ byte. (byte == 10) ≡ false) (take MOST_LINE c.coming)
+IsCause hub place c why.Memory = ⊤
+IsCause hub place c why.Gone = ⊥
+IsCause hub place c why.Window = ⊥
+IsCause hub place c why.Sequence = ⊥
+IsCause hub place c why.Old = ⊥
+IsCause hub place c why.Desks = ⊥
+IsCause hub place c why.Rows = ⊥
+
+-- What may happen, from one world to the next.
+pub data Happens (w : World) : World → Type 0 where
+  -- rows are given again, before there is any client
+  rows_again : (payload : List ℕ) (rows : List Entry) (r : RegisterValue) → w.hub.clients ≡ [] → w.hub.phase ≡ phase.Settled
+      → w.hub.register.text ≡ [] → payload ≡ rows_text w.hub.register.rows rows → GivesAgain w.hub.register rows r
+      → Happens w (record (after_frame w (frame (header.Again (length payload)) payload) (record w.hub { register = r })) {
+        again = w.again ++ rows;
+      })
+  readied : w.hub.clients ≡ [] → Happens w (after_output w (ready w.hub.register.rows) w.hub)
+  -- clients come and go, and are to be closed; what comes for a place where nobody is, or one who is to be closed, is nothing
+  places_made : (count : ℕ) → Happens w (record w { hub = with_places w.hub (replicate count None) })
+  opened : (place : ℕ) (name : List ℕ) (rights : Rights) → place < length w.hub.clients → client_at w.hub place ≡ None
+      → Happens w (with_opened w place name rights)
+  was_not_opened : (place : ℕ) (name : List ℕ) (rights : Rights) → client_at w.hub place ≡ None
+      → Happens w (after_output (after_frame w (frame (header.Open place name rights) []) w.hub) (close place why.Memory) w.hub)
+  piece_came : (place : ℕ) (c : ClientValue) (piece : List ℕ) → client_at w.hub place ≡ Some c → c.closing ≡ None
+      → length c.coming + length piece ≤ MOST_WAITING → Happens w (with_piece_of w place c piece)
+  passed_over : (f : Frame) → IsNothing w.hub f.header → Happens w (after_frame w f w.hub)
+  left : (place : ℕ) (c : ClientValue) → client_at w.hub place ≡ Some c → c.closing ≡ None
+      → Happens w (after_frame w (frame (header.Gone place) []) (with_client w.hub place (Some (closed_for c why.Gone))))
+  too_much_came : (place : ℕ) (c : ClientValue) (piece : List ℕ) (reason : Why) → client_at w.hub place ≡ Some c → c.closing ≡ None
+      → IsTooMuch c piece reason
+      → Happens w (after_frame w (frame (header.Came place (length piece)) piece) (with_client w.hub place (Some (closed_for c reason))))
+  to_be_closed : (place : ℕ) (c : ClientValue) (reason : Why) → client_at w.hub place ≡ Some c → c.closing ≡ None
+      → IsCause w.hub place c reason → Happens w (record w { hub = with_client w.hub place (Some (closed_for c reason)) })
+  -- a line of a client is taken, while nobody waits for the word that all is kept
+  becomes_desk : (place : ℕ) (c : ClientValue) (d : ℕ) (r : RegisterValue) → client_at w.hub place ≡ Some c → c.desk ≡ None
+      → Joins w.hub.register c.name r d
+      → Happens w (record w { hub = record (with_client w.hub place (Some (joined_as c d (desk_at r d).next))) { register = r } })
+  line_taken : (place : ℕ) (c c' : ClientValue) (line rest : List ℕ) (r : RegisterValue) (how : How) (text : List ℕ)
+      → client_at w.hub place ≡ Some c → c.closing ≡ None → w.hub.phase ≢ phase.Asked → c.coming ≡ line ++ 10 ∷ rest
+      → All (λ byte. (byte == 10) ≡ false) line → length line < MOST_LINE → TakesLine w.hub.register c line rest r c' how text
+      → Happens w (with_answered w place r c' (exchange_of r c c' line how text))
+  -- the rows of all lines that were answered are given out, and then they are said to be kept
+  asked_to_keep : w.hub.phase ≢ phase.Asked
+      → Happens w (after_output w (keep w.hub.register.text) (record w.hub { register = record w.hub.register { text = [] }; phase = phase.Asked }))
+  said_to_be_kept : w.hub.phase ≡ phase.Asked
+      → Happens w (record (after_frame w (frame header.Kept []) (record w.hub { phase = phase.Settled })) { safe = length w.answered })
+  -- what waits for a client is sent, and it is closed, only while all that was answered is kept
+  was_told : (place : ℕ) (c : ClientValue) → client_at w.hub place ≡ Some c → w.hub.phase ≡ phase.Settled
+      → Happens w (record (after_output w (send place c.used c.told) (with_client w.hub place (Some (after_telling c)))) {
+        sent = at_one w.sent c.serial (w.sent c.serial ++ c.told);
+      })
+  was_closed : (place : ℕ) (c : ClientValue) (reason : Why) → client_at w.hub place ≡ Some c → c.closing ≡ Some reason
+      → w.hub.phase ≡ phase.Settled → Happens w (after_output w (close place reason) (with_client w.hub place None))
+
+-- and so on
+pub data Comes (start : World) : World → Type 0 where
+  here : Comes start start
+  then : (w w' : World) → Comes start w → Happens w w' → Comes start w'
