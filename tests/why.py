@@ -262,12 +262,7 @@ def files_that_are_refused(place):
 
 @test
 def an_opening_that_is_too_large(place):
-    legs = "".join(f"leg,A{n},{60 + n * n % 7},50\n" for n in range(31))
-    products = "".join(f"product,A{n},{400 + n * n % 5},A{n},A{(n + 1) % 31},A{(n + 4) % 31},A{(n + 6) % 31}\n"
-                       for n in range(31))
-    demand = "".join(f"demand,A{n},1,99\n" for n in range(31))
-    network = place.file("too-large.csv", f"periods,1,1\n{legs}leg,Z,1,7\n{products}product,LAST,99999999,Z\n"
-                         f"product,LATER,99999998,Z\n{demand}demand,LAST,1,1\n")
+    network = place.file("too-large.csv", checks.TOO_LARGE)
     for mode in ("bid", "davn"):
         want(place.ran(mode, network, "1", given=b"plan\n"), ("overflow after 53 pivots at -734283692657163\n", 7),
              mode)

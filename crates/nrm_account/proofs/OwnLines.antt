@@ -1,13 +1,13 @@
 -- What is written as lines are read is the account of the line that is asked for.
 use Rattle.std.proofs.Common.{ℕ, ◌≡◌, ◌∙◌, ◌+◌, ◌-◌, ◌<◌, ◌≤◌, ◌⊎◌, ◌==◌, Bool, true, false, eqb-true, List, [], ◌∷◌, ◌++◌, length, inl, inr, refl, sym, ap, subst, append-nil, arith, if◌then◌else◌}
-use Rattle.std.proofs.lemmas.Bool.{eqb-false}
+use Rattle.std.proofs.lemmas.Bool.{cases_Bool, eqb-false}
 use Rattle.nrm_model.specs.Network.{NetworkValue}
 use Rattle.nrm_control.specs.State.{SeatState}
 use Rattle.nrm_stream.specs.declared.command.Command.{Command}
 use Rattle.nrm_session.specs.Replies.{Reply}
 use Rattle.nrm_session.specs.Run.{Run}
 use Rattle.nrm_session.specs.Step.{Step}
-use Rattle.nrm_account.specs.Laws.{AccountsAreOfTheirLines}
+use Rattle.nrm_account.specs.Laws.{AccountsAreOfTheirLines, OutOfMemoryWritesNothing}
 use Rattle.nrm_account.specs.Readings.{Reading, Reads, ReadsLine, planned_after, unread}
 use Rattle.nrm_account.specs.Texts.{account_text}
 use Rattle.nrm_account.proofs.Told.{asked-not}
@@ -46,7 +46,7 @@ module _ (net : NetworkValue) (asked : ℕ) (last : Reading) (suffices : last.ra
   first-text r mid c commands first rest line run = by line.account
     where
       by : ((first ≡ (if r.left == 1 then account_text net asked r.planned r.state c line.reply else [])) × (mid.ran_out ≡ r.ran_out))
-          ⊎ ((first ≡ []) × (mid.ran_out ≡ true)) → first ≡ (if r.left == 1 then account_text net asked r.planned r.state c line.reply else [])
+          ⊎ (((r.left ≡ 1) × (first ≡ [])) × (mid.ran_out ≡ true)) → first ≡ (if r.left == 1 then account_text net asked r.planned r.state c line.reply else [])
       by (inl (is, kept)) = is
       by (inr (none, out)) = let wrong : true ≡ false = sym (stays-out net asked mid commands rest last run out) ∙ suffices in cc
 
@@ -157,3 +157,49 @@ accounts-of_lines net start asked commands text last some reads suffices =
           },
       none,
     )
+
+-- ---- memory ran out
+module _ (net : NetworkValue) (asked : ℕ) where
+  -- for a line that is not asked for none is taken
+  other-line : (r mid : Reading) (c : Command) (first : List ℕ) → ReadsLine net asked r c first mid → (r.left ≡ 1 → ⊥)
+      → (first ≡ []) × (mid.ran_out ≡ r.ran_out)
+  other-line r mid c first line other = by line.account
+    where
+      by : ((first ≡ (if r.left == 1 then account_text net asked r.planned r.state c line.reply else [])) × (mid.ran_out ≡ r.ran_out))
+          ⊎ (((r.left ≡ 1) × (first ≡ [])) × (mid.ran_out ≡ true)) → (first ≡ []) × (mid.ran_out ≡ r.ran_out)
+      by (inl (is, kept)) = (is ∙ sym (asked-not r.left (account_text net asked r.planned r.state c line.reply) other), kept)
+      by (inr ((one, none), out)) = absurd (other one)
+
+  joined-none : (text first rest : List ℕ) → text ≡ first ++ rest → first ≡ [] → rest ≡ [] → text ≡ []
+  joined-none text first rest is none others = is ∙ ap (λ (t : List ℕ). t ++ rest) none ∙ others
+
+  -- nor behind the one that is
+  no-more : (r : Reading) (commands : List Command) (text : List ℕ) (last : Reading) → Reads net asked r commands text last → r.left ≡ 0
+      → (text ≡ []) × (last.ran_out ≡ r.ran_out)
+  no-more r [] text last (none, same) over = (none, ap (λ (at : Reading). at.ran_out) same)
+  no-more r (c ∷ commands) text last (mid, first, rest, line, run, is) over =
+      let (none, kept) = other-line r mid c first line (λ one. omega (arith, over, one)) in
+      let (others, same) = no-more mid commands rest last run (omega (arith, line.left, over)) in
+      (joined-none text first rest is none others, same ∙ kept)
+
+  none-written : (r : Reading) (commands : List Command) (text : List ℕ) (last : Reading) → Reads net asked r commands text last
+      → r.ran_out ≡ false → last.ran_out ≡ true → text ≡ []
+  none-written r [] text last (none, same) before out = none
+  none-written r (c ∷ commands) text last (mid, first, rest, line, run, is) before out =
+      by (λ suffices. none-written mid commands rest last run suffices out) line.account
+    where
+      by : (mid.ran_out ≡ false → rest ≡ [])
+          → ((first ≡ (if r.left == 1 then account_text net asked r.planned r.state c line.reply else [])) × (mid.ran_out ≡ r.ran_out))
+          ⊎ (((r.left ≡ 1) × (first ≡ [])) × (mid.ran_out ≡ true)) → text ≡ []
+      by others (inr ((one, none), now)) =
+          joined-none text first rest is none (no-more mid commands rest last run (omega (arith, line.left, one))).0
+      by others (inl (written, kept)) = elim (cases_Bool (r.left == 1)) [
+        | inl e ↦
+            let over : mid.left ≡ 0 = omega (arith, line.left, eqb-true r.left 1 e) in
+            let wrong : true ≡ false = sym out ∙ (no-more mid commands rest last run over).1 ∙ kept ∙ before in
+            absurd (cc)
+        | inr e ↦ joined-none text first rest is (written ∙ rw e refl) (others (kept ∙ before))
+      ]
+
+pub nothing-written : OutOfMemoryWritesNothing
+nothing-written net start asked commands text last reads out = none-written net asked (unread asked start) commands text last reads refl out

@@ -81,7 +81,7 @@ module _ (old new : ControlValue × Teller) (c : Command) (reply : Reply) (ran_o
   abbrev Told : List ℕ → Type 0
   Told text = (s : SeatState) → StandsFor old.0 s
       → ((text ≡ (if old.1.left == 1 then account_text old.0.net old.1.asked old.1.planned s c reply else [])) × (ran_out ≡ old.1.ran_out))
-      ⊎ ((text ≡ []) × (ran_out ≡ true))
+      ⊎ (((old.1.left ≡ 1) × (text ≡ [])) × (ran_out ≡ true))
 
   as-told : {A B : Type 0} (now : Bool) → now ≡ ran_out → (A × (ran_out ≡ old.1.ran_out)) ⊎ (B × (ran_out ≡ true)) → (A × (now ≡ old.1.ran_out)) ⊎ (B × (now ≡ true))
   as-told now same (inl (a, kept)) = inl (a, same ∙ kept)

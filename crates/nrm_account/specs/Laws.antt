@@ -1,5 +1,5 @@
 -- What accounts say, whatever they are of.
-use Rattle.std.specs.Prelude.{ℕ, ◌≡◌, ◌≤◌, ◌<◌, false, List, []}
+use Rattle.std.specs.Prelude.{ℕ, ◌≡◌, ◌≤◌, ◌<◌, true, false, List, []}
 use Rattle.nrm_model.specs.Network.{NetworkValue}
 use Rattle.nrm_model.specs.declared.limits.TheConstants.{MOST_PARTY}
 use Rattle.nrm_book.specs.declared.booking.Booking.{Booking}
@@ -35,3 +35,8 @@ abbrev pub AccountsAreOfTheirLines : Type 0
 AccountsAreOfTheirLines = (net : NetworkValue) (start : SeatState) (asked : ℕ) (commands : List Command) (text : List ℕ) (last : Reading)
     → 1 ≤ asked → Reads net asked (unread asked start) commands text last → last.ran_out ≡ false
     → (last.left ≡ 0 → IsAccountOf net start asked commands text) × (0 < last.left → text ≡ [])
+
+-- And if memory runs out for the account, nothing is written.
+abbrev pub OutOfMemoryWritesNothing : Type 0
+OutOfMemoryWritesNothing = (net : NetworkValue) (start : SeatState) (asked : ℕ) (commands : List Command) (text : List ℕ) (last : Reading)
+    → Reads net asked (unread asked start) commands text last → last.ran_out ≡ true → text ≡ []

@@ -38,7 +38,7 @@ abbrev pub planned_after : List Reply → ℕ → ℕ → ℕ
 planned_after [] line planned = planned
 planned_after (reply ∷ replies) line planned = planned_after replies (line + 1) (planned_by reply line planned)
 
--- A line is answered by a step of the session. If it is the one that is asked for, its account in the state before it is written, or memory ran
+-- A line is answered by a step of the session. If it is the one that is asked for, its account in the state before it is written, or memory runs
 -- out and nothing is; else nothing is written.
 pub record ReadsLine (net : NetworkValue) (asked : ℕ) (r : Reading) (c : Command) (text : List ℕ) (r' : Reading) : Type 0 where
   pub reply : Reply
@@ -46,7 +46,7 @@ pub record ReadsLine (net : NetworkValue) (asked : ℕ) (r : Reading) (c : Comma
   pub left : r'.left ≡ r.left - 1
   pub planned : r'.planned ≡ planned_by reply (asked - r.left + 1) r.planned
   pub account : ((text ≡ (if r.left == 1 then account_text net asked r.planned r.state c reply else [])) × (r'.ran_out ≡ r.ran_out))
-      ⊎ ((text ≡ []) × (r'.ran_out ≡ true))
+      ⊎ (((r.left ≡ 1) × (text ≡ [])) × (r'.ran_out ≡ true))
 
 -- lines, one after another, and what is written of all of them
 abbrev pub Reads : NetworkValue → ℕ → Reading → List Command → List ℕ → Reading → Type 0

@@ -1,5 +1,5 @@
 //! Laws of accounts. Each is the contract of a function that does nothing.
-ghost use Rattle.nrm_account.specs.Laws.{AccountsAreOfTheirLines, AccountsGiveReplies, LargestPartiesAreSold};
+ghost use Rattle.nrm_account.specs.Laws.{AccountsAreOfTheirLines, AccountsGiveReplies, LargestPartiesAreSold, OutOfMemoryWritesNothing};
 
 /// The numbers of the account of a request give its reply by the rule alone.
 pub fn accounts_give_replies()
@@ -14,4 +14,9 @@ pub fn largest_parties_are_sold()
 /// What is written as a session is read is the account of the line that is asked for, in the state that a run over the lines before it comes to.
 pub fn accounts_are_of_their_lines()
     ensures { AccountsAreOfTheirLines }
+{}
+
+/// If memory runs out for the account, nothing is written.
+pub fn out_of_memory_writes_nothing()
+    ensures { OutOfMemoryWritesNothing }
 {}

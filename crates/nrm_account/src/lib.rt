@@ -12,5 +12,8 @@ mod teller;
 mod text;
 
 pub use largest::largest_party;
-pub use laws::{accounts_are_of_their_lines, accounts_give_replies, largest_parties_are_sold};
+pub use laws::{
+    accounts_are_of_their_lines, accounts_give_replies, largest_parties_are_sold,
+    out_of_memory_writes_nothing,
+};
 pub use teller::{Teller, Telling};

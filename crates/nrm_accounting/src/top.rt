@@ -5,7 +5,7 @@ ghost use Rattle.nrm_session.specs.Serving.{ServesBy, streams};
 ghost use Rattle.nrm_session.specs.declared.serving.TheConstants.{LATEST_START};
 ghost use Rattle.nrm_text.specs.Numbers.{whole_between};
 ghost use Rattle.nrm_account.specs.Tellers.{Tells, TellsCut, can_tell};
-ghost use Rattle.nrm_account.specs.Laws.{AccountsAreOfTheirLines, AccountsGiveReplies, LargestPartiesAreSold};
+ghost use Rattle.nrm_account.specs.Laws.{AccountsAreOfTheirLines, AccountsGiveReplies, LargestPartiesAreSold, OutOfMemoryWritesNothing};
 ghost use Rattle.nrm_session.specs.Serving.{CountsFaults};
 ghost use Rattle.nrm_session.specs.Serving.{SentOn as SentAtEnd};
 ghost use Rattle.nrm_accounting.specs.Ends.{Ends, SentOn, stream_limit};
@@ -127,8 +127,8 @@ fn run_job<F: Files, S: Source, K: Sink>(
 /// as the lines are read is the account of the line that was asked for, in the state that a run of the session over the lines before it comes
 /// to. `replies`: the numbers of the account of a request give its reply by the rule alone: the first leg on which what is needed and what is
 /// protected are more than what is left is named; else the fare is refused if it is below the sum of the bid prices; else the
-/// request is sold. `largest`: a request is sold exactly if its party is no larger than the one that the account tells. `sent`: nothing is
-/// held back at the end.
+/// request is sold. `largest`: a request is sold exactly if its party is no larger than the one that the account tells. `memory`: if memory
+/// runs out for the account, nothing is written. `sent`: nothing is held back at the end.
 pub fn run_why<F: Files, S: Source, K: Sink>(
     alloc: Global,
     words: &[String],
@@ -142,6 +142,7 @@ pub fn run_why<F: Files, S: Source, K: Sink>(
     ensures accounts { AccountsAreOfTheirLines }
     ensures replies { AccountsGiveReplies }
     ensures largest { LargestPartiesAreSold }
+    ensures memory { OutOfMemoryWritesNothing }
 {
     match asked_in(words) {
         Some(job) => run_job(alloc, job, files, source, sink),

@@ -1,6 +1,6 @@
 use Rattle.std.proofs.Common.{◌∙◌, ap, option_map, refl, sym}
 use Rattle.nrm_account.proofs.Accounts.{account-replies}
-use Rattle.nrm_account.proofs.OwnLines.{accounts-of_lines}
+use Rattle.nrm_account.proofs.OwnLines.{accounts-of_lines, nothing-written}
 use Rattle.nrm_account.proofs.Parties.{largest-is_sold}
 use Rattle.nrm_accounting.specs.Ends.{usage}
 use Rattle.nrm_accounting.specs.Inner.Parts.{job_in}
@@ -36,3 +36,9 @@ returns-in-Some-clause-accounts g c = accounts-of_lines
 
 pub returns-in-None-clause-accounts : goal.returns-in-None-clause-accounts
 returns-in-None-clause-accounts g c = accounts-of_lines
+
+pub returns-in-Some-clause-memory : goal.returns-in-Some-clause-memory
+returns-in-Some-clause-memory g c = nothing-written
+
+pub returns-in-None-clause-memory : goal.returns-in-None-clause-memory
+returns-in-None-clause-memory g c = nothing-written

@@ -44,4 +44,4 @@ returns-in-Err-clause-whole g c =
     let held = g.K.Sink.held c.args.sink.now in
     let new = c.pass_line-in-Err.new.controller in
     answers-told (c.args.controller.now, c.args.beside.now) (new, c.pass_line-in-Err.new.teller) c.args.command.now (reply_in new c.pass_line-in-Err.result) true c.pass_line-in-Err.ensures.passes
-    [] held held (g.K.Sink.faults c.args.sink.now) (g.K.Sink.faults c.args.sink.now) c.requires.ready (λ s stands. inr (refl, refl)) (Appends-nil held) refl
+    [] held held (g.K.Sink.faults c.args.sink.now) (g.K.Sink.faults c.args.sink.now) c.requires.ready (λ s stands. inr ((c.if-beside-ne1.false, refl), refl)) (Appends-nil held) refl
