@@ -7,6 +7,12 @@ import tempfile
 TOP = os.path.dirname(os.path.dirname(os.path.realpath(__file__)))
 NOT_BUILT = 70  # what the scripts `nrm`, `nrm_kept` and `nrm_why` end with if there is no program to run
 MOST_SHOWN = 600
+# a ring of 31 legs, of which each product has four: the opening program has a number that is too large after 53 pivots
+TOO_LARGE = ("periods,1,1\n" + "".join(f"leg,A{n},{60 + n * n % 7},50\n" for n in range(31)) + "leg,Z,1,7\n"
+             + "".join(f"product,A{n},{400 + n * n % 5},A{n},A{(n + 1) % 31},A{(n + 4) % 31},A{(n + 6) % 31}\n"
+                       for n in range(31))
+             + "product,LAST,99999999,Z\nproduct,LATER,99999998,Z\n"
+             + "".join(f"demand,A{n},1,99\n" for n in range(31)) + "demand,LAST,1,1\n")
 
 
 class Wrong(Exception):

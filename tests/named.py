@@ -9,8 +9,8 @@ Of proofs.md and claims.md it checks each file of definitions or proofs (`nrm_lp
 function (`nrm_cli::run`, clause `ends`, or clause `ends` of `run`). claims.md must name each file of definitions that a
 public contract reaches. Of the table in proofs.md it checks too that a file has the names that stand behind it. The
 table and the drawing of map.md are compared with crates.txt. Of CONTRIBUTING.md each path must be there
-(`nrm_stream/src/command.rt`, `docs/commands.md`). Each link of a page must lead to a file and to a heading in it. What
-isn't so is printed; the last line is `N names, M not there`.
+(`nrm_stream/src/command.rt`, `docs/commands.md`). Each link of a page must lead to a file and to a heading in it, and to
+none that a release leaves out. What isn't so is printed; the last line is `N names, M not there`.
 """
 import functools
 import glob
@@ -25,6 +25,7 @@ import pages
 TOP = os.path.dirname(os.path.dirname(os.path.realpath(__file__)))
 FILE = r"nrm\w*/(?:specs|proofs)(?:/\w+)+"
 LIST = r"\s*((?:`[\w-]+`(?:,\s+|\s+and\s+)?)+)"
+NOT_RELEASED = re.compile(r"\]\(((?:\.\./)?(?:crates|tests|tools|\.ci|python/tests)/[^)]*)\)")
 
 
 def read(path):
@@ -186,6 +187,9 @@ def look_at_links(names):
     faults, links = pages.faulty_links(linked)
     names.count += links
     names.missing += faults
+    for page in linked:
+        if page.name != "README.md":  # what it says of the checkout is cut from it
+            names.missing += [f"{page.name}: a release has no {link}" for link in NOT_RELEASED.findall(page.read_text())]
 
 
 def main():

@@ -6,9 +6,8 @@
 The pages are README.md and those of docs/, of which PATTERN picks those with it in their name. The commands of each run
 in a copy of what is committed or added, in their order, with the program that is tested in the place of the built one.
 What isn't run or compared is listed below, each with the reason. With no --program it is the script `nrm` at the top of
-the repository; the script `nrm_kept` is always that at the top, and so is `nrm_why`, where the words of NRM_WHY name no
-other program. What fails is told; the last line is `N passed, M
-failed`.
+the repository; the script `nrm_kept` is always that at the top, and so are `nrm_why` and `nrm_desks`, where the words
+of NRM_WHY and NRM_DESKS name no other program. What fails is told; the last line is `N passed, M failed`.
 """
 import concurrent.futures
 import os
@@ -40,10 +39,9 @@ NOT_RUN = {  # by the beginning of the commands; the reason
     "nrm-tools averaged examples/season/network.csv --seasons": MINUTES,
     "git clone": "it proves all crates again", "install -m 755": "it installs into the system",
     "sqlite3 mine/bookings.db 'SELECT * FROM kept WHERE number = N'": "N stands for a number that was told",
-    "nrm-tools desks": SERVERS, "cc -o mine/desk": SERVERS, r"printf 'book HJ-Q 2\nbook HN-Y 1\ncancel 1": SERVERS,
 }
-# commands of Debian's packages glpk-utils, qsopt-ex and sqlite3: not run where one isn't there
-NEEDS = ("glpsol", "esolver", "sqlite3")
+# commands of Debian's packages glpk-utils, qsopt-ex, sqlite3, socat, gcc and nodejs: not run where one isn't there
+NEEDS = ("glpsol", "esolver", "sqlite3", "socat", "cc", "node")
 ENDS = {  # by the beginning of the commands that end with another status than 0 on purpose: the status
     "python3 examples/line/make.py trains": 1, "python3 examples/line/make.py line": 1, "sed 's/AB 120/AB 119/'": 1,
     "sed 's/^protect BC 4 6/": 1, "nrm-tools explain mine/train.csv": 3, 'cp "$store-wal" mine/backup': 1}
@@ -81,9 +79,11 @@ def copied(top, program):
 
 
 def lay_programs(top, program):
-    """Lays the program, `nrm_kept` and `nrm_why` in the place of the built ones of a folder."""
-    why = checks.placed(shlex.split(os.environ.get("NRM_WHY", ""))) or [str(TOP / "nrm_why")]
-    for name, words in (("nrm", program), ("nrm_kept", [str(TOP / "nrm_kept")]), ("nrm_why", why)):
+    """Lays the program, `nrm_kept`, `nrm_why` and `nrm_desks` in the place of the built ones of a folder."""
+    why, desks = (checks.placed(shlex.split(os.environ.get(variable, ""))) or [str(TOP / name)]
+                  for variable, name in (("NRM_WHY", "nrm_why"), ("NRM_DESKS", "nrm_desks")))
+    kept = [str(TOP / "nrm_kept")]
+    for name, words in (("nrm", program), ("nrm_kept", kept), ("nrm_why", why), ("nrm_desks", desks)):
         built = top / "crates" / name / "out" / name
         built.parent.mkdir(parents=True, exist_ok=True)
         built.write_text(f'#!/bin/sh\nexec {shlex.join(words)} "$@"\n')

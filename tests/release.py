@@ -5,8 +5,8 @@
 
 The tests are the functions below, of which PATTERN picks those with it in their name. The clone's built program is one
 that runs the program of the tests. Where the kit, git or what makes a wheel isn't there, that is told, and no release
-is made. With no --program it is the script `nrm` at the top of the repository; `nrm_kept` and `nrm_why` are always
-those at the top, but that NRM_WHY may name another. The last line is `N passed, M failed`.
+is made. With no --program it is the script `nrm` at the top of the repository; `nrm_kept`, `nrm_why` and `nrm_desks` are
+always those at the top, but that NRM_WHY and NRM_DESKS may name others. The last line is `N passed, M failed`.
 """
 import os
 import shutil
@@ -83,9 +83,9 @@ def is_of_what_is_committed(release):
 @test
 def has_what_one_begins_with(release):
     files = {str(it.relative_to(release.made)) for it in release.made.rglob("*") if it.is_file()}
-    wanted = {"nrm", "nrm_kept", "nrm_why", "nrm-tools", "README.md", "CHANGELOG.md", "LICENSE", "VERSION",
+    wanted = {"nrm", "nrm_kept", "nrm_why", "nrm_desks", "nrm-tools", "README.md", "CHANGELOG.md", "LICENSE", "VERSION",
               "SHA256SUMS",
-              "docs/nrm.1", "docs/nrm_kept.1", "docs/nrm_why.1",
+              "docs/nrm.1", "docs/nrm_kept.1", "docs/nrm_why.1", "docs/nrm_desks.1",
               "docs/analyst.md", "docs/operating.md", "docs/auditor.md", "examples/log/network.csv",
               "python/src/nrm/audit.py",
               "python/src/nrm/telling/page.html", "bench/misses.py", "bench/nrm/__init__.py"}
@@ -96,7 +96,7 @@ def has_what_one_begins_with(release):
     want({it for it in CRATES if not any(file.startswith(f"licences/{it}-") for file in files)}, set(), "licences")
     want(subprocess.run(["sha256sum", "--quiet", "-c", "SHA256SUMS"], cwd=release.made).returncode, 0, "sha256sum")
     want({*(release.made / "SHA256SUMS").read_text().split()[1::2]}, files - {"SHA256SUMS"}, "files with a checksum")
-    for page in ("nrm.1", "nrm_kept.1", "nrm_why.1"):
+    for page in ("nrm.1", "nrm_kept.1", "nrm_why.1", "nrm_desks.1"):
         want_in((release.made / "docs" / page).read_text(), f'"nrm {release.version}"')
     want_in((release.made / "CHANGELOG.md").read_text(), f"\n## {release.version}\n")
 

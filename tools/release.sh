@@ -29,12 +29,12 @@ made=$1/nrm-$version
 [ ! -e "$made" ] || stop "$made is there already"
 commit=$(git -C "$top" rev-parse HEAD 2>/dev/null) || stop "$top is no git repository, or git isn't there: which commit it is can't be told"
 [ -z "$(git -C "$top" status --porcelain)" ] || stop "$top has changes that aren't committed: \`git status\` tells them"
-for page in nrm.1 nrm_kept.1 nrm_why.1; do
+for page in nrm.1 nrm_kept.1 nrm_why.1 nrm_desks.1; do
   grep -q "\"nrm $version\"" "$top/docs/$page" || stop "docs/$page isn't of version $version"
 done
 
 "$top/nrm" print "$top/examples/two-legs/network.csv" >/dev/null || stop "there is no program to put into it"
-for name in nrm_kept nrm_why; do
+for name in nrm_kept nrm_why nrm_desks; do
   status=0
   "$top/$name" >/dev/null || status=$?
   [ "$status" = 2 ] || stop "there is no program $name to put into it"  # it was called with no words
@@ -56,7 +56,7 @@ cp -r "$sources/." "$made"
 SOURCE_DATE_EPOCH=$(git -C "$top" show -s --format=%ct "$commit") "$python" -m pip wheel --quiet --no-deps --no-index \
   --no-build-isolation --wheel-dir "$made" "$sources/python" || stop "the wheel wasn't made"
 sed '/^<!-- checkout -->$/,/^<!-- end -->$/d; /^<!-- release$/d; /^end -->$/d' "$sources/README.md" >"$made/README.md"
-install -m 755 "$top"/crates/{nrm/out/nrm,nrm_kept/out/nrm_kept,nrm_why/out/nrm_why} "$made"
+install -m 755 "$top"/crates/{nrm/out/nrm,nrm_kept/out/nrm_kept,nrm_why/out/nrm_why,nrm_desks/out/nrm_desks} "$made"
 for licence in "${licences[@]}"; do
   install -m 644 "$licence" "$made/licences/$(basename "$(dirname "$licence")")-$(basename "$licence")"
 done

@@ -1,8 +1,8 @@
 """One harness for all tests: a place with files, in which commands are run, and the program that they run.
 
-The program is named by NRM_PROGRAM, whose words may be those of the script `nrm` at the top or of `tests/reference.py`;
-else it is the one that the commands find. Where there is none, the tests that come to need it are skipped, as the last
-line of the run tells.
+The program is named by NRM_PROGRAM, whose words may be those of the script `nrm` at the top or of `tests/reference.py`,
+and `nrm_desks` by NRM_DESKS and `nrm_why` by NRM_WHY in the same way; else each is the one that the commands find. Where
+there is none, the tests that come to need it are skipped, as the last line of the run tells.
 """
 from __future__ import annotations
 
@@ -33,11 +33,11 @@ Test = TypeVar("Test")
 
 
 @functools.lru_cache(None)
-def program() -> Program:
+def program(variable: str = "NRM_PROGRAM", name: str = "nrm") -> Program:
     """The program that is tested with; no test may pass without one that is named."""
-    given = shlex.split(os.environ.get("NRM_PROGRAM", ""))
+    given = shlex.split(os.environ.get(variable, ""))
     try:
-        return Program.found([os.path.abspath(TOP / it) if (TOP / it).exists() else it for it in given])
+        return Program.found([os.path.abspath(TOP / it) if (TOP / it).exists() else it for it in given], name)
     except Stop as why:
         if given:
             raise
@@ -134,6 +134,14 @@ class PlaceTest(unittest.TestCase):
     @property
     def program(self) -> Program:
         return program()
+
+    @property
+    def desks_program(self) -> Program:
+        return program("NRM_DESKS", "nrm_desks")
+
+    @property
+    def why_program(self) -> Program:
+        return program("NRM_WHY", "nrm_why")
 
     @property
     def with_program(self) -> list[str]:

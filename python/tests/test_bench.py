@@ -8,13 +8,13 @@ from pathlib import Path
 from harness import EXAMPLES, TOP, PlaceTest
 from nrm.network import Network
 
-MEASURE = ("bookings", "desks", "kept", "plan", "read_network", "stream")
+MEASURE = ("bookings", "kept", "plan", "read_network", "stream")
 
 
 class Scripts(PlaceTest):
     def test_each_names_itself_and_gives_no_traceback(self) -> None:
         """With what is no program, or is none that plans."""
-        for name in MEASURE:
+        for name in (*MEASURE, "serve"):
             self.want_in(self.bench(name, "--help").out, f"usage: bench/{name}.py")
             none = f"bench/{name}.py: there is no program "
             for word, status, wanted in ((self.folder / "none", 1, f"{none}{self.folder}/none\n"),

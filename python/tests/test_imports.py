@@ -11,7 +11,7 @@ from harness import SOURCES, TOP
 PACKAGE = SOURCES / "nrm"
 STANDS_ALONE = "nrm.audit"
 OF_COMMANDS = "nrm.commands."
-SHARED = ("running", "log_words", "export_words", "season_words")  # by commands
+SHARED = ("running", "log_words", "export_words", "season_words", "serve_words")  # by commands
 BELOW_COMMANDS = tuple(f"{OF_COMMANDS}{it}" for it in SHARED)
 
 

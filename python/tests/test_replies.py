@@ -6,9 +6,8 @@ import unittest
 from fractions import Fraction
 
 from harness import EXAMPLES, PlaceTest
-from nrm.replies import (MODES, Cancelled, Cuts, Hindsight, Leg, LegValue, Memory, Nest, NoAnswer, NoFare, NoLeg,
-                         Optimised, Overflow, Plan, Sold, Store, Unknown, answer_of, cuts_of, leg_value_of, plan_of,
-                         replies_of, whole_replies)
+from nrm.replies import (Cancelled, Cuts, Hindsight, Leg, LegValue, Memory, Nest, NoAnswer, NoFare, NoLeg, Optimised,
+                         Overflow, Plan, Sold, Store, Unknown, answer_of, cuts_of, leg_value_of, plan_of, replies_of)
 
 ANSWERS = {
     "ok 7": Sold(7), "no AB-1": NoLeg("AB-1"), "no fare": NoFare(), "unknown": Unknown(),
@@ -77,17 +76,6 @@ class Dealing(PlaceTest):
             dealt = [it.count(b"\n") for it in replies_of(io.BytesIO(out))]
             booked = 2 if b"ok 1\n" in out else 1
             self.assertEqual(dealt, [lines_of_a_plan, 1, 1, booked, lines_of_a_plan, lines_of_a_plan, 1, 1], mode)
-
-    def test_replies_are_whole_in_any_pieces(self) -> None:
-        """Each reply comes once it is known to be whole, and the last text is held."""
-        for mode in MODES:
-            out = self.answered(mode)
-            for size in (1, 7, len(out)):
-                found, left = [], b""
-                for at in range(0, len(out), size):
-                    made, left = whole_replies(left + out[at:at + size])
-                    found += made
-                self.assertEqual((found, left), (list(replies_of(io.BytesIO(out))), b""), f"{mode} in pieces of {size}")
 
     def test_the_program_writes_what_is_read(self) -> None:
         kinds = [type(answer_of(it)) for it in list(replies_of(io.BytesIO(self.answered("davn"))))[:-1]]

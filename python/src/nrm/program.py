@@ -1,4 +1,4 @@
-"""The program `nrm`: how it is found and run, as a whole run, a dialogue or a stream. Nothing here builds it.
+"""The program `nrm`, and `nrm_desks`: how it is found and run, as a whole run, a dialogue or a stream. None is built.
 
 A run that ends with another status than 0 is a `Stop` that tells the status and the last line that was written.
 May use: nrm, nrm.replies.
@@ -24,7 +24,7 @@ PIECE = 65_536
 LINES_AT_ONCE = 1000  # that are sent before their replies are read: they and their replies fit into a pipe
 REFUSED = 3
 INPUT_FAULT = 4
-DOORS = ("nrm", "nrm_kept", "nrm_why")  # the scripts at the top of a checkout, which may build
+DOORS = ("nrm", "nrm_kept", "nrm_why", "nrm_desks")  # the scripts at the top of a checkout, which may build
 WHICH = "--program says which to run"
 Told = TypeVar("Told")
 
@@ -68,29 +68,29 @@ def program_behind(path: str) -> str | None:
     return str(built) if built else None
 
 
-def beside(top: Path) -> str | None:
+def beside(top: Path, name: str = "nrm") -> str | None:
     """The program beside the folder `python` that this file stands in, where that is no checkout, as in a release."""
-    program = top / "nrm"
+    program = top / name
     is_there = Path(__file__).resolve().parts[-4:-1] == ("python", "src", "nrm") and is_program(program)
     return str(program) if is_there else None
 
 
-def on_path() -> str | None:
-    """The first `nrm` on the path that is a program, or the script of a checkout with one."""
+def on_path(name: str = "nrm") -> str | None:
+    """The first of a name on the path that is a program, or the script of a checkout with one."""
     for folder in os.get_exec_path():
-        there = shutil.which("nrm", path=folder)
+        there = shutil.which(name, path=folder)
         found = there and program_behind(os.path.abspath(there))
         if found:
             return found
     return None
 
 
-def no_program(top: Path) -> Stop:
+def no_program(top: Path, name: str = "nrm") -> Stop:
     """Why there is no program, for who has a checkout at a folder or none."""
     if is_checkout(top):
-        return Stop(f"{top} has no built program that fits its sources, there is no other `nrm` on the path, "
-                    f"and nothing is built here: `{top / 'nrm'} --build` proves and builds it, and {WHICH}")
-    return Stop(f"there is no `nrm` on the path; {WHICH}")
+        return Stop(f"{top} has no built program that fits its sources, there is no other `{name}` on the path, "
+                    f"and nothing is built here: `{top / name} --build` proves and builds it, and {WHICH}")
+    return Stop(f"there is no `{name}` on the path; {WHICH}")
 
 
 # How it is run
@@ -102,18 +102,18 @@ class Program:
     words: tuple[str, ...]
 
     @classmethod
-    def found(cls, words: Sequence[str] | None = None) -> Program:
-        """The program of some words, else that of this file's checkout or release, else that on the path."""
+    def found(cls, words: Sequence[str] | None = None, name: str = "nrm") -> Program:
+        """The program of some words, else that of a name in this file's checkout or release, or on the path."""
         if words:
             there = shutil.which(words[0])
             found = program_behind(os.path.abspath(there)) if there else words[0]
             if not found:
-                raise no_program(Path(str(there)).resolve().parent)
+                raise no_program(Path(str(there)).resolve().parent, Path(str(there)).resolve().name)
             return cls((found if found != os.path.abspath(words[0]) else words[0], *words[1:]))
-        built = built_in(TOP) if is_checkout(TOP) else beside(TOP)
-        found = str(built) if built else on_path()
+        built = built_in(TOP, name) if is_checkout(TOP) else beside(TOP, name)
+        found = str(built) if built else on_path(name)
         if not found:
-            raise no_program(TOP)
+            raise no_program(TOP, name)
         return cls((found,))
 
     def checksum(self) -> str:

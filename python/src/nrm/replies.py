@@ -22,8 +22,6 @@ class NoAnswer(ValueError):
 # Which reply belongs to which line
 
 FURTHER = re.compile(rb"(on|product|nest|protect) |leg [^ ]+ [0-9]+/")  # a line within the text of a leg or a plan
-FURTHER_IN = re.compile(rb"^(?:" + FURTHER.pattern + rb")", re.MULTILINE)
-TEXT = re.compile(rb"leg |value ")  # how the text of a leg and that of a plan begin
 
 
 def replies_of(lines: Iterable[bytes]) -> Iterator[bytes]:
@@ -36,16 +34,6 @@ def replies_of(lines: Iterable[bytes]) -> Iterator[bytes]:
         reply += line
     if reply:
         yield reply
-
-
-def whole_replies(output: bytes) -> tuple[list[bytes], bytes]:
-    """The whole replies that a piece of output has, and what is left of it: half a line, or the text of a leg or a plan
-    at its end, which may go on: it is whole once the reply to a next line stands behind it."""
-    end = output.rfind(b"\n") + 1
-    lines = [line + b"\n" for line in output[:end].split(b"\n")[:-1]]
-    made = list(replies_of(lines)) if FURTHER_IN.search(output) else lines
-    held = made.pop() if made and TEXT.match(made[-1]) else b""
-    return made, held + output[end:]
 
 
 # What a reply says
@@ -99,6 +87,18 @@ class Memory(Plain):
 
 class Store(Plain):
     """The store failed, and nothing has changed."""
+
+
+class Denied(Plain):
+    """The desk has no right to this, and nothing has changed."""
+
+
+@dataclass(frozen=True)
+class Available:
+    """The largest party of which a request would be sold now, and what one seat more would be refused for; nothing if
+    no line may ask for more."""
+    party: int
+    limit: NoLeg | NoFare | None
 
 
 @dataclass(frozen=True)
@@ -155,10 +155,11 @@ class Hindsight:
     withheld: int
 
 
-Answer = Union[Sold, NoLeg, NoFare, Unknown, Cancelled, Optimised, Overflow, Memory, Store, Leg, Plan, Hindsight]
+Answer = Union[Sold, NoLeg, NoFare, Unknown, Cancelled, Optimised, Overflow, Memory, Store, Denied, Available, Leg,
+               Plan, Hindsight]
 SAME: dict[str, Answer] = {
     "unknown": Unknown(), "overflow": Overflow(), "memory": Memory(), "store": Store(), "no fare": NoFare(),
-    "first": Plan(), "optimised none": Optimised(None)}
+    "denied": Denied(), "first": Plan(), "optimised none": Optimised(None)}
 FORMS: list[tuple[re.Pattern[str], Callable[..., Answer]]] = [
     (re.compile(r"ok ([0-9]+)"), lambda number: Sold(whole(number))),
     (re.compile(r"no ([A-Z0-9-]+)"), NoLeg),
@@ -166,6 +167,10 @@ FORMS: list[tuple[re.Pattern[str], Callable[..., Answer]]] = [
     (re.compile(r"optimised ([0-9]+/[0-9]+)"), lambda value: Optimised(fraction(value))),
     (re.compile(r"hindsight ([0-9]+/[0-9]+) revenue ([0-9]+) withheld ([0-9]+)"),
      lambda bound, revenue, withheld: Hindsight(fraction(bound), whole(revenue), whole(withheld))),
+    (re.compile(r"ask [A-Z0-9-]+ ([0-9]+) leg ([A-Z0-9-]+)"), lambda party, leg: Available(whole(party), NoLeg(leg))),
+    (re.compile(r"ask [A-Z0-9-]+ ([0-9]+) fare"), lambda party: Available(whole(party), NoFare())),
+    (re.compile(r"ask [A-Z0-9-]+ ([0-9]+) most"), lambda party: Available(whole(party), None)),
+    (re.compile(r"ask [A-Z0-9-]+ unknown"), Unknown),
 ]
 
 

@@ -32,15 +32,11 @@ class Streams(WithinTest):
             f"nrm-tools asked: {path}: lines `reoptimise` passed over 1, which begin no later period of the "
             "network; the first is line 5"])
 
-    def test_lines_of_a_journal_that_changed_nothing_are_left_out(self) -> None:
-        """Those answered `memory` or `store`, which are sent again."""
-        path = self.file("journal", "book A 2\nbook A 2\nbook B 1\n")
-        self.file("journal.void", "2\n")
-        done = self.ran("asked", self.network, path)
-        self.assertEqual(done.out.splitlines()[-2:], ["demand,A,1,2,0", "demand,B,1,1,0"])
-        self.want_in(done.err, f"; lines left out, of {path}.void, 1\n")
-        self.file("journal.void", "2\nx\n")
-        self.want_in(self.stopped("asked", self.network, path), "journal.void: line 2 is no number of a line of ")
+    def test_lines_that_changed_nothing_are_not_counted_in_silence(self) -> None:
+        """Those of an older text journal, which were sent again."""
+        path = self.file("old", "book A 2\nbook A 2\nbook B 1\n")
+        self.file("old.void", "2\n")
+        self.stopped("asked", self.network, path, says=f"{path}.void numbers lines of {path} that changed nothing")
 
     def test_histories_are_added(self) -> None:
         """And the latest of all are taken, so that a line after each departure makes the network of the next."""

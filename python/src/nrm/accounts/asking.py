@@ -1,7 +1,7 @@
 """The account of a line, asked for and checked: `nrm_why` found and run, its text read, its rule done again beside a
 session, and the certificate of the plan that decided checked in two ways.
 
-Nothing here builds. May use: nrm, nrm.accounts.course, nrm.accounts.reading, nrm.accounts.steps, nrm.network,
+Nothing here builds. May use: nrm, nrm.accounts.course, nrm.accounts.reading, nrm.accounts.rules.steps, nrm.network,
 nrm.program, nrm.replies.
 """
 from __future__ import annotations
@@ -16,17 +16,18 @@ import sys
 import tempfile
 from dataclasses import dataclass
 from pathlib import Path
-from typing import Iterator, Sequence
+from typing import Iterator, Mapping, Sequence
 
-from nrm import Stop
+from nrm import Stop, bytes_in
 from nrm.accounts.course import Course
 from nrm.accounts.reading import Account, Optimisation, Request, account_of
-from nrm.accounts.steps import Step, steps_of
+from nrm.accounts.rules.steps import Step, steps_of
 from nrm.network import Network, text_of
 from nrm.program import TOP, Program, built_in, ended, is_checkout, is_program, program_behind
 from nrm.replies import NoAnswer
 
 NAME, WORDS_OF = "nrm_why", "NRM_WHY"
+OF_SQLITE = b"SQLite format 3\0"  # how a file of SQLite begins
 ABSENT = 10  # the status where the stream has fewer lines
 AUDIT = Path(__file__).resolve().parents[1] / "audit.py"  # the auditor's script, which is run and never imported
 
@@ -52,12 +53,19 @@ class Asked:
     stream: str
     number: int
 
-    def why(self, words: Sequence[str], program: Program) -> Why:
-        """The account of the line by the program of some words, beside a session of `nrm`."""
+    def why(self, words: Sequence[str], program: Program, replies: str | None = None) -> Why:
+        """The account of the line by the program of some words, beside a session of `nrm`, and beside the replies that
+        were kept of the lines if a file has them."""
         if stat.S_ISFIFO(os.stat(self.stream).st_mode):
             raise Stop(f"{self.stream} is no plain file")
+        if is_of_sqlite(self.network):
+            raise Stop(f"{self.network} is an SQLite file, and no network file: a line of a journal is asked for by "
+                       "three words, JOURNAL NETWORK NUMBER")
         account = self.account(words)
-        course = Course.played(self.network, self.mode, self.stream, self.number, program)
+        try:
+            course = Course.played(self.network, self.mode, self.stream, self.number, program, replies)
+        except (LookupError, ValueError) as what:
+            raise Stop(f"the replies to {self.stream} don't fit its lines: {what}; is that another program?")
         try:
             steps = [*steps_of(account, course), *certificate_steps(account, course, program)]
         except (LookupError, ValueError) as what:
@@ -78,6 +86,11 @@ class Asked:
             return account_of(text)
         except NoAnswer as what:
             raise Stop(f"what `{' '.join([NAME, *asked])}` wrote is no account: {what}; is that another program?")
+
+
+def is_of_sqlite(path: str) -> bool:
+    """Whether a file is one of SQLite, as a journal is."""
+    return os.path.isfile(path) and bytes_in(path, len(OF_SQLITE)) == OF_SQLITE
 
 
 def found(words: Sequence[str] | None, program: Program) -> tuple[str, ...]:
@@ -110,22 +123,20 @@ def certificate_steps(account: Account, course: Course, program: Program) -> Ite
     if course.mode == "first":
         return
     if isinstance(account.reasons, Request):
-        made, period = course.planned_before(course.number)
-        plan = course.plan
+        plan, planned = course.plan, course.planned
     elif isinstance(account.reasons, Optimisation) and course.optimised():
-        made, period = course.number, int(course.lines[-1].rstrip("\r").split(" ")[1])
-        plan = course.plan_behind
+        plan, planned = course.plan_behind, course.plan_made()
         yield Step("the value of the plan that is in force behind the line is the one that was answered",
-                   plan.split("\n")[0].split(" ")[1:] == course.replies[-1].rstrip("\n").split(" ")[1:])
+                   plan.split("\n")[0].split(" ")[1:] == course.reply.split(" ")[1:])
     else:
         return
-    left = course.left_before(made) if made else {name: leg.authorised for name, leg in course.network.legs.items()}
+    made, period = planned.line, planned.period
     where = f"the seats left at line {made} and the demand from period {period} on" if made else "the opening"
-    for who, is_optimal in checked(later(course.network, left, period), plan, program).items():
+    for who, is_optimal in checked(later(course.network, planned.left, period), plan, program).items():
         yield Step(f"the certificate of the plan is optimal for {where}, by {who}", is_optimal)
 
 
-def later(network: Network, left: dict[str, int], period: int) -> Network:
+def later(network: Network, left: Mapping[str, int], period: int) -> Network:
     """The network whose opening plan is the plan of some seats left and a period."""
     legs = {name: dataclasses.replace(leg, authorised=left[name]) for name, leg in network.legs.items()}
     products = {name: dataclasses.replace(it, demand={
@@ -138,7 +149,7 @@ def checked(network: Network, plan: str, program: Program) -> dict[str, bool]:
     """Whether `nrm check` and the auditor's script say that a plan of a network is optimal, its nests left out."""
     with tempfile.TemporaryDirectory() as folder:
         files = [str(Path(folder, "network.csv")), str(Path(folder, "certificate.txt"))]
-        lines = [it for it in plan.splitlines(keepends=True) if not it.startswith(("nest ", "protect "))]
+        lines = [f"{it}\n" for it in plan.split("\n") if not it.startswith(("nest ", "protect "))]
         for path, text in zip(files, (text_of(network.rows()), "".join(lines))):
             Path(path).write_text(text, encoding="latin-1")
         ways = {"`nrm check`": [*program.words, "check"], "the auditor's script": [sys.executable, str(AUDIT)]}

@@ -23,7 +23,8 @@ NAMED = {
     "why": "nrm.commands.studies.why",
     "authorise": "nrm.commands.seasons.authorise",
     "averaged": "nrm.commands.seasons.averaged",
-    "desks": "nrm.commands.live.desks",
+    "journal": "nrm.commands.live.journal",
+    "serve": "nrm.commands.live.serve",
     "resume": "nrm.commands.live.resume",
 }
 ALONE = ("audit",)  # these begin and end by themselves

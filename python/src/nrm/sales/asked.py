@@ -17,8 +17,7 @@ from nrm.network import Network, demand_row
 REQUEST = re.compile(rb"book ([A-Z0-9-]{1,12}) ([1-9][0-9]{0,2})\r?")
 NEW_PERIOD = re.compile(rb"reoptimise ([1-9][0-9]?)\r?")
 CANCELLATION = re.compile(rb"cancel (?:0|[1-9][0-9]{0,11})\r?")
-REPORT = re.compile(rb"(?:plan|hindsight|leg [A-Z0-9-]{1,12})?\r?")  # or an empty line, which many desks send
-LINE_NUMBER = re.compile(rb"[1-9][0-9]{0,11}")
+REPORT = re.compile(rb"(?:plan|hindsight|leg [A-Z0-9-]{1,12})?\r?")  # or an empty line
 MOST_NAMED = 5
 
 
@@ -30,7 +29,6 @@ class Asked:
     requests  how many lines were requests for products that the network has
     unknown   the seats asked for of products that the network hasn't, by product
     cancels   how many lines were cancellations
-    void      how many lines changed nothing, as the file beside a journal says
     others    the lines that are none of a session's, by their numbers
     backward  the lines that begin no later period of the network, by their numbers
     """
@@ -38,15 +36,13 @@ class Asked:
     requests: int = 0
     unknown: Counter[str] = field(default_factory=Counter)
     cancels: int = 0
-    void: int = 0
     others: list[int] = field(default_factory=list)
     backward: list[int] = field(default_factory=list)
 
     def told(self, path: str) -> Iterator[str]:
         """What a stream was read as, and what of it was left out."""
-        left_out = f"; lines left out, of {path}.void, {self.void}" if self.void else ""
         yield (f"{path}: requests {self.requests}, seats {sum(self.seats.values())}; cancellations passed over "
-               f"{self.cancels}{left_out}")
+               f"{self.cancels}")
         if self.unknown:
             names = sorted(self.unknown)
             yield (f"{path}: seats left out {sum(self.unknown.values())}, of products that the network hasn't: "
@@ -59,14 +55,12 @@ class Asked:
 
 def asked_in(path: str, network: Network) -> Asked:
     """What the stream at a path asked for."""
-    void, asked, period = void_lines(path), Asked(), 1
-    bytes_in(path, 1)  # a Stop if it isn't there
+    asked, period = Asked(), 1
+    see_that_all_of_it_counts(path)
     with open(path, "rb") as stream:
         for number, line in enumerate(stream, 1):
             line = line[:-1] if line.endswith(b"\n") else line
-            if number in void:
-                asked.void += 1
-            elif found := NEW_PERIOD.fullmatch(line):
+            if found := NEW_PERIOD.fullmatch(line):
                 new = int(found[1])
                 if period < new <= network.periods:
                     period = new
@@ -90,17 +84,13 @@ def take_request(asked: Asked, product: str, period: int, seats: int, network: N
         asked.unknown[product] += seats
 
 
-def void_lines(path: str) -> set[int]:
-    """The numbers of the lines of a journal that changed nothing, as the file beside it says; none where there is no
-    such file."""
-    beside = f"{path}.void"
-    if not os.path.exists(beside):
-        return set()
-    lines = bytes_in(beside).split(b"\n")
-    for at, line in enumerate(lines[:-1], 1):
-        if not LINE_NUMBER.fullmatch(line):
-            raise Stop(f"{beside}: line {at} is no number of a line of {path}")
-    return set(map(int, lines[:-1]))
+def see_that_all_of_it_counts(path: str) -> None:
+    """A Stop for a stream that isn't there, and for a text journal of an earlier release, if some of its lines changed
+    nothing: they were sent again."""
+    bytes_in(path, 1)
+    if os.path.exists(f"{path}.void"):
+        raise Stop(f"{path}.void numbers lines of {path} that changed nothing: `nrm-tools journal import` leaves them "
+                   "out, and `nrm-tools journal look` writes the others")
 
 
 def histories_of(network: Network, asked: Sequence[Asked]) -> list[Mapping[str, Sequence[int]]]:

@@ -2,16 +2,15 @@
 
     nrm-tools asked NETWORK STREAM... [--add] [--last N] > NEW
 
-Each STREAM is what one departure's session was given, such as the journal of `nrm-tools desks`, and becomes a history,
-in the order in which they are named. A line `book PRODUCT SEATS` is a request of the period of the last `reoptimise K`
-before it, of period 1 where there was none. What was refused counts like what was sold: so these are requests, and
-nothing has to be estimated. What is written is NETWORK with this demand in the place of its own. With --add the
-histories of NETWORK stay, before the new ones; with --last N the N latest of all are taken: a file takes 32. So after
-each departure one line makes the network of the next.
+Each STREAM is what one departure's session was given, and becomes a history, in the order in which they are named; that
+of a network of a journal is written by `nrm-tools journal look JOURNAL NETWORK | cut -f5`. A line `book PRODUCT SEATS`
+is a request of the period of the last `reoptimise K` before it, of period 1 where there was none. What was refused
+counts like what was sold: so these are requests, and nothing has to be estimated. What is written is NETWORK with this
+demand in the place of its own. With --add the histories of NETWORK stay, before the new ones; with --last N the N
+latest of all are taken: a file takes 32. So after each departure one line makes the network of the next.
 
 WHAT IS READ. On standard error stands of each stream how many requests it has, and what of it was left out: products
-that NETWORK hasn't, lines that are none of a session, a `reoptimise` that goes back or beyond the last period, and the
-lines that STREAM.void names, which were answered `memory` or `store` and changed nothing.
+that NETWORK hasn't, lines that are none of a session, and a `reoptimise` that goes back or beyond the last period.
 
 WHAT A STREAM DOESN'T TELL. Someone who was refused and asks again, for another product or fewer seats, is counted each
 time. A customer who sees that a product is closed, and doesn't ask, isn't counted: desks that show what is open are to

@@ -1,0 +1,4 @@
+"""An account told: in a sentence, and as a page.
+
+May use: nothing.
+"""

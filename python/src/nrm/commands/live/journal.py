@@ -1,0 +1,122 @@
+"""A journal of many desks: begun, given networks, looked at, and copied while a server writes it.
+
+    nrm-tools journal begin JOURNAL
+    nrm-tools journal open JOURNAL NAME MODE FILE [--program WORD...]
+    nrm-tools journal end JOURNAL NAME
+    nrm-tools journal import JOURNAL NAME MODE FILE OLD [--program WORD...]
+    nrm-tools journal look JOURNAL [NETWORK [NUMBER] [--desk NAME] [--booking NUMBER]]
+    nrm-tools journal backup JOURNAL COPY
+
+A journal is an SQLite file, in which `nrm-tools serve` keeps each line that may have changed something, with who asked
+it, when, and what was answered. `begin` makes one, for its owner alone; `open` puts a network into it, once `nrm_desks`
+has read its file and made the opening plan: the file byte for byte, the mode, and the checksum of that program, which
+is named by --program, or is that of this folder, or the one on the path. A server that is at work answers for it at
+once. The name begins with a small letter, and has at most 40 of `a` to `z`, `0` to `9`, `.`, `_` and `-`. `end` has a
+network looked at alone from now on.
+
+`import` puts a network into it with the lines of OLD, the text journal that `nrm-tools desks` of earlier releases kept,
+and `tools/desks.py` before it; the mode and the network file are those of that session. They are carried out once more,
+by the desk `IMPORT`, while no server is at work, but for those whose numbers stand in OLD.void, which were answered
+`memory` or `store` then. What has no row is told: these lines, those that change nothing, and half a line at the end.
+
+`look` tells all networks, a line each: name, mode, lines, when it was begun, whether it has ended or is halted and why,
+and the checksum of its program. With a network it writes its lines, with one tab between number, time, desk, the desk's
+own number, line and reply: all of them, the one of a number, those of a desk, or those of a booking. It and `backup`,
+which makes a copy that is a journal too, may be used while a server is at work, as `sqlite3 -readonly` may.
+"""
+from __future__ import annotations
+
+import argparse
+import re
+from typing import Sequence
+
+from nrm import bytes_in
+from nrm.commands.running import parser
+from nrm.desks.importing import TextJournal, import_network
+from nrm.desks.journals.looking import Wanted, copy, lines_of, summary
+from nrm.desks.journals.networks import end_network, open_network, see_that_it_is_free
+from nrm.desks.journals.tables import begin, using
+from nrm.desks.relay.programs import see_that_it_opens
+from nrm.program import Program
+from nrm.replies import MODES
+
+WAYS = {"begin": (0, 0), "open": (3, 3), "end": (1, 1), "import": (4, 4), "look": (0, 2),
+        "backup": (1, 1)}  # and how many words follow
+
+
+def number(text: str) -> int:
+    """A number of a line or of a booking."""
+    if not re.fullmatch("0|[1-9][0-9]{0,14}", text):
+        raise ValueError
+    return int(text)
+
+
+def words_of(given: Sequence[str]) -> tuple[argparse.ArgumentParser, argparse.Namespace]:
+    """What is asked."""
+    words = parser("journal", __doc__)
+    words.add_argument("way", choices=WAYS, metavar="WAY")
+    words.add_argument("journal", metavar="JOURNAL")
+    words.add_argument("words", nargs="*", metavar="WORD")
+    words.add_argument("--program", nargs="+", metavar="WORD", help="what runs `nrm_desks`")
+    words.add_argument("--desk", metavar="NAME", help="the lines of a desk")
+    words.add_argument("--booking", type=number, metavar="NUMBER", help="the lines of a booking")
+    asked = words.parse_args(given)
+    least, most = WAYS[asked.way]
+    if not least <= len(asked.words) <= most:
+        words.error(f"`{asked.way}` has {most} words behind the journal, and not {len(asked.words)}")
+    return words, asked
+
+
+def open_one(path: str, name: str, mode: str, file: str, program: Program) -> None:
+    """Puts a network into a journal, if the program opens it."""
+    text = bytes_in(file)
+    with using(path, is_to_write=True) as connection:
+        see_that_it_is_free(connection, name)
+        see_that_it_opens(program, mode, text, file)
+        open_network(connection, name, mode, text, program.checksum())
+
+
+def import_one(path: str, name: str, mode: str, file: str, old: str, program: Program) -> None:
+    """Puts a network into a journal with the lines of a text journal, and tells what has no row."""
+    journal = TextJournal.at(old)
+    count = import_network(path, name, mode, file, journal, program)
+    left_out = journal.left_out(count)
+    print(f"{count} lines of {old} are in {path}{f'; left out: {left_out}' if left_out else ''}")
+
+
+def look(words: argparse.ArgumentParser, asked: argparse.Namespace) -> None:
+    """Prints the networks, or lines of one."""
+    if not asked.words:
+        print("\n".join(summary(asked.journal)))
+        return
+    try:
+        wanted = Wanted(number(asked.words[1]) if asked.words[1:] else None, asked.desk, asked.booking)
+    except ValueError:
+        words.error(f"{asked.words[1]!r} is no number of a line")
+    for line in lines_of(asked.journal, asked.words[0], wanted):
+        print(line)
+
+
+def run(given: Sequence[str]) -> int:
+    """Does what the first word says."""
+    words, asked = words_of(given)
+    if asked.way == "begin":
+        begin(asked.journal)
+    elif asked.way in ("open", "import"):
+        if asked.words[1] not in MODES:
+            words.error(f"the mode is one of {', '.join(MODES)}")
+        program = Program.found(asked.program, "nrm_desks")
+        if asked.way == "open":
+            name, mode, file = asked.words
+            open_one(asked.journal, name, mode, file, program)
+        else:
+            name, mode, file, old = asked.words
+            import_one(asked.journal, name, mode, file, old, program)
+    elif asked.way == "end":
+        with using(asked.journal, is_to_write=True) as connection:
+            end_network(connection, asked.words[0])
+    elif asked.way == "look":
+        look(words, asked)
+    else:
+        copy(asked.journal, asked.words[0])
+    return 0

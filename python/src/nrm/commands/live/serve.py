@@ -1,0 +1,48 @@
+"""Many desks at the networks of a journal: each line is in it before its reply is sent.
+
+    nrm-tools serve JOURNAL [--socket PATH] [--listen HOST:PORT] [OPTION...]
+
+JOURNAL is what `nrm-tools journal` begins and puts networks into. Clients are taken on the Unix socket PATH, whose
+rights are 0600, or those of --mode, and on HOST:PORT, which must be of this machine's loopback range unless
+--beyond-this-machine is given: anyone who can reach it can book. For each network an `nrm_desks` is begun at its first
+client, is given the lines of the journal again, and ends when nobody was there for as long as --linger says. What a
+client sends goes to that program as it comes; what the program gives out to be kept is written into the journal, for
+all networks that wait by one commit; and then the program sends its replies. Where there are several networks the first
+line of a client names one, `desk NETWORK NAME` or `desk NETWORK NAME SEQUENCE`; where there is one it may.
+
+A network is halted, and the others go on, if the program doesn't answer as the journal has it, or the journal doesn't
+take a row: `nrm-tools journal look JOURNAL` tells why. One that began with another program isn't answered, and standard
+error tells both checksums; --program names the program, and has it answer for networks without lines, and for those
+that have ended. A second server at the same journal is refused while the first lives.
+
+A client that is cut off gets one line, `closed WHY`, after the replies to those of its lines that were taken: `closed
+clients` if there are as many as may be, `closed network` if it names none that the journal has, `closed halted`,
+`closed version` if the network began with another program, `closed half` if the end of a line doesn't come, `closed
+idle` if nothing does, `closed journal` if the journal can't be written, `closed stopping` when the server is told to
+end, `closed program STATUS` when the network's program has ended, and what the program itself says. One that doesn't
+take its replies can't be told.
+
+SIGTERM, SIGINT and SIGHUP end it: no more lines are taken, and those that were taken are answered. The status is 0, 74
+if the journal couldn't be written, 1 if it couldn't begin or another server has the journal, and 2 for a usage error.
+"""
+from __future__ import annotations
+
+from typing import Sequence
+
+from nrm.commands.running import parser
+from nrm.commands.serve_words import add_limits, add_places, limits_in, places_in
+from nrm.desks.relay.hall import Answering
+from nrm.desks.relay.serving import Server
+from nrm.program import Program
+
+
+def run(given: Sequence[str]) -> int:
+    """Serves until it is told to end, and gives the status."""
+    words = parser("serve", __doc__)
+    words.add_argument("journal", metavar="JOURNAL")
+    add_places(words)
+    add_limits(words)
+    asked = words.parse_args(given)
+    places, limits = places_in(words, asked), limits_in(words, asked)
+    program = Program.found(asked.program, "nrm_desks")
+    return Server(asked.journal, Answering(program, program.checksum(), bool(asked.program)), places, limits).run()

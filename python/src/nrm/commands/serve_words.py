@@ -1,0 +1,77 @@
+"""The words of a server of many desks: where clients come, what ends waiting, and which program answers.
+
+May use: nrm.desks.places, nrm.desks.relay.clients, nrm.program.
+"""
+from __future__ import annotations
+
+import argparse
+import re
+
+from nrm.desks.places import OWN_RIGHTS, Places
+from nrm.desks.relay.clients import Limits
+from nrm.program import PIECE
+
+
+def count(text: str) -> int:
+    """A number of things, from 1."""
+    if not re.fullmatch("[1-9][0-9]{0,8}", text):
+        raise ValueError
+    return int(text)
+
+
+def rights(text: str) -> int:
+    """Rights in octal digits."""
+    if not re.fullmatch("0*[0-7]{1,3}", text):
+        raise ValueError
+    return int(text, 8)
+
+
+def seconds(text: str) -> float:
+    """A time that may pass."""
+    value = float(text) if len(text) < 20 else 0
+    if not 0 < value < 1e9:
+        raise ValueError
+    return value
+
+
+def add_places(words: argparse.ArgumentParser) -> None:
+    """The options for where clients come, and for the program."""
+    words.add_argument("--socket", metavar="PATH", help="the Unix socket")
+    words.add_argument("--mode", type=rights, default=OWN_RIGHTS, metavar="RIGHTS",
+                       help="the rights of the socket, in octal digits; 600 if it isn't given")
+    words.add_argument("--listen", metavar="HOST:PORT", help="a TCP port as well, or instead")
+    words.add_argument("--beyond-this-machine", action="store_true", help="lets --listen be beyond the loopback range")
+    words.add_argument("--program", nargs="+", metavar="WORD",
+                       help="what runs `nrm_desks`; else it is that of this folder, or the one on the path")
+
+
+def add_limits(words: argparse.ArgumentParser) -> None:
+    """The options that end waiting and bound memory."""
+    words.add_argument("--clients", type=count, default=Limits.clients, metavar="N",
+                       help="the most clients at a time; %(default)s")
+    words.add_argument("--unsent", type=count, default=Limits.unsent, metavar="BYTES",
+                       help="of replies that a client hasn't taken; %(default)s")
+    words.add_argument("--slow", type=seconds, default=Limits.slow, metavar="SECONDS",
+                       help="for the rest of a line, for taking replies, and for the end; %(default)s")
+    words.add_argument("--idle", type=seconds, default=Limits.idle, metavar="SECONDS",
+                       help="for a next line; %(default)s")
+    words.add_argument("--answer", type=seconds, default=Limits.answer, metavar="SECONDS",
+                       help="for a program's next answer before it is ended; %(default)s")
+    words.add_argument("--linger", type=seconds, default=Limits.linger, metavar="SECONDS",
+                       help="for which a program without clients stays; %(default)s")
+
+
+def places_in(words: argparse.ArgumentParser, asked: argparse.Namespace) -> Places:
+    """Where clients come, as the words say; an end with the usage where they say nowhere."""
+    if not (asked.socket or asked.listen):
+        words.error("there is neither --socket nor --listen")
+    if "" in (asked.socket, asked.listen, asked.journal):
+        words.error("JOURNAL, --socket and --listen want a name")
+    return Places(asked.socket, asked.mode, asked.listen, asked.beyond_this_machine)
+
+
+def limits_in(words: argparse.ArgumentParser, asked: argparse.Namespace) -> Limits:
+    """What ends waiting and bounds memory, as the words say; an end with the usage where that can't be."""
+    if asked.unsent < PIECE:
+        words.error(f"--unsent is at least {PIECE}")
+    return Limits(asked.clients, asked.unsent, asked.slow, asked.idle, asked.answer, asked.linger)

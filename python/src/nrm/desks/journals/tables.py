@@ -1,0 +1,172 @@
+"""The tables of a journal, and how its file is made and opened.
+
+May use: nrm.
+"""
+from __future__ import annotations
+
+import contextlib
+import os
+import sqlite3
+import time
+from pathlib import Path
+from typing import Iterator
+
+from nrm import Stop
+
+APPLICATION, VERSION = 0x6E726D6A, 1  # `nrmj`, and the version of the tables: both are in the head of the file
+LOGS = ("-wal", "-shm", "-journal")  # what SQLite has beside a file
+PATIENCE = 10.0  # the seconds for which a call waits until no other writes
+TABLES = """
+-- A network, with its file byte for byte, and the SHA-256 of the program that answers it from its first line on.
+CREATE TABLE network (
+    network INTEGER PRIMARY KEY,
+    name TEXT NOT NULL UNIQUE CHECK (length(name) <= 40 AND name GLOB '[a-z]*' AND NOT name GLOB '*[^a-z0-9._-]*'),
+    mode TEXT NOT NULL CHECK (mode IN ('first', 'bid', 'davn')),
+    file BLOB NOT NULL,
+    program TEXT NOT NULL,
+    begun INTEGER NOT NULL,     -- as all times here, in milliseconds since 1970 began
+    ended INTEGER,              -- since when it is only looked at
+    halted TEXT                 -- why nobody answers for it
+);
+
+-- Each start of a server.
+CREATE TABLE tenure (
+    epoch INTEGER PRIMARY KEY,
+    began INTEGER NOT NULL,
+    program TEXT NOT NULL
+);
+
+-- How many lines a network has, and whose it is: who has an older epoch can write nothing.
+CREATE TABLE head (
+    network INTEGER PRIMARY KEY REFERENCES network,
+    lines INTEGER NOT NULL,
+    epoch INTEGER NOT NULL
+);
+
+-- The lines that may have changed something, with their replies.
+CREATE TABLE line (
+    network INTEGER NOT NULL REFERENCES network,
+    number INTEGER NOT NULL,    -- 1, 2, 3 .. in each network
+    epoch INTEGER NOT NULL REFERENCES tenure,
+    desk TEXT NOT NULL,
+    sequence INTEGER NOT NULL,  -- the desk's own number of the line
+    at INTEGER NOT NULL,        -- when it was written, by a clock that may jump: the number tells the order
+    line TEXT NOT NULL,
+    reply TEXT NOT NULL,
+    PRIMARY KEY (network, number)
+) WITHOUT ROWID;
+
+CREATE TRIGGER line_stays BEFORE UPDATE ON line BEGIN SELECT RAISE(ABORT, 'a line stays as it is'); END;
+CREATE TRIGGER line_is_kept BEFORE DELETE ON line BEGIN SELECT RAISE(ABORT, 'a line stays'); END;
+
+-- What is read: all lines; those that ask for seats; those that give them back.
+CREATE VIEW journal AS
+    SELECT network.name AS network, number, strftime('%Y-%m-%dT%H:%M:%fZ', at / 1000.0, 'unixepoch') AS at, epoch, desk,
+        sequence, line, reply
+    FROM line JOIN network USING (network);
+CREATE VIEW request AS
+    SELECT network, number, at, desk, substr(line, 6, instr(substr(line, 6), ' ') - 1) AS product,
+        CAST(substr(line, 6 + instr(substr(line, 6), ' ')) AS INTEGER) AS party,
+        CASE WHEN reply GLOB 'ok *' THEN CAST(substr(reply, 4) AS INTEGER) END AS booking, reply
+    FROM journal WHERE line GLOB 'book *';
+CREATE VIEW cancellation AS
+    SELECT network, number, at, desk, CAST(substr(line, 8) AS INTEGER) AS booking,
+        CASE WHEN reply GLOB 'cancelled *'
+            THEN CAST(substr(reply, 11 + instr(substr(reply, 11), ' ')) AS INTEGER) END AS amount, reply
+    FROM journal WHERE line GLOB 'cancel *';
+"""
+
+
+class NoJournal(Stop):
+    """What is at a path is no journal."""
+
+
+def now() -> int:
+    """The milliseconds since 1970 began, by the clock of this machine."""
+    return time.time_ns() // 1_000_000
+
+
+def connected(path: str, is_to_write: bool = False) -> sqlite3.Connection:
+    """A connection to the file at a path, which is there, whatever is in it."""
+    if os.path.exists(path) and not os.path.isfile(path):  # a FIFO would wait
+        raise Stop(f"{path} is no plain file")
+    try:
+        made = sqlite3.connect(f"{Path(path).absolute().as_uri()}?mode={'rw' if is_to_write else 'ro'}", uri=True,
+                               timeout=PATIENCE, isolation_level=None, check_same_thread=False)
+        made.execute("PRAGMA foreign_keys = ON")
+    except sqlite3.Error as fault:
+        raise Stop(f"{path}: {fault}")
+    return made
+
+
+def opened(path: str, is_to_write: bool = False) -> sqlite3.Connection:
+    """A connection to the journal at a path; a Stop for what is none, of which nothing is changed. The file is read by
+    SQLite alone: a process that closes it otherwise would let go of the locks of all its connections."""
+    made = connected(path, is_to_write)
+    try:
+        [application] = made.execute("PRAGMA application_id").fetchone()
+        [version] = made.execute("PRAGMA user_version").fetchone()
+        if application != APPLICATION:
+            raise NoJournal(f"{path} is no journal: `nrm-tools journal begin` makes one")
+        if version != VERSION:
+            raise Stop(f"{path} has tables of version {version}, and this is for version {VERSION}")
+        made.execute("PRAGMA synchronous = FULL")
+    except sqlite3.DatabaseError as fault:
+        made.close()
+        raise NoJournal(f"{path} is no journal: {fault}")
+    except Stop:
+        made.close()
+        raise
+    return made
+
+
+@contextlib.contextmanager
+def using(path: str, is_to_write: bool = False) -> Iterator[sqlite3.Connection]:
+    """A connection to the journal at a path, closed at the end. What goes wrong with the file is a Stop."""
+    connection = opened(path, is_to_write)
+    try:
+        yield connection
+    except sqlite3.Error as fault:
+        raise Stop(f"{path}: {fault}")
+    finally:
+        connection.close()
+
+
+@contextlib.contextmanager
+def made(path: str) -> Iterator[sqlite3.Connection]:
+    """A new and empty file, for its owner alone. What goes wrong is a Stop, and the file is taken away again."""
+    if os.path.lexists(path):
+        raise Stop(f"{path} is there already")
+    for it in LOGS:
+        if os.path.lexists(path + it):
+            raise Stop(f"{path}{it} is there, the log of another file of this name: it would be taken for this one's")
+    os.close(os.open(path, os.O_CREAT | os.O_EXCL | os.O_WRONLY, 0o600))
+    connection = connected(path, is_to_write=True)
+    try:
+        yield connection
+    except sqlite3.Error as fault:
+        connection.close()
+        os.unlink(path)
+        raise Stop(f"{path}: {fault}")
+    finally:
+        connection.close()
+
+
+def begin(path: str) -> None:
+    """Makes a journal without a network."""
+    with made(path) as connection:
+        connection.execute("PRAGMA journal_mode = WAL")
+        connection.executescript(f"BEGIN; {TABLES}; PRAGMA application_id = {APPLICATION}; "
+                                 f"PRAGMA user_version = {VERSION}; COMMIT")
+
+
+@contextlib.contextmanager
+def change(connection: sqlite3.Connection) -> Iterator[None]:
+    """A change that happens as a whole or not at all."""
+    connection.execute("BEGIN IMMEDIATE")
+    try:
+        yield
+        connection.execute("COMMIT")
+    finally:
+        if connection.in_transaction:
+            connection.execute("ROLLBACK")

@@ -1,0 +1,190 @@
+"""The writing of rows: those that wait, of all networks, in one commit, which nobody with an older epoch can make.
+
+May use: nrm, nrm.desks.journals.tables.
+"""
+from __future__ import annotations
+
+import contextlib
+import fcntl
+import os
+import sqlite3
+from dataclasses import dataclass
+from typing import Iterator, Sequence
+
+from nrm import Stop
+from nrm.desks.journals.tables import change, now, opened, using
+
+FENCE = "UPDATE head SET lines = lines + ? WHERE network = ? AND epoch = ? AND lines = ?"
+HALT = "UPDATE network SET halted = ? WHERE network = ? AND halted IS NULL"
+LOCKED = ("database is locked", "database table is locked")
+FIELDS, VALUES = 5, 8  # of a row as a program gives it out, and as the table has it
+# how many rows a statement puts, and the statement. While one is at work other threads go on, and between two of them
+# they may keep it waiting: so there are few for many rows
+PUTS = [(count, "INSERT INTO line (number, desk, sequence, line, reply, network, epoch, at) VALUES "
+         + ", ".join([f"({', '.join('?' * VALUES)})"] * count)) for count in (100, 25, 5, 1)]
+
+
+@contextlib.contextmanager
+def locked(path: str) -> Iterator[None]:
+    """The journal at a path, locked as long as this process has it; a Stop while another server does. Its file must not
+    be closed before the journal is: that would let go of the locks of SQLite too."""
+    file = os.open(path, os.O_RDONLY | os.O_CLOEXEC)
+    try:
+        fcntl.flock(file, fcntl.LOCK_EX | fcntl.LOCK_NB)
+        yield
+    except BlockingIOError:
+        raise Stop(f"another server has the journal {path}")
+    finally:
+        os.close(file)
+
+
+class Fenced(Stop):
+    """Another server has the journal now."""
+
+
+class Busy(Exception):
+    """Somebody else holds the journal for too long, so nothing was written: it can be tried again."""
+
+
+@dataclass(frozen=True)
+class Given:
+    """Rows that a program has given out: of which network, by which run of its program, behind how many lines."""
+    network: int
+    run: int
+    before: int
+    rows: bytes
+
+    def count(self) -> int:
+        """How many rows they are."""
+        return self.rows.count(b"\n")
+
+
+class Refused(Exception):
+    """Why the tables don't take a row."""
+
+
+class Writer:
+    """One server's writing. It begins with a commit of its own, so that what is read later can't be lost either."""
+
+    def __init__(self, path: str, program: str) -> None:
+        self.path = path
+        self.connection = opened(path, is_to_write=True)
+        try:
+            # what an earlier server couldn't force to the disk is written anew, since the system doesn't try again what
+            # failed; where a reader is in the way it stays in the log
+            self.connection.execute("PRAGMA wal_checkpoint(TRUNCATE)").fetchone()
+            self.epoch = self.take(program)
+            self.connection.execute("PRAGMA busy_timeout = 0")  # from here on the caller waits
+        except sqlite3.Error as fault:
+            raise Stop(f"{path}: {fault}")
+
+    def take(self, program: str) -> int:
+        """Begins a tenure, and takes all networks. Gives its epoch."""
+        with change(self.connection):
+            [epoch] = self.connection.execute("SELECT coalesce(max(epoch), 0) + 1 FROM tenure").fetchone()
+            self.connection.execute("INSERT INTO tenure VALUES (?, ?, ?)", [epoch, now(), program])
+            self.connection.execute("UPDATE head SET epoch = ?", [epoch])
+        return int(epoch)
+
+    def write(self, given: Sequence[Given]) -> dict[int, str]:
+        """Writes the rows of several networks in one commit. Gives why those of a network were refused, which halts it;
+        those of the others are written."""
+        try:
+            with change(self.connection):
+                self.put_rows(given)
+            return {}
+        except Refused:
+            with change(self.connection):
+                return {it.network: why for it in given if (why := self.put(it))}
+        except sqlite3.OperationalError as fault:
+            if str(fault) in LOCKED:
+                raise Busy(str(fault))
+            raise
+
+    def put(self, given: Given) -> str | None:
+        """Writes the rows of a network, or halts it and gives why."""
+        self.connection.execute("SAVEPOINT network")
+        try:
+            self.put_rows([given])
+        except Refused as refused:
+            self.connection.execute("ROLLBACK TO network")
+            self.halt(given.network, str(refused))
+            return str(refused)
+        self.connection.execute("RELEASE network")
+        return None
+
+    def put_rows(self, given: Sequence[Given]) -> None:
+        """Writes the rows of networks, each behind the lines that it has."""
+        values: list[object] = []
+        at = now()
+        for it in given:
+            self.pass_the_fence(it)
+            values += values_of(it, self.epoch, at)
+        try:
+            for text, some in statements(values):
+                self.connection.execute(text, some)
+        except sqlite3.IntegrityError as why:
+            raise Refused(f"a row of {given[0].before + 1} to {given[0].before + given[0].count()} is refused: {why}")
+
+    def pass_the_fence(self, given: Given) -> None:
+        """Counts up the lines of a network, if it is still this server's and has the lines that the program knew."""
+        moved = self.connection.execute(FENCE, [given.count(), given.network, self.epoch, given.before])
+        if moved.rowcount != 1:
+            self.tell_of_the_fence(given)
+
+    def tell_of_the_fence(self, given: Given) -> None:
+        """Why the fence let nothing through: another server's epoch, or other lines than the program was given."""
+        epoch, lines = head_of(self.connection, given.network)
+        if epoch != self.epoch:
+            raise Fenced("another server has the journal now, and this one writes nothing more")
+        raise Refused(f"row {given.before + 1} was given out, and the journal has {lines} lines")
+
+    def halt(self, network: int, why: str) -> None:
+        """Has nobody answer for a network any more, within a change."""
+        self.connection.execute(HALT, [why, network])
+
+    def close(self) -> None:
+        """Ends the writing."""
+        self.connection.close()
+
+
+def values_of(given: Given, epoch: int, at: int) -> list[object]:
+    """What the table has of the rows of a network, one behind the other; Refused for one that isn't the next."""
+    values: list[object] = []
+    more = given.network, epoch, at
+    for number, row in enumerate(given.rows.decode().split("\n")[:-1], given.before + 1):
+        fields = row.split("\t")
+        if len(fields) != FIELDS or fields[0] != str(number):
+            raise Refused(f"row {number} was given out as {fields}")
+        values += fields
+        values += more
+    return values
+
+
+def statements(values: list[object]) -> Iterator[tuple[str, list[object]]]:
+    """The statements that put rows, with the values that each takes."""
+    at = 0
+    for count, text in PUTS:
+        size = count * VALUES
+        while len(values) - at >= size:
+            yield text, values[at:at + size]
+            at += size
+
+
+def head_of(connection: sqlite3.Connection, network: int) -> tuple[int, int]:
+    """Whose a network is, and how many lines it has."""
+    row = connection.execute("SELECT epoch, lines FROM head WHERE network = ?", [network]).fetchone()
+    return (int(row[0]), int(row[1])) if row else (0, 0)
+
+
+def halt(path: str, network: int, why: str) -> None:
+    """Has nobody answer for a network of the journal at a path any more."""
+    with using(path, is_to_write=True) as connection, change(connection):
+        connection.execute(HALT, [why, network])
+
+
+def answer_by(path: str, network: int, program: str) -> None:
+    """Has a network of the journal at a path, if it has no lines, answered by another program than it began with."""
+    with using(path, is_to_write=True) as connection, change(connection):
+        connection.execute("UPDATE network SET program = ? WHERE network = ? AND "
+                           "NOT EXISTS (SELECT * FROM line WHERE network = ?)", [program, network, network])

@@ -1,0 +1,291 @@
+"""The clients: how much of each the program has and hasn't used, what waits to be sent to it, and when it is cut off.
+
+May use: nrm.desks.frames, nrm.desks.relay.loop.
+"""
+from __future__ import annotations
+
+import re
+import socket
+from dataclasses import dataclass
+from typing import Protocol
+
+from nrm.desks.frames import MOST, WINDOW
+from nrm.desks.relay.loop import READ, WRITE, Loop
+
+PIECE = 16_384  # bytes that are read at a time
+LONGEST = 1000  # of a first line that names a network
+NAMES_A_NETWORK = re.compile(rb"desk [a-z]")  # as no greeting of a desk alone does
+LIKE = b"desk a"
+
+
+@dataclass(frozen=True)
+class Limits:
+    """What ends waiting, and what bounds memory.
+
+    clients  the most at a time
+    unsent   the bytes of replies that a client hasn't taken
+    slow     the seconds for the rest of a line, for taking replies, and for the end
+    idle     those for a next line
+    answer   those for a program's next frame before it is ended
+    linger   those for which a program without clients stays
+    """
+    clients: int = 1000
+    unsent: int = 1_048_576
+    slow: float = 30
+    idle: float = 3600
+    answer: float = 3600
+    linger: float = 600
+
+
+class Session(Protocol):
+    """What a client needs of the run of its network's program."""
+    is_full: bool
+
+    def give(self, client: Client, data: bytes) -> None:
+        """Gives the program what came from a client."""
+
+    def part(self, client: Client) -> None:
+        """Tells the program that a client is gone."""
+
+
+class Hall(Protocol):
+    """What a client needs of the server that it came to."""
+    limits: Limits
+    loop: Loop
+    unread: int
+
+    def enter(self, client: Client, network: str | None, data: bytes) -> None:
+        """Finds a client its network, the only one if it named none, and gives it what came so far."""
+
+    def leave(self, client: Client) -> None:
+        """Forgets a client."""
+
+
+class Client:
+    """A connection. The bytes that the program has of it and hasn't used are counted, and those behind the last line
+    feed; nothing else is looked at once its network is known."""
+
+    def __init__(self, hall: Hall, connection: socket.socket) -> None:
+        connection.setblocking(False)
+        if connection.family != socket.AF_UNIX:
+            connection.setsockopt(socket.IPPROTO_TCP, socket.TCP_NODELAY, 1)
+        self.hall, self.socket, self.file = hall, connection, connection.fileno()
+        self.session: Session | None = None
+        self.place = -1  # none yet
+        self.first, self.out = b"", bytearray()
+        self.unused = self.tail = 0
+        self.is_waiting = False  # for its network's program
+        self.is_heard = True
+        self.is_open, self.has_ended, self.is_parting, self.is_done = True, False, False, False
+        self.why: str | None = None  # it is cut off, once its lines are answered
+        self.since = hall.loop.now
+        self.full_since: float | None = None
+        self.watch()
+
+    # What comes
+
+    def watch(self) -> None:
+        """Has the loop call when there is something to do: no more is read while too much waits somewhere."""
+        if not self.is_open:
+            return
+        self.is_heard = not (self.has_ended or self.why or self.is_done or self.is_waiting or len(self.out) > MOST
+                             or self.unused >= WINDOW or self.session and self.session.is_full)
+        what = (READ if self.is_heard else 0) | (WRITE if self.out else 0)
+        self.hall.loop.want(self.file, what, self.read if what == READ else self.ready)
+
+    def ready(self, what: int) -> None:
+        """Reads and sends what can be."""
+        if self.out and what != READ:
+            self.send()
+        if self.is_open and what != WRITE and not (self.has_ended or self.is_done):
+            self.read(what)
+
+    def read(self, what: int) -> None:
+        """Reads a piece, as long as the program may have more of this client."""
+        room = WINDOW - self.unused
+        if room <= 0:
+            return
+        try:
+            piece = self.socket.recv(room if room < PIECE else PIECE)
+        except BlockingIOError:
+            return
+        except OSError:
+            self.vanish()
+            return
+        if piece and self.session:
+            self.pass_on(piece)
+        elif piece:
+            self.choose(piece)
+        else:
+            self.end()
+
+    def choose(self, piece: bytes) -> None:
+        """Finds the network by the first line, if that names one; else by its first bytes."""
+        self.first += piece
+        self.since = self.hall.loop.now
+        if not NAMES_A_NETWORK.match(self.first):
+            if self.first != LIKE[:len(self.first)]:
+                self.enter(None, self.first)
+            return
+        line, feed, rest = self.first.partition(b"\n")
+        if feed:
+            _, network, *words = line.split(b" ")
+            self.enter(network.decode("latin-1"), b" ".join([b"desk", *words]) + b"\n" + rest)
+        elif len(line) >= LONGEST:
+            self.finish("long")
+
+    def enter(self, network: str | None, data: bytes) -> None:
+        """Comes to a network, whose program may still have to begin."""
+        self.first = b""
+        self.is_waiting = True
+        self.hall.enter(self, network, data)
+        self.watch()
+
+    def seat(self, session: Session, place: int, data: bytes) -> None:
+        """Is at a place of its network's program, which gets what came so far."""
+        self.session, self.place, self.is_waiting = session, place, False
+        for at in range(0, len(data), MOST):
+            self.pass_on(data[at:at + MOST])
+        if self.has_ended:
+            self.end()
+        self.watch()
+
+    def pass_on(self, piece: bytes) -> None:
+        """Gives the program a piece."""
+        assert self.session
+        self.since = self.hall.loop.now
+        size, last = len(piece), piece.rfind(b"\n")
+        self.unused += size
+        self.tail = size - 1 - last if last >= 0 else self.tail + size
+        self.session.give(self, piece)
+        if self.unused >= WINDOW:
+            self.watch()
+
+    def end(self) -> None:
+        """Nothing more comes: half a line at the end isn't taken."""
+        self.has_ended = True
+        if not self.session and not self.is_waiting:
+            self.finish(None)
+        else:
+            self.part_if_used()
+            self.watch()
+
+    # What is sent
+
+    def used(self, count: int, data: bytes) -> None:
+        """The program has used bytes of this client, and answers."""
+        self.unused -= count
+        if data and self.is_open and not self.is_done:
+            self.put(data)
+        if self.has_ended or self.why:
+            self.part_if_used()
+        elif not self.is_heard:
+            self.watch()
+
+    def put(self, data: bytes) -> None:
+        """Sends something, at once if nothing waits before it."""
+        if not self.out:
+            try:
+                sent = self.socket.send(data)
+            except BlockingIOError:
+                sent = 0
+            except OSError:
+                self.vanish()
+                return
+            if sent == len(data):
+                return
+            data = data[sent:]
+        self.out += data
+        self.send()
+
+    def send(self) -> None:
+        """Sends what the connection takes."""
+        if self.out:
+            try:
+                del self.out[:self.socket.send(self.out)]
+            except BlockingIOError:
+                pass
+            except OSError:
+                self.vanish()
+                return
+        if len(self.out) > self.hall.limits.unsent:
+            self.cut_off()
+        elif self.is_done and not self.out:
+            self.shut()
+        else:
+            self.full_since = (self.full_since or self.hall.loop.now) if len(self.out) > MOST else None
+            self.watch()
+
+    # How it ends
+
+    def leave(self, why: str) -> None:
+        """It is cut off, once the lines that the program has are answered."""
+        if self.why or self.is_done:
+            return
+        self.why = why
+        if self.session:
+            self.part_if_used()
+            self.watch()
+        else:
+            self.finish(why)
+
+    def part_if_used(self) -> None:
+        """Tells the program that it is gone, once all its whole lines are used."""
+        if self.session and not self.is_parting and self.unused <= self.tail:
+            self.is_parting = True
+            self.session.part(self)
+
+    def closed(self, why: str) -> None:
+        """The program has closed it; if since it is gone, the reason is this server's."""
+        self.session = None
+        if self.is_open and not self.is_done:
+            self.finish(self.why if why == "gone" else why)
+        elif not self.is_open:
+            self.hall.leave(self)
+
+    def finish(self, why: str | None) -> None:
+        """Says why, and ends the connection once all is sent. The program knows it no more."""
+        self.session, self.is_waiting, self.is_done, self.since = None, False, True, self.hall.loop.now
+        if why:
+            self.out += f"closed {why}\n".encode()
+        self.send()
+
+    def shut(self) -> None:
+        """Ends the connection, and takes from it what has come, so that what was sent isn't lost with it."""
+        try:
+            self.socket.shutdown(socket.SHUT_WR)
+            while not self.has_ended and self.socket.recv(MOST):
+                pass
+        except OSError:
+            pass
+        self.vanish()
+
+    def cut_off(self) -> None:
+        """It doesn't take its replies, so what is unsent is dropped."""
+        self.hall.unread += 1
+        self.vanish()
+
+    def vanish(self) -> None:
+        """The connection is no more. Its place is free once the program says so."""
+        if self.is_open:
+            self.is_open = False
+            self.hall.loop.forget(self.file)
+            self.socket.close()
+            self.out.clear()
+        if not self.session:
+            self.hall.leave(self)
+        elif not self.is_parting:
+            self.is_parting = True
+            self.session.part(self)
+
+    def look(self) -> None:
+        """Cuts it off if it has been silent, in the middle of a line, or not taking its replies for too long."""
+        limits, now = self.hall.limits, self.hall.loop.now
+        if not self.is_open:
+            return
+        if now - (self.full_since or (self.since if self.is_done else now)) > limits.slow:
+            self.cut_off()
+        elif not (self.is_waiting or self.is_done or self.why or self.has_ended or self.unused > self.tail):
+            has_half = self.tail or self.first
+            if now - self.since > (limits.slow if has_half else limits.idle):
+                self.leave("half" if has_half else "idle")

@@ -1,0 +1,315 @@
+"""What stands between clients, programs and the journal: who comes to which network, which rows wait to be written, and
+what became of them.
+
+May use: nrm, nrm.desks.journals.commits, nrm.desks.journals.networks, nrm.desks.journals.tables,
+nrm.desks.journals.writing, nrm.desks.relay, nrm.desks.relay.clients, nrm.desks.relay.loop, nrm.desks.relay.sessions,
+nrm.program.
+"""
+from __future__ import annotations
+
+import math
+from dataclasses import dataclass
+from typing import Sequence
+
+from nrm import Stop
+from nrm.desks.journals.commits import Commits, Written, tried
+from nrm.desks.journals.networks import Opened, file_of, network_in, networks_in, rows_of
+from nrm.desks.journals.tables import opened
+from nrm.desks.journals.writing import Fenced, Given, Writer, answer_by, halt, head_of
+from nrm.desks.relay import log
+from nrm.desks.relay.clients import Client, Limits
+from nrm.desks.relay.loop import READ, Loop
+from nrm.desks.relay.sessions import ANSWERS, BEGINS, RESTS, WAITS, Session
+from nrm.program import Program
+
+JOURNAL_FAULT = 74
+FEW_BYTES = 2_000  # of rows in a commit
+# the most seconds, up to half of what the last commit took, for which those who were just answered are waited for; and
+# what that commit must have taken
+GATHER, TO_GATHER = 0.003, 0.002
+LOST = "another server has the journal now, and this one answers nothing more"
+BEGIN_AT_ONCE = 2  # programs that are given their journals at a time, so that others are answered meanwhile
+
+
+@dataclass(frozen=True)
+class Answering:
+    """The program that answers, its SHA-256, and whether it was named for networks that began with another."""
+    program: Program
+    checksum: str
+    is_said: bool
+
+
+class Hall:
+    """Takes clients to their networks, and has rows written."""
+
+    def __init__(self, path: str, answering: Answering, limits: Limits) -> None:
+        self.path, self.answering, self.limits, self.loop = path, answering, limits, Loop()
+        self.writer = Writer(path, answering.checksum)
+        self.reader = opened(path)
+        self.commits = Commits(self.writer)
+        self.commits.start()
+        self.loop.want(self.commits.told, READ, self.written)
+        self.loop.looks.append(self.look)
+        self.clients: set[Client] = set()
+        self.sessions: dict[str, Session] = {}
+        self.to_begin: list[Session] = []
+        self.waiting: list[tuple[Session, Given]] = []  # whose rows wait to be written
+        self.in_writing: list[tuple[Session, Given]] = []
+        self.stops = False
+        self.running = 0  # programs
+        self.writes_since = self.stops_since = self.gathers_until = self.loop.now
+        self.took = 0.0  # the seconds of the last commit
+        self.gather = 0.0  # the seconds for which those who were just answered are waited for
+        self.expected: set[Session] = set()  # those that were given lines, and have given out no rows since
+        self.unread = self.turned_away = 0  # how many clients, since that was told last
+        self.no_more: str | None = None  # why no further client could be taken, since that was told last
+        self.fault: str | None = None
+        self.status = 0
+
+    # Who comes
+
+    def enter(self, client: Client, network: str | None, data: bytes) -> None:
+        """Takes a client to the network that it named, or to the only one."""
+        session = self.session_of(network)
+        why = "stopping" if self.stops else "network" if not session else self.refusal(session)
+        if why or not session:
+            client.finish(why)
+        else:
+            session.enter(client, data)
+
+    def session_of(self, name: str | None) -> Session | None:
+        """The session of a network's name, or the only one."""
+        if name is None:
+            names = [it.name for it in networks_in(self.reader)]
+            name = names[0] if len(names) == 1 else ""
+        if name not in self.sessions:
+            network = network_in(self.reader, name)
+            if not network:
+                return None
+            self.sessions[name] = Session(self, network)
+        return self.sessions[name]
+
+    def refusal(self, session: Session) -> str | None:
+        """Why nobody is taken to a network, if it isn't answered: the journal is asked as long as no program runs."""
+        if session.state == RESTS:
+            network = network_in(self.reader, session.network.name)
+            assert network
+            session.network = network
+        if session.network.halted:
+            return "halted"
+        return None if self.is_answered(session.network) else "version"
+
+    def is_answered(self, network: Opened) -> bool:
+        """Whether this program may answer for a network."""
+        is_free = self.answering.is_said and (network.is_ended or not network.lines)
+        return network.program == self.answering.checksum or is_free
+
+    def leave(self, client: Client) -> None:
+        self.clients.discard(client)
+
+    def is_full_of_clients(self) -> bool:
+        """Whether as many are there as may be."""
+        return len(self.clients) >= self.limits.clients
+
+    # Programs
+
+    def begin(self, session: Session) -> None:
+        """Has a session begin when it may."""
+        self.to_begin.append(session)
+        self.loop.soon.append(self.begin_some)
+
+    def begin_some(self) -> None:
+        """Begins programs, as many as may at a time; none whose rows are still being written."""
+        if self.stops:
+            return
+        at_work = sum(it.state == BEGINS for it in self.sessions.values())
+        for session in [*self.to_begin]:
+            is_due = session.begins_at <= self.loop.now and not any(it is session for it, _ in self.in_writing)
+            if at_work < BEGIN_AT_ONCE and is_due:
+                self.to_begin.remove(session)
+                self.start(session)
+                at_work += 1
+
+    def start(self, session: Session) -> None:
+        """Begins a program on what the journal has of its network."""
+        network = network_in(self.reader, session.network.name)
+        assert network
+        session.network = network
+        if network.epoch != self.writer.epoch:
+            self.fail(Fenced(LOST))
+            return
+        try:
+            if not network.lines and network.program != self.answering.checksum:
+                answer_by(self.path, network.number, self.answering.checksum)
+            session.start(self.answering.program.words, file_of(self.reader, network.number),
+                          rows_of(self.reader, network.number))
+            self.running += 1
+        except OSError as fault:
+            log(f"network {network.name}: {self.answering.program.words[0]}: {fault.strerror}")
+            session.state, session.begins_at = RESTS, self.loop.now + 1
+            session.tell_all("program 1", False)
+
+    def over(self, session: Session) -> None:
+        """A program has ended: one that was to end begins anew if somebody waits, and others may begin."""
+        self.running -= 1
+        self.waiting = [it for it in self.waiting if it[0] is not session]
+        if session.coming and not self.stops:
+            session.state = WAITS
+            self.to_begin.append(session)
+        self.begin_some()
+        self.end_if_done()
+
+    # Rows
+
+    def keep(self, session: Session, rows: bytes) -> None:
+        """Has rows written with all others that wait. Where there are none, as behind a look, it is only seen that no
+        other server has written: so what is told is true of a moment after the question."""
+        if not rows and head_of(self.reader, session.network.number) == (self.writer.epoch, session.lines):
+            session.kept(0)
+            return
+        self.waiting.append((session, Given(session.network.number, session.run, session.lines, rows)))
+        if not self.in_writing:
+            self.loop.soon.append(self.write)
+
+    def write(self) -> None:
+        """Writes the rows that wait, of all networks, in one commit."""
+        if self.in_writing or not self.waiting or self.fault:
+            return
+        if self.expected and self.loop.now < self.gathers_until:
+            self.loop.call_at(self.gathers_until, self.write)
+            return
+        self.in_writing, self.waiting, self.writes_since = self.waiting, [], self.loop.now
+        given = [given for _, given in self.in_writing]
+        if self.is_soon_done(given) and (done := tried(self.writer, given)):
+            self.loop.look_at_the_clock()
+            self.carry_on(done)
+        else:
+            self.commits.asked.put(given)
+
+    def is_soon_done(self, given: Sequence[Given]) -> bool:
+        """Whether no other thread is asked to write rows, since that keeps nobody waiting for long: few rows, of one
+        program alone, or while no other is at work and the disk was quick."""
+        is_alone = self.running == 1 or not self.expected and self.took < TO_GATHER
+        return is_alone and sum(len(it.rows) for it in given) < FEW_BYTES
+
+    def written(self, _: int) -> None:
+        """A commit of the thread is done."""
+        self.carry_on(self.commits.next())
+
+    def carry_on(self, done: Written) -> None:
+        """A commit is done: the programs are told that their rows are kept, and the next is made."""
+        written, self.in_writing = self.in_writing, []
+        if done.fault:
+            self.fail(done.fault)
+            return
+        are_few = sum(len(given.rows) for _, given in written) < FEW_BYTES  # many are gathered as it is
+        self.took = self.loop.now - self.writes_since
+        self.gather = min(self.took / 2, GATHER) if are_few and self.took > TO_GATHER else 0
+        self.gathers_until = self.loop.now + 2 * self.gather
+        for session, given in written:
+            if given.network in done.refused:
+                self.halted(session, done.refused[given.network])
+            elif session.run == given.run and session.process:
+                session.kept(given.rows.count(b"\n"))
+        self.write()
+        self.begin_some()
+
+    # What halts a network, and all
+
+    def halt(self, session: Session, row: int, why: str) -> None:
+        """Has nobody answer for a network, whose row the program doesn't take. If another server has the journal, it may
+        have written while the rows were read: then it is this one that ends."""
+        if head_of(self.reader, session.network.number)[0] != self.writer.epoch:
+            self.fail(Fenced(LOST))
+            return
+        found = self.reader.execute("SELECT line, desk, sequence, reply FROM line WHERE network = ? AND number = ?",
+                                    [session.network.number, row]).fetchone()
+        told = f"row {row}{', `{}` of {} {} with the reply `{}`,'.format(*found) if found else ''} {why}"
+        halt(self.path, session.network.number, told)
+        self.halted(session, told)
+
+    def halted(self, session: Session, why: str) -> None:
+        """A network is halted in the journal: its program ends, and its clients are told."""
+        log(f"network {session.network.name} is halted: {why}")
+        network = network_in(self.reader, session.network.name)
+        session.network = network or session.network
+        session.kill()
+
+    def fail(self, fault: Exception) -> None:
+        """Nothing more can be written, or nobody knows what was: all ends, and the next server sees what is there."""
+        self.fault = str(fault) if isinstance(fault, Stop) else f"{self.path}: {fault}"
+        self.status = 1 if isinstance(fault, Stop) else JOURNAL_FAULT
+        self.stops, self.stops_since = True, self.loop.now
+        for session in self.sessions.values():
+            session.kill()
+        for client in [*self.clients]:
+            client.finish("journal")
+        self.end_if_done()
+
+    def stop(self) -> None:
+        """Takes no more lines, and ends once those that were taken are answered."""
+        if not self.stops:
+            self.stops, self.stops_since = True, self.loop.now
+            for client in [*self.clients]:
+                client.leave("stopping")
+        self.end_if_done()
+
+    def end_if_done(self) -> None:
+        """Ends the programs that nobody asks any more, and then the loop."""
+        if not self.stops:
+            return
+        for session in self.sessions.values():
+            if not session.places:
+                session.end()
+        is_done = not self.clients and all(it.process is None for it in self.sessions.values())
+        self.loop.is_over = self.loop.is_over or is_done
+
+    # Once a second
+
+    def look(self) -> None:
+        """Who is to be cut off, which program is silent or isn't needed, and what is to be told?"""
+        for client in [*self.clients]:
+            client.look()
+        for session in self.sessions.values():
+            self.look_at(session)
+        self.tell_of_clients()
+        self.begin_some()
+        if self.stops:
+            self.end_if_done()
+            if self.loop.now - self.stops_since > self.limits.slow:
+                self.loop.is_over = True
+
+    def look_at(self, session: Session) -> None:
+        """Ends a program that is silent for too long, or that has no clients."""
+        limits = self.limits
+        session.silent += 1 if session.is_asked() else 0
+        if session.silent == math.ceil(limits.answer) + 1:
+            log(f"network {session.network.name}: the program hasn't answered for {limits.answer:g} seconds, "
+                "and is ended")
+            session.kill()
+        is_left = session.state == ANSWERS and not session.places
+        if is_left and self.loop.now - session.rests_since > limits.linger:
+            session.end()
+
+    def tell_of_clients(self) -> None:
+        """Tells how many were cut off, or turned away, or have to wait, and what the journal waits for."""
+        if self.unread:
+            log(f"{self.unread} clients cut off that didn't take their replies")
+        if self.turned_away:
+            log(f"{self.turned_away} clients turned away, since {self.limits.clients} were there")
+        if self.no_more:
+            log(f"those who come have to wait: {self.no_more}")
+        if self.in_writing and self.loop.now - self.writes_since > self.limits.slow:
+            log("the journal is held by another process, and nothing is answered until it lets go")
+            self.writes_since = self.loop.now
+        self.unread, self.turned_away, self.no_more = 0, 0, None
+
+    def close(self) -> None:
+        """Ends what is left."""
+        for session in self.sessions.values():
+            session.kill()
+        self.commits.asked.put(None)
+        self.commits.join(self.limits.slow)
+        self.reader.close()
+        if not self.commits.is_alive():
+            self.writer.close()

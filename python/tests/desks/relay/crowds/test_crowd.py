@@ -1,0 +1,33 @@
+"""What holds whatever happens: a crowd of desks in trouble, copies of its journal, and mistakes that it must find."""
+from __future__ import annotations
+
+import os
+import unittest
+
+from desks.relay.crowds.crowd import judged
+from desks.relay.crowds.wrong_forms import FORMS, found_in
+from desks.relay.serves import ServeTest
+
+IS_LONG = bool(os.environ.get("NRM_LONG"))
+CALM = ("--kills", 0, "--troubles", 0, "--pause", 0.02)
+
+
+class Crowds(ServeTest):
+    def judged(self, *words: object) -> None:
+        self.assertTrue(self.program and self.desks_program)
+        self.assertEqual(judged(self.folder / "crowd", *words), [])
+
+    def test_nothing_that_was_answered_is_lost_or_carried_out_twice(self) -> None:
+        """200 desks at 20 networks, with each kill twice and each other trouble once; at length, in 300 kills."""
+        self.judged("--copies", 2, *(("--rounds", 6, "--kills", 50, "--troubles", 22) if IS_LONG else ()))
+
+    def test_copies_under_load_are_whole(self) -> None:
+        self.judged(*CALM, "--copies", 100 if IS_LONG else 5, "--between", 0.1)
+
+    @unittest.skipUnless(IS_LONG, "mistakes that the crowd must find take some minutes: NRM_LONG=1")
+    def test_mistakes_are_found(self) -> None:
+        self.assertTrue(self.program and self.desks_program)
+        for name in FORMS:
+            with self.subTest(name):
+                is_found, why = found_in(name, self.folder)
+                self.assertTrue(is_found, why)
