@@ -280,6 +280,8 @@ class Hub:
             if client.why:
                 self.out.append(b"close %d %s\n" % (client.place, client.why.encode()))
                 del self.clients[client.place]
+            elif client.has_line():
+                self.have_turn(client)
         self.heard = []
 
     def have_turn(self, client):
@@ -287,14 +289,20 @@ class Hub:
             self.turns.append(client)
 
     def close(self, client, why):
-        """No more of a client's lines are taken, and at its turn it is closed; the first reason counts."""
+        """No more of a client's lines are taken, and it is closed once all is kept; the first reason counts."""
         if not client.why:
             client.why = why
-            self.have_turn(client)
+            if client in self.turns:
+                self.turns.remove(client)
+            self.is_heard(client)
+
+    def is_heard(self, client):
+        if client not in self.heard:
+            self.heard.append(client)
 
     def settle(self):
         """All that is due once the frames that were read are used; it gives what is to be written."""
-        if not self.is_awaiting and self.turns:
+        if not self.is_awaiting and (self.turns or self.heard):
             self.hear_all()
         out, self.out = self.out, []
         return b"".join(out)
@@ -303,15 +311,17 @@ class Hub:
         """A round: the lines of each client whose turn it is, and the rows that they leave."""
         turns, self.turns = self.turns, []
         for client in turns:
-            if self.clients.get(client.place) is client:
-                self.hear(client)
+            if client.has_line():
+                self.is_heard(client)
+        for client in [*self.heard]:
+            self.hear(client)
         if self.heard:
             rows, self.rows = b"".join(self.rows), []
             self.out.append(b"keep %d\n" % len(rows) + rows)
             self.is_awaiting = True
 
     def hear(self, client):
-        """Takes the lines of a client in its turn; it has another one if it may have more than were taken."""
+        """Takes the lines of a client in its turn."""
         try:
             for _ in range(LINES_OF_A_TURN):
                 if not client.has_line():
@@ -319,14 +329,9 @@ class Hub:
                 line = reference.without_return(client.next_line())
                 client.replies += self.reply(client, line)
                 if command_of(line)[0] in ENDS_A_TURN:
-                    self.have_turn(client)
                     break
-            else:
-                self.have_turn(client)
         except Closed as closed:
             client.why = str(closed)
-        if client.used or client.why:
-            self.heard.append(client)
 
     def reply(self, client, line):
         """The reply to a client's next line."""

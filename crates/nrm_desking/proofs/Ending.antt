@@ -1,5 +1,5 @@
 -- How a call ends, out of how its parts went.
-use Rattle.std.proofs.Common.{ℕ, ◌≡◌, ◌≢◌, ◌∙◌, ◌⊎◌, true, false, List, [], Option, Some, None, Ok, Err, refl, sym, ap, subst, inl, inr}
+use Rattle.std.proofs.Common.{ℕ, ◌≡◌, ◌≢◌, ◌∙◌, false, List, [], Option, Some, Ok, Err, refl, sym, ap, subst, inl, inr}
 use Rattle.std.specs.Prelude.{⊤}
 use Rattle.nrm_edge.specs.Causes.{Rose}
 use Rattle.nrm_model.specs.Network.{NetworkValue}
@@ -9,9 +9,8 @@ use Rattle.nrm_hindsight.specs.Requests.{tallies_of}
 use Rattle.nrm_hindsight.specs.Selections.ChosenFrom.{none as none_chosen}
 use Rattle.nrm_control.specs.State.{opening}
 use Rattle.nrm_control.specs.Standing.{ControlValue, IsStartFault, StandsFor}
-use Rattle.nrm_frames.specs.Outgoing.{differs, no_row, output_text}
 use Rattle.nrm_outside.specs.NetworkFile.{CountsFetch, OpensFile, reason_line}
-use Rattle.nrm_outside.specs.Outside.{LeftStream, OnFile, Outside, Wrote, WroteCut}
+use Rattle.nrm_outside.specs.Outside.{LeftStream, OnFile, Outside, Wrote}
 use Rattle.nrm_outside.specs.Refusals.{at_row, file_fault_line, network_under, no_file, refusal_line}
 use Rattle.nrm_outside.specs.Words.{overflow_line, told_pivots}
 use Rattle.nrm_outside.specs.declared.network_file.NoNetwork.{NoNetwork}
@@ -24,7 +23,7 @@ use Rattle.nrm_desking.specs.Inner.Ending.{EndsServing}
 use Rattle.nrm_desking.specs.Inner.Parts.{PutsIfSome, PutsLine, status_for, unplanned_line}
 use Rattle.nrm_desking.specs.Inner.Serving.{ServesTo}
 use Rattle.nrm_desking.specs.Jobs.{DesksJob}
-use Rattle.nrm_desking.specs.Served.{HasEnded, HasNoRow, IsNoFrame, Served, ServedCut, is_ready}
+use Rattle.nrm_desking.specs.Served.{HasEnded, HasNoRow, IsNoFrame, NothingIsLeft, Served, ServedCut, is_ready}
 use Rattle.nrm_desking.specs.declared.serving.ServeEnd.{ServeEnd}
 use Rattle.nrm_desking.specs.declared.serving.ServeEnd.TheVariants as end
 use Rattle.nrm_desking.specs.declared.status.DesksStatus.{DesksStatus}
@@ -111,10 +110,10 @@ module _ (asked : Option DesksJob) (before : Outside) (begins : Begins asked bef
       → EndsServing e found.held after.held found.sink_faults after.sink_faults result → Ends asked before after result
   serving-ends end.Done result (served, so) sank (is, held, faults) =
       rw is (ran (λ at start (s : Served start (streams_at before) at). HasEnded s) held faults served so)
-  serving-ends end.ReadFault result (served, rose) sank (is, held, faults) =
+  serving-ends end.ReadFault result ((served, nothing), rose) sank (is, held, faults) =
       rw is (
         subst (λ (k : ℕ). Rose before.source_faults k) (sym source) rose,
-        ran (λ at start (s : Served start (streams_at before) at). ⊤) held faults served tt,
+        ran (λ at start (s : Served start (streams_at before) at). NothingIsLeft s) held faults served nothing,
       )
   serving-ends end.WriteFault result (served, rose) sank (is, held, faults) =
       rw is (

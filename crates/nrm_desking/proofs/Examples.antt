@@ -1,5 +1,5 @@
 -- Statuses, words and frames that may not come, which a reader can check by hand.
-use Rattle.std.proofs.Common.{◌≡◌, ◌⊎◌, Bool, List, ℕ, [], ◌∷◌, false, true, inl, inr, refl}
+use Rattle.std.proofs.Common.{◌≡◌, [], ◌∷◌, false, true, inl, inr, refl}
 use Rattle.std.specs.Prelude.{codes, Some, None}
 use Rattle.nrm_control.specs.Standing.{ControlValue}
 use Rattle.nrm_frames.specs.Headers.{no_rights}

@@ -1,9 +1,9 @@
 -- What is done with a frame, by what the hub did and what was put.
-use Rattle.std.proofs.Common.{ℕ, ◌≡◌, ◌∙◌, Bool, true, false, List, [], ◌∷◌, ◌++◌, length, Option, Some, None, refl, sym, ap, subst, inl, inr}
+use Rattle.std.proofs.Common.{ℕ, ◌≡◌, ◌∙◌, Bool, true, false, List, [], ◌∷◌, ◌++◌, length, Option, refl, sym, ap, subst, inr}
 use Rattle.std.proofs.Common.{append-nil, arith}
 use Rattle.std.specs.Prelude.{flat_map, if◌then◌else◌, OnErr, OnOk, Result, Ok, Err}
 use Rattle.std.specs.Io.KnownBytes.{Appends, Keeps}
-use Rattle.std.proofs.KnownBytes.{Appends-kept, Appends-nil, Keeps-refl}
+use Rattle.std.proofs.KnownBytes.{Appends-kept, Appends-nil}
 use Rattle.nrm_edge.specs.Causes.{HasCause}
 use Rattle.nrm_edge.specs.Pieces.{AppendsFront}
 use Rattle.nrm_edge.specs.declared.source.Failed.{Failed}
@@ -17,7 +17,7 @@ use Rattle.nrm_hub.specs.Goes.{Goes, GoesTo, Puts, PutsCut}
 use Rattle.nrm_hub.specs.Hub.{HubValue}
 use Rattle.nrm_hub.specs.World.{World, after_frame, after_output, frame, here, none, readied, rows_again}
 use Rattle.nrm_hub.specs.World.{then as and_then}
-use Rattle.nrm_desking.specs.Inner.Handling.{GoesOn, GoesOnCut, Handles, IsFresh, outcome_of}
+use Rattle.nrm_desking.specs.Inner.Handling.{GoesOn, Handles, IsFresh, outcome_of}
 use Rattle.nrm_desking.specs.Inner.Serving.{PutsOrCut}
 use Rattle.nrm_desking.specs.Served.{is_ready}
 use Rattle.nrm_desking.specs.declared.handling.Handled.{Handled}

@@ -1,6 +1,6 @@
 -- Bytes of which no whole frame waits are fewer than there is room for.
-use Rattle.std.proofs.Common.{ℕ, ◌≡◌, ◌∙◌, ◌+◌, ◌-◌, ◌<◌, ◌≤◌, Bool, true, false, ◌==◌, List, [], ◌∷◌, ◌++◌, length, take, drop, Option, Some, None, refl, sym, ap, subst}
-use Rattle.std.proofs.Common.{arith, inl, inr, length-drop, tests, rules}
+use Rattle.std.proofs.Common.{ℕ, ◌≡◌, ◌∙◌, ◌+◌, ◌-◌, ◌<◌, ◌≤◌, Bool, true, false, ◌==◌, List, [], ◌∷◌, length, take, drop, Option, Some, None, refl, sym, ap}
+use Rattle.std.proofs.Common.{arith, inl, inr, length-drop}
 use Rattle.std.specs.Prelude.{⊤, if◌then◌else◌, ◌&&◌, nat_le, bytes_eq, codes}
 use Rattle.std.specs.List.{position, slice_split}
 use Rattle.std.proofs.lemmas.Bool.{cases_lt, le-ltb, lt-ltb}
@@ -11,7 +11,7 @@ use Rattle.nrm_text.proofs.Places.{found}
 use Rattle.nrm_text.specs.Names.{name_in}
 use Rattle.nrm_text.specs.Numbers.{is_whole, value_of}
 use Rattle.nrm_frames.specs.Cutting.{cut_at, cut_of, headed_by, no_frame, part, payload_of, whole}
-use Rattle.nrm_frames.specs.Headers.{header_of, header_of_four, header_of_one, header_of_three, header_of_two, header_of_words, opening_of, piece_of, place_in}
+use Rattle.nrm_frames.specs.Headers.{header_of, header_of_words, opening_of, piece_of, place_in}
 use Rattle.nrm_frames.specs.Headers.{rights_in, size_in, size_of, some_of}
 use Rattle.nrm_frames.specs.declared.header.Header.{Header}
 use Rattle.nrm_frames.specs.declared.header.Header.TheVariants as header

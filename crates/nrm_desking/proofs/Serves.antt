@@ -1,22 +1,21 @@
 -- How frames are served, one after another.
-use Rattle.std.proofs.Common.{ℕ, ◌≡◌, ◌≢◌, ◌∙◌, ◌+◌, ◌-◌, ◌<◌, ◌≤◌, ◌⊎◌, Bool, true, false, List, [], ◌∷◌, ◌++◌, length, take, drop, Option, Some, None, refl, sym, ap, subst, inl, inr}
+use Rattle.std.proofs.Common.{ℕ, ◌≡◌, ◌≢◌, ◌∙◌, ◌<◌, Bool, true, false, List, [], ◌∷◌, ◌++◌, length, drop, Option, Some, None, refl, sym, ap, subst, inl, inr}
 use Rattle.std.proofs.Common.{append-nil, arith, length-drop}
-use Rattle.std.specs.Prelude.{⊤, Result, Ok, Err}
-use Rattle.std.specs.Io.KnownBytes.{Appends, Consumes, IsAtEnd, Keeps}
+use Rattle.std.specs.Prelude.{⊤, Ok, Err}
+use Rattle.std.specs.Io.KnownBytes.{Consumes, IsAtEnd, Keeps}
 use Rattle.nrm_control.specs.Standing.{ControlValue}
 use Rattle.nrm_edge.specs.Causes.{Rose}
-use Rattle.nrm_frames.specs.Cutting.{cut_of, no_frame, part, whole}
+use Rattle.nrm_frames.specs.Cutting.{cut_of, no_frame, whole}
 use Rattle.nrm_frames.specs.declared.header.Header.{Header}
-use Rattle.nrm_frames.specs.declared.header.Header.TheVariants as header
 use Rattle.nrm_session.specs.Serving.{Streams}
 use Rattle.nrm_hub.specs.Again.{FailsAgain}
 use Rattle.nrm_hub.specs.Goes.{Puts}
 use Rattle.nrm_hub.specs.Hub.{HubValue}
-use Rattle.nrm_hub.specs.declared.again.AgainFault.{AgainFault}
-use Rattle.nrm_desking.specs.Inner.Handling.{Handles, IsFresh, TakesMore}
-use Rattle.nrm_desking.specs.Inner.Serving.{DoesFrame, EndsWith, GoesOnFirst, HandlesFirst, PutsOrCut, ServesTo, Stands, StandsOr, StaysSo, TakesOr, at_sink}
+use Rattle.nrm_hub.specs.Waiting.{NothingIsDue}
+use Rattle.nrm_desking.specs.Inner.Handling.{IsFresh, TakesMore}
+use Rattle.nrm_desking.specs.Inner.Serving.{DoesFrame, EndsWith, GoesOnFirst, HandlesFirst, PutsOrCut, ServesTo, Stands, StandsOr, TakesOr, at_sink}
 use Rattle.nrm_desking.specs.Inner.Serving.{end_of, fails, had_failed, sent}
-use Rattle.nrm_desking.specs.Served.{HasEnded, HasNoRow, IsNoFrame, Served, ServedCut, is_ready}
+use Rattle.nrm_desking.specs.Served.{NothingIsLeft, ServedCut}
 use Rattle.nrm_desking.specs.declared.handling.Handled.{Handled}
 use Rattle.nrm_desking.specs.declared.handling.Handled.TheVariants as handled
 use Rattle.nrm_desking.specs.declared.serving.ServeEnd.{ServeEnd}
@@ -216,6 +215,9 @@ piece-sank start before after faults hub left ready end.TooLong stands unfailed 
 
 module _ (start : ControlValue) (before at : Streams) (hub : HubValue) (old new : List ℕ) (ready : Bool) (coming : Option (List ℕ)) (faults : ℕ)
     (stands : Stands start before at hub old ready) where
+  left-nothing : (later : Streams) (s : Stands start before later hub new ready) → (ready ≡ true → NothingIsDue hub) → NothingIsLeft s.served
+  left-nothing later s due is = subst NothingIsDue (sym s.hub_is) (due (sym s.ready_is ∙ is))
+
   after : Streams
   after = record { coming = coming; held = at.held; source_faults = faults; sink_faults = at.sink_faults }
 
@@ -228,19 +230,20 @@ module _ (start : ControlValue) (before at : Streams) (hub : HubValue) (old new 
   none-more same consumes = takes-more start before at coming faults hub old new ready stands [] (same ∙ sym (append-nil old)) consumes
 
   pub take-ends : (e : ServeEnd) → TakesOr old new at.coming coming at.source_faults faults (Err e) → at.source_faults ≡ before.source_faults
+      → (ready ≡ true → NothingIsDue hub)
       → ServesTo start before (record { coming = coming; held = at.held; source_faults = faults; sink_faults = at.sink_faults }) e
-  take-ends end.Done (same, consumes, empty, ends, rose) is =
+  take-ends end.Done (same, consumes, empty, ends, rose) is due =
       let more = none-more same consumes in
-      (more.served, inr (more.waits ∙ same ∙ empty, ends))
-  take-ends end.NoFrame (same, consumes, some, ends, rose) is =
+      (more.served, inr (more.waits ∙ same ∙ empty, ends, left-nothing _ more due))
+  take-ends end.NoFrame (same, consumes, some, ends, rose) is due =
       let more = none-more same consumes in
       (more.served, inr (inl (λ none. some (sym same ∙ sym more.waits ∙ none), ends)))
-  take-ends end.ReadFault (same, consumes, rose) is =
+  take-ends end.ReadFault (same, consumes, rose) is due =
       let more = none-more same consumes in
-      (more.served, subst (λ (k : ℕ). Rose k faults) is rose)
-  take-ends end.WriteFault takes is = absurd takes
-  take-ends end.TooLong takes is = absurd takes
-  take-ends (end.NotAgain fault) takes is = absurd takes
+      ((more.served, left-nothing _ more due), subst (λ (k : ℕ). Rose k faults) is rose)
+  take-ends end.WriteFault takes is due = absurd takes
+  take-ends end.TooLong takes is due = absurd takes
+  take-ends (end.NotAgain fault) takes is due = absurd takes
 
   pub take-same : (e : ServeEnd) → TakesOr old new at.coming coming at.source_faults faults (Err e) → e ≢ end.ReadFault → faults ≡ at.source_faults
   take-same end.Done (same, consumes, empty, ends, is) unfailed = is

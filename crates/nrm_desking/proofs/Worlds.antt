@@ -1,30 +1,27 @@
 -- How a world that was served goes on.
-use Rattle.std.proofs.Common.{ℕ, ◌≡◌, ◌≢◌, ◌∙◌, ◌+◌, ◌<◌, ◌≤◌, ◌⊎◌, Bool, true, false, List, [], ◌∷◌, ◌++◌, length, take, drop, Option, Some, None, refl, sym, ap, subst, inl, inr}
-use Rattle.std.proofs.Common.{append-nil, append_assoc, arith, length-append}
-use Rattle.std.specs.Prelude.{flat_map, if◌then◌else◌, Ok}
-use Rattle.std.specs.Io.KnownBytes.{Appends, Consumes, IsAtEnd, Keeps}
+use Rattle.std.proofs.Common.{ℕ, ◌≡◌, ◌∙◌, ◌+◌, Bool, true, false, List, [], ◌∷◌, ◌++◌, length, take, Option, refl, sym, ap, subst, inl, inr}
+use Rattle.std.proofs.Common.{append-nil, arith, length-append}
+use Rattle.std.specs.Prelude.{flat_map, if◌then◌else◌}
+use Rattle.std.specs.Io.KnownBytes.{Appends, Consumes, Keeps}
 use Rattle.std.proofs.KnownBytes.{Appends-kept, Appends-nil, Appends-trans, Consumes-nil, Consumes-trans, Keeps-refl}
 use Rattle.std.proofs.lemmas.Grind.{flat_map-append}
 use Rattle.std.proofs.Math.Seq.{take-append-add}
 use Rattle.nrm_control.specs.Standing.{ControlValue}
-use Rattle.nrm_edge.specs.Causes.{Rose}
 use Rattle.nrm_edge.specs.Pieces.{AppendsCut, AppendsFront}
 use Rattle.nrm_frames.proofs.Fronts.{pieces}
-use Rattle.nrm_frames.specs.Cutting.{cut_of, no_frame, part, whole}
+use Rattle.nrm_frames.specs.Cutting.{cut_of, whole}
 use Rattle.nrm_frames.specs.Frames.{AreFrames, Frame}
 use Rattle.nrm_frames.specs.Outgoing.{Output, close, differs, keep, no_row, output_text, ready, send}
 use Rattle.nrm_frames.specs.declared.header.Header.{Header}
 use Rattle.nrm_frames.specs.declared.header.Header.TheVariants as header
 use Rattle.nrm_session.specs.Serving.{Streams}
-use Rattle.nrm_hub.specs.Again.{FailsAgain}
-use Rattle.nrm_hub.specs.Goes.{Goes, GoesTo, Puts, PutsCut}
+use Rattle.nrm_hub.specs.Goes.{Goes, GoesTo, Puts}
 use Rattle.nrm_hub.specs.Hub.{HubValue, new_hub}
-use Rattle.nrm_hub.specs.World.{Comes, Happens, World, beginning, frame, here}
+use Rattle.nrm_hub.specs.World.{Comes, World, beginning, frame, here}
 use Rattle.nrm_hub.specs.World.{then as and_then}
-use Rattle.nrm_hub.specs.declared.again.AgainFault.{AgainFault}
-use Rattle.nrm_desking.specs.Inner.Handling.{GoesOn, GoesOnCut, IsFresh, IsUnwanted, TakesMore}
+use Rattle.nrm_desking.specs.Inner.Handling.{GoesOn, GoesOnCut, IsFresh}
 use Rattle.nrm_desking.specs.Inner.Serving.{PutsOrCut, Stands, at_sink}
-use Rattle.nrm_desking.specs.Served.{HasEnded, HasNoRow, IsNoFrame, MayNotCome, Served, ServedCut, is_ready}
+use Rattle.nrm_desking.specs.Served.{HasEnded, Served, ServedCut, is_ready}
 
 -- ---- one after another
 comes-then : (a b c : World) → Comes a b → Comes b c → Comes a c

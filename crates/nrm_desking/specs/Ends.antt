@@ -1,5 +1,5 @@
 -- How the program of many desks ends: what each status says of the words, the file, the frames and what was written.
-use Rattle.std.specs.Prelude.{ℕ, ℤ, ◌≡◌, ◌≢◌, ◌⊎◌, false, List, [], ◌++◌, Option, Some, None, Ok, Err, ⊤}
+use Rattle.std.specs.Prelude.{ℕ, ℤ, ◌≡◌, ◌≢◌, ◌⊎◌, false, List, [], Option, Some, None, Ok, Err, ⊤}
 use Rattle.nrm_model.specs.Network.{NetworkValue}
 use Rattle.nrm_plan.specs.Plans.{IsOpeningPlan, OpeningOverflows, PlanValue}
 use Rattle.nrm_control.specs.State.{opening}
@@ -12,7 +12,7 @@ use Rattle.nrm_session.specs.Serving.{Streams}
 use Rattle.nrm_hub.specs.declared.again.AgainFault.{AgainFault}
 use Rattle.nrm_hub.specs.declared.again.AgainFault.TheVariants as fault
 use Rattle.nrm_desking.specs.Jobs.{DesksJob, usage_line}
-use Rattle.nrm_desking.specs.Served.{HasEnded, HasNoRow, IsNoFrame, Served, ServedCut, is_ready}
+use Rattle.nrm_desking.specs.Served.{HasEnded, HasNoRow, IsNoFrame, NothingIsLeft, Served, ServedCut, is_ready}
 use Rattle.nrm_desking.specs.declared.status.DesksStatus.{DesksStatus}
 use Rattle.nrm_desking.specs.declared.status.DesksStatus.TheVariants as status
 
@@ -99,7 +99,7 @@ abbrev pub Ends : Option DesksJob → Outside → Outside → DesksStatus → Ty
 Ends asked before after status.Done = Ran asked before after (λ start served. HasEnded served)
 Ends asked before after status.Usage = Told asked before after status.Usage
 Ends asked before after status.Refused = Told asked before after status.Refused
-Ends asked before after status.ReadFault = SourceFailed before after × Ran asked before after (λ start served. ⊤)
+Ends asked before after status.ReadFault = SourceFailed before after × Ran asked before after (λ start served. NothingIsLeft served)
 Ends asked before after status.WriteFault =
     SinkFailed before after × (RanCut asked before after ⊎ (ToldCut asked before after
     ⊎ (StopsAtNoRow asked before after WroteCut ⊎ StopsAtOther asked before after WroteCut)))

@@ -1,5 +1,5 @@
 -- How frames were served.
-use Rattle.std.specs.Prelude.{ℕ, ◌≡◌, ◌≢◌, ◌⊎◌, Bool, true, false, List, [], ◌∷◌, ◌++◌, flat_map, Option, Some, None, ⊤}
+use Rattle.std.specs.Prelude.{ℕ, ◌≡◌, ◌≢◌, ◌⊎◌, Bool, true, false, List, [], ◌∷◌, ◌++◌, flat_map, None}
 use Rattle.std.specs.Io.KnownBytes.{Appends, Consumes, IsAtEnd}
 use Rattle.nrm_edge.specs.Pieces.{AppendsCut}
 use Rattle.nrm_control.specs.Standing.{ControlValue}
@@ -10,7 +10,8 @@ use Rattle.nrm_frames.specs.declared.header.Header.{Header}
 use Rattle.nrm_frames.specs.declared.header.Header.TheVariants as header
 use Rattle.nrm_session.specs.Serving.{Streams}
 use Rattle.nrm_hub.specs.Again.{FailsAgain}
-use Rattle.nrm_hub.specs.Hub.{HubValue, client_at}
+use Rattle.nrm_hub.specs.Hub.{client_at}
+use Rattle.nrm_hub.specs.Waiting.{NothingIsDue}
 use Rattle.nrm_hub.specs.World.{Comes, World, beginning}
 use Rattle.nrm_hub.specs.declared.again.AgainFault.{AgainFault}
 use Rattle.nrm_hub.specs.declared.phase.Phase.TheVariants as phase
@@ -56,11 +57,15 @@ pub record ServedCut (start : ControlValue) (before after : Streams) : Type 0 wh
   pub consumed : Consumes before.coming after.coming taken
   pub written : AppendsCut before.held after.held (flat_map output_text world.outputs)
 
--- the last frame was `end`; or the input has ended behind a frame
+-- once clients may be opened nothing is due: each was answered, or the word that all is kept is awaited
+abbrev pub NothingIsLeft : {start : ControlValue} {before after : Streams} → Served start before after → Type 0
+NothingIsLeft served = is_ready served.world.outputs ≡ true → NothingIsDue served.world.hub
+
+-- the last frame was `end`; or the input has ended behind a frame, and nothing is due
 abbrev pub HasEnded : {start : ControlValue} {before after : Streams} → Served start before after → Type 0
 HasEnded {after = after} served =
     ((front : List Frame) × (served.world.inputs ≡ front ++ record { header = header.End; payload = [] } ∷ []))
-    ⊎ ((served.rest ≡ []) × IsAtEnd after.coming)
+    ⊎ ((served.rest ≡ []) × IsAtEnd after.coming × NothingIsLeft served)
 
 -- what comes behind the frames is none, or the input ends within one, or it may not come
 abbrev pub IsNoFrame : {start : ControlValue} {before after : Streams} → Served start before after → Type 0

@@ -3,6 +3,7 @@ ghost use Rattle.std.specs.Prelude.{◌≡◌, ◌≢◌, ◌∷◌, [], length,
 ghost use Rattle.nrm_edge.specs.Causes.{HasCause};
 ghost use Rattle.nrm_frames.specs.Headers.{size_of};
 ghost use Rattle.nrm_frames.specs.declared.header.Header.TheVariants as header;
+ghost use Rattle.nrm_hub.specs.Waiting.{NothingIsDue};
 ghost use Rattle.nrm_hub.specs.World.{frame};
 ghost use Rattle.nrm_hub.specs.declared.phase.Phase.TheVariants as phase;
 ghost use Rattle.nrm_hub.specs.Goes.{Puts, PutsCut};
@@ -84,13 +85,13 @@ fn open<K: Sink>(
 }
 
 // All is kept: what waits for clients is sent.
-fn kept<K: Sink>(hub: &mut Hub, sink: &mut K) -> Handled
+fn kept<K: Sink>(alloc: Global, hub: &mut Hub, sink: &mut K) -> Handled
     requires { hub.old.phase ≡ phase.Asked }
     ensures { Handles hub.old hub.new true true header.Kept []
         (K.held sink.old) (K.held sink.new) (K.faults sink.old) (K.faults sink.new) result }
 {
     hub.kept();
-    outcome_of(hub.tell_all(sink))
+    outcome_of(hub.tell_all(alloc, sink))
 }
 
 /// Does what a frame says.
@@ -127,7 +128,7 @@ pub(crate) fn handle<K: Sink>(
             hub.gone(place);
             Handled::GoesOn
         }
-        Header::Kept if *is_ready && hub.phase() == Phase::Asked => kept(hub, sink),
+        Header::Kept if *is_ready && hub.phase() == Phase::Asked => kept(alloc, hub, sink),
         _ => Handled::NoFrame,
     }
 }
@@ -145,6 +146,7 @@ pub(crate) fn take_round<K: Sink>(
     ensures puts { OnOk result (Puts hub.old hub.new (K.held sink.old) (K.held sink.new)) }
     ensures cut { OnErr result (PutsCut hub.old hub.new (K.held sink.old) (K.held sink.new)) }
     ensures still { is_ready ≡ false → (hub.new ≡ hub.old) × (K.held sink.new ≡ K.held sink.old) }
+    ensures due { OnOk result (is_ready ≡ true → NothingIsDue hub.new) }
     ensures cause { HasCause (K.faults sink.old) (K.faults sink.new) result }
 {
     if !is_ready {

@@ -1,11 +1,12 @@
 //! Frames over a stream: each whole frame of what came is carried out, and all that is due is sent on, before more is taken.
-ghost use Rattle.std.specs.Prelude.{◌≡◌, ◌≢◌, [], false, Some, OnErr, OnOk};
+ghost use Rattle.std.specs.Prelude.{◌≡◌, ◌≢◌, [], false, true, None, Some, OnErr, OnOk};
 ghost use Rattle.std.specs.Io.KnownBytes.{Keeps};
 ghost use Rattle.nrm_edge.specs.Causes.{HasCause};
 ghost use Rattle.nrm_control.specs.Standing.{ControlValue};
 ghost use Rattle.nrm_frames.specs.Cutting.{cut_of, part};
 ghost use Rattle.nrm_hub.specs.Goes.{Puts};
 ghost use Rattle.nrm_hub.specs.Hub.{new_hub};
+ghost use Rattle.nrm_hub.specs.Waiting.{NothingIsDue};
 ghost use Rattle.nrm_session.specs.Serving.{Streams, streams};
 ghost use Rattle.nrm_desking.specs.Inner.Handling.{IsFresh};
 ghost use Rattle.nrm_desking.specs.Inner.Serving.{EndsWith, GoesOnFirst, HandlesFirst, PutsOrCut, ServesTo, Stands, StandsOr};
@@ -112,6 +113,7 @@ fn send_due<K: Sink>(
     ensures puts { OnOk result (Puts hub.old hub.new (K.held sink.old) (K.held sink.new)) }
     ensures cut { OnErr result (PutsOrCut hub.old hub.new (K.held sink.old) (K.held sink.new)) }
     ensures still { is_ready ≡ false → (hub.new ≡ hub.old) × Keeps (K.held sink.old) (K.held sink.new) }
+    ensures due { OnOk result (is_ready ≡ true → NothingIsDue hub.new) }
     ensures sent { OnOk result (K.unsent sink.new ≡ []) }
     ensures cause { HasCause (K.faults sink.old) (K.faults sink.new) result }
 {
@@ -146,6 +148,7 @@ fn serve_piece<K: Sink>(
         → Stands start before (at_sink at (K.held sink.old) (K.faults sink.old)) hub.old incoming.old is_ready.old
         → StandsOr start before (at_sink at (K.held sink.new) (K.faults sink.new)) (K.faults sink.old)
         hub.new incoming.new is_ready.new result }
+    ensures due { result ≡ None → is_ready.new ≡ true → NothingIsDue hub.new }
     ensures sent { result ≢ Some end.WriteFault → K.unsent sink.new ≡ [] }
 {
     if let Some(end) = handle_all(alloc, hub, is_ready, incoming, sink) {

@@ -1,15 +1,12 @@
 -- The lines of one client: where the next one ends, what becomes of it, and that desks don't get fewer.
-use Rattle.std.proofs.Common.{ℕ, ◌≡◌, ◌≢◌, ◌∙◌, ◌+◌, ◌-◌, ◌<◌, ◌≤◌, Bool, true, false, List, [], ◌∷◌, ◌++◌, length, take, drop, map, get_or, Option, Some, None}
-use Rattle.std.proofs.Common.{refl, sym, ap, subst, arith, length-append, length-drop}
-use Rattle.std.specs.Prelude.{All, position, slice_set, unwrap_or, ◌==◌}
-use Rattle.std.specs.List.{position_or_len}
+use Rattle.std.proofs.Common.{ℕ, ◌≡◌, ◌∙◌, ◌+◌, ◌<◌, ◌≤◌, Bool, true, false, List, [], ◌∷◌, length, take, drop, map, get_or, Option, Some, None}
+use Rattle.std.proofs.Common.{refl, sym, ap, subst, arith, length-append, take_all}
+use Rattle.std.specs.Prelude.{All, position, unwrap_or, ◌==◌}
 use Rattle.std.proofs.lemmas.List.{get_or-take, length-set, length-take}
 use Rattle.std.proofs.lemmas.List.Sums.{fails_before_first, passes_at_first}
 use Rattle.nrm_text.proofs.Places.{found, missing, placed}
 use Rattle.nrm_model.proofs.NameLemmas.{number-below, number-same}
-use Rattle.nrm_stream.specs.declared.command.Command.{Command}
 use Rattle.nrm_frames.specs.declared.rights.Rights.{Rights}
-use Rattle.nrm_frames.specs.declared.why.Why.{Why}
 use Rattle.nrm_frames.specs.declared.why.Why.TheVariants as why
 use Rattle.nrm_hub.specs.Clients.{ClientValue, Hears, after_line, closed_for, cut, joined_as, whole}
 use Rattle.nrm_hub.specs.Inner.Answered.{Hears as Joined, IsAnswered, IsJoinFault}
@@ -18,7 +15,8 @@ use Rattle.nrm_hub.specs.Seats.{IsBelow}
 use Rattle.nrm_hub.specs.Asked.{asked_in}
 use Rattle.nrm_hub.specs.Lines.{at_line, denied_line, is_beyond, memory_line}
 use Rattle.nrm_hub.specs.Lines.{Answers, How, asks, greets_late, is_carried, is_denied, lacks, looks, may_not_ask, otherwise, repeats, runs_out}
-use Rattle.nrm_hub.specs.Register.{DeskValue, Joins, RegisterValue, added, desk_at, desk_named, new_desk, there, with_row}
+use Rattle.nrm_hub.specs.Register.{DeskValue, Joins, RegisterValue, added, desk_at, desk_named, new_desk, there}
+use Rattle.nrm_hub.specs.Waiting.{HasNoLine}
 use Rattle.nrm_hub.specs.Taking.{TakesLine, answers, greets, lacks_memory, may_greet, may_not_greet, refuses, too_many}
 use Rattle.nrm_hub.specs.declared.asked.Asked.TheVariants as asked
 use Rattle.nrm_hub.specs.declared.limits.TheConstants.{LAST_SEQUENCE, MOST_LINE}
@@ -199,3 +197,13 @@ took-line r r' c c' end took.Line ends short begins is = record { end = end; end
 took-line r r' c c' end took.LongLine ends short begins is = record { end = end; ends = ends; short = short; begins = begins }
 took-line r r' c c' end took.Nothing ends short begins is = absurd is
 took-line r r' c c' end took.TooLong ends short begins is = absurd is
+
+-- what was looked at has no line feed, and it is all
+pub no-line : (c : ClientValue) (start n : ℕ) (bytes read got : List ℕ) (at : Option ℕ) → got ≡ take n (drop start read) → read ≡ bytes
+    → drop start bytes ≡ c.coming → n ≡ length c.coming → n < MOST_LINE → at ≡ position (λ byte. byte == 10) got → at ≡ None → HasNoLine c
+no-line c start n bytes read got at part same is all short reads none =
+    let whole_is : got ≡ c.coming =
+    part ∙ ap (λ (b : List ℕ). take n (drop start b)) same ∙ ap (λ (b : List ℕ). take n b) is ∙ take_all n c.coming (omega (arith, all)) in
+    let nothing : position (λ byte. byte == 10) c.coming ≡ None =
+    ap (λ (b : List ℕ). position (λ byte. byte == 10) b) (sym whole_is) ∙ sym reads ∙ none in
+    record { short = omega (arith, all, short); none = none-passes (λ byte. byte == 10) c.coming nothing }

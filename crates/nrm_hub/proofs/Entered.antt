@@ -6,7 +6,7 @@ use Rattle.std.specs.Bool.{MatchBool}
 use Rattle.std.specs.List.{list_any, position_from}
 use Rattle.std.proofs.lemmas.Bool.{false≢true, ltb-true}
 use Rattle.std.proofs.lemmas.List.{length-set, map-append, set-get_or}
-use Rattle.std.proofs.lemmas.List.Elements.{All-append, All-drop, All-nil, All-push, All-set, All-weaker}
+use Rattle.std.proofs.lemmas.List.Elements.{All-drop, All-nil, All-push, All-set, All-weaker}
 use Rattle.std.proofs.Math.Seq.{map-set_same}
 use Rattle.nrm_fraction.specs.Fraction.{Fraction}
 use Rattle.nrm_model.specs.Network.{NetworkValue, leg_named, product_named}
@@ -14,7 +14,7 @@ use Rattle.nrm_model.proofs.NameLemmas.{number-same}
 use Rattle.nrm_book.specs.Bookings.{booking_numbered}
 use Rattle.nrm_plan.specs.Plans.{value_of}
 use Rattle.nrm_control.specs.State.{SeatState, answer_in}
-use Rattle.nrm_control.specs.Standing.{ControlValue, IsControl, StandsFor}
+use Rattle.nrm_control.specs.Standing.{ControlValue, IsControl}
 use Rattle.nrm_control.specs.declared.answer.Answer.{Answer}
 use Rattle.nrm_control.specs.declared.answer.Answer.TheVariants as answer
 use Rattle.nrm_control.proofs.States.{some-state}

@@ -1,5 +1,5 @@
 -- What lines ask, who may, rows and their texts, and what is held of a desk, by hand.
-use Rattle.std.specs.Prelude.{ℕ, ◌≡◌, ◌++◌, [], ◌∷◌, codes, refl, Some, None, true, false, List, length}
+use Rattle.std.specs.Prelude.{◌≡◌, ◌++◌, [], ◌∷◌, codes, refl, Some, None, true, false, List}
 use Rattle.std.specs.Fmt.{digits}
 use Rattle.nrm_frames.specs.Headers.{no_rights}
 use Rattle.nrm_frames.specs.declared.why.Why.TheVariants as why
@@ -11,7 +11,7 @@ use Rattle.nrm_hub.specs.Asked.{allows, asked_in, is_change, owner_of}
 use Rattle.nrm_hub.specs.Desks.{entry_in, seller_by, turn_in}
 use Rattle.nrm_hub.specs.Lines.{at_line, bad_line, bound_words, carried, denied_line, is_same, memory_line, otherwise, passed, reason_used, row_under, told_text}
 use Rattle.nrm_hub.specs.Register.{owners_after}
-use Rattle.nrm_hub.specs.Rows.{command_text, row_text, rows_text}
+use Rattle.nrm_hub.specs.Rows.{row_text, rows_text}
 use Rattle.nrm_hub.specs.declared.row.Row.{Row}
 use Rattle.nrm_hub.specs.declared.asked.Asked.TheVariants as asked
 

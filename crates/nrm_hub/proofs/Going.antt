@@ -1,5 +1,5 @@
 -- What a call of the hub does, by what may happen in the world that the hub stands in.
-use Rattle.std.proofs.Common.{ℕ, ◌≤◌, ◌≡◌, ◌≢◌, ◌∙◌, ◌+◌, ◌<◌, List, [], ◌∷◌, ◌++◌, length, Option, Some, None, refl, sym, ap, subst}
+use Rattle.std.proofs.Common.{ℕ, ◌≤◌, ◌≡◌, ◌≢◌, ◌∙◌, ◌+◌, ◌<◌, List, [], ◌∷◌, ◌++◌, length, Some, None, refl, sym, ap, subst}
 use Rattle.std.proofs.Common.{append-nil, append_assoc}
 use Rattle.std.specs.Prelude.{All, ◌==◌, false, replicate, ⊤}
 use Rattle.nrm_frames.specs.Frames.{Frame}
@@ -17,7 +17,7 @@ use Rattle.nrm_hub.specs.Rows.{Entry, rows_text}
 use Rattle.nrm_hub.specs.Taking.{TakesLine}
 use Rattle.nrm_hub.specs.World.{Comes, GivesAgain, Happens, IsCause, IsNothing, IsTooMuch, World, after_frame, after_output, exchange_of, frame}
 use Rattle.nrm_hub.specs.World.{at_one, with_answered, with_opened, with_piece_of}
-use Rattle.nrm_hub.specs.World.{asked_to_keep, becomes_desk, here, left, line_taken, next, opened, passed_over, piece_came, places_made, rows_again}
+use Rattle.nrm_hub.specs.World.{asked_to_keep, becomes_desk, here, left, line_taken, opened, passed_over, piece_came, places_made, rows_again}
 use Rattle.nrm_hub.specs.World.{said_to_be_kept, then, to_be_closed, too_much_came, was_closed, was_not_opened, was_told}
 use Rattle.nrm_hub.specs.declared.limits.TheConstants.{MOST_LINE, MOST_WAITING}
 use Rattle.nrm_hub.specs.declared.phase.Phase.TheVariants as phase

@@ -1,6 +1,6 @@
 -- A line of the client at a place.
 use Rattle.std.proofs.Common.{ℕ, ◌≡◌, ◌≢◌, ◌∙◌, ◌+◌, ◌<◌, ◌==◌, Bool, false, eqb-true, List, [], ◌∷◌, ◌++◌, length, get_or, take, drop}
-use Rattle.std.proofs.Common.{Option, Some, None, refl, sym, ap, subst, arith}
+use Rattle.std.proofs.Common.{Option, Some, None, ap, subst, arith}
 use Rattle.std.specs.Prelude.{All, position, slice_set}
 use Rattle.std.specs.List.{position_or_len}
 use Rattle.std.proofs.lemmas.List.{get_or-set_same, length-take, set-set}
@@ -10,7 +10,7 @@ use Rattle.nrm_stream.proofs.Cuts.{fails-front}
 use Rattle.nrm_hub.specs.Clients.{ClientValue, joined_as}
 use Rattle.nrm_hub.specs.Goes.{Goes}
 use Rattle.nrm_hub.specs.Hub.{HubValue, client_at, with_client}
-use Rattle.nrm_hub.specs.Inner.Taking.{Begins, TakesIts, joined, taken}
+use Rattle.nrm_hub.specs.Inner.Taking.{Begins, joined, taken}
 use Rattle.nrm_hub.specs.Register.{RegisterValue, desk_at}
 use Rattle.nrm_hub.specs.declared.limits.TheConstants.{MOST_LINE}
 use Rattle.nrm_hub.specs.declared.phase.Phase.TheVariants as phase

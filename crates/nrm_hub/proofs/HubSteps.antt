@@ -1,9 +1,8 @@
 -- What methods of the hub do, by what they do to the clients at their places.
-use Rattle.std.proofs.Common.{ℕ, ◌≡◌, ◌≢◌, ◌∙◌, ◌<◌, ◌≤◌, List, [], ◌∷◌, ◌++◌, length, get_or, Option, Some, None, refl, sym, ap, subst, ◌⊎◌, inl, inr}
+use Rattle.std.proofs.Common.{ℕ, ◌≡◌, ◌≢◌, ◌∙◌, ◌<◌, ◌≤◌, List, [], ◌∷◌, length, get_or, Option, Some, None, refl, sym, ap, subst, ◌⊎◌, inl, inr}
 use Rattle.std.specs.Prelude.{is_some, replicate, slice_set}
 use Rattle.std.proofs.lemmas.List.{set-get_or}
 use Rattle.std.proofs.lemmas.List.Elements.{All-set}
-use Rattle.nrm_frames.specs.Frames.{Frame}
 use Rattle.nrm_frames.specs.Outgoing.{close, send}
 use Rattle.nrm_frames.specs.declared.header.Header.TheVariants as header
 use Rattle.nrm_frames.specs.declared.why.Why.{Why}
@@ -81,7 +80,7 @@ module _ (h : HubValue) (place : ℕ) (r' : RegisterValue) (c c' : ClientValue) 
 
   pub goes-took : (result : Took) → IsTook h.register r' c c' result
       → Goes h (after_took h r' (slice_set h.clients place (Some c')) result) [] []
-  goes-took took.Nothing (same, same_client) =
+  goes-took took.Nothing (same, same_client, turn) =
       let clients : h.clients ≡ slice_set h.clients place (Some c') =
       sym (set-get_or h.clients place None) ∙ ap (λ (x : Option ClientValue). slice_set h.clients place x) (there ∙ ap Some (sym same_client)) in
       goes-same h h h (record h { register = r'; clients = slice_set h.clients place (Some c') }) [] [] refl
@@ -99,7 +98,7 @@ module _ (h : HubValue) (place : ℕ) (r' : RegisterValue) (c c' : ClientValue) 
 pub goes-take : (h : HubValue) (place : ℕ) (r' : RegisterValue) (clients : List (Option ClientValue)) (result : Took) → h.phase ≢ phase.Asked
     → TakesAt h.register r' h.clients place clients result → Goes h (after_took h r' clients result) [] []
 goes-take h place r' clients result unasked (takes c c' _ there whole is) = goes-took h place r' c c' there whole unasked result is
-goes-take h place r' clients result unasked (nobody same) =
+goes-take h place r' clients result unasked (nobody same nothing) =
     goes-same h h h (record h { register = r' }) [] [] refl
     (ap (λ (r : RegisterValue). let h' : HubValue = record h { register = r } in h') (sym same)) (goes-nothing h)
 

@@ -22,4 +22,6 @@ pub mod RegisterStates  -- what leaves no row leaves the state as it is, so the 
 pub mod Registers  -- what a register stands for in every world
 pub mod RegisterSame  -- registers that have the same rows have the same controller
 pub mod HubSteps
+pub mod HubTurns  -- what a turn leaves of a client
+pub mod DuePlaces  -- the places at which something is due, as clients change
 mod Examples  -- worked by hand

@@ -1,5 +1,5 @@
 -- Rows of the journal that are given again.
-use Rattle.std.specs.Prelude.{ℕ, ◌≡◌, ◌≢◌, ◌==◌, ◌+◌, ◌<◌, ◌≤◌, true, List, [], ◌∷◌, ◌++◌, Option, Some, None, All, false, length, if◌then◌else◌}
+use Rattle.std.specs.Prelude.{ℕ, ◌≡◌, ◌≢◌, ◌==◌, ◌+◌, ◌<◌, ◌≤◌, List, [], ◌∷◌, ◌++◌, Option, Some, None, All, false, length, if◌then◌else◌}
 use Rattle.std.specs.List.{slice_split}
 use Rattle.nrm_text.specs.Names.{name_in}
 use Rattle.nrm_text.specs.Numbers.{whole_between}
@@ -8,7 +8,7 @@ use Rattle.nrm_stream.specs.declared.command.Command.{Command}
 use Rattle.nrm_session.specs.Answering.{reply_in}
 use Rattle.nrm_session.specs.declared.reply.Reply.{Reply as Answered}
 use Rattle.nrm_hub.specs.Asked.{is_change}
-use Rattle.nrm_hub.specs.Register.{Carries, Joins, RegisterValue, desk_at, name_at}
+use Rattle.nrm_hub.specs.Register.{Carries, Joins, RegisterValue, desk_at}
 use Rattle.nrm_hub.specs.Rows.{Entry, row_text, rows_text}
 use Rattle.nrm_hub.specs.World.{GivesAgain}
 use Rattle.nrm_hub.specs.declared.again.AgainFault.{AgainFault}

@@ -1,5 +1,5 @@
 -- The theorem of many desks, to be read aloud.
-use Rattle.std.specs.Prelude.{ℕ, ◌≡◌, ◌≢◌, ◌==◌, ◌+◌, ◌<◌, ◌≤◌, Bool, true, false, List, [], ◌∷◌, ◌++◌, AllPairs, All, bytes_eq, filter, flat_map, length, map, take, Option, Some, None, ⊤}
+use Rattle.std.specs.Prelude.{ℕ, ◌≡◌, ◌==◌, ◌<◌, ◌≤◌, false, List, [], ◌∷◌, ◌++◌, AllPairs, All, filter, flat_map, length, map, take, ⊤}
 use Rattle.nrm_model.specs.Network.{NetworkValue}
 use Rattle.nrm_control.specs.State.{SeatState}
 use Rattle.nrm_control.specs.Standing.{ControlValue, IsControl, StandsFor}
@@ -9,7 +9,6 @@ use Rattle.nrm_frames.specs.declared.header.Header.{Header}
 use Rattle.nrm_frames.specs.declared.header.Header.TheVariants as header
 use Rattle.nrm_stream.specs.Lines.{whole_lines}
 use Rattle.nrm_stream.specs.declared.command.Command.{Command}
-use Rattle.nrm_session.specs.Answering.{reply_in}
 use Rattle.nrm_session.specs.Replies.{Reply, bad, cancelled, hindsight_told, leg_told, memory, no_fare, no_leg, optimised, optimised_none, overflow, plan_told, sold}
 use Rattle.nrm_session.specs.Replies.{text_of, unknown}
 use Rattle.nrm_session.specs.Run.{Run}

@@ -1,5 +1,5 @@
 -- The hub: what all desks have in common, the clients by their places, and whether what was answered is safe.
-use Rattle.std.specs.Prelude.{ℕ, ◌≡◌, ◌<◌, ◌++◌, ◌∷◌, List, [], get_or, length, slice_set, Option, Some, None}
+use Rattle.std.specs.Prelude.{ℕ, ◌++◌, List, [], get_or, slice_set, Option, None}
 use Rattle.nrm_control.specs.Standing.{ControlValue}
 use Rattle.nrm_hub.specs.Clients.{ClientValue}
 use Rattle.nrm_hub.specs.Register.{RegisterValue, new_register}

@@ -2,6 +2,7 @@ pub mod Again
 pub mod Asked
 pub mod Clients
 pub mod Desks
+pub mod Due
 pub mod Goes
 pub mod Hub
 pub mod Inner
@@ -10,4 +11,5 @@ pub mod Register
 pub mod Rows
 pub mod Seats
 pub mod Taking
+pub mod Waiting
 pub mod World

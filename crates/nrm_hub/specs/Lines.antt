@@ -1,5 +1,5 @@
 -- How one line of a client is answered.
-use Rattle.std.specs.Prelude.{ℕ, ◌≡◌, ◌+◌, ◌<◌, ◌≤◌, ◌⊎◌, Bool, true, false, List, [], ◌∷◌, ◌++◌, codes, decimal, get_or, nat_lt, Option, Some, None, if◌then◌else◌, MatchOption}
+use Rattle.std.specs.Prelude.{ℕ, ◌≡◌, ◌<◌, ◌≤◌, Bool, true, false, List, [], ◌∷◌, ◌++◌, codes, decimal, nat_lt, Option, Some, None, if◌then◌else◌}
 use Rattle.std.specs.Prelude.{bytes_eq, find, ◌&&◌, ◌==◌}
 use Rattle.nrm_text.specs.Words.{text_line}
 use Rattle.nrm_model.specs.Network.{product_named}

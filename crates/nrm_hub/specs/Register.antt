@@ -1,5 +1,5 @@
 -- What all desks have in common: the controller, the desks by their numbers, whose the bookings are, and the rows of the journal.
-use Rattle.std.specs.Prelude.{ℕ, ◌≡◌, ◌≢◌, ◌+◌, ◌<◌, ◌≤◌, ◌==◌, Bool, true, false, List, [], ◌∷◌, ◌++◌, drop, get_or, length, nat_lt, slice_set, Option, Some, None}
+use Rattle.std.specs.Prelude.{ℕ, ◌≡◌, ◌≢◌, ◌+◌, ◌<◌, ◌≤◌, Bool, true, false, List, [], ◌∷◌, ◌++◌, drop, get_or, length, nat_lt, slice_set, Option, Some, None}
 use Rattle.std.specs.Prelude.{if◌then◌else◌, All, bytes_eq}
 use Rattle.std.specs.List.{position_from}
 use Rattle.nrm_control.specs.Standing.{ControlValue, IsControl}

@@ -1,5 +1,5 @@
 -- How one line of a client is taken, be it the first or a later one.
-use Rattle.std.specs.Prelude.{ℕ, ◌≡◌, ◌+◌, Bool, true, false, List, [], ◌∷◌, ◌++◌, bytes_eq, length, Option, Some, None, ◌≤◌, ◌||◌, unwrap_or}
+use Rattle.std.specs.Prelude.{ℕ, ◌≡◌, ◌+◌, Bool, true, false, List, [], bytes_eq, length, Option, Some, None, ◌≤◌, ◌||◌, unwrap_or}
 use Rattle.nrm_frames.specs.declared.why.Why.{Why}
 use Rattle.nrm_frames.specs.declared.why.Why.TheVariants as why
 use Rattle.nrm_hub.specs.Asked.{asked_in}

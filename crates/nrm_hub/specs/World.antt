@@ -1,5 +1,5 @@
 -- The world of desks: the hub, and what has been. It is what a reader must believe; the theorem above it is in `Desks`.
-use Rattle.std.specs.Prelude.{ℕ, ◌≡◌, ◌≢◌, ◌==◌, ◌+◌, ◌<◌, ◌≤◌, ◌⊎◌, true, false, List, [], ◌∷◌, ◌++◌, All, drop, length, map, replicate, take, Option, Some, None, IsSome, ⊤, if◌then◌else◌}
+use Rattle.std.specs.Prelude.{ℕ, ◌≡◌, ◌≢◌, ◌==◌, ◌+◌, ◌<◌, ◌≤◌, true, false, List, [], ◌∷◌, ◌++◌, All, length, replicate, take, Option, Some, None, IsSome, ⊤, if◌then◌else◌}
 use Rattle.nrm_control.specs.Standing.{ControlValue}
 use Rattle.nrm_frames.specs.Frames.{Frame}
 use Rattle.nrm_frames.specs.Outgoing.{Output, close, keep, ready, send}
@@ -10,13 +10,12 @@ use Rattle.nrm_frames.specs.declared.why.Why.{Why}
 use Rattle.nrm_frames.specs.declared.why.Why.TheVariants as why
 use Rattle.nrm_stream.specs.declared.command.Command.{Command}
 use Rattle.nrm_session.specs.Answering.{reply_in}
-use Rattle.nrm_session.specs.Replies.{Reply}
 use Rattle.nrm_hub.specs.Asked.{is_change}
 use Rattle.nrm_hub.specs.Clients.{ClientValue, after_telling, closed_for, joined_as, new_client, with_piece}
 use Rattle.nrm_hub.specs.Hub.{HubValue, client_at, new_hub, with_client, with_places}
-use Rattle.nrm_hub.specs.Lines.{How, carried, otherwise, passed, repeated}
+use Rattle.nrm_hub.specs.Lines.{How}
 use Rattle.nrm_hub.specs.Register.{Carries, Joins, RegisterValue, desk_at, name_at}
-use Rattle.nrm_hub.specs.Rows.{Entry, entry_text, rows_text}
+use Rattle.nrm_hub.specs.Rows.{Entry, rows_text}
 use Rattle.nrm_hub.specs.Taking.{TakesLine}
 use Rattle.nrm_hub.specs.declared.limits.TheConstants.{MOST_LINE, MOST_WAITING}
 use Rattle.nrm_hub.specs.declared.phase.Phase.TheVariants as phase

@@ -1,6 +1,6 @@
 //! A client of the hub: who it is, what came from it and was not used yet, and what waits to be told to it. The bytes that were used stay at
 //! the front until more come.
-ghost use Rattle.std.specs.Prelude.{ℕ, ◌≡◌, ◌==◌, ◌<◌, ◌≤◌, ◌+◌, ◌++◌, ◌∷◌, ◌^◌, [], drop, length, position, take, None, Some};
+ghost use Rattle.std.specs.Prelude.{ℕ, ◌≡◌, ◌==◌, ◌<◌, ◌≤◌, ◌+◌, ◌++◌, ◌∷◌, ◌^◌, [], drop, length, position, take, None, Some, true};
 ghost use Rattle.nrm_hub.specs.Clients.{after_telling, closed_for, new_client, with_piece};
 ghost use Rattle.nrm_hub.specs.Asked.{asked_in};
 ghost use Rattle.nrm_hub.specs.Clients.{after_line, joined_as};
@@ -9,10 +9,12 @@ ghost use Rattle.nrm_hub.specs.Inner.Taking.{Begins, Came, Excuses, GoesWithout,
 ghost use Rattle.nrm_hub.specs.Seats.{IsBelow};
 ghost use Rattle.nrm_hub.specs.Inner.Taking.{answered_as, settled};
 ghost use Rattle.nrm_hub.specs.Taking.{may_greet};
+ghost use Rattle.nrm_hub.specs.Waiting.{HasNoLine, IsAtRest};
 ghost use Rattle.nrm_hub.specs.declared.asked.Asked.TheVariants as asked;
 ghost use Rattle.nrm_hub.specs.declared.limits.TheConstants.{LAST_SEQUENCE, MOST_LINE, MOST_WAITING};
 
 use crate::asked::{Asked, asked_in};
+use crate::front::drop_front;
 use crate::limits::{LAST_SEQUENCE, MOST_LINE, MOST_WAITING};
 use crate::line::{Asker, Taken, answer_line, tell};
 use crate::outbox::Outbox;
@@ -40,9 +42,8 @@ pub(crate) struct Client {
     told: Outbox,
     used: u64,
     closing: Option<Why>,
-    // Whether it is among those whose turn comes, and among those that are to be told.
-    pub(crate) is_queued: bool,
-    pub(crate) is_heard: bool,
+    // How many places stand before its own among those at which something is due, as a hint.
+    pub(crate) due_at: usize,
 }
 
 impl Model for Client {
@@ -95,14 +96,6 @@ fn part(bytes: &[u8], start: usize, count: usize) -> &[u8]
     &bytes[start..start + count]
 }
 
-// Drops so many bytes at the front.
-fn drop_front(bytes: &mut Vec<u8>, count: usize)
-    requires { count ≤ length bytes.old.items }
-    ensures { bytes.new.items ≡ drop count bytes.old.items }
-{
-    bytes.drain(..count);
-}
-
 // Whether a line may take long: one for which a program is solved or a text of many lines is written.
 fn takes_long(asked: &Asked) -> bool {
     matches!(
@@ -132,8 +125,7 @@ impl Client {
             told: Outbox::new(alloc),
             used: 0,
             closing: None,
-            is_queued: false,
-            is_heard: false,
+            due_at: 0,
         }
     }
 
@@ -163,6 +155,24 @@ impl Client {
         ensures { result ≡ self.now.used }
     {
         self.used
+    }
+
+    // Whether no whole line of it waits, and none that is too long.
+    fn has_no_line(&self) -> bool
+        ensures { result ≡ true → HasNoLine self.now }
+    {
+        let waiting = self.bytes.len() - self.start;
+        waiting < MOST_LINE && line_end(part(&self.bytes, self.start, waiting)).is_none()
+    }
+
+    /// Whether it waits for nothing: to be told or closed, or for a line of it to be taken.
+    pub(crate) fn is_at_rest(&self) -> bool
+        ensures { result ≡ true → IsAtRest self.now }
+    {
+        self.used == 0
+            && self.closing.is_none()
+            && self.told.waiting().is_empty()
+            && self.has_no_line()
     }
 
     /// What waited was sent.

@@ -1,19 +1,23 @@
 //! The hub: what all desks have in common, the clients by their places, whose turn comes, and who is to be told. Lines are taken in turns;
 //! then the rows of all that was answered are given out, and once they are kept the replies are sent.
-ghost use Rattle.std.specs.Prelude.{ℕ, ◌≡◌, ◌≢◌, ◌<◌, ◌≤◌, ◌∷◌, [], length, Some, None, IfErr, MatchOption, OnErr, OnOk, false};
+ghost use Rattle.std.specs.Prelude.{ℕ, ◌≡◌, ◌≢◌, ◌<◌, ◌≤◌, ◌∷◌, [], length, Some, None, IfErr, MatchOption, OnErr, OnOk, false, true, ◌⊎◌};
 ghost use Rattle.std.specs.Io.KnownBytes.{Appends};
 ghost use Rattle.nrm_edge.specs.Causes.{HasCause};
 ghost use Rattle.nrm_frames.specs.declared.header.Header.TheVariants as header;
 ghost use Rattle.nrm_hub.specs.Again.{FailsAgain};
+ghost use Rattle.nrm_frames.specs.declared.limits.TheConstants.{LAST_PLACE};
+ghost use Rattle.nrm_hub.specs.Due.{AreDue, DueValue, IsDue, StillDue, StillDueBeside, due_count};
 ghost use Rattle.nrm_hub.specs.Goes.{Goes, Puts, PutsCut};
 ghost use Rattle.nrm_hub.specs.Hub.{client_at, new_hub};
-ghost use Rattle.nrm_hub.specs.Inner.Seats.{ClosesAt, HasPlaces, IsDeskAt, TakesAt};
+ghost use Rattle.nrm_hub.specs.Inner.Seats.{AreListed, AreSo, ClosesAt, HasPlaces, IsDeskAt, IsQuietAt, MakesSo, Only, TakesAt, WasClosed, WasSent};
 ghost use Rattle.nrm_hub.specs.Seats.{AreSeated, IsOpened};
+ghost use Rattle.nrm_hub.specs.Waiting.{HadTurn, IsAtRest, IsTold, NothingIsDue, OfEach};
 ghost use Rattle.nrm_hub.specs.World.{frame};
 ghost use Rattle.nrm_hub.specs.declared.phase.Phase.TheVariants as phase;
 
 use crate::again::{AgainFault, give_again};
 use crate::client::{Client, Took};
+use crate::due::Due;
 use crate::limits::MOST_LINES;
 use crate::phase::Phase;
 use crate::register::Register;
@@ -23,6 +27,7 @@ use nrm_frames::{Rights, Why, put_close, put_keep, put_send};
 use nrm_text::Name;
 use std::alloc::{AllocError, Global};
 use std::marker::Model;
+use std::mem::replace;
 
 /// What becomes of a client that is opened.
 #[derive(Clone, Copy, Debug, PartialEq, Eq)]
@@ -35,14 +40,6 @@ pub enum Opened {
     NoMemory,
 }
 
-// What was taken of a client in its turn: nothing; all whole lines that waited; or lines, and more may wait.
-#[derive(Clone, Copy, Debug, PartialEq, Eq)]
-enum Turn {
-    Nothing,
-    All,
-    More,
-}
-
 /// A controller and its clients.
 #[derive(Drop)]
 pub struct Hub {
@@ -50,12 +47,15 @@ pub struct Hub {
     clients: Vec<Option<Client>>,
     opened: u64,
     phase: Phase,
-    queue: Vec<u16>,
-    heard: Vec<u16>,
+    due: Due,
+    heard: Due,
+    // Room for a copy of those that are gone through.
+    room: Due,
 }
 
 impl Model for Hub {
     ghost use Rattle.std.specs.Prelude.{length};
+    ghost use Rattle.nrm_hub.specs.Due.{AreDue};
     ghost use Rattle.nrm_hub.specs.Hub.{HubValue};
     ghost use Rattle.nrm_hub.specs.Seats.{AreSeated};
 
@@ -68,7 +68,7 @@ impl Model for Hub {
       phase = h.phase;
     } };
 
-    ghost invariant = { λ h. AreSeated h.clients.items (length h.register.desks) };
+    ghost invariant = { λ h. AreSeated h.clients.items (length h.register.desks) × AreDue h.clients.items h.due h.heard };
 }
 
 impl Hub {
@@ -82,8 +82,9 @@ impl Hub {
             clients: Vec::new(alloc),
             opened: 0,
             phase: Phase::Settled,
-            queue: Vec::new(alloc),
-            heard: Vec::new(alloc),
+            due: Due::new(alloc),
+            heard: Due::new(alloc),
+            room: Due::new(alloc),
         }
     }
 
@@ -135,7 +136,7 @@ impl Hub {
         }
     }
 
-    // Makes places up to this one, and room for their turns.
+    // Makes places up to this one.
     fn make_place(&mut self, place: u16) -> Result<(), AllocError>
         ensures goes { Goes self.old self.new [] [] }
         ensures there { OnOk result (place < length self.new.clients) }
@@ -143,9 +144,7 @@ impl Hub {
         ensures opened { self.new.opened ≡ self.old.opened }
         ensures phase { self.new.phase ≡ self.old.phase }
     {
-        make_places(&mut self.clients, place)?;
-        self.queue.reserve(self.clients.len())?;
-        self.heard.reserve(self.clients.len())
+        make_places(&mut self.clients, place)
     }
 
     /// Opens a client at a place, with the name of its desk and its rights.
@@ -180,7 +179,7 @@ impl Hub {
         if let Some(client) = &mut self.clients[at] {
             if client.closing().is_none() {
                 client.came(piece);
-                enqueue(&mut self.queue, client, place);
+                list_came(&mut self.due, &mut self.heard, client, place);
             }
         }
     }
@@ -190,7 +189,13 @@ impl Hub {
         ensures goes { Goes self.old self.new (frame (header.Gone place) [] ∷ []) [] }
         ensures phase { self.new.phase ≡ self.old.phase }
     {
-        close_at(&mut self.clients, &mut self.queue, place, Why::Gone);
+        close_at(
+            &mut self.clients,
+            &mut self.due,
+            &mut self.heard,
+            place,
+            Why::Gone,
+        );
     }
 
     /// All rows that were given out are kept.
@@ -213,13 +218,20 @@ impl Hub {
         requires { IsDeskAt self.old place desk }
         ensures goes { Goes self.old self.new [] [] }
         ensures phase { self.new.phase ≡ self.old.phase }
+        ensures turn { Only HadTurn self.old.clients self.new.clients }
     {
         let Some(client) = self.client(earlier) else {
             return;
         };
         match client.desk() {
             Some(other) if other == desk && earlier != place => {
-                close_at(&mut self.clients, &mut self.queue, earlier, Why::Elsewhere);
+                close_at(
+                    &mut self.clients,
+                    &mut self.due,
+                    &mut self.heard,
+                    earlier,
+                    Why::Elsewhere,
+                );
             }
             _ => {}
         }
@@ -229,6 +241,7 @@ impl Hub {
     fn seat(&mut self, place: u16)
         ensures goes { Goes self.old self.new [] [] }
         ensures phase { self.new.phase ≡ self.old.phase }
+        ensures turn { Only HadTurn self.old.clients self.new.clients }
     {
         let Some(client) = self.client(place) else {
             return;
@@ -246,8 +259,15 @@ impl Hub {
         requires { self.old.phase ≢ phase.Asked }
         ensures goes { Goes self.old self.new [] [] }
         ensures phase { self.new.phase ≢ phase.Asked }
+        ensures turn { MakesSo HadTurn self.old.clients self.new.clients place }
     {
-        let took = take_at(alloc, &mut self.register, &mut self.clients, place);
+        let took = take_at(
+            alloc,
+            &mut self.register,
+            &mut self.clients,
+            &mut self.heard,
+            place,
+        );
         if let Took::Line | Took::LongLine = took {
             self.phase = Phase::Answering;
             self.seat(place);
@@ -256,53 +276,65 @@ impl Hub {
     }
 
     // Takes lines of the client at a place: no more than may be taken at a time, and none behind one that may take long.
-    fn take_turn(&mut self, alloc: Global, place: u16) -> Turn
+    fn take_turn(&mut self, alloc: Global, place: u16)
         requires { self.old.phase ≢ phase.Asked }
         ensures goes { Goes self.old self.new [] [] }
         ensures phase { self.new.phase ≢ phase.Asked }
+        ensures turn { MakesSo HadTurn self.old.clients self.new.clients place }
     {
-        let mut turn = Turn::Nothing;
-        for _ in 0..MOST_LINES {
-            match self.take_line(alloc, place) {
-                Took::Line => turn = Turn::More,
-                Took::LongLine => return Turn::More,
-                Took::Nothing if turn == Turn::Nothing => return Turn::Nothing,
-                Took::Nothing | Took::TooLong => return Turn::All,
+        let mut took = self.take_line(alloc, place);
+        for _ in 1..MOST_LINES {
+            match took {
+                Took::Line => took = self.take_line(alloc, place),
+                Took::Nothing | Took::LongLine | Took::TooLong => return,
             }
         }
-        turn
     }
 
-    // Has the client at a place be told, if lines of it were taken or it is to be closed, and queued again, if more of it may wait.
-    fn turn_over(&mut self, place: u16, turn: Turn)
+    // Those whose turn comes have it now, but for those that wait for nothing: in a list of their own, with those that are to be closed.
+    fn begin_round(&mut self, alloc: Global) -> Due
+        ensures same { self.new ≡ self.old }
+        ensures listed { AreListed IsAtRest self.new.clients result }
+    {
+        move_due(&mut self.clients, &self.due, &mut self.heard);
+        self.due.clear();
+        copied(alloc, &mut self.room, &self.heard)
+    }
+
+    // Those that are heard, in a list of their own.
+    fn heard_now(&mut self, alloc: Global) -> Due
+        ensures same { self.new ≡ self.old }
+        ensures listed { AreListed IsTold self.new.clients result }
+    {
+        copied(alloc, &mut self.room, &self.heard)
+    }
+
+    // Of those that were heard, those that wait for something more have another turn, behind all whose turn comes already.
+    fn end_round(&mut self)
+        requires { OfEach IsTold self.old }
         ensures { self.new ≡ self.old }
     {
-        let at = place as usize;
-        if at >= self.clients.len() {
-            return;
-        }
-        if let Some(client) = &mut self.clients[at] {
-            client.is_queued = false;
-            end_turn(&mut self.queue, &mut self.heard, client, place, turn);
-        }
+        move_due(&mut self.clients, &self.heard, &mut self.due);
+        self.heard.clear();
     }
 
-    // Gives each client whose turn it is its turn, in their order.
-    fn take_turns(&mut self, alloc: Global)
+    // A list that was gone through is room for another one.
+    fn put_back(&mut self, listed: Due)
+        ensures { self.new ≡ self.old }
+    {
+        self.room = listed;
+    }
+
+    // Gives each client of a list its turn, in their order.
+    fn take_turns(&mut self, alloc: Global, listed: &Due)
         requires { self.old.phase ≢ phase.Asked }
         ensures goes { Goes self.old self.new [] [] }
         ensures phase { self.new.phase ≢ phase.Asked }
+        ensures turns { AreSo HadTurn self.old.clients self.new.clients listed.now (due_count listed.now) }
     {
-        let count = self.queue.len();
-        for at in 0..count {
-            let place = match self.queue.get(at) {
-                Some(place) => *place,
-                None => break,
-            };
-            let turn = self.take_turn(alloc, place);
-            self.turn_over(place, turn);
+        for at in 0..listed.count() {
+            self.take_turn(alloc, listed.at(at));
         }
-        let _ = self.queue.drain(..count.min(self.queue.len()));
     }
 
     // Gives out the rows of all that was answered.
@@ -312,6 +344,7 @@ impl Hub {
         ensures cut { OnErr result (PutsCut self.old self.new (K.held sink.old) (K.held sink.new)) }
         ensures cause { HasCause (K.faults sink.old) (K.faults sink.new) result }
         ensures phase { self.new.phase ≡ phase.Asked }
+        ensures clients { self.new.clients ≡ self.old.clients }
     {
         self.phase = Phase::Asked;
         let put = put_keep(sink, self.register.text());
@@ -319,8 +352,8 @@ impl Hub {
         put
     }
 
-    /// Unless the word that all is kept is awaited: gives each client whose turn it is its turn, in their order, and then gives out the rows
-    /// of all that was answered, if anybody is to be told.
+    /// Unless the word that all is kept is awaited, or nobody waits for anything: gives each client that does its turn, in their order, and
+    /// then gives out the rows of all that was answered.
     ///
     /// # Errors
     /// A put failed; a front of the frame went out.
@@ -328,14 +361,19 @@ impl Hub {
         ensures puts { OnOk result (Puts self.old self.new (K.held sink.old) (K.held sink.new)) }
         ensures cut { OnErr result (PutsCut self.old self.new (K.held sink.old) (K.held sink.new)) }
         ensures cause { HasCause (K.faults sink.old) (K.faults sink.new) result }
+        ensures due { OnOk result (NothingIsDue self.new) }
+        ensures turns { OnOk result ((self.old.phase ≡ phase.Asked) ⊎ OfEach HadTurn self.new) }
     {
-        if self.phase == Phase::Asked || self.queue.is_empty() {
+        if self.phase == Phase::Asked {
             return Ok(());
         }
-        self.take_turns(alloc);
-        if self.heard.is_empty() {
+        let listed = self.begin_round(alloc);
+        if listed.is_nothing() {
+            self.put_back(listed);
             return Ok(());
         }
+        self.take_turns(alloc, &listed);
+        self.put_back(listed);
         self.ask_to_keep(sink)
     }
 
@@ -346,6 +384,7 @@ impl Hub {
         ensures cut { OnErr result (PutsCut self.old self.new (K.held sink.old) (K.held sink.new)) }
         ensures cause { HasCause (K.faults sink.old) (K.faults sink.new) result }
         ensures phase { self.new.phase ≡ phase.Settled }
+        ensures sent { WasSent self.old.clients self.new.clients place }
     {
         let at = place as usize;
         if at >= self.clients.len() {
@@ -354,7 +393,6 @@ impl Hub {
         let Some(client) = &mut self.clients[at] else {
             return Ok(());
         };
-        client.is_heard = false;
         if client.used() == 0 && client.told().is_empty() {
             return Ok(());
         }
@@ -370,6 +408,7 @@ impl Hub {
         ensures cut { OnErr result (PutsCut self.old self.new (K.held sink.old) (K.held sink.new)) }
         ensures cause { HasCause (K.faults sink.old) (K.faults sink.new) result }
         ensures phase { self.new.phase ≡ phase.Settled }
+        ensures closed { WasClosed self.old.clients self.new.clients place }
     {
         let Some(client) = self.client(place) else {
             return Ok(());
@@ -377,9 +416,7 @@ impl Hub {
         let Some(why) = client.closing() else {
             return Ok(());
         };
-        let is_queued = client.is_queued;
         self.clients[place as usize] = None;
-        dequeue(&mut self.queue, is_queued, place);
         put_close(sink, place, why)
     }
 
@@ -390,75 +427,124 @@ impl Hub {
         ensures cut { OnErr result (PutsCut self.old self.new (K.held sink.old) (K.held sink.new)) }
         ensures cause { HasCause (K.faults sink.old) (K.faults sink.new) result }
         ensures phase { self.new.phase ≡ phase.Settled }
+        ensures told { OnOk result (MakesSo IsTold self.old.clients self.new.clients place) }
     {
         self.send(sink, place)?;
         self.close(sink, place)
     }
 
-    /// Sends what waits for each client that was heard since the last word that all is kept, and closes those that are to be closed.
-    ///
-    /// # Errors
-    /// A put failed; a front of what was to be sent went out.
-    pub fn tell_all<K: Sink>(&mut self, sink: &mut K) -> Result<(), Failed>
+    // Sends what waits for each client of a list, and closes those of them that are to be closed.
+    fn tell_listed<K: Sink>(&mut self, sink: &mut K, listed: &Due) -> Result<(), Failed>
         requires { self.old.phase ≡ phase.Settled }
         ensures puts { OnOk result (Puts self.old self.new (K.held sink.old) (K.held sink.new)) }
         ensures cut { OnErr result (PutsCut self.old self.new (K.held sink.old) (K.held sink.new)) }
         ensures cause { HasCause (K.faults sink.old) (K.faults sink.new) result }
         ensures phase { self.new.phase ≡ phase.Settled }
+        ensures told { OnOk result (AreSo IsTold self.old.clients self.new.clients listed.now (due_count listed.now)) }
     {
-        let count = self.heard.len();
-        for at in 0..count {
-            let place = match self.heard.get(at) {
-                Some(place) => *place,
-                None => break,
-            };
-            self.tell(sink, place)?;
+        for at in 0..listed.count() {
+            self.tell(sink, listed.at(at))?;
         }
-        self.heard.clear();
+        Ok(())
+    }
+
+    /// Sends what waits for each client, and closes those that are to be closed.
+    ///
+    /// # Errors
+    /// A put failed; a front of what was to be sent went out.
+    pub fn tell_all<K: Sink>(&mut self, alloc: Global, sink: &mut K) -> Result<(), Failed>
+        requires { self.old.phase ≡ phase.Settled }
+        ensures puts { OnOk result (Puts self.old self.new (K.held sink.old) (K.held sink.new)) }
+        ensures cut { OnErr result (PutsCut self.old self.new (K.held sink.old) (K.held sink.new)) }
+        ensures cause { HasCause (K.faults sink.old) (K.faults sink.new) result }
+        ensures phase { self.new.phase ≡ phase.Settled }
+        ensures told { OnOk result (OfEach IsTold self.new) }
+    {
+        let listed = self.heard_now(alloc);
+        self.tell_listed(sink, &listed)?;
+        self.end_round();
+        self.put_back(listed);
         Ok(())
     }
 }
 
-// It will be the turn of the client at a place, if it isn't already.
-fn enqueue(queue: &mut Vec<u16>, client: &mut Client, place: u16)
-    ensures { client.new ≡ client.old }
+// Something is due at the place of a client.
+fn list(due: &mut Due, client: &mut Client, place: u16)
+    ensures client { client.new ≡ client.old }
+    ensures due { IsDue due.new place }
+    ensures still { StillDue due.old due.new }
 {
-    if !client.is_queued {
-        client.is_queued = queue.push(place).is_ok();
+    client.due_at = due.add(client.due_at, place);
+}
+
+// A copy of a list, in the room for it.
+fn copied(alloc: Global, room: &mut Due, listed: &Due) -> Due
+    ensures { StillDue listed.now result }
+{
+    let mut copy = replace(room, Due::new(alloc));
+    copy.copy(listed);
+    copy
+}
+
+// A piece came from the client at a place: its turn comes, or it is to be closed.
+fn list_came(due: &mut Due, heard: &mut Due, client: &mut Client, place: u16)
+    ensures client { client.new ≡ client.old }
+    ensures listed { IsDue heard.new place ⊎ ((client.old.closing ≡ None) × IsDue due.new place) }
+    ensures due { StillDueBeside place due.old due.new }
+    ensures heard { StillDue heard.old heard.new }
+{
+    if client.closing().is_none() {
+        list(due, client, place);
+    } else {
+        list_closing(due, heard, client, place);
     }
 }
 
-// The place of a client that is no more has no turn: who comes there next is queued anew.
-fn dequeue(queue: &mut Vec<u16>, is_queued: bool, place: u16) {
-    if is_queued {
-        queue.retain(|other| *other != place);
+// The client at a place is to be closed, so that it has no turn.
+fn list_closing(due: &mut Due, heard: &mut Due, client: &mut Client, place: u16)
+    ensures client { client.new ≡ client.old }
+    ensures listed { IsDue heard.new place }
+    ensures due { StillDueBeside place due.old due.new }
+    ensures heard { StillDue heard.old heard.new }
+{
+    due.strike(client.due_at, place);
+    list(heard, client, place);
+}
+
+// Something is due at the place of a client, unless it is at rest.
+fn list_unless_at_rest(due: &mut Due, client: &mut Client, place: u16)
+    ensures client { client.new ≡ client.old }
+    ensures listed { IsAtRest client.old ⊎ IsDue due.new place }
+    ensures still { StillDue due.old due.new }
+{
+    if !client.is_at_rest() {
+        list(due, client, place);
     }
 }
 
-// The client at a place will be told, if it isn't to be already.
-fn hear(heard: &mut Vec<u16>, client: &mut Client, place: u16)
-    ensures { client.new ≡ client.old }
+// Something is due at a place, unless nobody is there, or one who is at rest.
+fn list_at(clients: &mut Vec<Option<Client>>, due: &mut Due, place: u16)
+    ensures same { clients.new.items ≡ clients.old.items }
+    ensures listed { IsQuietAt clients.old.items place ⊎ IsDue due.new place }
+    ensures still { StillDue due.old due.new }
 {
-    if !client.is_heard {
-        client.is_heard = heard.push(place).is_ok();
+    let at = place as usize;
+    if at >= clients.len() {
+        return;
+    }
+    if let Some(client) = &mut clients[at] {
+        list_unless_at_rest(due, client, place);
     }
 }
 
-// The client at a place had its turn.
-fn end_turn(queue: &mut Vec<u16>, heard: &mut Vec<u16>, client: &mut Client, place: u16, turn: Turn)
-    ensures { client.new ≡ client.old }
+// Adds the places of a list to another one, but for those where nobody is, or one who is at rest.
+fn move_due(clients: &mut Vec<Option<Client>>, from: &Due, to: &mut Due)
+    ensures same { clients.new.items ≡ clients.old.items }
+    ensures moved { (place : ℕ) → place ≤ LAST_PLACE → IsDue from.now place → IsQuietAt clients.old.items place ⊎ IsDue to.new place }
+    ensures still { StillDue to.old to.new }
 {
-    match turn {
-        Turn::Nothing => {
-            if client.closing().is_some() {
-                hear(heard, client, place);
-            }
-        }
-        Turn::All => hear(heard, client, place),
-        Turn::More => {
-            hear(heard, client, place);
-            enqueue(queue, client, place);
-        }
+    for at in 0..from.count() {
+        list_at(clients, to, from.at(at));
     }
 }
 
@@ -474,8 +560,9 @@ fn make_places(clients: &mut Vec<Option<Client>>, place: u16) -> Result<(), Allo
 }
 
 // The client at a place is to be closed, if somebody is there who isn't yet.
-fn close_at(clients: &mut Vec<Option<Client>>, queue: &mut Vec<u16>, place: u16, why: Why)
-    ensures { ClosesAt clients.old.items place why clients.new.items }
+fn close_at(clients: &mut Vec<Option<Client>>, due: &mut Due, heard: &mut Due, place: u16, why: Why)
+    ensures closes { ClosesAt clients.old.items place why clients.new.items }
+    ensures due { AreDue clients.old.items due.old heard.old → AreDue clients.new.items due.new heard.new }
 {
     let at = place as usize;
     if at >= clients.len() {
@@ -484,7 +571,7 @@ fn close_at(clients: &mut Vec<Option<Client>>, queue: &mut Vec<u16>, place: u16,
     if let Some(client) = &mut clients[at] {
         if client.closing().is_none() {
             client.close(why);
-            enqueue(queue, client, place);
+            list_closing(due, heard, client, place);
         }
     }
 }
@@ -494,11 +581,13 @@ fn take_at(
     alloc: Global,
     register: &mut Register,
     clients: &mut Vec<Option<Client>>,
+    heard: &mut Due,
     place: u16,
 ) -> Took
     requires { AreSeated clients.old.items (length register.old.desks) }
     ensures takes { TakesAt register.old register.new clients.old.items place clients.new.items result }
     ensures seated { AreSeated clients.new.items (length register.new.desks) }
+    ensures due { (due : DueValue) → AreDue clients.old.items due heard.old → AreDue clients.new.items due heard.new }
 {
     let at = place as usize;
     if at >= clients.len() {
@@ -510,5 +599,7 @@ fn take_at(
     if client.closing().is_some() {
         return Took::Nothing;
     }
-    client.take(alloc, register)
+    let took = client.take(alloc, register);
+    list(heard, client, place);
+    took
 }

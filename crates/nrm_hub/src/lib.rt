@@ -5,6 +5,8 @@
 mod again;
 mod asked;
 mod client;
+mod due;
+mod front;
 mod hub;
 mod laws;
 mod limits;

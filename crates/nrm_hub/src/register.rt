@@ -10,6 +10,7 @@ ghost use Rattle.nrm_hub.specs.Register.{DeskValue, IsTold, Joins, Passes, desk_
 ghost use Rattle.nrm_hub.specs.declared.limits.TheConstants.{LAST_SEQUENCE, MOST_DESKS, MOST_HELD, MOST_ROWS};
 
 use crate::asked::allows;
+use crate::front::drop_front;
 use crate::limits::{MOST_DESKS, MOST_HELD};
 use crate::row::Row;
 use crate::text::{ROW_ROOM, row_line};
@@ -87,14 +88,6 @@ fn row_under(held: &[Row], sequence: u64) -> Option<Row>
     held.iter().find(|row| row.sequence == sequence).copied()
 }
 
-// Drops the first hundred rows.
-fn drop_oldest(held: &mut Vec<Row>)
-    requires { MOST_HELD ≤ vec_len held.old }
-    ensures { held.new.items ≡ drop MOST_HELD held.old.items }
-{
-    held.drain(..MOST_HELD);
-}
-
 // Adds a row to those that are held, where there is room for it, and drops the first hundred where there are two hundred.
 fn hold(held: &mut Vec<Row>, sequence: u64, command: &Command, reply: Reply)
     requires { vec_len held.old < vec_capacity held.old }
@@ -106,7 +99,7 @@ fn hold(held: &mut Vec<Row>, sequence: u64, command: &Command, reply: Reply)
         reply,
     });
     if held.len() >= 2 * MOST_HELD {
-        drop_oldest(held);
+        drop_front(held, MOST_HELD);
     }
 }
 

@@ -1,9 +1,9 @@
 -- What is done with frames.
-use Rattle.std.specs.Prelude.{ℕ, ◌≡◌, ◌≢◌, ◌⊎◌, Bool, true, false, List, [], ◌∷◌, ◌++◌, flat_map, length, Option, Result, Ok, Err}
+use Rattle.std.specs.Prelude.{ℕ, ◌≡◌, Bool, true, false, List, [], ◌∷◌, ◌++◌, flat_map, length, Option, Result, Ok, Err}
 use Rattle.std.specs.Prelude.{if◌then◌else◌}
 use Rattle.std.specs.Io.KnownBytes.{Appends, Consumes, IsAtEnd}
 use Rattle.nrm_edge.specs.Causes.{Rose}
-use Rattle.nrm_edge.specs.Pieces.{AppendsCut, AppendsFront}
+use Rattle.nrm_edge.specs.Pieces.{AppendsFront}
 use Rattle.nrm_edge.specs.declared.source.Failed.{Failed}
 use Rattle.nrm_frames.specs.Frames.{Frame}
 use Rattle.nrm_frames.specs.Outgoing.{Output, output_text}
@@ -13,7 +13,6 @@ use Rattle.nrm_hub.specs.Again.{FailsAgain}
 use Rattle.nrm_hub.specs.Goes.{Goes}
 use Rattle.nrm_hub.specs.Hub.{HubValue}
 use Rattle.nrm_hub.specs.World.{World, frame}
-use Rattle.nrm_hub.specs.declared.again.AgainFault.{AgainFault}
 use Rattle.nrm_hub.specs.declared.phase.Phase.TheVariants as phase
 use Rattle.nrm_desking.specs.Served.{MayNotCome, is_ready}
 use Rattle.nrm_desking.specs.declared.handling.Handled.{Handled}

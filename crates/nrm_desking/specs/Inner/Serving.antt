@@ -1,5 +1,5 @@
 -- What holds between two takes.
-use Rattle.std.specs.Prelude.{ℕ, ◌≡◌, ◌≢◌, ◌⊎◌, ◌<◌, ◌≤◌, Bool, true, false, List, [], ◌++◌, drop, length, Option, Some, None, ⊤}
+use Rattle.std.specs.Prelude.{ℕ, ◌≡◌, ◌≢◌, ◌⊎◌, ◌<◌, ◌≤◌, Bool, false, List, [], ◌++◌, drop, length, Option, Some, None, ⊤}
 use Rattle.std.specs.Prelude.{Result, Ok, Err}
 use Rattle.std.specs.Io.KnownBytes.{Consumes, IsAtEnd, Keeps}
 use Rattle.nrm_control.specs.Standing.{ControlValue}
@@ -12,7 +12,7 @@ use Rattle.nrm_session.specs.Serving.{Streams}
 use Rattle.nrm_desking.specs.Inner.Handling.{Handles, IsFresh}
 use Rattle.nrm_desking.specs.declared.handling.Handled.{Handled}
 use Rattle.nrm_desking.specs.declared.handling.Handled.TheVariants as handled
-use Rattle.nrm_desking.specs.Served.{HasEnded, HasNoRow, IsNoFrame, Served, ServedCut, is_ready}
+use Rattle.nrm_desking.specs.Served.{HasEnded, HasNoRow, IsNoFrame, NothingIsLeft, Served, ServedCut, is_ready}
 use Rattle.nrm_desking.specs.declared.incoming.TheConstants.{ROOM}
 use Rattle.nrm_desking.specs.declared.serving.ServeEnd.{ServeEnd}
 use Rattle.nrm_desking.specs.declared.serving.ServeEnd.TheVariants as end
@@ -110,7 +110,8 @@ TakesOr old new coming coming' before now (Err (end.NotAgain fault)) = ⊥
 -- how the serving of frames ended
 abbrev pub ServesTo : ControlValue → Streams → Streams → ServeEnd → Type 0
 ServesTo start before after end.Done = (served : Served start before after) × HasEnded served
-ServesTo start before after end.ReadFault = Served start before after × Rose before.source_faults after.source_faults
+ServesTo start before after end.ReadFault =
+    ((served : Served start before after) × NothingIsLeft served) × Rose before.source_faults after.source_faults
 ServesTo start before after end.WriteFault = ServedCut start before after × Rose before.sink_faults after.sink_faults
 ServesTo start before after end.TooLong = Served start before after
 ServesTo start before after end.NoFrame = (served : Served start before after) × IsNoFrame served

@@ -1,5 +1,5 @@
 -- What is asked for is within the limits.
-use Rattle.std.specs.Prelude.{ℕ, ◌≤◌, Option, Some, None, ⊤}
+use Rattle.std.specs.Prelude.{ℕ, Option, Some, None, ⊤}
 use Rattle.std.specs.Int.{IsInRange}
 use Rattle.nrm_stream.specs.Commands.{IsCommand}
 use Rattle.nrm_hub.specs.declared.limits.TheConstants.{LAST_SEQUENCE}

@@ -1,21 +1,16 @@
 -- The clients of a hub by their places.
-use Rattle.std.specs.Prelude.{ℕ, ◌≡◌, ◌<◌, List, [], ◌∷◌, ◌++◌, All, get_or, replicate, slice_set, Option, Some, None, ⊤}
-use Rattle.nrm_frames.specs.Outgoing.{close}
-use Rattle.nrm_frames.specs.declared.header.Header.TheVariants as header
-use Rattle.nrm_frames.specs.declared.rights.Rights.{Rights}
+use Rattle.std.specs.Prelude.{ℕ, ◌≡◌, ◌<◌, ◌≤◌, ◌⊎◌, List, [], ◌++◌, get_or, replicate, slice_set, Option, Some, None}
+use Rattle.nrm_frames.specs.declared.limits.TheConstants.{LAST_PLACE}
 use Rattle.nrm_frames.specs.declared.why.Why.{Why}
-use Rattle.nrm_frames.specs.declared.why.Why.TheVariants as why
 use Rattle.nrm_hub.specs.Clients.{ClientValue, closed_for}
-use Rattle.nrm_hub.specs.Goes.{Goes}
 use Rattle.nrm_hub.specs.Hub.{HubValue, client_at}
 use Rattle.nrm_hub.specs.Inner.Taking.{IsTook}
-use Rattle.nrm_hub.specs.Seats.{IsBelow}
 use Rattle.nrm_hub.specs.Register.{RegisterValue}
-use Rattle.nrm_hub.specs.World.{TakesNothing, frame}
+use Rattle.nrm_hub.specs.Due.{DueValue, IsDue, due_at}
+use Rattle.nrm_hub.specs.Waiting.{IsAtRest}
+use Rattle.nrm_hub.specs.World.{TakesNothing}
 use Rattle.nrm_hub.specs.declared.client.Took.{Took}
 use Rattle.nrm_hub.specs.declared.client.Took.TheVariants as took
-use Rattle.nrm_hub.specs.declared.hub.Opened.{Opened}
-use Rattle.nrm_hub.specs.declared.hub.Opened.TheVariants as is
 
 -- the client at a place is this desk
 abbrev pub IsDeskAt : HubValue → ℕ → ℕ → Type 0
@@ -31,8 +26,46 @@ pub data ClosesAt (clients : List (Option ClientValue)) (place : ℕ) (reason : 
 pub data TakesAt (r r' : RegisterValue) (clients : List (Option ClientValue)) (place : ℕ) : List (Option ClientValue) → Took → Type 0 where
   takes : (c c' : ClientValue) (result : Took) → get_or clients place None ≡ Some c → c.closing ≡ None → IsTook r r' c c' result
       → TakesAt r r' clients place (slice_set clients place (Some c')) result
-  nobody : r' ≡ r → TakesAt r r' clients place clients took.Nothing
+  nobody : r' ≡ r → TakesNothing (get_or clients place None) → TakesAt r r' clients place clients took.Nothing
 
 -- places that nobody was at were added behind the others
 abbrev pub HasPlaces : List (Option ClientValue) → List (Option ClientValue) → Type 0
 HasPlaces old new = (count : ℕ) × (new ≡ old ++ replicate count None)
+
+-- each client that is there is as it was, or so
+abbrev pub Only : (ClientValue → Type 0) → List (Option ClientValue) → List (Option ClientValue) → Type 0
+Only P old new =
+    (place : ℕ) (c : ClientValue) → get_or new place None ≡ Some c → (get_or old place None ≡ Some c) ⊎ P c
+
+-- and the one at this place is so
+pub record MakesSo (P : ClientValue → Type 0) (old new : List (Option ClientValue)) (place : ℕ) : Type 0 where
+  pub so : (c : ClientValue) → get_or new place None ≡ Some c → P c
+  pub only : Only P old new
+
+-- all others are as they were
+abbrev pub OthersStay : List (Option ClientValue) → List (Option ClientValue) → ℕ → Type 0
+OthersStay old new place = (other : ℕ) → (other ≡ place) ⊎ (get_or new other None ≡ get_or old other None)
+
+-- what waited for the client at a place was sent, and all others are as they were
+pub record WasSent (old new : List (Option ClientValue)) (place : ℕ) : Type 0 where
+  pub sent : (c : ClientValue) → get_or new place None ≡ Some c → (c.told ≡ []) × (c.used ≡ 0)
+  pub others : OthersStay old new place
+
+-- the client at a place was closed, if it was to be, and all others are as they were
+pub record WasClosed (old new : List (Option ClientValue)) (place : ℕ) : Type 0 where
+  pub left : (c : ClientValue) → get_or new place None ≡ Some c → (get_or old place None ≡ Some c) × (c.closing ≡ None)
+  pub others : OthersStay old new place
+
+-- nobody is at a place, or one who is at rest
+abbrev pub IsQuietAt : List (Option ClientValue) → ℕ → Type 0
+IsQuietAt clients place = (c : ClientValue) → get_or clients place None ≡ Some c → IsAtRest c
+
+-- each client is so, or its place is in a list
+abbrev pub AreListed : (ClientValue → Type 0) → List (Option ClientValue) → DueValue → Type 0
+AreListed P clients listed =
+    (place : ℕ) (c : ClientValue) → place ≤ LAST_PLACE → get_or clients place None ≡ Some c → P c ⊎ IsDue listed place
+
+-- those at so many places of a list are so, and each other client is as it was, or so
+pub record AreSo (P : ClientValue → Type 0) (old new : List (Option ClientValue)) (listed : DueValue) (count : ℕ) : Type 0 where
+  pub only : Only P old new
+  pub done : (at : ℕ) (c : ClientValue) → at < count → get_or new (due_at listed at) None ≡ Some c → P c

@@ -1,10 +1,11 @@
 -- What private functions take of a client.
-use Rattle.std.specs.Prelude.{ℕ, ◌≡◌, ◌==◌, ◌+◌, ◌<◌, ◌≤◌, true, false, List, [], ◌∷◌, ◌++◌, All, drop, length, position, take, Option, Some, None, ⊤}
+use Rattle.std.specs.Prelude.{ℕ, ◌≡◌, ◌==◌, ◌+◌, ◌<◌, ◌≤◌, ◌⊎◌, false, List, All, drop, length, position, take, Some, None, ⊤}
 use Rattle.nrm_frames.specs.declared.why.Why.TheVariants as why
 use Rattle.nrm_hub.specs.Clients.{ClientValue, Hears, after_line, closed_for, joined_as, with_piece}
 use Rattle.nrm_hub.specs.Lines.{How, memory_line}
 use Rattle.nrm_hub.specs.Register.{Joins, RegisterValue, desk_at}
 use Rattle.nrm_hub.specs.Taking.{TakesLine}
+use Rattle.nrm_hub.specs.Waiting.{HasNoLine}
 use Rattle.nrm_hub.specs.World.{IsTooMuch}
 use Rattle.nrm_hub.specs.declared.limits.TheConstants.{MOST_LINE, MOST_WAITING}
 use Rattle.nrm_hub.specs.declared.client.Took.{Took}
@@ -74,7 +75,7 @@ IsLine took.TooLong = ⊥
 
 -- what was taken, by what is said of it
 abbrev pub IsTook : RegisterValue → RegisterValue → ClientValue → ClientValue → Took → Type 0
-IsTook r r' c c' took.Nothing = (r' ≡ r) × (c' ≡ c)
+IsTook r r' c c' took.Nothing = (r' ≡ r) × (c' ≡ c) × ((0 < c.used) ⊎ HasNoLine c)
 IsTook r r' c c' took.Line = TakesNext r r' c c'
 IsTook r r' c c' took.LongLine = TakesNext r r' c c'
 IsTook r r' c c' took.TooLong = (r' ≡ r) × (c' ≡ closed_for c why.Long) × (MOST_LINE ≤ length c.coming)

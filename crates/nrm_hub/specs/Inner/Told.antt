@@ -1,5 +1,5 @@
 -- Ends of the line that says how many seats could be had.
-use Rattle.std.specs.Prelude.{ℕ, List, [], ◌∷◌, ◌++◌, decimal, map, flat_map}
+use Rattle.std.specs.Prelude.{ℕ, List, [], ◌∷◌, ◌++◌, decimal, flat_map}
 use Rattle.nrm_text.specs.Words.{spaced}
 use Rattle.nrm_account.specs.Largest.{beyond, largest_party}
 use Rattle.nrm_control.specs.Standing.{ControlValue}

@@ -1,4 +1,4 @@
-use Rattle.std.proofs.Common.{◌≡◌, List, ℕ, Bool, [], length, nat_eq, true, false, refl, arith}
+use Rattle.std.proofs.Common.{◌≡◌, List, ℕ, Bool, [], length, nat_eq, true, refl, arith}
 use Rattle.std.proofs.lemmas.Bool.Decides.{nat_tests}
 use Rattle.nrm_frames.specs.Outgoing.{ready}
 use Rattle.nrm_desking.proofs.Frames.{nothing-of, put-handled, readied-goes}

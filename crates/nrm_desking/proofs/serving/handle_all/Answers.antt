@@ -1,6 +1,5 @@
-use Rattle.std.proofs.Common.{◌≡◌, ◌∙◌, ℕ, List, Option, None, Some, sym, subst}
+use Rattle.std.proofs.Common.{◌≡◌, ◌∙◌, ℕ, List, None, Some, sym, subst}
 use Rattle.nrm_desking.specs.Inner.Serving.{HandlesFirst, at_sink, end_of}
-use Rattle.nrm_desking.specs.declared.handling.Handled.{Handled}
 use Rattle.nrm_desking.proofs.Serves.{faults-as, first-ends, first-next, none-waits}
 use Rattle.nrm_desking.proofs.serving.handle_all.Goals as goal
 

@@ -1,5 +1,5 @@
 use Rattle.std.proofs.Common.{arith, inr}
-use Rattle.nrm_desking.proofs.Rooms.{IsWhole, whole-is}
+use Rattle.nrm_desking.proofs.Rooms.{whole-is}
 use Rattle.nrm_desking.proofs.serving.handle_first.Goals as goal
 
 pub handle-handled-requires-clause-payload : goal.handle-handled-requires-clause-payload

@@ -1,9 +1,9 @@
-use Rattle.std.proofs.Common.{ℕ, ◌≡◌, ◌∙◌, List, [], None, Some, false, ap, refl, subst, sym}
+use Rattle.std.proofs.Common.{ℕ, ◌≡◌, ◌∙◌, List, None, Some, false, ap, refl, subst, sym}
 use Rattle.nrm_frames.specs.Cutting.{cut_of}
 use Rattle.nrm_session.specs.Serving.{Streams, streams}
 use Rattle.nrm_desking.specs.Inner.Serving.{Stands}
 use Rattle.nrm_desking.specs.declared.serving.ServeEnd.TheVariants as end
-use Rattle.nrm_desking.proofs.Serves.{piece-ends, piece-sank, take-ends, take-on, take-same}
+use Rattle.nrm_desking.proofs.Serves.{piece-ends, piece-sank, take-ends, take-on}
 use Rattle.nrm_desking.proofs.Worlds.{stands-first}
 use Rattle.nrm_desking.proofs.serving.serve.Goals as goal
 
@@ -14,6 +14,7 @@ loop-taken-init g c =
     record {
       stands = subst (λ (w : List ℕ). Stands control at at c.args.hub.now w false) (sym c.requires.nothing) (stands-first control at c.args.hub.now c.requires.begins);
       waits = ap cut_of c.requires.nothing;
+      due = λ never. cc;
       source_same = refl;
       sink_same = refl;
       sent = λ s. s;
@@ -25,6 +26,7 @@ returns-in-Err-clause-serves g c =
     let at = streams g.S.Source.coming g.S.Source.faults g.K.Sink.held g.K.Sink.faults in
     take-ends c.args.hub.now.register.control (at c.args.source.now c.args.sink.now) (at l.source l.sink) l.hub l.incoming c.take_more.new.incoming l.is_ready
     (g.S.Source.coming c.take_more.new.source) (g.S.Source.faults c.take_more.new.source) l.invariant.stands c.in-Err.end c.in-Err.ensures l.invariant.source_same
+    l.invariant.due
 
 pub returns-in-Some-clause-serves : goal.returns-in-Some-clause-serves
 returns-in-Some-clause-serves g c =
@@ -63,6 +65,7 @@ loop-taken-preserved g c =
     record {
       stands = on;
       waits = cut;
+      due = c.in_default.ensures.due refl;
       source_same = c.in-Ok.ensures.3 ∙ l.invariant.source_same;
       sink_same = sank ∙ l.invariant.sink_same;
       sent = λ _. c.in_default.ensures.sent (λ (never : None ≡ Some end.WriteFault). cc);

@@ -1,5 +1,4 @@
-use Rattle.std.proofs.Common.{◌≡◌, ◌≢◌, ◌∙◌, List, ℕ, [], Some, ap, inl, refl, subst}
-use Rattle.std.proofs.KnownBytes.{Keeps-refl}
+use Rattle.std.proofs.Common.{Some, ap, refl, subst}
 use Rattle.nrm_control.specs.Standing.{ControlValue}
 use Rattle.nrm_outside.specs.Outside.{Outside, outside}
 use Rattle.nrm_hub.specs.Hub.{HubValue}

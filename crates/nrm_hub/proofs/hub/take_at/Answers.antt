@@ -1,13 +1,19 @@
 -- The client at the place is read, and written back.
-use Rattle.std.proofs.Common.{ℕ, ◌≡◌, ◌<◌, ◌∙◌, List, Option, Some, None, length, get_or, refl, sym, ap, subst, arith}
+use Rattle.std.proofs.Common.{◌≡◌, ◌<◌, ◌∙◌, List, Option, Some, None, length, get_or, refl, sym, ap, subst, arith}
 use Rattle.nrm_hub.specs.Clients.{ClientValue}
+use Rattle.std.specs.Prelude.{slice_set}
+use Rattle.nrm_hub.specs.Due.{AreDue}
+use Rattle.nrm_hub.proofs.DuePlaces.{set-heard, still-beside, still-same}
 use Rattle.nrm_hub.specs.Inner.Seats.{TakesAt, nobody, takes}
 use Rattle.nrm_hub.specs.declared.client.Took.TheVariants as took
-use Rattle.nrm_hub.proofs.HubPlaces.{at-place, none-of, unchanged}
+use Rattle.nrm_hub.specs.World.{TakesNothing}
+use Rattle.std.proofs.lemmas.List.{get_or_past}
+use Rattle.nrm_hub.proofs.HubPlaces.{at-place, none-of, takes-nothing, unchanged}
 use Rattle.nrm_hub.proofs.hub.take_at.Goals as goal
 
 pub returns-then-at-len-clause-takes : goal.returns-then-at-len-clause-takes
-returns-then-at-len-clause-takes c = nobody refl
+returns-then-at-len-clause-takes c =
+    nobody refl (subst TakesNothing (sym (get_or_past c.args.clients.now.items c.args.place None (omega (arith, c.args.clients.now.ok.0)))) tt)
 
 pub returns-in_default-clause-takes : goal.returns-in_default-clause-takes
 returns-in_default-clause-takes c =
@@ -15,7 +21,8 @@ returns-in_default-clause-takes c =
     let clients = c.args.clients.now.items in
     let within : c.args.place < length clients = omega (arith, c.args.clients.now.ok.0) in
     subst (λ (cs : List (Option ClientValue)). TakesAt r r clients c.args.place cs took.Nothing)
-    (sym (unchanged clients c.args.place c.index_mut.result.now within c.index_mut.ensures.value)) (nobody refl)
+    (sym (unchanged clients c.args.place c.index_mut.result.now within c.index_mut.ensures.value))
+    (nobody refl (subst TakesNothing (sym (at-place clients c.args.place c.index_mut.result.now within c.index_mut.ensures.value ∙ c.in_default.is)) tt))
 
 pub returns-then-is_some-clause-takes : goal.returns-then-is_some-clause-takes
 returns-then-is_some-clause-takes c =
@@ -25,12 +32,39 @@ returns-then-is_some-clause-takes c =
     let read : Some c.in-Some.client ≡ get_or clients c.args.place (Some c.in-Some.client) =
     sym c.in-Some.is ∙ c.index_mut.ensures.value ∙ ap (λ (x : Option ClientValue). get_or clients c.args.place x) c.in-Some.is in
     subst (λ (cs : List (Option ClientValue)). TakesAt r r clients c.args.place cs took.Nothing)
-    (sym (unchanged clients c.args.place (Some c.in-Some.client) within read)) (nobody refl)
+    (sym (unchanged clients c.args.place (Some c.in-Some.client) within read))
+    (nobody refl (subst TakesNothing (sym (at-place clients c.args.place (Some c.in-Some.client) within read))
+    (takes-nothing c.in-Some.client c.closing.result c.closing.ensures (sym c.if-is_some.ensures))))
 
 pub returns-clause-takes : goal.returns-clause-takes
 returns-clause-takes c =
     let clients = c.args.clients.now.items in
     let within : c.args.place < length clients = omega (arith, c.args.clients.now.ok.0) in
-    takes c.in-Some.client c.take.new.self c.take.result
+    let r = c.args.register.now in
+    subst (λ (x : ClientValue). TakesAt r c.take-took.new.register clients c.args.place (slice_set clients c.args.place (Some x)) c.take-took.result)
+    (sym c.list.ensures.client)
+    (takes c.in-Some.client c.take-took.new.self c.take-took.result
     (at-place clients c.args.place c.index_mut.result.now within c.index_mut.ensures.value ∙ c.in-Some.is)
-    (sym c.closing.ensures ∙ none-of c.closing.result (sym c.if-is_some.ensures)) c.take.ensures.took
+    (sym c.closing.ensures ∙ none-of c.closing.result (sym c.if-is_some.ensures)) c.take-took.ensures.took)
+
+pub returns-in_default-clause-due : goal.returns-in_default-clause-due
+returns-in_default-clause-due c due are =
+    let clients = c.args.clients.now.items in
+    let within : c.args.place < length clients = omega (arith, c.args.clients.now.ok.0) in
+    subst (λ (cs : List (Option ClientValue)). AreDue cs due c.args.heard.now)
+    (sym (unchanged clients c.args.place c.index_mut.result.now within c.index_mut.ensures.value)) are
+
+pub returns-then-is_some-clause-due : goal.returns-then-is_some-clause-due
+returns-then-is_some-clause-due c due are =
+    let clients = c.args.clients.now.items in
+    let within : c.args.place < length clients = omega (arith, c.args.clients.now.ok.0) in
+    subst (λ (cs : List (Option ClientValue)). AreDue cs due c.args.heard.now)
+    (sym (unchanged clients c.args.place (Some c.in-Some.client) within
+    (sym c.in-Some.is ∙ c.index_mut.ensures.value ∙ ap (λ (x : Option ClientValue). get_or clients c.args.place x) c.in-Some.is))) are
+
+pub returns-clause-due : goal.returns-clause-due
+returns-clause-due c due are =
+    let clients = c.args.clients.now.items in
+    let within : c.args.place < length clients = omega (arith, c.args.clients.now.ok.0) in
+    set-heard clients due due c.args.heard.now c.list.new.due c.args.place (Some c.list.new.client) within
+    (still-beside c.args.place due due (still-same due)) c.list.ensures.still c.list.ensures.due are

@@ -1,5 +1,5 @@
 -- A number beyond the last is refused, and a greeting that comes late is bad.
-use Rattle.std.proofs.Common.{◌∙◌, refl, sym}
+use Rattle.std.proofs.Common.{◌∙◌, refl}
 use Rattle.nrm_hub.specs.Lines.{bad_line, greets_late, is_beyond, otherwise}
 use Rattle.nrm_hub.proofs.LineAnswers.{answered-line}
 use Rattle.nrm_hub.proofs.line.answer_line.Goals as goal

@@ -1,5 +1,5 @@
-use Rattle.std.proofs.Common.{ℕ, ◌≡◌, ◌∙◌, ◌+◌, ◌-◌, ◌<◌, ◌≤◌, List, length, take, drop, ap, sym, arith, subst, refl}
-use Rattle.std.proofs.lemmas.List.{length-drop, length-take-le, with_items_is}
+use Rattle.std.proofs.Common.{ℕ, ◌≡◌, ◌∙◌, ◌+◌, ◌-◌, ◌<◌, ◌≤◌, List, length, take, ap, sym, arith, refl}
+use Rattle.std.proofs.lemmas.List.{length-take-le, with_items_is}
 use borrow.Rule.Slice.PartMut.{mid_of, put_mid}
 use Rattle.nrm_desking.proofs.Buffers.{into-size, taken-behind, whole-size}
 use Rattle.nrm_desking.proofs.incoming.Incoming.take.Goals as goal

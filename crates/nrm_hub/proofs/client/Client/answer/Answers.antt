@@ -1,5 +1,5 @@
 -- The line is answered, and what became of it is entered.
-use Rattle.std.proofs.Common.{ℕ, ◌≡◌, ◌∙◌, ◌+◌, ◌<◌, List, Some, ap, arith, drop, take, subst, sym}
+use Rattle.std.proofs.Common.{ℕ, ◌≡◌, ◌∙◌, ◌<◌, List, Some, ap, arith, drop, take, subst, sym}
 use Rattle.nrm_frames.specs.declared.why.Why.TheVariants as why
 use Rattle.nrm_hub.specs.Asked.{asked_in}
 use Rattle.nrm_hub.specs.Clients.{ClientValue, closed_for}

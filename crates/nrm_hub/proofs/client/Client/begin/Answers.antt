@@ -1,5 +1,5 @@
 -- It becomes a desk by its own name, and then the line is answered.
-use Rattle.std.proofs.Common.{ℕ, ◌≡◌, ◌∙◌, ap, subst, sym}
+use Rattle.std.proofs.Common.{ℕ, ◌≡◌, ◌∙◌, ap, subst}
 use Rattle.nrm_hub.specs.Clients.{ClientValue, joined_as}
 use Rattle.nrm_hub.specs.Inner.Taking.{TakesIts, joined, taken}
 use Rattle.nrm_hub.specs.Register.{Joins, desk_at}

@@ -1,5 +1,5 @@
 -- A greeting.
-use Rattle.std.proofs.Common.{ℕ, ◌≡◌, ◌∙◌, List, ap, subst, sym, true, false}
+use Rattle.std.proofs.Common.{ℕ, ◌≡◌, ◌∙◌, List, ap, subst, true, false}
 use Rattle.std.specs.Prelude.{unwrap_or}
 use Rattle.nrm_hub.specs.Clients.{ClientValue}
 use Rattle.nrm_hub.specs.Inner.Taking.{Excuses}

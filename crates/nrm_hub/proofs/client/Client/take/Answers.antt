@@ -1,11 +1,10 @@
 -- A line is looked for at the front alone.
-use Rattle.std.proofs.Common.{ℕ, ◌≡◌, ◌∙◌, ◌-◌, ◌<◌, ◌≤◌, ◌==◌, List, None, Some, ap, arith, drop, false, length, length-drop, refl, subst, sym, take}
+use Rattle.std.proofs.Common.{ℕ, inr, ◌≡◌, ◌∙◌, ◌-◌, ◌≤◌, ◌==◌, List, None, Some, ap, arith, drop, false, length, length-drop, refl, subst, sym, take}
 use Rattle.std.specs.Prelude.{All, position}
-use Rattle.nrm_frames.specs.declared.why.Why.TheVariants as why
-use Rattle.nrm_hub.specs.Clients.{ClientValue, closed_for}
+use Rattle.nrm_hub.specs.Clients.{ClientValue}
 use Rattle.nrm_hub.specs.Inner.Taking.{Takes, line, nothing, too_long}
 use Rattle.nrm_hub.specs.declared.limits.TheConstants.{MOST_LINE}
-use Rattle.nrm_hub.proofs.ClientLines.{front-place, none-passes, takes-seated, took-line}
+use Rattle.nrm_hub.proofs.ClientLines.{front-place, no-line, none-passes, takes-seated, took-line}
 use Rattle.nrm_hub.proofs.client.Client.take.Goals as goal
 
 pub returns-then-self-gt-MOST_USED-clause-takes : goal.returns-then-self-gt-MOST_USED-clause-takes
@@ -57,6 +56,21 @@ returns-in-Some-clause-took c =
 
 pub returns-in-None-clause-takes : goal.returns-in-None-clause-takes
 returns-in-None-clause-takes c = nothing
+
+pub returns-in-None-clause-took : goal.returns-in-None-clause-took
+returns-in-None-clause-took c =
+    let coming : List ℕ = c.args.self.now.coming in
+    let is : drop c.self.inside.start c.self.inside.bytes.items ≡ coming = ap (λ (x : ClientValue). x.coming) c.self.view_is in
+    let count : length coming ≡ length c.self.inside.bytes.items - c.self.inside.start =
+    ap (λ (b : List ℕ). length b) (sym is) ∙ length-drop c.self.inside.start c.self.inside.bytes.items in
+    let waits : c.min.result ≡ length coming =
+    omega (arith, count, c.min.ensures, c.len.ensures, c.self.inside.bytes.ok.0, c.if-waiting-lt-MOST_LINE.true) in (
+      refl,
+      refl,
+      inr (no-line c.args.self.now c.self.inside.start c.min.result c.self.inside.bytes.items c.deref.result.now c.part.result.now c.line_end.result
+          c.part.ensures c.deref.ensures.value is waits (omega (arith, waits, count, c.len.ensures, c.self.inside.bytes.ok.0, c.if-waiting-lt-MOST_LINE.true))
+          c.line_end.ensures c.in-None.is),
+    )
 
 long-now : (c : goal.After-close) → (MOST_LINE ≤ length c.args.self.now.coming) × All (λ byte. (byte == 10) ≡ false) (take MOST_LINE c.args.self.now.coming)
 long-now c =

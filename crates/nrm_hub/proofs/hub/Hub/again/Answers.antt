@@ -13,8 +13,10 @@ use Rattle.nrm_hub.proofs.hub.Hub.again.Goals as goal
 
 pub invariant_of-self : goal.invariant_of-self
 invariant_of-self c =
-    let nobody : c.self.inside.clients.items ≡ [] = ap (λ (h : HubValue). h.clients) c.self.view_is ∙ c.requires.nobody in
-    subst (λ (cs : List (Option ClientValue)). AreSeated cs (length c.give_again.new.register.desks)) (sym nobody) (All-nil (IsSeated (length c.give_again.new.register.desks)))
+    let nobody : c.self.inside.clients.items ≡ [] = ap (λ (h : HubValue). h.clients) c.self.view_is ∙ c.requires.nobody in (
+      subst (λ (cs : List (Option ClientValue)). AreSeated cs (length c.give_again.new.register.desks)) (sym nobody) (All-nil (IsSeated (length c.give_again.new.register.desks))),
+      c.self.invariant.1,
+    )
 
 pub returns-clause-goes : goal.returns-clause-goes
 returns-clause-goes c =

@@ -1,5 +1,5 @@
 -- The rows are given out.
-use Rattle.std.proofs.Common.{ℕ, ◌≡◌, ◌≢◌, ◌∙◌, [], ◌∷◌, List, refl, sym, ap, subst}
+use Rattle.std.proofs.Common.{ℕ, ◌≢◌, [], ◌∷◌, List, sym, ap, subst}
 use Rattle.std.proofs.lemmas.Result.{on_err_weaker, on_ok_weaker}
 use Rattle.std.specs.Io.KnownBytes.{Appends}
 use Rattle.nrm_edge.specs.Pieces.{AppendsFront}

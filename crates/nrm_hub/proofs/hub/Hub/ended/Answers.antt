@@ -3,8 +3,6 @@ use Rattle.std.specs.Prelude.{[]}
 use Rattle.nrm_frames.specs.declared.header.Header.TheVariants as header
 use Rattle.nrm_hub.specs.World.{frame}
 use Rattle.nrm_hub.proofs.Going.{goes-past}
-use Rattle.nrm_hub.proofs.HubLines.{goes-taken}
-use Rattle.nrm_hub.proofs.HubPuts.{puts-one}
 use Rattle.nrm_hub.proofs.hub.Hub.ended.Goals as goal
 
 pub returns-clause-goes : goal.returns-clause-goes

@@ -1,7 +1,6 @@
 -- The word that all is kept came.
-use Rattle.std.proofs.Common.{◌≡◌, ◌∙◌, ap, refl, []}
+use Rattle.std.proofs.Common.{◌∙◌, ap, refl}
 use Rattle.nrm_hub.specs.Hub.{HubValue}
-use Rattle.nrm_hub.specs.declared.phase.Phase.{Phase}
 use Rattle.nrm_hub.specs.declared.phase.Phase.TheVariants as phase
 use Rattle.nrm_hub.proofs.Going.{goes-kept, goes-same}
 use Rattle.nrm_hub.proofs.hub.Hub.kept.Goals as goal

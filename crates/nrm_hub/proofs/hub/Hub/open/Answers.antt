@@ -1,5 +1,5 @@
 -- Nobody was at the place.
-use Rattle.std.proofs.Common.{◌≡◌, ◌+◌, ◌<◌, ◌∙◌, [], ◌∷◌, Err, None, Ok, Result, Some, ap, length, refl, subst, sym, true}
+use Rattle.std.proofs.Common.{◌≡◌, ◌+◌, ◌<◌, ◌∙◌, [], ◌∷◌, Err, List, None, Ok, Option, Result, Some, ap, length, subst, sym, true}
 use Rattle.std.specs.Prelude.{OnOk, is_ok, slice_set}
 use Rattle.std.proofs.lemmas.Bool.{false≢true}
 use Rattle.nrm_frames.specs.Outgoing.{close}
@@ -8,6 +8,10 @@ use Rattle.nrm_frames.specs.declared.why.Why.TheVariants as why
 use Rattle.nrm_hub.specs.Clients.{ClientValue, new_client}
 use Rattle.nrm_hub.specs.Hub.{HubValue, client_at, with_client}
 use Rattle.nrm_hub.specs.World.{frame}
+use Rattle.nrm_hub.specs.Due.{AreDue}
+use Rattle.nrm_hub.specs.Seats.{AreSeated, IsSeated}
+use Rattle.nrm_hub.proofs.DuePlaces.{new-rests, set-at-rest}
+use Rattle.std.proofs.lemmas.List.Elements.{All-set}
 use Rattle.nrm_hub.proofs.Going.{goes-opened, goes-same, goes-then, goes-unopened}
 use Rattle.nrm_hub.proofs.hub.Hub.open.Goals as goal
 
@@ -48,3 +52,20 @@ returns-clause-opened c =
     (ap (λ (x : ClientValue). let h : HubValue = record made { clients = slice_set made.clients place (Some x); opened = made.opened + 1 } in h)
     (sym c.new.ensures))
     (goes-opened made place c.args.name c.args.rights within free))
+
+pub invariant_of-self : goal.invariant_of-self
+invariant_of-self c =
+    let place = c.args.place in
+    let clients = c.self-2.inside.clients.items in
+    let desks = length c.self-2.inside.register.desks in
+    let due = c.self-2.inside.due in
+    let heard = c.self-2.inside.heard in
+    let within : place < length clients =
+    subst (λ (cs : List (Option ClientValue)). place < length cs) (sym (ap (λ (h : HubValue). h.clients) c.self-2.view_is))
+    (holds c.make_place.result c.if-is_err.ensures.negation c.make_place.ensures.there) in
+    let fresh : ClientValue = new_client c.self-2.inside.opened c.args.name c.args.rights in
+    subst (λ (x : ClientValue). AreSeated (slice_set clients place (Some x)) desks × AreDue (slice_set clients place (Some x)) due heard)
+    (sym c.new.ensures) (
+      All-set (IsSeated desks) clients place (Some fresh) tt c.self-2.invariant.0,
+      set-at-rest clients due heard place fresh within (new-rests c.self-2.inside.opened c.args.name c.args.rights) c.self-2.invariant.1,
+    )

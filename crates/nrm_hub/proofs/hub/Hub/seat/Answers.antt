@@ -1,5 +1,5 @@
 -- Who was the desk before is to be closed.
-use Rattle.std.proofs.Common.{◌≡◌, ◌∙◌, ap, refl, sym}
+use Rattle.std.proofs.Common.{ap, sym}
 use Rattle.nrm_hub.specs.Hub.{HubValue}
 use Rattle.nrm_hub.specs.Register.{RegisterValue}
 use Rattle.nrm_hub.proofs.Going.{goes-nothing, goes-same}

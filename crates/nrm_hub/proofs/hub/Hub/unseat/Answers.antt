@@ -1,8 +1,11 @@
 -- The client that was the desk before is to be closed.
-use Rattle.std.proofs.Common.{◌≡◌, ◌∙◌, Some, ap, length, refl, subst, sym}
+use Rattle.std.proofs.Common.{◌≡◌, ◌∙◌, List, Option, Some, ap, length, refl, subst, sym}
 use Rattle.nrm_frames.specs.declared.why.Why.TheVariants as why
 use Rattle.nrm_hub.specs.Hub.{HubValue, client_at}
-use Rattle.nrm_hub.specs.Inner.Seats.{IsDeskAt}
+use Rattle.nrm_hub.specs.Clients.{ClientValue}
+use Rattle.nrm_hub.specs.Inner.Seats.{IsDeskAt, Only}
+use Rattle.nrm_hub.specs.Waiting.{HadTurn}
+use Rattle.nrm_hub.proofs.DuePlaces.{closes-only}
 use Rattle.nrm_hub.proofs.Going.{goes-nothing, goes-same}
 use Rattle.nrm_hub.proofs.HubPlaces.{closes-seated}
 use Rattle.nrm_hub.proofs.HubSteps.{goes-elsewhere}
@@ -21,9 +24,11 @@ pub returns-in-Some-clause-goes : goal.returns-in-Some-clause-goes
 returns-in-Some-clause-goes c = goes-nothing c.args.self.now
 
 pub invariant_of-self : goal.invariant_of-self
-invariant_of-self c =
-    closes-seated c.self.inside.clients.items c.close_at.new.clients.items (length c.self.inside.register.desks) c.args.earlier why.Elsewhere
-    c.close_at.ensures c.self.invariant
+invariant_of-self c = (
+  closes-seated c.self.inside.clients.items c.close_at.new.clients.items (length c.self.inside.register.desks) c.args.earlier why.Elsewhere
+      c.close_at.ensures.closes c.self.invariant.0,
+  c.close_at.ensures.due c.self.invariant.1,
+)
 
 pub returns-in-Some-desk-clause-goes : goal.returns-in-Some-desk-clause-goes
 returns-in-Some-desk-clause-goes c =
@@ -40,4 +45,9 @@ returns-in-Some-desk-clause-goes c =
     subst (λ (h : HubValue). IsDeskAt h c.args.place c.args.desk) (sym c.self.view_is) c.requires in
     goes-same old c.args.self.now new new _ _ c.self.view_is refl
     (goes-elsewhere old c.args.place c.args.earlier c.args.desk c.in-Some.client.now new.clients seated there
-    (sym c.desk.ensures ∙ c.in-Some-desk.is ∙ ap Some c.if-other-desk.true) c.if-earlier-place.true c.close_at.ensures)
+    (sym c.desk.ensures ∙ c.in-Some-desk.is ∙ ap Some c.if-other-desk.true) c.if-earlier-place.true c.close_at.ensures.closes)
+
+pub returns-in-Some-desk-clause-turn : goal.returns-in-Some-desk-clause-turn
+returns-in-Some-desk-clause-turn c =
+    subst (λ (cs : List (Option ClientValue)). Only HadTurn cs c.close_at.new.clients.items) (ap (λ (h : HubValue). h.clients) c.self.view_is)
+    (closes-only c.self.inside.clients.items c.close_at.new.clients.items c.args.earlier why.Elsewhere c.close_at.ensures.closes)

@@ -1,9 +1,9 @@
 -- The row is entered beside the step of the controller; where memory ran out nothing else changes.
-use Rattle.std.proofs.Common.{ℕ, ◌≡◌, ◌∙◌, ◌+◌, ◌<◌, ◌∷◌, [], List, length, map, get_or, ap, arith, inr, refl, sym, subst, true}
+use Rattle.std.proofs.Common.{ℕ, ◌≡◌, ◌∙◌, ◌+◌, ◌<◌, [], List, length, map, get_or, ap, arith, inr, sym, subst, true}
 use Rattle.std.specs.Prelude.{slice_set}
 use Rattle.std.proofs.lemmas.List.{get_or_read}
 use Rattle.nrm_model.specs.Network.{NetworkValue}
-use Rattle.nrm_session.specs.Answering.{IsTellable, Steps, reply_in}
+use Rattle.nrm_session.specs.Answering.{IsTellable, reply_in}
 use Rattle.nrm_session.specs.Replies.{memory}
 use Rattle.nrm_session.specs.declared.reply.Reply.{Reply as Answered}
 use Rattle.nrm_hub.specs.Inner.Answered.{CarriesOut, carried}

@@ -1,8 +1,7 @@
 -- The desk of a name is found by the table of names.
-use Rattle.std.proofs.Common.{ℕ, ◌≡◌, ◌∙◌, ◌<◌, ◌≤◌, Some, None, List, length, ap, arith, sym, subst}
+use Rattle.std.proofs.Common.{◌≡◌, ◌∙◌, ◌<◌, Some, length, ap, arith, sym, subst}
 use Rattle.nrm_model.proofs.NameLemmas.{number-below, number-same}
 use Rattle.nrm_hub.specs.Register.{DeskValue, RegisterValue, desk_named, there}
-use Rattle.nrm_hub.specs.declared.limits.TheConstants.{MOST_DESKS}
 use Rattle.nrm_hub.proofs.register.Register.join.Goals as goal
 
 pub overflow_cast-result : goal.overflow_cast-result
