@@ -188,8 +188,6 @@ def a_greeting_without_a_number(place):
         out keep
         in kept
         out send 3 7 at 9\n
-        out keep
-        in kept
         out close 1 elsewhere
         status 0""")
 
@@ -391,10 +389,10 @@ def the_same_line_again(place):
         in came 2 desk A 1\r\nbook LOC 2\r\ncancel 1\nask LOC\nbook LOC 3\nreoptimise 1\nbook LOC 1\nbook LOC 1\n
         out keep
         in kept
+        out close 1 elsewhere
         out send 2 63 at 1\nok 1\ncancelled 1 400\nask LOC 0 leg AB\nok 2\noptimised none\n
         out keep 6\tA\t7\tbook LOC 1\tno AB\n
         in kept
-        out close 1 elsewhere
         out send 2 22 no AB\nno AB\n
         status 0""")
 
@@ -418,8 +416,6 @@ def another_line_under_a_number(place):
             out send 3 {10 + len(line)} at 5\n
             out close 3 sequence
             out send 2 11 ok 2\n
-            out keep
-            in kept
             out close 1 elsewhere
             status 0""")
 
@@ -441,8 +437,6 @@ def a_number_that_was_left_out(place):
             in kept
             out send 2 31 at {greeting[-1]}\nask X unknown\nbad\n
             out close 2 {why}
-            out keep
-            in kept
             out close 1 elsewhere
             status 0""")
 
@@ -469,8 +463,6 @@ def older_than_held(place):
         in kept
         out send 2 18 at 1\n
         out close 2 old
-        out keep
-        in kept
         out close 1 elsewhere
         status 0""")
 
@@ -501,8 +493,6 @@ def a_later_connection(place):
         out keep
         in kept
         out send 1 8 ask LOC 1 leg AB\n
-        out keep
-        in kept
         out close 2 elsewhere
         status 0""")
 
@@ -605,8 +595,6 @@ def a_denied_line_counts_up(place):
         out keep 2\tA\t4\tbook X 1\tunknown\n
         in kept
         out send 3 18 at 4\nunknown\n
-        out keep
-        in kept
         out close 1 elsewhere
         status 0""")
 
@@ -651,8 +639,6 @@ def a_greeting_behind_one_that_was_denied(place):
         out keep 3\tR\t2\tbook LOC 1\tok 3\n4\tR\t4\tbook X 1\tunknown\n
         in kept
         out send 3 36 at 2\nok 3\nbad\nunknown\n
-        out keep
-        in kept
         out close 2 elsewhere
         in came 1 book X 1\n
         out keep 5\tA\t2\tbook X 1\tunknown\n
@@ -753,10 +739,10 @@ def the_window(place):
         in came 3 {"x" * 573}
         in kept
         out send 1 11 ok 1\n
+        out close 3 window
         out keep
         in kept
         out send 2 90000 {BAD * 100}
-        out close 3 window
         out keep
         in kept
         out send 2 39600 {BAD * 44}

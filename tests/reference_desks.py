@@ -280,8 +280,8 @@ class Hub:
             if client.why:
                 self.out.append(b"close %d %s\n" % (client.place, client.why.encode()))
                 del self.clients[client.place]
-            elif client.has_line():
-                self.have_turn(client)
+        more = [it for it in self.heard if it.has_line()]
+        self.turns = more + [it for it in self.turns if it not in more]
         self.heard = []
 
     def have_turn(self, client):

@@ -27,7 +27,7 @@ use nrm_frames::{Rights, Why, put_close, put_keep, put_send};
 use nrm_text::Name;
 use std::alloc::{AllocError, Global};
 use std::marker::Model;
-use std::mem::replace;
+use std::mem::{replace, swap};
 
 /// What becomes of a client that is opened.
 #[derive(Clone, Copy, Debug, PartialEq, Eq)]
@@ -309,12 +309,15 @@ impl Hub {
         copied(alloc, &mut self.room, &self.heard)
     }
 
-    // Of those that were heard, those that wait for something more have another turn, behind all whose turn comes already.
+    // Of those that were heard, those that wait for something more have another turn, before all whose turn comes since.
     fn end_round(&mut self)
         requires { OfEach IsTold self.old }
         ensures { self.new ≡ self.old }
     {
-        move_due(&mut self.clients, &self.heard, &mut self.due);
+        self.room.clear();
+        move_due(&mut self.clients, &self.heard, &mut self.room);
+        move_due(&mut self.clients, &self.due, &mut self.room);
+        swap(&mut self.due, &mut self.room);
         self.heard.clear();
     }
 
@@ -462,8 +465,8 @@ impl Hub {
     {
         let listed = self.heard_now(alloc);
         self.tell_listed(sink, &listed)?;
-        self.end_round();
         self.put_back(listed);
+        self.end_round();
         Ok(())
     }
 }
