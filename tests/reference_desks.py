@@ -280,8 +280,6 @@ class Hub:
             if client.why:
                 self.out.append(b"close %d %s\n" % (client.place, client.why.encode()))
                 del self.clients[client.place]
-        more = [it for it in self.heard if it.has_line()]
-        self.turns = more + [it for it in self.turns if it not in more]
         self.heard = []
 
     def have_turn(self, client):
@@ -321,7 +319,7 @@ class Hub:
             self.is_awaiting = True
 
     def hear(self, client):
-        """Takes the lines of a client in its turn."""
+        """Takes the lines of a client in its turn; it has another one if it has more than were taken."""
         try:
             for _ in range(LINES_OF_A_TURN):
                 if not client.has_line():
@@ -332,6 +330,8 @@ class Hub:
                     break
         except Closed as closed:
             client.why = str(closed)
+        if client.has_line():
+            self.have_turn(client)
 
     def reply(self, client, line):
         """The reply to a client's next line."""

@@ -162,24 +162,20 @@ begin-due clients due heard heard' moved more are place c short there = elim (ar
 
 pub end-due : (clients : List (Option ClientValue)) (due due' heard : DueValue)
     → ((place : ℕ) (c : ClientValue) → place ≤ LAST_PLACE → get_or clients place None ≡ Some c → IsTold c)
-    → Moved clients heard due' → Moved clients due due' → AreDue clients due heard → AreDue clients due' nothing_due
-end-due clients due due' heard told_all moved more are place c short there = elim (are place c short there) [
+    → Moved clients heard due' → StillDue due due' → AreDue clients due heard → AreDue clients due' nothing_due
+end-due clients due due' heard told_all moved still are place c short there = elim (are place c short there) [
   | inl is_heard ↦ elim (moved place short is_heard) [
     | inl quiet ↦ let rests = quiet c there in inr (rests.told, inr rests.line)
     | inr is_due ↦ inr (told_all place c short there, inl is_due)
   ]
-  | inr (told, inl is_due) ↦ elim (more place short is_due) [
-    | inl quiet ↦ let rests = quiet c there in inr (rests.told, inr rests.line)
-    | inr stays_due ↦ inr (told, inl stays_due)
-  ]
+  | inr (told, inl is_due) ↦ inr (told, inl (still place is_due))
   | inr (told, inr none) ↦ inr (told, inr none)
 ]
 
-pub moved-on : (clients : List (Option ClientValue)) (from to to' : DueValue) → Moved clients from to → StillDue to to' → Moved clients from to'
-moved-on clients from to to' moved still place short is = elim (moved place short is) [
-  | inl quiet ↦ inl quiet
-  | inr there ↦ inr (still place there)
-]
+-- the turn of more comes
+pub more-due : (clients : List (Option ClientValue)) (due due' heard : DueValue) → StillDue due due' → AreDue clients due heard → AreDue clients due' heard
+more-due clients due due' heard still are place c short there =
+    lift due due' heard heard place c (still place) (λ is. is) (are place c short there)
 
 pub listed-rest : (clients : List (Option ClientValue)) (heard listed : DueValue) → StillDue heard listed → AreDue clients nothing_due heard
     → AreListed IsAtRest clients listed

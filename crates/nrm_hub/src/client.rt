@@ -165,6 +165,11 @@ impl Client {
         waiting < MOST_LINE && line_end(part(&self.bytes, self.start, waiting)).is_none()
     }
 
+    /// Whether a line of it waits.
+    pub(crate) fn has_line(&self) -> bool {
+        self.closing.is_none() && !self.has_no_line()
+    }
+
     /// Whether it waits for nothing: to be told or closed, or for a line of it to be taken.
     pub(crate) fn is_at_rest(&self) -> bool
         ensures { result ≡ true → IsAtRest self.now }

@@ -27,7 +27,7 @@ use nrm_frames::{Rights, Why, put_close, put_keep, put_send};
 use nrm_text::Name;
 use std::alloc::{AllocError, Global};
 use std::marker::Model;
-use std::mem::{replace, swap};
+use std::mem::replace;
 
 /// What becomes of a client that is opened.
 #[derive(Clone, Copy, Debug, PartialEq, Eq)]
@@ -276,7 +276,7 @@ impl Hub {
     }
 
     // Takes lines of the client at a place: no more than may be taken at a time, and none behind one that may take long.
-    fn take_turn(&mut self, alloc: Global, place: u16)
+    fn take_lines(&mut self, alloc: Global, place: u16)
         requires { self.old.phase ≢ phase.Asked }
         ensures goes { Goes self.old self.new [] [] }
         ensures phase { self.new.phase ≢ phase.Asked }
@@ -289,6 +289,24 @@ impl Hub {
                 Took::Nothing | Took::LongLine | Took::TooLong => return,
             }
         }
+    }
+
+    // The turn of the client at a place is over; if more of its lines wait it has another one, before all that come from now on.
+    fn end_turn(&mut self, place: u16)
+        ensures { self.new ≡ self.old }
+    {
+        list_more(&mut self.clients, &mut self.due, place);
+    }
+
+    // Gives the client at a place its turn.
+    fn take_turn(&mut self, alloc: Global, place: u16)
+        requires { self.old.phase ≢ phase.Asked }
+        ensures goes { Goes self.old self.new [] [] }
+        ensures phase { self.new.phase ≢ phase.Asked }
+        ensures turn { MakesSo HadTurn self.old.clients self.new.clients place }
+    {
+        self.take_lines(alloc, place);
+        self.end_turn(place);
     }
 
     // Those whose turn comes have it now, but for those that wait for nothing: in a list of their own, with those that are to be closed.
@@ -309,15 +327,12 @@ impl Hub {
         copied(alloc, &mut self.room, &self.heard)
     }
 
-    // Of those that were heard, those that wait for something more have another turn, before all whose turn comes since.
+    // Those that were heard are heard no more; if one waits for something more its turn comes, as it does already.
     fn end_round(&mut self)
         requires { OfEach IsTold self.old }
         ensures { self.new ≡ self.old }
     {
-        self.room.clear();
-        move_due(&mut self.clients, &self.heard, &mut self.room);
-        move_due(&mut self.clients, &self.due, &mut self.room);
-        swap(&mut self.due, &mut self.room);
+        move_due(&mut self.clients, &self.heard, &mut self.due);
         self.heard.clear();
     }
 
@@ -537,6 +552,22 @@ fn list_at(clients: &mut Vec<Option<Client>>, due: &mut Due, place: u16)
     }
     if let Some(client) = &mut clients[at] {
         list_unless_at_rest(due, client, place);
+    }
+}
+
+// The turn of the client at a place comes, if a line of it waits.
+fn list_more(clients: &mut Vec<Option<Client>>, due: &mut Due, place: u16)
+    ensures same { clients.new.items ≡ clients.old.items }
+    ensures still { StillDue due.old due.new }
+{
+    let at = place as usize;
+    if at >= clients.len() {
+        return;
+    }
+    if let Some(client) = &mut clients[at] {
+        if client.has_line() {
+            list(due, client, place);
+        }
     }
 }
 

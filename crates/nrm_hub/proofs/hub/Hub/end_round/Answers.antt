@@ -1,29 +1,22 @@
 -- Those that were told, and wait for something more, are due.
-use Rattle.std.proofs.Common.{ℕ, ◌≡◌, ◌≤◌, ◌∙◌, List, None, Option, Some, get_or, length, subst, sym}
+use Rattle.std.proofs.Common.{ℕ, ◌≡◌, ◌≤◌, List, None, Option, Some, get_or, length, subst, sym}
 use Rattle.nrm_frames.specs.declared.limits.TheConstants.{LAST_PLACE}
 use Rattle.nrm_hub.specs.Clients.{ClientValue}
 use Rattle.nrm_hub.specs.Due.{AreDue, DueValue, nothing_due}
 use Rattle.nrm_hub.specs.Hub.{HubValue, client_at}
 use Rattle.nrm_hub.specs.Seats.{AreSeated}
 use Rattle.nrm_hub.specs.Waiting.{IsTold}
-use Rattle.nrm_hub.proofs.DuePlaces.{Moved, end-due, moved-on}
+use Rattle.nrm_hub.proofs.DuePlaces.{end-due}
 use Rattle.nrm_hub.proofs.hub.Hub.end_round.Goals as goal
 
 pub invariant_of-self : goal.invariant_of-self
 invariant_of-self c =
     let clients = c.self.inside.clients.items in
     let desks = length c.self.inside.register.desks in
-    let due : DueValue = c.move_due-2.new.to in
+    let due : DueValue = c.move_due.new.to in
     let told : (place : ℕ) (d : ClientValue) → place ≤ LAST_PLACE → get_or clients place None ≡ Some d → IsTold d = λ place d short there.
     c.requires place d short (subst (λ (h : HubValue). client_at h place ≡ Some d) c.self.view_is there) in
-    let more : Moved clients c.self.inside.due due =
-    subst (λ (cs : List (Option ClientValue)). Moved cs c.self.inside.due due) c.move_due.ensures.same c.move_due-2.ensures.moved in
     let ended : AreDue clients due nothing_due =
-    end-due clients c.self.inside.due due c.self.inside.heard told
-    (moved-on clients c.self.inside.heard c.move_due.new.to due c.move_due.ensures.moved c.move_due-2.ensures.still) more c.self.invariant.1 in
-    subst (λ (cs : List (Option ClientValue)). AreSeated cs desks × AreDue cs c.swap.new.x c.clear-2.new.self)
-    (sym (c.move_due-2.ensures.same ∙ c.move_due.ensures.same)) (
-      c.self.invariant.0,
-      subst (λ (d : DueValue). AreDue clients d c.clear-2.new.self) (sym c.swap.ensures.x_after)
-          (subst (λ (d : DueValue). AreDue clients due d) (sym c.clear-2.ensures) ended),
-    )
+    end-due clients c.self.inside.due due c.self.inside.heard told c.move_due.ensures.moved c.move_due.ensures.still c.self.invariant.1 in
+    subst (λ (cs : List (Option ClientValue)). AreSeated cs desks × AreDue cs due c.clear.new.self) (sym c.move_due.ensures.same)
+    (c.self.invariant.0, subst (λ (d : DueValue). AreDue clients due d) (sym c.clear.ensures) ended)

@@ -4,7 +4,7 @@ use Rattle.nrm_hub.specs.Goes.{Goes}
 use Rattle.nrm_hub.specs.Inner.Seats.{MakesSo}
 use Rattle.nrm_hub.specs.Waiting.{HadTurn}
 use Rattle.nrm_hub.specs.declared.phase.Phase.TheVariants as phase
-use Rattle.nrm_hub.proofs.hub.Hub.take_turn.Given as goal
+use Rattle.nrm_hub.proofs.hub.Hub.take_lines.Given as goal
 
 abbrev pub invariant-loop : goal.invariant-loop
 invariant-loop l = record {
