@@ -1,6 +1,6 @@
-"""The words of a server of many desks: where clients come, what ends waiting, and which program answers.
+"""The words of a server of many desks: where clients come, what ends waiting, which program answers, and what is told.
 
-May use: nrm.desks.places, nrm.desks.relay.clients, nrm.program.
+May use: nrm.desks.places, nrm.desks.relay.clients, nrm.desks.relay.telling.events, nrm.program.
 """
 from __future__ import annotations
 
@@ -9,6 +9,7 @@ import re
 
 from nrm.desks.places import OWN_RIGHTS, Places
 from nrm.desks.relay.clients import Limits
+from nrm.desks.relay.telling.events import FORMS, LEVELS, Log
 from nrm.program import PIECE
 
 
@@ -59,6 +60,14 @@ def add_limits(words: argparse.ArgumentParser) -> None:
                        help="for a program's next answer before it is ended; %(default)s")
     words.add_argument("--linger", type=seconds, default=Limits.linger, metavar="SECONDS",
                        help="for which a program without clients stays; %(default)s")
+
+
+def add_log(words: argparse.ArgumentParser) -> None:
+    """The options for what is told on standard error."""
+    words.add_argument("--log", choices=FORMS, default=Log.form,
+                       help="the form of what is told on standard error; %(default)s")
+    words.add_argument("--log-level", choices=LEVELS, default=Log.level,
+                       help="the least level that is told there; %(default)s")
 
 
 def places_in(words: argparse.ArgumentParser, asked: argparse.Namespace) -> Places:

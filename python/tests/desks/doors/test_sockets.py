@@ -53,7 +53,7 @@ class Sockets(ServeTest):
                 if is_beyond:
                     serve.end(2, sent=None)
         with self.served(self.one(), "--listen", "0.0.0.0:0", "--beyond-this-machine") as serve:
-            self.want_in(serve.told(), "listening on 0.0.0.0:")
+            self.want_in(serve.told(), "event=listening on=0.0.0.0:")
 
     def test_what_is_no_socket_is_left_alone(self) -> None:
         (self.folder / "socket").write_text("mine")

@@ -30,9 +30,10 @@ from __future__ import annotations
 from typing import Sequence
 
 from nrm.commands.running import parser
-from nrm.commands.serve_words import add_limits, add_places, limits_in, places_in
+from nrm.commands.serve_words import add_limits, add_log, add_places, limits_in, places_in
 from nrm.desks.relay.hall import Answering
 from nrm.desks.relay.serving import Server
+from nrm.desks.relay.telling.events import Log
 from nrm.program import Program
 
 
@@ -42,7 +43,10 @@ def run(given: Sequence[str]) -> int:
     words.add_argument("journal", metavar="JOURNAL")
     add_places(words)
     add_limits(words)
+    add_log(words)
     asked = words.parse_args(given)
     places, limits = places_in(words, asked), limits_in(words, asked)
+    log = Log(asked.log, asked.log_level)
     program = Program.found(asked.program, "nrm_desks")
-    return Server(asked.journal, Answering(program, program.checksum(), bool(asked.program)), places, limits).run()
+    answering = Answering(program, program.checksum(), bool(asked.program))
+    return Server(asked.journal, answering, places, limits, log).run()

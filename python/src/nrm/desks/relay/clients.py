@@ -1,6 +1,6 @@
 """The clients: how much of each the program has and hasn't used, what waits to be sent to it, and when it is cut off.
 
-May use: nrm.desks.frames, nrm.desks.relay.loop.
+May use: nrm.desks.frames, nrm.desks.relay.loop, nrm.desks.relay.telling.counters.
 """
 from __future__ import annotations
 
@@ -11,11 +11,13 @@ from typing import Protocol
 
 from nrm.desks.frames import MOST, WINDOW
 from nrm.desks.relay.loop import READ, WRITE, Loop
+from nrm.desks.relay.telling.counters import Counters
 
 PIECE = 16_384  # bytes that are read at a time
 LONGEST = 1000  # of a first line that names a network
 NAMES_A_NETWORK = re.compile(rb"desk [a-z]")  # as no greeting of a desk alone does
-LIKE = b"desk a"
+ASKS_STATUS = re.compile(rb"status\r?\n")
+FRONTS = (b"desk a", b"status\n", b"status\r\n")  # as long as what came is one of these, more must come
 
 
 @dataclass(frozen=True)
@@ -52,13 +54,22 @@ class Hall(Protocol):
     """What a client needs of the server that it came to."""
     limits: Limits
     loop: Loop
-    unread: int
+    counters: Counters
 
     def enter(self, client: Client, network: str | None, data: bytes) -> None:
         """Finds a client its network, the only one if it named none, and gives it what came so far."""
 
     def leave(self, client: Client) -> None:
         """Forgets a client."""
+
+    def status_text(self) -> bytes:
+        """What is answered to a line `status`."""
+
+    def tell_of_closed(self, client: Client, why: str) -> None:
+        """Counts and tells why a client is closed."""
+
+    def tell_of_unread(self) -> None:
+        """Counts and tells that a client is dropped which doesn't take its replies."""
 
 
 class Client:
@@ -70,7 +81,10 @@ class Client:
         if connection.family != socket.AF_UNIX:
             connection.setsockopt(socket.IPPROTO_TCP, socket.TCP_NODELAY, 1)
         self.hall, self.socket, self.file = hall, connection, connection.fileno()
+        self.counters = hall.counters
         self.session: Session | None = None
+        self.network: str | None = None  # its name, once it is known
+        self.asks_status = self.is_told = False  # whether that it is closed was told
         self.place = -1  # none yet
         self.first, self.out = b"", bytearray()
         self.unused = self.tail = 0
@@ -89,7 +103,8 @@ class Client:
         if not self.is_open:
             return
         self.is_heard = not (self.has_ended or self.why or self.is_done or self.is_waiting or len(self.out) > MOST
-                             or self.unused >= WINDOW or self.session and self.session.is_full)
+                             or self.unused >= WINDOW or self.session and self.session.is_full
+                             or self.asks_status and self.out)
         what = (READ if self.is_heard else 0) | (WRITE if self.out else 0)
         self.hall.loop.want(self.file, what, self.read if what == READ else self.ready)
 
@@ -97,6 +112,8 @@ class Client:
         """Reads and sends what can be."""
         if self.out and what != READ:
             self.send()
+            if self.asks_status and self.first:
+                self.tell_status()
         if self.is_open and what != WRITE and not (self.has_ended or self.is_done):
             self.read(what)
 
@@ -112,6 +129,7 @@ class Client:
         except OSError:
             self.vanish()
             return
+        self.counters.bytes_in += len(piece)
         if piece and self.session:
             self.pass_on(piece)
         elif piece:
@@ -123,8 +141,12 @@ class Client:
         """Finds the network by the first line, if that names one; else by its first bytes."""
         self.first += piece
         self.since = self.hall.loop.now
+        if self.asks_status or ASKS_STATUS.match(self.first):
+            self.asks_status = True
+            self.tell_status()
+            return
         if not NAMES_A_NETWORK.match(self.first):
-            if self.first != LIKE[:len(self.first)]:
+            if not any(it.startswith(self.first) for it in FRONTS):
                 self.enter(None, self.first)
             return
         line, feed, rest = self.first.partition(b"\n")
@@ -133,6 +155,17 @@ class Client:
             self.enter(network.decode("latin-1"), b" ".join([b"desk", *words]) + b"\n" + rest)
         elif len(line) >= LONGEST:
             self.finish("long")
+
+    def tell_status(self) -> None:
+        """Answers each line `status`, as soon as what was told before it is taken. Another line ends the connection."""
+        while self.first and not (self.out or self.is_done) and self.is_open:
+            if ASKS_STATUS.match(self.first):
+                self.first = self.first.partition(b"\n")[2]
+                self.put(self.hall.status_text())
+            elif any(it.startswith(self.first) for it in FRONTS[1:]):
+                return
+            else:
+                self.finish("status")
 
     def enter(self, network: str | None, data: bytes) -> None:
         """Comes to a network, whose program may still have to begin."""
@@ -192,6 +225,7 @@ class Client:
             except OSError:
                 self.vanish()
                 return
+            self.counters.bytes_out += sent
             if sent == len(data):
                 return
             data = data[sent:]
@@ -202,7 +236,9 @@ class Client:
         """Sends what the connection takes."""
         if self.out:
             try:
-                del self.out[:self.socket.send(self.out)]
+                sent = self.socket.send(self.out)
+                del self.out[:sent]
+                self.counters.bytes_out += sent
             except BlockingIOError:
                 pass
             except OSError:
@@ -245,6 +281,9 @@ class Client:
 
     def finish(self, why: str | None) -> None:
         """Says why, and ends the connection once all is sent. The program knows it no more."""
+        if why and self.is_open and not self.is_done:
+            self.is_told = True
+            self.hall.tell_of_closed(self, why)
         self.session, self.is_waiting, self.is_done, self.since = None, False, True, self.hall.loop.now
         if why:
             self.out += f"closed {why}\n".encode()
@@ -262,7 +301,8 @@ class Client:
 
     def cut_off(self) -> None:
         """It doesn't take its replies, so what is unsent is dropped."""
-        self.hall.unread += 1
+        self.is_told = True
+        self.hall.tell_of_unread()
         self.vanish()
 
     def vanish(self) -> None:

@@ -1,7 +1,7 @@
 """A server of a journal from beginning to end: the doors by which clients come, signals, and the status.
 
 May use: nrm.desks.journals.networks, nrm.desks.journals.tables, nrm.desks.journals.writing, nrm.desks.places,
-nrm.desks.relay, nrm.desks.relay.clients, nrm.desks.relay.hall, nrm.desks.relay.loop.
+nrm.desks.relay.clients, nrm.desks.relay.hall, nrm.desks.relay.loop, nrm.desks.relay.telling.events.
 """
 from __future__ import annotations
 
@@ -16,10 +16,10 @@ from nrm.desks.journals.networks import networks_in
 from nrm.desks.journals.tables import using
 from nrm.desks.journals.writing import locked
 from nrm.desks.places import Places, SocketPath, allow_files, tcp_socket
-from nrm.desks.relay import log
 from nrm.desks.relay.clients import Client, Limits
 from nrm.desks.relay.hall import Answering, Hall
 from nrm.desks.relay.loop import READ
+from nrm.desks.relay.telling.events import Log
 
 SPARE_FILES = 64  # beside those of clients and programs
 FILES_OF_A_PROGRAM = 2
@@ -30,11 +30,12 @@ ENDS = (signal.SIGTERM, signal.SIGINT, signal.SIGHUP)
 
 @dataclass(frozen=True)
 class Server:
-    """The journal, the program that answers, where clients come, and the limits."""
+    """The journal, the program that answers, where clients come, the limits, and how the log is written."""
     journal: str
     answering: Answering
     places: Places
     limits: Limits = field(default_factory=Limits)
+    log: Log = field(default_factory=Log)
 
     def run(self) -> int:
         """Serves until this process is told to end, or the journal can't be written, and gives the status."""
@@ -49,7 +50,7 @@ class Server:
         listeners = [tcp_socket(places.listen, places.is_beyond_allowed)] if places.listen else []
         path = SocketPath(places.socket) if places.socket else None
         try:
-            hall = Hall(self.journal, self.answering, self.limits)
+            hall = Hall(self.journal, self.answering, self.limits, self.log)
             self.tell_of_networks(hall)
             listeners += [path.listener(places.rights)] if path else []
             return self.serve(hall, listeners, path)
@@ -68,20 +69,21 @@ class Server:
             if path:
                 path.unlink()
             hall.close()
-        if hall.fault:
-            log(hall.fault)
+        hall.events.tell("stopped", status=hall.status)
         return hall.status
 
     def tell_of_networks(self, hall: Hall) -> None:
-        """Lets so many files be open, and tells which networks aren't answered."""
+        """Lets so many files be open, and tells that it has begun, and which networks aren't answered."""
         networks = networks_in(hall.reader)
         allow_files(self.limits.clients + FILES_OF_A_PROGRAM * len(networks) + SPARE_FILES)
+        answers = hall.answering.checksum
+        hall.events.tell("started", journal=self.journal, epoch=hall.writer.epoch, networks=len(networks),
+                         program=answers)
         for it in networks:
             if it.halted:
-                log(f"network {it.name} is halted: {it.halted}")
+                hall.events.tell("halted", network=it.name, why=it.halted)
             elif not hall.is_answered(it):
-                log(f"network {it.name} isn't answered: it began with the program {it.program}, and this one is "
-                    f"{hall.answering.checksum}")
+                hall.events.tell("version", network=it.name, began=it.program, answers=answers)
 
 
 def wake_by_signals(hall: Hall) -> None:
@@ -106,7 +108,7 @@ class Door:
         listener.setblocking(False)
         listener.listen(BACKLOG)
         name = listener.getsockname()
-        log(f"listening on {name if isinstance(name, str) else '{}:{}'.format(*name)}")
+        hall.events.tell("listening", on=name if isinstance(name, str) else "{}:{}".format(*name))
         self.open()
 
     def open(self) -> None:
@@ -125,13 +127,14 @@ class Door:
             except (BlockingIOError, ConnectionAbortedError):
                 return
             except OSError as fault:  # as of too many open files, or no memory
-                hall.no_more = fault.strerror
+                hall.events.tell("waiting", why=fault.strerror)
                 hall.loop.forget(self.listener.fileno())  # until the next second
                 return
             if hall.is_full_of_clients():
-                hall.turned_away += 1
+                hall.tell_of_turned_away()
                 turn_away(connection)
             else:
+                hall.counters.came += 1
                 hall.clients.add(Client(hall, connection))
 
 
