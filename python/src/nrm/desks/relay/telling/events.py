@@ -160,7 +160,7 @@ class Output:
         self.poll = select.poll()
         try:
             self.file = sys.stderr.fileno()
-        except (AttributeError, OSError):  # there is none: its number may be that of another file
+        except (AttributeError, OSError, ValueError):  # there is none: its number may be that of another file
             self.file = -1
         else:
             self.poll.register(self.file, select.POLLOUT)
