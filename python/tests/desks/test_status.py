@@ -40,9 +40,10 @@ class Texts(unittest.TestCase):
 
     def test_what_is_strange_is_told(self) -> None:
         for old, new in (("\n\n", "\n"), ("\n\n", "\n\n\n"), ("\nprograms", "\n\nprograms"), ("epoch 3", "epoch three"),
-                         ("epoch 3", "epoch -3"), ("epoch 3 ", ""), ("epoch 3", "epoch"), ("stopping no", "stopping maybe"),
-                         ("now 12", "there 12"), ("now 12", "now  12"), ("programs", "things"), ("0.5 811", "0.5"),
-                         ("0.5 811", "half 811"), ("seconds 1.930000", "seconds 1e3"), ("closed idle 3", "closed idle"),
+                         ("epoch 3", "epoch -3"), ("epoch 3 ", ""), ("epoch 3", "epoch"),
+                         ("stopping no", "stopping maybe"), ("now 12", "there 12"), ("now 12", "now  12"),
+                         ("programs", "things"), ("0.5 811", "0.5"), ("0.5 811", "half 811"),
+                         ("seconds 1.930000", "seconds 1e3"), ("closed idle 3", "closed idle"),
                          ("closed idle 3", "closed idle no"), (TEXT[:-1], ""), ("lines 812", "lines 812.5"),
                          ("programs now 3 begun 5 ended 2\n", ""), (" old", "  old"), ("epoch 3", "epoch \u0663"),
                          ("programs now 3 begun 5 ended 2\n", "programs now 3 begun 5 ended 2\n" * 2)):
@@ -86,8 +87,8 @@ class Asked(WithinTest):
         """Each cause has its sentence, in the name of the tool."""
         none = str(self.folder / "none")
         for place, seconds, told in (
-                (none, "9", f"no status of {none}: No such file or directory"), ("127.0.0.1:1", "9", "Connection refused"),
-                ("x" * 300, "9", "too long"), (self.answering([b"closed clients\n"]), "9", "says: closed clients"),
+                (none, "9", f"no status of {none}: No such file or directory"),
+                ("127.0.0.1:1", "9", "Connection refused"), ("x" * 300, "9", "too long"), (self.answering([b"closed clients\n"]), "9", "says: closed clients"),
                 (self.answering([TEXT.encode()[:-1]], is_late=True), "0.5", "timed out"),
                 (self.answering([TEXT.encode()[:-1]]), "9", "is no status: no status came, but"),
                 (self.answering([b"bad\n\n"]), "9", "is no status: a line of no known kind: 'bad'"),

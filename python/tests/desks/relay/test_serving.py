@@ -55,7 +55,7 @@ class Serving(ServeTest):
             self.assertEqual(answers(client, b"desk C-7\nbook HJ-Q 2\n", 2), [b"at 1\n", b"ok 1\n"])
             os.kill(serve.program(), signal.SIGKILL)
             self.assertEqual(all_told(client), b"closed program 137\n")
-            self.want_in(serve.told(), "level=warning tool=nrm-tools-serve event=program-ended network=hub status=137\n")
+            self.want_in(serve.told(), "level=warning tool=nrm-tools-serve event=program-ended network=hub status=137")
             self.assertEqual(talk(serve, b"desk C-7 2\nbook HJ-Q 1\n"), b"at 2\nok 2\n")
 
     def test_a_port_is_as_good_as_a_path(self) -> None:

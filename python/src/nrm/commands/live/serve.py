@@ -11,16 +11,21 @@ all networks that wait by one commit; and then the program sends its replies. Wh
 line of a client names one, `desk NETWORK NAME` or `desk NETWORK NAME SEQUENCE`; where there is one it may.
 
 A network is halted, and the others go on, if the program doesn't answer as the journal has it, or the journal doesn't
-take a row: `nrm-tools journal look JOURNAL` tells why. One that began with another program isn't answered, and standard
-error tells both checksums; --program names the program, and has it answer for networks without lines, and for those
+take a row: `nrm-tools journal look JOURNAL` tells why. One that began with another program isn't answered, and the log
+tells both checksums; --program names the program, and has it answer for networks without lines, and for those
 that have ended. A second server at the same journal is refused while the first lives.
 
 A client that is cut off gets one line, `closed WHY`, after the replies to those of its lines that were taken: `closed
 clients` if there are as many as may be, `closed network` if it names none that the journal has, `closed halted`,
 `closed version` if the network began with another program, `closed half` if the end of a line doesn't come, `closed
-idle` if nothing does, `closed journal` if the journal can't be written, `closed stopping` when the server is told to
-end, `closed program STATUS` when the network's program has ended, and what the program itself says. One that doesn't
-take its replies can't be told.
+idle` if nothing does, `closed journal` if the journal can't be written, `closed status` if it asked for that and then
+something else, `closed stopping` when the server is told to end, `closed program STATUS` when the network's program has
+ended, and what the program itself says. One that doesn't take its replies can't be told.
+
+What the server does is told on standard error, an event a line: `key=value`, objects with --log json, and with --log
+systemd the level before each line as the journal of systemd takes it. --log-level says the least that is told. What
+comes more than once a second is counted. A client whose first line is `status` gets what the server has counted, as
+`nrm-tools status` prints it, and may ask again.
 
 SIGTERM, SIGINT and SIGHUP end it: no more lines are taken, and those that were taken are answered. The status is 0, 74
 if the journal couldn't be written, 1 if it couldn't begin or another server has the journal, and 2 for a usage error.

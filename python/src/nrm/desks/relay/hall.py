@@ -313,7 +313,7 @@ class Hall:
             session.end()
 
     def look_at_the_journal(self) -> None:
-        """Tells, now and then, that the journal is held by another process, and nothing is answered until it lets go."""
+        """Tells, now and then, that another process holds the journal: nothing is answered until it lets go."""
         now = self.loop.now
         if self.in_writing and now - max(self.writes_since, self.held_since) > self.limits.slow:
             self.events.tell("journal-held", seconds=now - self.writes_since)

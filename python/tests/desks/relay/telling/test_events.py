@@ -29,7 +29,8 @@ class Clock:
     def go(self, seconds: float) -> None:
         """Lets some time pass."""
         self.now += seconds
-        due, self.later = ([it for it in self.later if it[0] <= self.now], [it for it in self.later if it[0] > self.now])
+        due = [it for it in self.later if it[0] <= self.now]
+        self.later = [it for it in self.later if it[0] > self.now]
         for _, call in due:
             call()
 
@@ -53,9 +54,8 @@ class Written(unittest.TestCase):
 
     def test_a_line_in_each_form(self) -> None:
         fields = {"network": "hub", "row": 2, "why": 'a "b"', "none": None, "seconds": 0.12345}
-        for form, wanted in (("text", FRONT.format("error") + 'halted network=hub row=2 why="a \\"b\\"" seconds=0.123\n'),
-                             ("systemd", "<3>" + FRONT.format("error")
-                              + 'halted network=hub row=2 why="a \\"b\\"" seconds=0.123\n')):
+        text = FRONT.format("error") + 'halted network=hub row=2 why="a \\"b\\"" seconds=0.123\n'
+        for form, wanted in (("text", text), ("systemd", f"<3>{text}")):
             self.events(form).tell("halted", **fields)
             self.assertEqual(self.lines.pop(), wanted, form)
         self.events("json").tell("halted", **fields)
@@ -67,7 +67,8 @@ class Written(unittest.TestCase):
     def test_what_is_quoted(self) -> None:
         """Each value is read back as it was, and a line stays one."""
         for value, wanted in (("mine/desks", "mine/desks"), ("", '""'), ("a b", '"a b"'), ("a=b", '"a=b"'),
-                              ('a"b', '"a\\"b"'), ("a\nb", '"a\\nb"'), ("\x1b[2J", '"\\u001b[2J"'), ("\x7f", '"\\u007f"'),
+                              ('a"b', '"a\\"b"'), ("a\nb", '"a\\nb"'), ("\x1b[2J", '"\\u001b[2J"'),
+                              ("\x7f", '"\\u007f"'),
                               ("ü", '"\\u00fc"'), ("\udcff", '"\\udcff"'), ("a\\b", "a\\b"), ("it's<>", "it's<>")):
             self.events().tell("listening", on=value)
             self.assertEqual(self.told(), [f"listening on={wanted}"], repr(value))

@@ -98,7 +98,7 @@ class Told(ServeTest):
             [told] = [json.loads(it) for it in serve.told().splitlines()]
             self.assertEqual((told["level"], told["event"], told["reason"]), ("warning", "closed", "network"))
         self.stopped("serve", journal, "--socket", "s", "--log", "none", "--program", "p", status=2, says="--log")
-        self.stopped("serve", journal, "--socket", "s", "--log-level", "all", "--program", "p", status=2, says="--log-l")
+        self.stopped("serve", journal, "--socket", "s", "--log-level", "all", "--program", "p", status=2, says="--log")
 
     def test_nobody_need_read_the_log(self) -> None:
         """Where standard error is a pipe that is full lines are answered, and how much wasn't told is told later."""

@@ -72,7 +72,7 @@ class Events:
         self.untold = 0
 
     def tell(self, event: str, **fields: object) -> None:
-        """Tells an event now, or when the second is over in which one of its kind was told. What is None is no field."""
+        """Tells an event now, or when the second is over in which one of its kind was told. None is no field."""
         if LEVELS.index(level_of(event, fields)) > self.most:
             return
         kind = (event, *(fields.get(it) for it in OF_A_KIND))
