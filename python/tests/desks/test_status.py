@@ -88,7 +88,8 @@ class Asked(WithinTest):
         none = str(self.folder / "none")
         for place, seconds, told in (
                 (none, "9", f"no status of {none}: No such file or directory"),
-                ("127.0.0.1:1", "9", "Connection refused"), ("x" * 300, "9", "too long"), (self.answering([b"closed clients\n"]), "9", "says: closed clients"),
+                ("127.0.0.1:1", "9", "Connection refused"), ("x" * 300, "9", "too long"),
+                (self.answering([b"closed clients\n"]), "9", "says: closed clients"),
                 (self.answering([TEXT.encode()[:-1]], is_late=True), "0.5", "timed out"),
                 (self.answering([TEXT.encode()[:-1]]), "9", "is no status: no status came, but"),
                 (self.answering([b"bad\n\n"]), "9", "is no status: a line of no known kind: 'bad'"),

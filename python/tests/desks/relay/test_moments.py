@@ -13,8 +13,9 @@ import preload  # of the folder tests at the top
 from desks.relay.faults import failing, library
 from desks.relay.serves import ONE, Serve, ServeTest, all_told, journal_of, rows_in, talk
 from desks.servers import answers
-from harness import wait_for
+from harness import SECONDS, wait_for
 from nrm.desks.journals.writing import Given, Writer
+from nrm.desks.status import ask_status
 from nrm.program import Program
 
 SEES_NO_LOCK = "import fcntl\nfcntl.flock = lambda *_: None\n"
@@ -91,6 +92,7 @@ class Moments(ServeTest):
         with self.served(journal, program=program) as serve:
             self.assertEqual(talk(serve, b"desk D1 1\nbook LOC 1\n"), b"at 1\nmemory\n")
             self.want_in(serve.told(), "level=warning tool=nrm-tools-serve event=memory network=net\n")
+            self.assertEqual([it.memory for it in ask_status(serve.path, SECONDS).networks], [1])
         self.same(rows_in(journal))
 
     def late(self) -> tuple[str, Program]:

@@ -232,8 +232,8 @@ class Hall:
     # What halts a network, and all
 
     def halt(self, session: Session, row: int, why: str) -> None:
-        """Has nobody answer for a network, whose row the program doesn't take. If another server has the journal, it may
-        have written while the rows were read: then it is this one that ends."""
+        """Has nobody answer for a network, whose row the program doesn't take. If another server has the journal, it
+        may have written while the rows were read: then it is this one that ends."""
         if head_of(self.reader, session.network.number)[0] != self.writer.epoch:
             self.fail(Fenced(LOST))
             return
