@@ -5,6 +5,7 @@ import contextlib
 import os
 import socket
 import threading
+import time
 import unittest
 from dataclasses import replace
 from typing import Sequence
@@ -70,9 +71,7 @@ class Asked(WithinTest):
                     if is_late:
                         over.wait(60)
 
-        thread = threading.Thread(target=answer, daemon=True)
-        thread.start()
-        self.addCleanup(thread.join)
+        threading.Thread(target=answer, daemon=True).start()
         self.addCleanup(over.set)
         return path
 
@@ -97,6 +96,10 @@ class Asked(WithinTest):
             self.stopped("status", place, "--seconds", seconds, says=told)
         with self.assertRaises(NoStatus):
             ask_status(("127.0.0.1", 1), 9)
+        begun = time.monotonic()
+        with self.assertRaises(NoStatus):
+            ask_status(self.answering([TEXT.encode()[:-1]], is_late=True), 0.5)
+        self.assertTrue(0.4 < time.monotonic() - begun < 8, "the seconds are those of all")
         for words in ([], [none, "--seconds", "0"]):
             self.stopped("status", *words, status=2, env=os.environ)
         self.assertFalse(os.path.exists(none))
