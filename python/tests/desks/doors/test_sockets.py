@@ -130,8 +130,8 @@ class Sockets(ServeTest):
                                  env=variables) for journal in journals]
         try:
             told = [it.stderr.readline() for it in many]
-            listening = Counter(it.startswith(f"{TOLD}listening on") for it in told)
-            self.assertEqual(listening, {True: 1, False: 7}, told)
+            begun = Counter("event=started" in it for it in told)
+            self.assertEqual(begun, {True: 1, False: 7}, told)
             with killed.connect() as connection:
                 self.assertEqual(answers(connection, LOOK, 1), [REPLY], "its reply")
         finally:

@@ -12,7 +12,7 @@ import socket
 from dataclasses import dataclass, field
 from typing import Sequence
 
-from nrm.desks.journals.networks import networks_in
+from nrm.desks.journals.networks import Opened, networks_in
 from nrm.desks.journals.tables import using
 from nrm.desks.journals.writing import locked
 from nrm.desks.places import Places, SocketPath, allow_files, tcp_socket
@@ -51,8 +51,10 @@ class Server:
         path = SocketPath(places.socket) if places.socket else None
         try:
             hall = Hall(self.journal, self.answering, self.limits, self.log)
-            self.tell_of_networks(hall)
+            networks = networks_in(hall.reader)
+            allow_files(self.limits.clients + FILES_OF_A_PROGRAM * len(networks) + SPARE_FILES)
             listeners += [path.listener(places.rights)] if path else []
+            self.tell_of_the_beginning(hall, networks)
             return self.serve(hall, listeners, path)
         finally:
             if path:
@@ -72,10 +74,9 @@ class Server:
         hall.events.tell("stopped", status=hall.status)
         return hall.status
 
-    def tell_of_networks(self, hall: Hall) -> None:
-        """Lets so many files be open, and tells that it has begun, and which networks aren't answered."""
-        networks = networks_in(hall.reader)
-        allow_files(self.limits.clients + FILES_OF_A_PROGRAM * len(networks) + SPARE_FILES)
+    def tell_of_the_beginning(self, hall: Hall, networks: Sequence[Opened]) -> None:
+        """Tells that it has begun, and which networks aren't answered. What may keep it from that was done before, so
+        that whoever can't begin tells nothing but why."""
         answers = hall.answering.checksum
         hall.events.tell("started", journal=self.journal, epoch=hall.writer.epoch, networks=len(networks),
                          program=answers)
