@@ -92,7 +92,7 @@ class Told(ServeTest):
         journal = self.journal(file=ONE.encode())
         options = "--log", "json", "--log-level", "warning"
         with self.serve(journal, *options, status=0) as serve:
-            wait_for(serve.path.exists, "the server")
+            wait_for(lambda: is_there(serve.path), "the server")
             self.assertEqual(talk(serve, b"desk none D1\n"), b"closed network\n")
             serve.end()
             [told] = [json.loads(it) for it in serve.told().splitlines()]
@@ -109,7 +109,7 @@ class Told(ServeTest):
                                stderr=written)
         os.close(written)
         self.addCleanup(process.kill)
-        wait_for(path.exists, "the server")
+        wait_for(lambda: is_there(path), "the server")
         self.assertEqual(asked_at(path, b"book LOC 1\n"), b"ok 1\n")
         self.assertEqual(os.read(read, 16_384), b"x" * 16_384)
         process.terminate()
@@ -121,6 +121,12 @@ class Told(ServeTest):
         self.want_in(told.decode(), "level=warning tool=nrm-tools-serve event=untold times=3\n")
         self.want_in(told.decode(), "event=stopped status=0\n")
         self.assertNotIn(LISTENS, told.decode())
+
+
+def is_there(path: Path) -> bool:
+    """Whether somebody listens on a socket."""
+    with socket.socket(socket.AF_UNIX) as client:
+        return client.connect_ex(str(path)) == 0
 
 
 def asked_at(path: Path, lines: bytes) -> bytes:
