@@ -16,6 +16,7 @@ from nrm import __version__
 from nrm.desks.status import Network, Status, ask_status, status_of
 
 MANY = 40_000  # lines of a client that doesn't read
+AHEAD = 1000  # lines of one that sends them all before it reads: more is answered than may be unsent
 SET_SIZE = 1031  # of a pipe: F_SETPIPE_SZ, which Python before 3.10 doesn't name
 
 
@@ -71,6 +72,7 @@ class Told(ServeTest):
                 told = b""
                 while told.count(b"\n\n") < 2:
                     told += client.recv(65_536)
+            self.assertEqual(talk(serve, b"status\n" * AHEAD).count(b"server "), AHEAD, "as they are taken")
             self.see_that_who_doesnt_read_is_dropped(serve)
             self.assertEqual(talk(serve, b"status of things\n"), b"bad\n")
 
