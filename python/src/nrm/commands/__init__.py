@@ -25,6 +25,7 @@ NAMED = {
     "averaged": "nrm.commands.seasons.averaged",
     "journal": "nrm.commands.live.journal",
     "serve": "nrm.commands.live.serve",
+    "token": "nrm.commands.live.token",
     "resume": "nrm.commands.live.resume",
 }
 ALONE = ("audit",)  # these begin and end by themselves

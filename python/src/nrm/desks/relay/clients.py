@@ -1,21 +1,27 @@
 """The clients: how much of each the program has and hasn't used, what waits to be sent to it, and when it is cut off.
 
-May use: nrm.desks.frames, nrm.desks.relay.loop.
+May use: nrm.desks.access, nrm.desks.frames, nrm.desks.relay.doors.secure, nrm.desks.relay.doors.tokens,
+nrm.desks.relay.loop.
 """
 from __future__ import annotations
 
 import re
 import socket
+import ssl
 from dataclasses import dataclass
 from typing import Protocol
 
+from nrm.desks.access import Right
 from nrm.desks.frames import MOST, WINDOW
+from nrm.desks.relay.doors.secure import RECORD, Secure
+from nrm.desks.relay.doors.tokens import FRONT, Tokens
 from nrm.desks.relay.loop import READ, WRITE, Loop
 
 PIECE = 16_384  # bytes that are read at a time
 LONGEST = 1000  # of a first line that names a network
 NAMES_A_NETWORK = re.compile(rb"desk [a-z]")  # as no greeting of a desk alone does
 LIKE = b"desk a"
+HERE = "here"  # the address of all who come by a Unix socket
 
 
 @dataclass(frozen=True)
@@ -52,6 +58,7 @@ class Hall(Protocol):
     """What a client needs of the server that it came to."""
     limits: Limits
     loop: Loop
+    tokens: Tokens
     unread: int
 
     def enter(self, client: Client, network: str | None, data: bytes) -> None:
@@ -63,13 +70,21 @@ class Hall(Protocol):
 
 class Client:
     """A connection. The bytes that the program has of it and hasn't used are counted, and those behind the last line
-    feed; nothing else is looked at once its network is known."""
+    feed; nothing else is looked at once its desk and its network are known."""
 
-    def __init__(self, hall: Hall, connection: socket.socket) -> None:
+    def __init__(self, hall: Hall, connection: socket.socket, address: str = HERE,
+                 context: ssl.SSLContext | None = None) -> None:
         connection.setblocking(False)
         if connection.family != socket.AF_UNIX:
             connection.setsockopt(socket.IPPROTO_TCP, socket.TCP_NODELAY, 1)
-        self.hall, self.socket, self.file = hall, connection, connection.fileno()
+        self.hall, self.address = hall, address
+        self.secure = Secure(connection, context) if context else None
+        self.socket = self.secure or connection
+        self.file = self.socket.fileno()
+        self.least = RECORD if context else 1  # the bytes for which there must be room when it is read
+        self.right: Right | None = None  # by its token
+        self.is_to_give_token = hall.tokens.access is not None and address != HERE
+        self.may_give_token = True
         self.session: Session | None = None
         self.place = -1  # none yet
         self.first, self.out = b"", bytearray()
@@ -89,29 +104,34 @@ class Client:
         if not self.is_open:
             return
         self.is_heard = not (self.has_ended or self.why or self.is_done or self.is_waiting or len(self.out) > MOST
-                             or self.unused >= WINDOW or self.session and self.session.is_full)
+                             or self.unused > WINDOW - self.least or self.session and self.session.is_full)
         what = (READ if self.is_heard else 0) | (WRITE if self.out else 0)
+        what = self.secure.watched(what) if self.secure else what
         self.hall.loop.want(self.file, what, self.read if what == READ else self.ready)
 
     def ready(self, what: int) -> None:
         """Reads and sends what can be."""
         if self.out and what != READ:
             self.send()
-        if self.is_open and what != WRITE and not (self.has_ended or self.is_done):
+        is_to_read = what != WRITE or self.secure and self.secure.is_to_write
+        if self.is_open and is_to_read and not (self.has_ended or self.is_done):
             self.read(what)
 
     def read(self, what: int) -> None:
         """Reads a piece, as long as the program may have more of this client."""
         room = WINDOW - self.unused
-        if room <= 0:
+        if room < self.least:
             return
         try:
             piece = self.socket.recv(room if room < PIECE else PIECE)
         except BlockingIOError:
+            self.watch()
             return
         except OSError:
             self.vanish()
             return
+        if self.secure:
+            self.watch()
         if piece and self.session:
             self.pass_on(piece)
         elif piece:
@@ -120,9 +140,12 @@ class Client:
             self.end()
 
     def choose(self, piece: bytes) -> None:
-        """Finds the network by the first line, if that names one; else by its first bytes."""
+        """Finds the desk by the first line, if that has a token, and the network by the next, if that names one; else by
+        its first bytes."""
         self.first += piece
         self.since = self.hall.loop.now
+        if self.may_give_token and not self.is_without_token():
+            return
         if not NAMES_A_NETWORK.match(self.first):
             if self.first != LIKE[:len(self.first)]:
                 self.enter(None, self.first)
@@ -133,6 +156,46 @@ class Client:
             self.enter(network.decode("latin-1"), b" ".join([b"desk", *words]) + b"\n" + rest)
         elif len(line) >= LONGEST:
             self.finish("long")
+
+    def is_without_token(self) -> bool:
+        """Whether the first line is another than one with a token, and may be; that one is taken once it is whole."""
+        if FRONT[:len(self.first)] == self.first[:len(FRONT)]:
+            line, feed, rest = self.first.partition(b"\n")
+            if len(line) >= LONGEST:
+                self.finish("long")
+            elif feed:
+                self.first = rest
+                self.give_token(line[len(FRONT):])
+            return False
+        if self.is_to_give_token:
+            self.finish("token")
+            return False
+        self.may_give_token = False
+        return True
+
+    def give_token(self, token: bytes) -> None:
+        """Has a token looked up. Nothing is read until it is answered, which may be later."""
+        self.is_waiting, self.may_give_token = True, False
+        self.right, wait = self.hall.tokens.asked(self.address, token)
+        if wait:
+            self.hall.loop.call_at(self.hall.loop.now + wait, self.answer_token)
+            self.watch()
+        else:
+            self.answer_token()
+
+    def answer_token(self) -> None:
+        """Says which desk it is, and goes on with what came behind; or ends it."""
+        if not self.is_open or self.is_done:
+            return
+        self.is_waiting = self.is_to_give_token = False
+        if not self.right:
+            self.finish("token")
+            return
+        self.put(f"token {self.right.name}\n".encode())
+        rest, self.first = self.first, b""
+        if rest and self.is_open:
+            self.choose(rest)
+        self.watch()
 
     def enter(self, network: str | None, data: bytes) -> None:
         """Comes to a network, whose program may still have to begin."""
@@ -246,6 +309,9 @@ class Client:
     def finish(self, why: str | None) -> None:
         """Says why, and ends the connection once all is sent. The program knows it no more."""
         self.session, self.is_waiting, self.is_done, self.since = None, False, True, self.hall.loop.now
+        if self.secure and not self.secure.is_shaken:
+            self.vanish()  # nothing can be said to it
+            return
         if why:
             self.out += f"closed {why}\n".encode()
         self.send()
@@ -287,5 +353,6 @@ class Client:
             self.cut_off()
         elif not (self.is_waiting or self.is_done or self.why or self.has_ended or self.unused > self.tail):
             has_half = self.tail or self.first
-            if now - self.since > (limits.slow if has_half else limits.idle):
-                self.leave("half" if has_half else "idle")
+            is_to_begin = self.is_to_give_token or self.secure and not self.secure.is_shaken
+            if now - self.since > (limits.slow if has_half or is_to_begin else limits.idle):
+                self.leave("half" if has_half else "token" if is_to_begin else "idle")

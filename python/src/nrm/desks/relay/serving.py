@@ -1,7 +1,8 @@
 """A server of a journal from beginning to end: the doors by which clients come, signals, and the status.
 
-May use: nrm.desks.journals.networks, nrm.desks.journals.tables, nrm.desks.journals.writing, nrm.desks.places,
-nrm.desks.relay, nrm.desks.relay.clients, nrm.desks.relay.hall, nrm.desks.relay.loop.
+May use: nrm.desks.access, nrm.desks.journals.networks, nrm.desks.journals.tables, nrm.desks.journals.writing,
+nrm.desks.places, nrm.desks.relay, nrm.desks.relay.clients, nrm.desks.relay.doors.guards, nrm.desks.relay.hall,
+nrm.desks.relay.loop.
 """
 from __future__ import annotations
 
@@ -9,15 +10,18 @@ import contextlib
 import os
 import signal
 import socket
+import ssl
 from dataclasses import dataclass, field
 from typing import Sequence
 
+from nrm.desks.access import Access
 from nrm.desks.journals.networks import networks_in
 from nrm.desks.journals.tables import using
 from nrm.desks.journals.writing import locked
 from nrm.desks.places import Places, SocketPath, allow_files, tcp_socket
 from nrm.desks.relay import log
-from nrm.desks.relay.clients import Client, Limits
+from nrm.desks.relay.clients import HERE, Client, Limits
+from nrm.desks.relay.doors.guards import Guard, Watched
 from nrm.desks.relay.hall import Answering, Hall
 from nrm.desks.relay.loop import READ
 
@@ -25,16 +29,18 @@ SPARE_FILES = 64  # beside those of clients and programs
 FILES_OF_A_PROGRAM = 2
 BACKLOG = 1024  # clients that may wait to be taken
 IN_A_ROUND = 32  # of those, so many are taken before others are answered
+CLOSED = b"closed clients\n"  # that isn't told where TLS is spoken, since the handshake would come first
 ENDS = (signal.SIGTERM, signal.SIGINT, signal.SIGHUP)
 
 
 @dataclass(frozen=True)
 class Server:
-    """The journal, the program that answers, where clients come, and the limits."""
+    """The journal, the program that answers, where clients come, the limits, and the files that say who may come."""
     journal: str
     answering: Answering
     places: Places
     limits: Limits = field(default_factory=Limits)
+    guard: Guard = field(default_factory=Guard)
 
     def run(self) -> int:
         """Serves until this process is told to end, or the journal can't be written, and gives the status."""
@@ -46,21 +52,24 @@ class Server:
     def run_alone(self) -> int:
         """Serves, as the only server of the journal."""
         places = self.places
+        access, context = self.guard.access(), self.guard.context()
         listeners = [tcp_socket(places.listen, places.is_beyond_allowed)] if places.listen else []
         path = SocketPath(places.socket) if places.socket else None
         try:
             hall = Hall(self.journal, self.answering, self.limits)
             self.tell_of_networks(hall)
             listeners += [path.listener(places.rights)] if path else []
-            return self.serve(hall, listeners, path)
+            look_at_files(hall, access, context)
+            return self.serve(hall, listeners, path, context)
         finally:
             if path:
                 path.leave()
 
-    def serve(self, hall: Hall, listeners: Sequence[socket.socket], path: SocketPath | None) -> int:
+    def serve(self, hall: Hall, listeners: Sequence[socket.socket], path: SocketPath | None,
+              context: Watched[ssl.SSLContext] | None) -> int:
         """Takes clients until it is to end."""
         wake_by_signals(hall)
-        doors = [Door(hall, it) for it in listeners]
+        doors = [Door(hall, it, context) for it in listeners]
         hall.loop.looks += [it.open for it in doors]
         try:
             hall.loop.run()
@@ -84,6 +93,19 @@ class Server:
                     f"{hall.answering.checksum}")
 
 
+def look_at_files(hall: Hall, access: Watched[Access] | None, context: Watched[ssl.SSLContext] | None) -> None:
+    """Has the desks of a file come, and once a second has it seen whether that or the certificate has changed."""
+    def look() -> None:
+        if access and access.has_changed():
+            hall.admit(access.said)
+        if context:
+            context.has_changed()
+
+    if access:
+        hall.admit(access.said)
+    hall.loop.looks.append(look)
+
+
 def wake_by_signals(hall: Hall) -> None:
     """Has the loop end at a signal."""
     told, tells = os.pipe2(os.O_CLOEXEC | os.O_NONBLOCK)
@@ -101,8 +123,9 @@ def wake_by_signals(hall: Hall) -> None:
 class Door:
     """A socket that listens. It takes a few clients at a time, so that a crowd of them doesn't keep others waiting."""
 
-    def __init__(self, hall: Hall, listener: socket.socket) -> None:
+    def __init__(self, hall: Hall, listener: socket.socket, context: Watched[ssl.SSLContext] | None) -> None:
         self.hall, self.listener = hall, listener
+        self.context = context if listener.family != socket.AF_UNIX else None
         listener.setblocking(False)
         listener.listen(BACKLOG)
         name = listener.getsockname()
@@ -121,7 +144,7 @@ class Door:
             return
         for _ in range(IN_A_ROUND):
             try:
-                connection, _ = self.listener.accept()
+                connection, address = self.listener.accept()
             except (BlockingIOError, ConnectionAbortedError):
                 return
             except OSError as fault:  # as of too many open files, or no memory
@@ -130,13 +153,19 @@ class Door:
                 return
             if hall.is_full_of_clients():
                 hall.turned_away += 1
-                turn_away(connection)
+                turn_away(connection, CLOSED if not self.context else b"")
             else:
-                hall.clients.add(Client(hall, connection))
+                self.let_in(connection, address[0] if address else HERE)
+
+    def let_in(self, connection: socket.socket, address: str) -> None:
+        """Has a client at a connection, unless it is no more."""
+        with contextlib.suppress(OSError):
+            context = self.context.said if self.context else None
+            self.hall.clients.add(Client(self.hall, connection, address, context))
 
 
-def turn_away(connection: socket.socket) -> None:
-    """Says why, and ends a connection."""
+def turn_away(connection: socket.socket, why: bytes) -> None:
+    """Says why, if it can be said, and ends a connection."""
     with contextlib.suppress(OSError), connection:
         connection.setblocking(False)
-        connection.send(b"closed clients\n")
+        connection.send(why)
