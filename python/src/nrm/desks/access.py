@@ -163,17 +163,17 @@ def add_desk(path: str, name: str, rights: Sequence[str], is_again: bool) -> str
         token = secrets.token_hex(TOKEN_BYTES)
         named = before[name].rights if is_again and not rights else rights
         made = right_of(name, {"token": hash_of(token.encode()), "rights": list(named)}, f"{path}: [{shown(name)}]")
-        changed = with_entry(text.decode(), made, name in before).encode()
+        changed = with_entry(text.decode(), made, before.get(name)).encode()
         if {it.name: it for it in access_in(changed, path).desks.values()} != {**before, name: made}:
             raise Stop(f"{path}: [{name}] stands there in a form that this tool doesn't change")
         put_in_place(path, changed)
     return token
 
 
-def with_entry(text: str, right: Right, is_there: bool) -> str:
-    """A text with the entry of a desk, behind the others or in the place of its own. What else is there stays."""
+def with_entry(text: str, right: Right, before: Right | None) -> str:
+    """A text with the entry of a desk, in the place of the one before or behind all others. What else is there stays."""
     rights = "[" + ", ".join(f'"{it}"' for it in right.rights) + "]"
-    if not is_there:
+    if not before:
         gap = "\n" * (bool(text) + (bool(text) and not text.endswith("\n")))
         return f'{text}{gap}[{right.name}]\ntoken = "{right.hash}"\nrights = {rights}\n'
     head = re.search(rf"""^[ \t]*\[[ \t]*["']?{right.name}["']?[ \t]*\][^\n]*\n""", text, re.MULTILINE)
@@ -182,7 +182,9 @@ def with_entry(text: str, right: Right, is_there: bool) -> str:
     following = re.compile(r"^[ \t]*\[", re.MULTILINE).search(text, head.end())
     end = following.start() if following else len(text)
     entry = re.sub(TOKEN_LINE, rf'\g<1>"{right.hash}"', text[head.end():end], flags=re.MULTILINE)
-    return text[:head.end()] + re.sub(RIGHTS_LINE, rf"\g<1>{rights}", entry, flags=re.MULTILINE) + text[end:]
+    if right.rights != before.rights:
+        entry = re.sub(RIGHTS_LINE, rf"\g<1>{rights}", entry, flags=re.MULTILINE)
+    return text[:head.end()] + entry + text[end:]
 
 
 @contextlib.contextmanager

@@ -140,8 +140,8 @@ class Client:
             self.end()
 
     def choose(self, piece: bytes) -> None:
-        """Finds the desk by the first line, if that has a token, and the network by the next, if that names one; else by
-        its first bytes."""
+        """Finds the desk by the first line, if that has a token, and the network by the next one, if that names one, or
+        by its first bytes."""
         self.first += piece
         self.since = self.hall.loop.now
         if self.may_give_token and not self.is_without_token():

@@ -19,11 +19,12 @@ Stamp = Tuple[int, int, int, int]
 
 
 class Watched(Generic[Said]):
-    """What some files say. Those that can't be read later leave it as it was."""
+    """What some files say. They are read anew once they have changed and then stayed for a second, so that none is read
+    while it is written, nor one of two. Those that can't be read then leave it as it was."""
 
     def __init__(self, name: str, paths: Sequence[str], read: Callable[..., Said]) -> None:
         self.name, self.paths, self.read = name, paths, read
-        self.stamps = self.stamps_now()
+        self.stamps = self.seen = self.stamps_now()  # as they were when they were read, and when they were seen last
         self.said = read(*paths)
 
     def stamps_now(self) -> list[Stamp | None]:
@@ -31,11 +32,11 @@ class Watched(Generic[Said]):
         return [stamp_of(it) for it in self.paths]
 
     def has_changed(self) -> bool:
-        """Reads the files anew if they have changed, and gives whether they say something now."""
-        stamps = self.stamps_now()
-        if stamps == self.stamps:
+        """Reads the files anew if they have changed, and gives whether it could. Is called once a second."""
+        before, self.seen = self.seen, self.stamps_now()
+        if self.seen == self.stamps or self.seen != before:
             return False
-        self.stamps = stamps
+        self.stamps = self.seen
         try:
             self.said = self.read(*self.paths)
         except Stop as fault:

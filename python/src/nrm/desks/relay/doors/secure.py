@@ -79,7 +79,8 @@ def context_of(certificate: str, key: str) -> ssl.SSLContext:
         bytes_of_plain_file(path)
     context = ssl.SSLContext(ssl.PROTOCOL_TLS_SERVER)
     context.minimum_version = ssl.TLSVersion.TLSv1_2
-    context.options |= ssl.OP_NO_RENEGOTIATION
+    # an end that isn't said by TLS is one too: whole lines are taken, as they are without TLS
+    context.options |= ssl.OP_NO_RENEGOTIATION | getattr(ssl, "OP_IGNORE_UNEXPECTED_EOF", 0)
     try:
         context.load_cert_chain(certificate, key, "")  # one that is locked is refused, and no terminal asked for a word
     except OSError:
