@@ -30,8 +30,8 @@ class Files(WithinTest):
         one, two = Right("C-7", ONE, ("look", "book")), Right("0-9", TWO, ("plan",))
         self.assertEqual((found.named(b"1"), found.named(b"2")), (one, two))
         self.assertEqual([found.named(it) for it in (b"", b"3", b"1\n", b"1 ", ONE.encode(), b"\xff")], [None] * 6)
-        self.assertEqual((found.has(one), found.has(Right("C-7", ONE, ("look",))), found.has(Right("C-7", TWO, ("plan",)))),
-                         (True, False, False))
+        others = Right("C-7", ONE, ("look",)), Right("C-7", TWO, ("plan",))
+        self.assertEqual([found.has(it) for it in (one, *others)], [True, False, False])
         self.assertNotIn(ONE[7:], repr(one))
 
     def test_what_is_refused_in_a_file(self) -> None:
@@ -49,8 +49,10 @@ class Files(WithinTest):
                 ("[D1]\nrights = ['look']", "[D1]: as token"), ("[D1]\ntoken = 5\nrights = ['look']", "[D1]: as token"),
                 (entry(token=SECRET), "[D1]: as token"), (entry(token=f"sha256:{SECRET.upper()}"), "[D1]: as token"),
                 (entry(token=ONE + "0"), "[D1]: as token"), (entry(token=f"sha512:{SECRET}"), "[D1]: as token"),
-                (f'[D1]\ntoken = "{ONE}"', "[D1]: a list of rights"), (entry(rights='"look"'), "[D1]: a list of rights"),
-                (entry(rights="[]"), "[D1]: at least one right"), (entry(rights='["bok"]'), "[D1]: there is no right bok"),
+                (f'[D1]\ntoken = "{ONE}"', "[D1]: a list of rights"),
+                (entry(rights='"look"'), "[D1]: a list of rights"),
+                (entry(rights="[]"), "[D1]: at least one right"),
+                (entry(rights='["bok"]'), "[D1]: there is no right bok"),
                 (entry(rights="[[1]]"), "[D1]: there is no right [1]"),
                 (entry(rights=f'["{SECRET}"]'), "[D1]: there is no right (a long text)"),
                 (entry("D1") + entry("D2"), "[D2] has the same token as [D1]")]:
@@ -90,8 +92,8 @@ class Made(WithinTest):
 
     def test_what_stands_there_stays(self) -> None:
         """Comments, the form, and the rights of the file; a link too."""
-        text = (f"# ours\n\n['C-7'] # the counter\nrights = [ # both\n  'look', 'book' ]\n  token='{ONE}'\n\n# the web\n"
-                + entry("WEB", TWO).rstrip())
+        text = ("# ours\n\n['C-7'] # the counter\nrights = [ # both\n  'look', 'book' ]\n"
+                f"  token='{ONE}'\n\n# the web\n{entry('WEB', TWO).rstrip()}")
         self.file("there", text)
         os.chmod("there", 0o640)
         os.symlink("there", "desks")

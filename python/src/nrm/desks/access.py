@@ -171,7 +171,7 @@ def add_desk(path: str, name: str, rights: Sequence[str], is_again: bool) -> str
 
 
 def with_entry(text: str, right: Right, before: Right | None) -> str:
-    """A text with the entry of a desk, in the place of the one before or behind all others. What else is there stays."""
+    """A text with the entry of a desk, in the place of the one before or behind all others; the rest stays."""
     rights = "[" + ", ".join(f'"{it}"' for it in right.rights) + "]"
     if not before:
         gap = "\n" * (bool(text) + (bool(text) and not text.endswith("\n")))

@@ -221,7 +221,7 @@ class Client:
         self.unused += size
         self.tail = size - 1 - last if last >= 0 else self.tail + size
         self.session.give(self, piece)
-        if self.unused >= WINDOW:
+        if self.unused > WINDOW - self.least:
             self.watch()
 
     def end(self) -> None:

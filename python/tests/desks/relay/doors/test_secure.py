@@ -48,8 +48,8 @@ class Secured(GuardedTest):
                 self.assertNotIn(b"C-7", all_told(plain))
             words = ["openssl", "s_client", "-quiet", "-verify_return_error", "-CAfile", str(self.folder / "made.cert"),
                      "-verify_ip", ADDRESS, "-connect", f"{ADDRESS}:{port_of(serve)}"]
-            with subprocess.Popen(words, stdin=subprocess.PIPE, stdout=subprocess.PIPE, stderr=subprocess.PIPE) as client:
-                told, _ = client.communicate(front + b"desk C-7\nask LOC\n" + b"x" * 1000, SECONDS)
+            told = subprocess.run(words, input=front + b"desk C-7\nask LOC\n" + b"x" * 1000, stdout=subprocess.PIPE,
+                                  stderr=subprocess.DEVNULL, timeout=SECONDS).stdout
             self.assertEqual(told, b"token C-7\nat 2\nask LOC 299 leg AB\nclosed long\n")
             self.assertEqual(talk(serve, b"ask LOC\n"), b"ask LOC 299 leg AB\n", "on the Unix socket")
             self.assertNotIn(token.decode(), serve.told())
@@ -68,7 +68,8 @@ class Secured(GuardedTest):
                 self.want_in(str(why), says)
                 self.assertNotIn(token, repr(why))
             place = "localhost", place[1]  # which isn't a name of the certificate
-            self.want_in(str(self.expect(Strange, lambda: Desk(place, "D1", token=token, tls=self.trusting()))), "mismatch")
+            why = self.expect(Strange, lambda: Desk(place, "D1", token=token, tls=self.trusting()))
+            self.want_in(str(why), "mismatch")
             self.expect(ValueError, lambda: Desk(serve.path, "D1", tls=self.trusting()))
 
     def test_versions_before_1_2_are_refused(self) -> None:
@@ -130,7 +131,8 @@ class Secured(GuardedTest):
 
     def test_many_lines_in_a_record(self) -> None:
         """All are taken, and no rest of a record stays behind, though more comes than the program may have unused."""
-        token, line, count = self.token("D1", "look"), b"nonsense that is long, so that many bytes wait for it\n", 12_000
+        token, count = self.token("D1", "look"), 12_000
+        line = b"nonsense that is long, so that many bytes wait for it\n"
         with self.secured(self.journal(file=ONE.encode())) as serve, self.by_tls(serve) as made:
             self.assertEqual(answers(made, b"token %s\ndesk D1\n" % token + b"ask LOC\n" * 1500, 1502)[2:],
                              [b"ask LOC 300 leg AB\n"] * 1500)

@@ -2,20 +2,25 @@
 from __future__ import annotations
 
 import contextlib
+import io
 import os
 import signal
 import socket
-import time
+from pathlib import Path
 from typing import Callable, Iterator
 
 from desks.relay.doors.guarded import GuardedTest
 from desks.relay.serves import ONE, all_told, rows_in, talk
 from desks.servers import answers, child_of
-from harness import SECONDS, wait_for
+from harness import wait_for
 from nrm.desks.access import RIGHTS, Access, Right, hash_of
-from nrm.desks.desk import Desk, Ended, Sold
+from nrm.desks.desk import Desk, Ended
+from nrm.desks.frames import WINDOW
 from nrm.desks.relay.clients import Client, Limits
+from nrm.desks.relay.doors.guards import Watched
+from nrm.desks.relay.doors.secure import RECORD
 from nrm.desks.relay.doors.tokens import MOST_ADDRESSES, Tokens
+from nrm.desks.relay.loop import READ
 
 MAY = {  # by right: the kinds of lines that it allows
     "look": {"leg", "plan", "hindsight", "ask"}, "book": {"book"}, "cancel-own": {"own"},
@@ -139,6 +144,19 @@ class Known(GuardedTest):
             replies = [it.encode() for (it,) in rows_in(journal, "SELECT reply FROM line ORDER BY number")]
             self.assertEqual(told, [b"token D1", *replies, b"closed token"])
 
+    def test_a_file_is_read_once_it_stays(self) -> None:
+        """And not while it changes, nor again as long as it stays."""
+        path = self.file("one", "a")
+        watched = Watched("desks", [path], lambda it: Path(it).read_text())
+        with contextlib.redirect_stderr(io.StringIO()) as told:
+            found = [watched.has_changed()]
+            for text in ("", "b", "bc"):
+                self.file("one", text)
+                found.append(watched.has_changed())
+            found += [watched.has_changed(), watched.has_changed()]
+        self.want_in(told.getvalue(), "desks-read")
+        self.assertEqual((found, watched.said), ([False, False, False, False, True, False], "bc"))
+
     def test_files_that_cant_be_read_at_the_start(self) -> None:
         journal, place = self.journal(file=ONE.encode()), ("--socket", str(self.folder / "s"))
         run = ("--program", *self.desks_program.words)
@@ -194,6 +212,17 @@ class House:
 
     def leave(self, client: Client) -> None:
         self.left.append(client)
+
+
+class Taken:
+    """A session in the place of one, which takes all."""
+    is_full = False
+
+    def give(self, client: Client, data: bytes) -> None:
+        pass
+
+    def part(self, client: Client) -> None:
+        pass
 
 
 class Slowed(GuardedTest):
@@ -269,6 +298,23 @@ class Slowed(GuardedTest):
         for _ in range(2000):
             tokens.asked("first", WRONG)
         self.assertEqual(tokens.asked("first", WRONG)[1], 30)
+
+    def test_it_is_read_while_there_is_room(self) -> None:
+        """By TLS for a whole record, since what is left of one is seen by nobody; else for a byte."""
+        for least in (1, RECORD):
+            with self.coming("here", b"") as (client, there):
+                client.least = least
+                client.seat(Taken(), 0, b"")
+                there.sendall(b"x" * (WINDOW // 2))
+                while self.house.loop.wanted.get(client.file):
+                    client.read(READ)
+                    self.assertLessEqual(client.unused, WINDOW)
+                    if client.unused == WINDOW // 2:
+                        client.unused += WINDOW // 2 - least
+                        there.sendall(b"x" * least)
+                self.assertEqual(client.unused, WINDOW, least)
+                client.used(least, b"")
+                self.assertEqual(self.house.loop.wanted.get(client.file), READ)
 
     def test_who_must_give_a_token_has_little_time_for_it(self) -> None:
         """And who needn't, as much as for any line."""
