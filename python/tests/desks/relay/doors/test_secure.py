@@ -3,21 +3,23 @@ from __future__ import annotations
 
 import contextlib
 import os
-import shutil
 import socket
 import ssl
 import subprocess
 import threading
 import time
-import unittest
 
 from desks.relay.doors.guarded import ADDRESS, GuardedTest, port_of
+from desks.relay.doors.houses import House, Taken
 from desks.relay.serves import ONE, all_told, rows_in, talk
 from desks.servers import answers
 from harness import SECONDS, wait_for
 from nrm import Stop
 from nrm.desks.desk import Desk, Ended, Late, Sold, Strange
-from nrm.desks.relay.doors.secure import context_of
+from nrm.desks.frames import WINDOW
+from nrm.desks.relay.clients import Client
+from nrm.desks.relay.doors.secure import RECORD, context_of
+from nrm.desks.relay.loop import READ
 
 LEGS, PRODUCTS = range(64), range(256)
 LARGE = "\n".join([  # a network whose plan has some 54 KB, four records of TLS
@@ -143,6 +145,34 @@ class Secured(GuardedTest):
                 told += made.recv(65_536)
             sender.join()
             self.assertEqual(told, b"bad\n" * count)
+
+    def test_no_rest_of_a_record_stays_behind(self) -> None:
+        """Which no epoll would show: with little room nothing is read, and else a record whole."""
+        house, ends = House(), socket.socketpair()
+        client = Client(house, ends[0], context=context_of(*self.certified()))
+        may_send = threading.Event()
+        threading.Thread(target=self.record_sent, args=(ends[1], may_send), daemon=True).start()
+        wait_for(lambda: client.read(READ) or client.secure.is_shaken, "the end of the handshake")
+        client.seat(Taken(), 0, b"")
+        client.unused = WINDOW - 100
+        may_send.set()
+        for _ in range(50):
+            client.read(READ)
+            time.sleep(0.01)
+        client.watch()
+        self.assertEqual((client.unused, house.loop.wanted.get(client.file, 0)), (WINDOW - 100, 0))
+        client.used(WINDOW - 100, b"")
+        self.assertEqual(house.loop.wanted.get(client.file), READ)
+        wait_for(lambda: client.read(READ) or client.unused, "the record")
+        self.assertEqual((client.unused, client.secure.socket.pending()), (RECORD, 0))
+
+    def record_sent(self, connection: socket.socket, may_send: threading.Event) -> None:
+        """Sends a record of the greatest size, once it may."""
+        with self.trusting().wrap_socket(connection, server_hostname=ADDRESS) as made:
+            may_send.wait(SECONDS)
+            made.sendall(b"x" * RECORD)
+            with contextlib.suppress(OSError):
+                made.recv(1)
 
     def test_who_has_said_all_is_answered(self) -> None:
         """The end of what a client says, by TLS or without, leaves its lines; half a line isn't taken."""

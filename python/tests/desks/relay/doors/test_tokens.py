@@ -7,16 +7,17 @@ import os
 import signal
 import socket
 from pathlib import Path
-from typing import Callable, Iterator
+from typing import Iterator
 
 from desks.relay.doors.guarded import GuardedTest
+from desks.relay.doors.houses import HIS, House, Taken
 from desks.relay.serves import ONE, all_told, rows_in, talk
 from desks.servers import answers, child_of
 from harness import wait_for
-from nrm.desks.access import RIGHTS, Access, Right, hash_of
+from nrm.desks.access import RIGHTS, Access, hash_of
 from nrm.desks.desk import Desk, Ended
 from nrm.desks.frames import WINDOW
-from nrm.desks.relay.clients import Client, Limits
+from nrm.desks.relay.clients import Client
 from nrm.desks.relay.doors.guards import Watched
 from nrm.desks.relay.doors.secure import RECORD
 from nrm.desks.relay.doors.tokens import MOST_ADDRESSES, Tokens
@@ -25,7 +26,7 @@ from nrm.desks.relay.loop import READ
 MAY = {  # by right: the kinds of lines that it allows
     "look": {"leg", "plan", "hindsight", "ask"}, "book": {"book"}, "cancel-own": {"own"},
     "cancel-any": {"own", "other"}, "plan": {"reoptimise"}, "greet": {"greet"}}
-HIS, WRONG = Right("D1", hash_of(b"right"), ("look",)), b"wrong"
+WRONG = b"wrong"
 
 
 class Known(GuardedTest):
@@ -174,57 +175,6 @@ class Known(GuardedTest):
             self.stopped("serve", journal, *place, *words, *run, status=status, says=says)
 
 
-class Clock:
-    """A loop in the place of one, whose time is what a test says."""
-
-    def __init__(self) -> None:
-        self.now, self.later = 1000.0, []
-        self.wanted: dict[int, int] = {}
-
-    def want(self, file: int, what: int, call: Callable[[int], None]) -> None:
-        self.wanted[file] = what
-
-    def forget(self, file: int) -> None:
-        self.wanted.pop(file, None)
-
-    def call_at(self, when: float, call: Callable[[], None]) -> None:
-        self.later.append((when, call))
-
-    def goes_on_to(self, when: float) -> None:
-        """Calls what is due at a time."""
-        self.now = when
-        due, self.later = [it for it in self.later if it[0] <= when], [it for it in self.later if it[0] > when]
-        for _, call in due:
-            call()
-
-
-class House:
-    """A hall in the place of one, which takes nobody to a network."""
-
-    def __init__(self) -> None:
-        self.loop, self.limits, self.unread = Clock(), Limits(slow=5, idle=60), 0
-        self.tokens = Tokens(Access({HIS.hash: HIS}))
-        self.entered: list[tuple[Client, str | None, bytes]] = []
-        self.left: list[Client] = []
-
-    def enter(self, client: Client, network: str | None, data: bytes) -> None:
-        self.entered.append((client, network, data))
-
-    def leave(self, client: Client) -> None:
-        self.left.append(client)
-
-
-class Taken:
-    """A session in the place of one, which takes all."""
-    is_full = False
-
-    def give(self, client: Client, data: bytes) -> None:
-        pass
-
-    def part(self, client: Client) -> None:
-        pass
-
-
 class Slowed(GuardedTest):
     def setUp(self) -> None:
         super().setUp()
@@ -300,20 +250,17 @@ class Slowed(GuardedTest):
         self.assertEqual(tokens.asked("first", WRONG)[1], 30)
 
     def test_it_is_read_while_there_is_room(self) -> None:
-        """By TLS for a whole record, since what is left of one is seen by nobody; else for a byte."""
+        """For a byte, or by TLS for a whole record."""
         for least in (1, RECORD):
             with self.coming("here", b"") as (client, there):
                 client.least = least
                 client.seat(Taken(), 0, b"")
-                there.sendall(b"x" * (WINDOW // 2))
-                while self.house.loop.wanted.get(client.file):
-                    client.read(READ)
-                    self.assertLessEqual(client.unused, WINDOW)
-                    if client.unused == WINDOW // 2:
-                        client.unused += WINDOW // 2 - least
-                        there.sendall(b"x" * least)
-                self.assertEqual(client.unused, WINDOW, least)
-                client.used(least, b"")
+                client.unused = WINDOW - least
+                client.watch()
+                there.sendall(b"x")
+                client.read(READ)
+                self.assertEqual((client.unused, self.house.loop.wanted.get(client.file, 0)), (WINDOW - least + 1, 0))
+                client.used(1, b"")
                 self.assertEqual(self.house.loop.wanted.get(client.file), READ)
 
     def test_who_must_give_a_token_has_little_time_for_it(self) -> None:
