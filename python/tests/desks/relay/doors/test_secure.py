@@ -150,6 +150,7 @@ class Secured(GuardedTest):
         """Which no epoll would show: with little room nothing is read, and else a record whole."""
         house, ends = House(), socket.socketpair()
         client = Client(house, ends[0], context=context_of(*self.certified()))
+        self.addCleanup(client.vanish)
         may_send = threading.Event()
         threading.Thread(target=self.record_sent, args=(ends[1], may_send), daemon=True).start()
         wait_for(lambda: client.read(READ) or client.secure.is_shaken, "the end of the handshake")
