@@ -26,6 +26,7 @@ NAMED = {
     "journal": "nrm.commands.live.journal",
     "serve": "nrm.commands.live.serve",
     "status": "nrm.commands.live.status",
+    "token": "nrm.commands.live.token",
     "resume": "nrm.commands.live.resume",
 }
 ALONE = ("audit",)  # these begin and end by themselves

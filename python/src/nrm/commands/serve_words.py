@@ -1,6 +1,8 @@
-"""The words of a server of many desks: where clients come, what ends waiting, which program answers, and what is told.
+"""The words of a server of many desks: where clients come, who may, what ends waiting, which program answers, and what
+is told.
 
-May use: nrm.desks.places, nrm.desks.relay.clients, nrm.desks.relay.telling.events, nrm.program.
+May use: nrm.desks.places, nrm.desks.relay.clients, nrm.desks.relay.doors.guards, nrm.desks.relay.telling.events,
+nrm.program.
 """
 from __future__ import annotations
 
@@ -9,6 +11,7 @@ import re
 
 from nrm.desks.places import OWN_RIGHTS, Places
 from nrm.desks.relay.clients import Limits
+from nrm.desks.relay.doors.guards import Guard
 from nrm.desks.relay.telling.events import FORMS, LEVELS, Log
 from nrm.program import PIECE
 
@@ -46,6 +49,13 @@ def add_places(words: argparse.ArgumentParser) -> None:
                        help="what runs `nrm_desks`; else it is that of this folder, or the one on the path")
 
 
+def add_guard(words: argparse.ArgumentParser) -> None:
+    """The options for the files that say who may come."""
+    words.add_argument("--desks", metavar="FILE", help="the desks that may come, and what each may do")
+    words.add_argument("--certificate", metavar="FILE", help="the certificate of --listen, which then speaks TLS alone")
+    words.add_argument("--key", metavar="FILE", help="the key of the certificate")
+
+
 def add_limits(words: argparse.ArgumentParser) -> None:
     """The options that end waiting and bound memory."""
     words.add_argument("--clients", type=count, default=Limits.clients, metavar="N",
@@ -77,6 +87,19 @@ def places_in(words: argparse.ArgumentParser, asked: argparse.Namespace) -> Plac
     if "" in (asked.socket, asked.listen, asked.journal):
         words.error("JOURNAL, --socket and --listen want a name")
     return Places(asked.socket, asked.mode, asked.listen, asked.beyond_this_machine)
+
+
+def guard_in(words: argparse.ArgumentParser, asked: argparse.Namespace) -> Guard:
+    """The files that say who may come, as the words say; an end with the usage where one is missing."""
+    if "" in (asked.desks, asked.certificate, asked.key):
+        words.error("--desks, --certificate and --key want the name of a file")
+    if bool(asked.certificate) != bool(asked.key):
+        words.error("--certificate and --key go together")
+    if asked.certificate and not asked.listen:
+        words.error("--certificate and --key are for --listen")
+    if asked.desks and asked.listen and not asked.certificate:
+        words.error("with --desks, --listen needs --certificate and --key: a token mustn't be read on its way")
+    return Guard(asked.desks, asked.certificate, asked.key)
 
 
 def limits_in(words: argparse.ArgumentParser, asked: argparse.Namespace) -> Limits:

@@ -32,7 +32,7 @@ from typing import Sequence
 
 from nrm import bytes_in
 from nrm.commands.running import parser
-from nrm.desks.importing import TextJournal, import_network
+from nrm.desks.earlier.importing import TextJournal, import_network
 from nrm.desks.journals.looking import Wanted, copy, lines_of, summary
 from nrm.desks.journals.networks import end_network, open_network, see_that_it_is_free
 from nrm.desks.journals.tables import begin, using

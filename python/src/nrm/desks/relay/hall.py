@@ -1,9 +1,10 @@
 """What stands between clients, programs and the journal: who comes to which network, which rows wait to be written, and
 what became of them.
 
-May use: nrm, nrm.desks.journals.commits, nrm.desks.journals.networks, nrm.desks.journals.tables,
-nrm.desks.journals.writing, nrm.desks.relay.clients, nrm.desks.relay.loop, nrm.desks.relay.sessions,
-nrm.desks.relay.telling.counters, nrm.desks.relay.telling.events, nrm.desks.relay.telling.status, nrm.program.
+May use: nrm, nrm.desks.access, nrm.desks.journals.commits, nrm.desks.journals.networks, nrm.desks.journals.tables,
+nrm.desks.journals.writing, nrm.desks.relay.clients, nrm.desks.relay.doors.tokens, nrm.desks.relay.loop,
+nrm.desks.relay.sessions, nrm.desks.relay.telling.counters, nrm.desks.relay.telling.events,
+nrm.desks.relay.telling.status, nrm.program.
 """
 from __future__ import annotations
 
@@ -12,11 +13,13 @@ from dataclasses import dataclass
 from typing import Sequence
 
 from nrm import Stop
+from nrm.desks.access import Access
 from nrm.desks.journals.commits import Commits, Written, tried
 from nrm.desks.journals.networks import Opened, file_of, network_in, networks_in, rows_of
 from nrm.desks.journals.tables import opened
 from nrm.desks.journals.writing import Fenced, Given, Writer, answer_by, halt, head_of
 from nrm.desks.relay.clients import Client, Limits
+from nrm.desks.relay.doors.tokens import Tokens
 from nrm.desks.relay.loop import READ, Loop
 from nrm.desks.relay.sessions import ANSWERS, BEGINS, RESTS, WAITS, Session
 from nrm.desks.relay.telling.counters import Counters
@@ -54,6 +57,8 @@ class Hall:
         self.loop.want(self.commits.told, READ, self.written)
         self.loop.looks.append(self.look)
         self.clients: set[Client] = set()
+        self.tokens = Tokens(self.events.tell)
+        self.loop.looks.append(self.tokens.tell_of_refused)
         self.sessions: dict[str, Session] = {}
         self.teller = Teller(path, answering.checksum, self.writer.epoch, limits.clients, self.reader, self.counters,
                              self.sessions, lambda: self.loop.now)
@@ -80,6 +85,14 @@ class Hall:
             client.finish(why)
         else:
             session.enter(client, data)
+
+    def admit(self, access: Access) -> None:
+        """Has some desks come from now on, and no others; those that mayn't any more, or mayn't do the same, are cut
+        off."""
+        self.tokens.access = access
+        for client in [*self.clients]:
+            if client.right and not access.has(client.right):
+                client.leave("token")
 
     def session_of(self, name: str | None) -> Session | None:
         """The session of a network's name, or the only one."""

@@ -1,7 +1,7 @@
 """The run of a network's program: the journal is given again, clients have places, and its frames are carried out.
 
-May use: nrm.desks.frames, nrm.desks.journals.networks, nrm.desks.relay.clients, nrm.desks.relay.loop,
-nrm.desks.relay.programs, nrm.desks.relay.telling.events.
+May use: nrm.desks.access, nrm.desks.frames, nrm.desks.journals.networks, nrm.desks.relay.clients,
+nrm.desks.relay.loop, nrm.desks.relay.programs, nrm.desks.relay.telling.events.
 """
 from __future__ import annotations
 
@@ -12,6 +12,7 @@ import subprocess
 from typing import Iterator, Protocol, Sequence
 
 from nrm.desks import frames
+from nrm.desks.access import RIGHTS
 from nrm.desks.frames import Frames
 from nrm.desks.journals.networks import Opened
 from nrm.desks.relay.clients import Client
@@ -23,7 +24,7 @@ PIECE = 65_536  # bytes that are read at a time: a pipe has no more
 FEW_HELD = 4_096  # bytes that may go to the program with the word that its rows are kept
 FULL = 1_048_576  # bytes that wait for the program, beyond which its clients aren't read
 AT_END = 2  # the seconds in which a program ends whose output has ended
-ALL_RIGHTS, RIGHTS_TO_LOOK = "look,book,cancel-own,cancel-any,plan,greet", "look,greet"
+RIGHTS_TO_LOOK = "look", "greet"
 RESTS, WAITS, BEGINS, ANSWERS, ENDS = range(5)
 MEMORY = b"memory"  # the reply to a line for which there wasn't enough
 
@@ -98,9 +99,15 @@ class Session:
         """Gives a client a place."""
         place = heapq.heappop(self.free)
         self.places[place] = client
-        rights = RIGHTS_TO_LOOK if self.network.is_ended else ALL_RIGHTS
-        self.put(frames.opened(place, f"AT-{place}", rights))
+        self.put(frames.opened(place, *self.desk_of(client, place)))
         client.seat(self, place, data)
+
+    def desk_of(self, client: Client, place: int) -> tuple[str, str]:
+        """Whose desk a client is at a place, and what it may do: by its token, or else all. In a network that has ended
+        it may look alone."""
+        name, rights = (client.right.name, client.right.rights) if client.right else (f"AT-{place}", RIGHTS)
+        may = [it for it in rights if it in RIGHTS_TO_LOOK or not self.network.is_ended]
+        return name, ",".join(may) or "none"
 
     def seat_all(self) -> None:
         """Gives those who wait their places, as far as there are some."""
