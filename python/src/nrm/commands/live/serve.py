@@ -10,6 +10,10 @@ client sends goes to that program as it comes; what the program gives out to be 
 all networks that wait by one commit; and then the program sends its replies. Where there are several networks the first
 line of a client names one, `desk NETWORK NAME` or `desk NETWORK NAME SEQUENCE`; where there is one it may.
 
+When a period begins of a network whose times are in the journal, the desk CLOCK has a plan made for it, once; with
+--every, at least 60 seconds, or minutes as 30m, or hours as 2h, the plan is made anew when that has passed since the
+last and lines were written, until the departure.
+
 A network is halted, and the others go on, if the program doesn't answer as the journal has it, or the journal doesn't
 take a row: `nrm-tools journal look JOURNAL` tells why. One that began with another program isn't answered, and standard
 error tells both checksums; --program names the program, and has it answer for networks without lines, and for those
@@ -30,7 +34,7 @@ from __future__ import annotations
 from typing import Sequence
 
 from nrm.commands.running import parser
-from nrm.commands.serve_words import add_limits, add_places, limits_in, places_in
+from nrm.commands.serve_words import add_clock, add_limits, add_places, limits_in, places_in
 from nrm.desks.relay.hall import Answering
 from nrm.desks.relay.serving import Server
 from nrm.program import Program
@@ -42,7 +46,9 @@ def run(given: Sequence[str]) -> int:
     words.add_argument("journal", metavar="JOURNAL")
     add_places(words)
     add_limits(words)
+    add_clock(words)
     asked = words.parse_args(given)
     places, limits = places_in(words, asked), limits_in(words, asked)
     program = Program.found(asked.program, "nrm_desks")
-    return Server(asked.journal, Answering(program, program.checksum(), bool(asked.program)), places, limits).run()
+    answering = Answering(program, program.checksum(), bool(asked.program))
+    return Server(asked.journal, answering, places, limits, asked.every).run()

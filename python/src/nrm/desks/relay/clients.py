@@ -64,6 +64,7 @@ class Hall(Protocol):
 class Client:
     """A connection. The bytes that the program has of it and hasn't used are counted, and those behind the last line
     feed; nothing else is looked at once its network is known."""
+    right: tuple[str, str] | None = None  # the name of its desk and what it may do, where the server knows them
 
     def __init__(self, hall: Hall, connection: socket.socket) -> None:
         connection.setblocking(False)

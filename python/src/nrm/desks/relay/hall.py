@@ -3,7 +3,7 @@ what became of them.
 
 May use: nrm, nrm.desks.journals.commits, nrm.desks.journals.networks, nrm.desks.journals.tables,
 nrm.desks.journals.writing, nrm.desks.relay, nrm.desks.relay.clients, nrm.desks.relay.loop, nrm.desks.relay.sessions,
-nrm.program.
+nrm.desks.relay.timing.clock, nrm.program.
 """
 from __future__ import annotations
 
@@ -20,6 +20,7 @@ from nrm.desks.relay import log
 from nrm.desks.relay.clients import Client, Limits
 from nrm.desks.relay.loop import READ, Loop
 from nrm.desks.relay.sessions import ANSWERS, BEGINS, RESTS, WAITS, Session
+from nrm.desks.relay.timing.clock import Clock
 from nrm.program import Program
 
 JOURNAL_FAULT = 74
@@ -42,7 +43,7 @@ class Answering:
 class Hall:
     """Takes clients to their networks, and has rows written."""
 
-    def __init__(self, path: str, answering: Answering, limits: Limits) -> None:
+    def __init__(self, path: str, answering: Answering, limits: Limits, every: int = 0) -> None:
         self.path, self.answering, self.limits, self.loop = path, answering, limits, Loop()
         self.writer = Writer(path, answering.checksum)
         self.reader = opened(path)
@@ -65,6 +66,7 @@ class Hall:
         self.no_more: str | None = None  # why no further client could be taken, since that was told last
         self.fault: str | None = None
         self.status = 0
+        self.clock = Clock(self, every)
 
     # Who comes
 
@@ -109,7 +111,7 @@ class Hall:
 
     def is_full_of_clients(self) -> bool:
         """Whether as many are there as may be."""
-        return len(self.clients) >= self.limits.clients
+        return len(self.clients) - len(self.clock.asked) >= self.limits.clients
 
     # Programs
 

@@ -30,11 +30,13 @@ ENDS = (signal.SIGTERM, signal.SIGINT, signal.SIGHUP)
 
 @dataclass(frozen=True)
 class Server:
-    """The journal, the program that answers, where clients come, and the limits."""
+    """The journal, the program that answers, where clients come, the limits, and after how many seconds plans are made
+    anew, if they are."""
     journal: str
     answering: Answering
     places: Places
     limits: Limits = field(default_factory=Limits)
+    every: int = 0
 
     def run(self) -> int:
         """Serves until this process is told to end, or the journal can't be written, and gives the status."""
@@ -49,7 +51,7 @@ class Server:
         listeners = [tcp_socket(places.listen, places.is_beyond_allowed)] if places.listen else []
         path = SocketPath(places.socket) if places.socket else None
         try:
-            hall = Hall(self.journal, self.answering, self.limits)
+            hall = Hall(self.journal, self.answering, self.limits, self.every)
             self.tell_of_networks(hall)
             listeners += [path.listener(places.rights)] if path else []
             return self.serve(hall, listeners, path)

@@ -95,8 +95,8 @@ class Session:
         """Gives a client a place."""
         place = heapq.heappop(self.free)
         self.places[place] = client
-        rights = RIGHTS_TO_LOOK if self.network.is_ended else ALL_RIGHTS
-        self.put(frames.opened(place, f"AT-{place}", rights))
+        name, rights = client.right or (f"AT-{place}", ALL_RIGHTS)
+        self.put(frames.opened(place, name, RIGHTS_TO_LOOK if self.network.is_ended else rights))
         client.seat(self, place, data)
 
     def seat_all(self) -> None:
