@@ -17,6 +17,7 @@ class Periods(ClockTest):
         for second in (1000, 1001, 1009.9):
             self.assertEqual(self.at(second), [])
         self.assertEqual(self.at(1010), [("one", 2)])
+        self.set(1, THREE)
         self.assertEqual(self.at(1011), [], "it is being asked")
         self.assertEqual(len(self.hall.clients), 1)
         self.answer()

@@ -172,7 +172,7 @@ class Clock:
 
     def ask_some(self) -> None:
         """Has plans made for networks that are due, a few at a time."""
-        while self.due and self.has_room() and not self.hall.stops:
+        while self.due and self.has_room():
             standing = self.look_at(self.due.pop())
             if not standing:
                 continue
