@@ -75,8 +75,8 @@ def add_limits(words: argparse.ArgumentParser) -> None:
 def add_clock(words: argparse.ArgumentParser) -> None:
     """The option for how often plans are made."""
     words.add_argument("--every", type=every, default=0, metavar="TIME",
-                       help="makes the plan of each network with times anew after so many seconds, or minutes as 30m, or "
-                            f"hours as 2h, if lines were written since; at least {LEAST_EVERY} seconds")
+                       help="has the plan of each network with times made anew after so many seconds, or minutes as "
+                            f"30m, or hours as 2h, if lines were written since; at least {LEAST_EVERY} seconds")
 
 
 def places_in(words: argparse.ArgumentParser, asked: argparse.Namespace) -> Places:

@@ -1,4 +1,4 @@
-"""The times of a network: how they are written, which are refused, what is told of them, and journals that have none."""
+"""The times of a network: how they are written, which are refused, what is told of them, and journals without."""
 from __future__ import annotations
 
 import contextlib
@@ -79,7 +79,8 @@ class NetworkTimes(ServeTest):
         self.assertEqual(self.told("journal", "times", "journal", "one"), "there are no times\n")
         with self.served(self.folder / "journal"):
             pass
-        names = "SELECT name FROM sqlite_master WHERE name IN ('period', 'departure', 'plan_by_number', 'plan_by_period')"
+        names = ("SELECT name FROM sqlite_master WHERE name IN ('period', 'departure', 'plan_by_number', "
+                 "'plan_by_period')")
         self.assertEqual(len(rows_in(self.folder / "journal", names)), 4)
         self.told("journal", "times", "journal", "one", *TIMES)
         self.assertEqual(self.told("journal", "times", "journal", "one"), TOLD)

@@ -81,7 +81,7 @@ class ClockTest(ServerTest):
         connection.execute("UPDATE head SET lines = ? WHERE network = ?", [number, network])
 
     def at(self, seconds: float) -> list[tuple[str, int]]:
-        """What is asked as the clock says so many seconds: names, and periods. A second has passed since it last did."""
+        """What is asked as the clock says so many seconds, one after it did so last: names, and periods."""
         self.seconds = seconds
         self.hall.loop.now += 1
         before = len(self.hall.sent)

@@ -74,7 +74,7 @@ def times_in(departure: str, begins: Sequence[str]) -> Times:
 
 
 def see_that_they_rise(times: Times) -> None:
-    """A Stop for a period that doesn't begin later than one before it, and for one that doesn't before the departure."""
+    """A Stop for a period that doesn't begin later than the one before it, or doesn't before the departure."""
     for (period, begins), (later, then) in zip(times.begins, times.begins[1:]):
         if then <= begins:
             raise Stop(f"period {later} begins at {text_of(then)}, and period {period} before it at {text_of(begins)}: "

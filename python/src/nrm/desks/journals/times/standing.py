@@ -12,7 +12,8 @@ from nrm.desks.journals.tables import ASKS_FOR_A_PLAN, PERIOD
 LAST = f"FROM line INDEXED BY plan_by_number WHERE line.network = departure.network AND {ASKS_FOR_A_PLAN} " \
        "ORDER BY number DESC LIMIT 1"
 STANDINGS = f"""SELECT departure.network, name, lines,
-    (SELECT period FROM period WHERE period.network = departure.network AND begins <= :now ORDER BY period DESC LIMIT 1),
+    (SELECT period FROM period WHERE period.network = departure.network AND begins <= :now
+        ORDER BY period DESC LIMIT 1),
     (SELECT begins FROM period WHERE period.network = departure.network AND begins > :now ORDER BY period LIMIT 1),
     (SELECT {PERIOD} FROM line INDEXED BY plan_by_period WHERE line.network = departure.network AND {ASKS_FOR_A_PLAN}
         ORDER BY {PERIOD} DESC LIMIT 1),
@@ -64,6 +65,6 @@ def standings(connection: sqlite3.Connection, now: int, every: int, network: int
 
 def missed(connection: sqlite3.Connection, standing: Standing, now: int) -> list[int]:
     """The periods between that of the last plan and the latest that have begun and are left out."""
-    rows = connection.execute("SELECT period FROM period WHERE network = ? AND period > ? AND period < ? AND begins <= ? "
-                              "ORDER BY period", [standing.network, standing.planned, standing.begun, now])
+    rows = connection.execute("SELECT period FROM period WHERE network = ? AND period > ? AND period < ? AND "
+                              "begins <= ? ORDER BY period", [standing.network, standing.planned, standing.begun, now])
     return [period for period, in rows]

@@ -16,8 +16,8 @@ PASSES = ("memory", "denied")  # what may be answered otherwise later
 
 @dataclass(frozen=True)
 class Outcome:
-    """A plan that was made, in how many seconds, with its value, and the legs whose bid prices it changed as far as that
-    is known; or why none was made, and whether the same would come of it again."""
+    """A plan that was made, in how many seconds, with its value, and the legs whose bid prices it changed as far as
+    that is known; or why none was made, and whether the same would come of it again."""
     seconds: float = 0
     value: str = ""
     changed: tuple[str, ...] | None = None
