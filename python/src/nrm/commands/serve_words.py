@@ -1,5 +1,5 @@
-"""The words of a server of many desks: where clients come, who may, what ends waiting, which program answers, and what
-is told.
+"""The words of a server of many desks: where clients come, who may, what ends waiting, which program answers, how often
+plans are made, and what is told.
 
 May use: nrm.desks.places, nrm.desks.relay.clients, nrm.desks.relay.doors.guards, nrm.desks.relay.telling.events,
 nrm.program.
@@ -14,6 +14,8 @@ from nrm.desks.relay.clients import Limits
 from nrm.desks.relay.doors.guards import Guard
 from nrm.desks.relay.telling.events import FORMS, LEVELS, Log
 from nrm.program import PIECE
+
+LEAST_EVERY = 60
 
 
 def count(text: str) -> int:
@@ -34,6 +36,15 @@ def seconds(text: str) -> float:
     """A time that may pass."""
     value = float(text) if len(text) < 20 else 0
     if not 0 < value < 1e9:
+        raise ValueError
+    return value
+
+
+def every(text: str) -> int:
+    """The seconds of a time that is said in seconds, minutes or hours, and is no shorter than a minute."""
+    found = re.fullmatch("([1-9][0-9]{0,7})([mh]?)", text)
+    value = int(found[1]) * {"": 1, "m": 60, "h": 3600}[found[2]] if found else 0
+    if value < LEAST_EVERY:
         raise ValueError
     return value
 
@@ -70,6 +81,13 @@ def add_limits(words: argparse.ArgumentParser) -> None:
                        help="for a program's next answer before it is ended; %(default)s")
     words.add_argument("--linger", type=seconds, default=Limits.linger, metavar="SECONDS",
                        help="for which a program without clients stays; %(default)s")
+
+
+def add_clock(words: argparse.ArgumentParser) -> None:
+    """The option for how often plans are made."""
+    words.add_argument("--every", type=every, default=0, metavar="TIME",
+                       help="has the plan of each network with times made anew after so many seconds, or minutes as "
+                            f"30m, or hours as 2h, if lines were written since; at least {LEAST_EVERY} seconds")
 
 
 def add_log(words: argparse.ArgumentParser) -> None:

@@ -8,7 +8,7 @@ The file is TOML. It has no token, but the SHA-256 of each, in hexadecimal. A pl
 bytes of chance: there are too many to try, so that it needs no salt, and no hash that takes long. Who comes is looked
 up by the hash of the token that he gave, in a dictionary. How long that takes depends on hashes, of which nobody can
 make one that begins as he likes; so it tells nothing to go by. What is wrong in the file is told without the text that
-may be a token. May use: nrm, nrm.network, nrm.telling.libraries.
+may be a token. No entry may have a name that the server gives itself: CLOCK, and AT-1, AT-2 and so on. May use: nrm, nrm.network, nrm.telling.libraries.
 """
 from __future__ import annotations
 
@@ -34,6 +34,7 @@ FORM = "sha256:"
 HASH = re.compile(FORM + "[0-9a-f]{64}")
 READERS = "tomllib", "tomli"  # the first is in Python from 3.11 on
 TOKEN_BYTES = 32
+GIVEN = re.compile(r"CLOCK|AT-\d+")  # names of the server's own desk, and of clients that say none
 LONGEST_SHOWN = 20  # characters of what is wrong: a token is longer
 TOKEN_LINE = r'^(\s*token\s*=\s*)(?:"[^"\n]*"|\'[^\'\n]*\')'
 RIGHTS_LINE = r"^(\s*rights\s*=\s*)\[[^\]]*\]"
@@ -41,10 +42,13 @@ RIGHTS_LINE = r"^(\s*rights\s*=\s*)\[[^\]]*\]"
 
 @dataclass(frozen=True)
 class Right:
-    """A desk, the hash of its token, and what it may do."""
+    """A desk, the hash of its token, which is empty for the server's own desk, and what it may do."""
     name: str
     hash: str = field(repr=False)
     rights: Tuple[str, ...]
+
+
+CLOCK = Right("CLOCK", "", ("look", "plan"))
 
 
 @dataclass(frozen=True)
@@ -57,8 +61,8 @@ class Access:
         return self.desks.get(hash_of(token))
 
     def has(self, right: Right) -> bool:
-        """Whether a desk may still come with this token, and do this."""
-        return self.desks.get(right.hash) == right
+        """Whether a desk may still come with this token, and do this; the server's own always may."""
+        return right is CLOCK or self.desks.get(right.hash) == right
 
 
 def hash_of(token: bytes) -> str:
@@ -117,6 +121,8 @@ def right_of(name: str, entry: object, place: str) -> Right:
     """The desk of an entry, which stands at a place."""
     if not NAME.fullmatch(name):
         raise Stop(f"{place}: that is no name of a desk: 1 to 12 of `A` to `Z`, `0` to `9` and `-`")
+    if GIVEN.fullmatch(name):
+        raise Stop(f"{place}: that name is one that the server gives, so no desk may have it")
     if not isinstance(entry, dict):
         raise Stop(f"{place}: token and rights are wanted")
     if unknown := sorted(entry.keys() - KEYS):

@@ -15,6 +15,10 @@ client's first line `token TOKEN` is answered `token NAME`, or `closed token`; o
 may. Then HOST:PORT needs --certificate and --key, by which it speaks TLS, and nothing else. These files are read anew
 when they have changed: a desk that isn't in the file as it was is cut off.
 
+When a period begins of a network whose times are in the journal, the desk CLOCK has a plan made for it, once; with
+--every, at least 60 seconds, or minutes as 30m, or hours as 2h, the plan is made anew when that has passed since the
+last and lines were written, until the departure.
+
 A network is halted, and the others go on, if the program doesn't answer as the journal has it, or the journal doesn't
 take a row: `nrm-tools journal look JOURNAL` tells why. One that began with another program isn't answered, and the log
 tells both checksums; --program names the program, and has it answer for networks without lines, and for those
@@ -41,7 +45,8 @@ from __future__ import annotations
 from typing import Sequence
 
 from nrm.commands.running import parser
-from nrm.commands.serve_words import add_guard, add_limits, add_log, add_places, guard_in, limits_in, places_in
+from nrm.commands.serve_words import (add_clock, add_guard, add_limits, add_log, add_places, guard_in, limits_in,
+                                      places_in)
 from nrm.desks.relay.hall import Answering
 from nrm.desks.relay.serving import Server
 from nrm.desks.relay.telling.events import Log
@@ -55,10 +60,11 @@ def run(given: Sequence[str]) -> int:
     add_places(words)
     add_guard(words)
     add_limits(words)
+    add_clock(words)
     add_log(words)
     asked = words.parse_args(given)
     places, guard, limits = places_in(words, asked), guard_in(words, asked), limits_in(words, asked)
     log = Log(asked.log, asked.log_level)
     program = Program.found(asked.program, "nrm_desks")
     answering = Answering(program, program.checksum(), bool(asked.program))
-    return Server(asked.journal, answering, places, limits, guard, log).run()
+    return Server(asked.journal, answering, places, limits, guard, asked.every, log).run()

@@ -4,7 +4,7 @@ what became of them.
 May use: nrm, nrm.desks.access, nrm.desks.journals.commits, nrm.desks.journals.networks, nrm.desks.journals.tables,
 nrm.desks.journals.writing, nrm.desks.relay.clients, nrm.desks.relay.doors.tokens, nrm.desks.relay.loop,
 nrm.desks.relay.sessions, nrm.desks.relay.telling.counters, nrm.desks.relay.telling.events,
-nrm.desks.relay.telling.status, nrm.program.
+nrm.desks.relay.telling.status, nrm.desks.relay.timing.clock, nrm.program.
 """
 from __future__ import annotations
 
@@ -25,6 +25,7 @@ from nrm.desks.relay.sessions import ANSWERS, BEGINS, RESTS, WAITS, Session
 from nrm.desks.relay.telling.counters import Counters
 from nrm.desks.relay.telling.events import Events, Log
 from nrm.desks.relay.telling.status import Now, Teller
+from nrm.desks.relay.timing.clock import Clock
 from nrm.program import Program
 
 JOURNAL_FAULT = 74
@@ -47,7 +48,7 @@ class Answering:
 class Hall:
     """Takes clients to their networks, and has rows written."""
 
-    def __init__(self, path: str, answering: Answering, limits: Limits, log: Log = Log()) -> None:
+    def __init__(self, path: str, answering: Answering, limits: Limits, every: int = 0, log: Log = Log()) -> None:
         self.path, self.answering, self.limits, self.loop = path, answering, limits, Loop()
         self.events, self.counters = Events(self.loop, log), Counters()
         self.writer = Writer(path, answering.checksum)
@@ -73,6 +74,7 @@ class Hall:
         self.expected: set[Session] = set()  # those that were given lines, and have given out no rows since
         self.fault: str | None = None
         self.status = 0
+        self.clock = Clock(self, every)
 
     # Who comes
 
@@ -128,7 +130,7 @@ class Hall:
 
     def is_full_of_clients(self) -> bool:
         """Whether as many are there as may be."""
-        return len(self.clients) >= self.limits.clients
+        return len(self.clients) - len(self.clock.asked) >= self.limits.clients
 
     # Programs
 

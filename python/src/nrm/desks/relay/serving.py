@@ -35,13 +35,14 @@ ENDS = (signal.SIGTERM, signal.SIGINT, signal.SIGHUP)
 
 @dataclass(frozen=True)
 class Server:
-    """The journal, the program that answers, where clients come, the limits, the files that say who may come, and how
-    the log is written."""
+    """The journal, the program that answers, where clients come, the limits, the files that say who may come, after how
+    many seconds plans are made anew, if they are, and how the log is written."""
     journal: str
     answering: Answering
     places: Places
     limits: Limits = field(default_factory=Limits)
     guard: Guard = field(default_factory=Guard)
+    every: int = 0
     log: Log = field(default_factory=Log)
 
     def run(self) -> int:
@@ -58,7 +59,7 @@ class Server:
         listeners = [tcp_socket(places.listen, places.is_beyond_allowed)] if places.listen else []
         path = SocketPath(places.socket) if places.socket else None
         try:
-            hall = Hall(self.journal, self.answering, self.limits, self.log)
+            hall = Hall(self.journal, self.answering, self.limits, self.every, self.log)
             networks = networks_in(hall.reader)
             allow_files(self.limits.clients + FILES_OF_A_PROGRAM * len(networks) + SPARE_FILES)
             listeners += [path.listener(places.rights)] if path else []
