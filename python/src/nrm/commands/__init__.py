@@ -26,5 +26,6 @@ NAMED = {
     "journal": "nrm.commands.live.journal",
     "serve": "nrm.commands.live.serve",
     "resume": "nrm.commands.live.resume",
+    "web": "nrm.commands.live.web",
 }
 ALONE = ("audit",)  # these begin and end by themselves
