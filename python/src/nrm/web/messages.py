@@ -6,7 +6,7 @@ from __future__ import annotations
 
 import json
 from dataclasses import dataclass, field
-from typing import Iterator, Mapping, Tuple, Union
+from typing import Callable, Iterator, Mapping, Tuple, Union
 
 TEXT, JSON, HTML = "text/plain; charset=utf-8", "application/json", "text/html; charset=utf-8"
 PASSES = (("Retry-After", "1"),)  # with what may be asked again soon
@@ -50,9 +50,10 @@ class Response:
 
 @dataclass(frozen=True)
 class Stream:
-    """What is answered bit by bit, until the one who asked is gone."""
+    """What is answered bit by bit, until the one who asked is gone; then it is closed."""
     pieces: Iterator[bytes]
     kind: str
+    close: Callable[[], None]
 
 
 Answer = Union[Response, Stream]

@@ -1,7 +1,7 @@
 """Which path is for whom: the routes, as the description in openapi.json has them too, and what answers each.
 
-May use: nrm.desks.journals.networks, nrm.web.asking.kept, nrm.web.asking.status, nrm.web.door.lines,
-nrm.web.following.journal, nrm.web.messages, nrm.web.metrics.
+May use: nrm.desks.journals.networks, nrm.web.asking.kept, nrm.web.asking.looks, nrm.web.asking.status,
+nrm.web.door.lines, nrm.web.following.journal, nrm.web.messages, nrm.web.metrics, nrm.web.showing.pages.
 """
 from __future__ import annotations
 
@@ -15,11 +15,13 @@ from urllib.parse import unquote
 
 from nrm.desks.journals.networks import NAME
 from nrm.web.asking.kept import Kept, Who, desk_of_token, own_desk
+from nrm.web.asking.looks import Looks
 from nrm.web.asking.status import Asked, ask_status
 from nrm.web.door.lines import Door, no_network
 from nrm.web.following.journal import Following
 from nrm.web.messages import JSON, Answer, Refusal, Request, Response
 from nrm.web.metrics import Watch
+from nrm.web.showing.pages import Pages
 
 DESCRIPTION = Path(__file__).with_name("openapi.json")
 ALWAYS, PAGE, DOOR = "always", "page", "door"
@@ -63,7 +65,8 @@ class Web:
         self.naming = threading.Lock()
         watch = Watch(self.following, Asked(partial(ask_status, settings.socket, settings.seconds)))
         door = Door(self.kept, self.following, self.own, settings.needs_token)
-        self.routes = [*watching(watch), *of_door(door)]
+        self.looks = Looks(self.kept, self.own, self.following)
+        self.routes = [*watching(watch), *of_door(door), *of_page(Pages(self.following, self.looks, settings.journal))]
 
     def own(self, network: str) -> Who:
         """In whose name this process looks: the desk of its token, or one that no other process has."""
@@ -100,6 +103,7 @@ class Web:
     def tidy(self) -> None:
         """What is done beside following, a few times a second."""
         self.kept.sweep()
+        self.looks.keep_up()
 
 
 def watching(watch: Watch) -> list[Route]:
@@ -118,6 +122,16 @@ def of_door(door: Door) -> list[Route]:
             Route("GET", f"{network}/plan", DOOR, door.plan),
             Route("GET", f"{network}/hindsight", DOOR, door.hindsight),
             Route("GET", f"{network}/bookings/{{number}}", DOOR, door.booking)]
+
+
+def of_page(pages: Pages) -> list[Route]:
+    """The routes of the page."""
+    network = "/networks/{network}"
+    return [Route("GET", "/", PAGE, pages.networks), Route("GET", "/events", PAGE, pages.networks_as_they_change),
+            Route("GET", "/page.css", PAGE, pages.style), Route("GET", "/page.js", PAGE, pages.script),
+            Route("GET", network, PAGE, pages.network),
+            Route("GET", f"{network}/events", PAGE, pages.network_as_it_changes),
+            Route("GET", f"{network}/lines/{{number}}", PAGE, pages.line)]
 
 
 def description(asked: Request) -> Response:

@@ -23,7 +23,6 @@ from nrm.desks.places import is_loopback, tcp_socket
 from nrm.web.messages import PASSES, Answer, Refusal, Request, Stream
 
 MOST_CONNECTIONS = 200
-MOST_STREAMS = 100  # of these that go on until the one who asked leaves
 MOST_HEAD = 16_384  # bytes of a request before its body
 MOST_BODY = 4_096
 SECONDS = 30.0  # for all of a request, from the end of the one before, and for taking a piece of the answer
@@ -100,8 +99,10 @@ class Bounded(io.BufferedReader):
 class Handler(BaseHTTPRequestHandler):
     """A connection, with one request after the other."""
     protocol_version = "HTTP/1.1"
-    server_version, sys_version = "nrm-tools", ""
     site: Site
+
+    def version_string(self) -> str:
+        return "nrm-tools"
 
     def setup(self) -> None:
         """Begins, with the handshake of TLS if there is one: here, since it may take long."""
@@ -172,7 +173,6 @@ class Handler(BaseHTTPRequestHandler):
         """Sends an answer."""
         if isinstance(answer, Stream):
             self.close_connection = True
-            self.put_head(200, answer.kind, ())
             self.stream(answer)
             return
         self.put_head(answer.status, answer.kind, (("Content-Length", str(len(answer.body))), *answer.head))
@@ -188,10 +188,12 @@ class Handler(BaseHTTPRequestHandler):
 
     def stream(self, answer: Stream) -> None:
         """Sends pieces until the one who asked is gone."""
-        if self.command == "HEAD":
-            return
-        for piece in answer.pieces:
-            self.wfile.write(piece)
+        try:
+            self.put_head(200, answer.kind, ())
+            for piece in answer.pieces if self.command != "HEAD" else ():
+                self.wfile.write(piece)
+        finally:
+            answer.close()
 
     def send_error(self, code: int, message: str | None = None, explain: str | None = None) -> None:
         """Tells what `http.server` itself finds wrong."""

@@ -125,6 +125,12 @@ class Following:
 
     # By others
 
+    def tell_of_news(self) -> None:
+        """Wakes those that wait: there is something new beside the journal."""
+        with self.changed:
+            self.round += 1
+            self.changed.notify_all()
+
     def wait_for_news(self, behind: int, seconds: float) -> int:
         """Waits until more was seen than in a round, or so long. Gives the round."""
         with self.changed:
@@ -138,9 +144,10 @@ class Following:
             opened = network_in(connection, name)
         if not opened:
             return None
+        lines = opened.lines
         with self.changed:
-            self.changed.wait_for(lambda: self.is_read(name, opened.lines), seconds)
-            return self.networks.get(name, Followed(opened.number, name, opened.mode, False, None, opened.lines))
+            self.changed.wait_for(lambda: self.is_read(name, lines), seconds)
+            return self.networks.get(name, Followed(opened.number, name, opened.mode, False, None, lines))
 
     def is_read(self, name: str, lines: int) -> bool:
         """Whether so many lines of a network are read, or no more will be."""
