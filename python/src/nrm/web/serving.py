@@ -197,7 +197,7 @@ class Handler(BaseHTTPRequestHandler):
 
     def send_error(self, code: int, message: str | None = None, explain: str | None = None) -> None:
         """Tells what `http.server` itself finds wrong."""
-        self.close_connection = True
+        self.close_connection, self.request_version = True, self.protocol_version
         self.answer(Refusal(code, "request", message or self.responses.get(code, ("it is none",))[0]).response(False))
 
     def finish(self) -> None:

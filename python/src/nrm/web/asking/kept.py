@@ -12,9 +12,9 @@ import socket
 import threading
 import time
 from dataclasses import dataclass, field
-from typing import Iterator, NamedTuple
+from typing import Iterator, NamedTuple, cast
 
-from nrm.desks.desk import Desk, DeskError, Ended, Late, Strange
+from nrm.desks.desk import Desk, DeskError, Ended, Late, Lost, Strange
 from nrm.web.messages import PASSES, Refusal
 
 MOST, IDLE, SECONDS = 500, 60.0, 10.0
@@ -43,26 +43,41 @@ def own_desk() -> str:
     return "WEB-" + "".join(secrets.choice(LETTERS) for _ in range(8))
 
 
-class TokenDesk(Desk):
-    """A desk that tells its token before it greets, on each connection."""
-    token, told_on = b"", None
+class Unanswered(DeskError):
+    """Why no answer came in time: what went wrong first, since what goes wrong last is that time is over."""
+
+
+class WebDesk(Desk):
+    """A desk that tells its token, if it has one, before it greets on each connection."""
+
+    def __init__(self, place: str, who: Who, sequence: int | None, seconds: float) -> None:
+        self.token, self.lost, self.told_on = who.token, "", cast("socket.socket | None", None)
+        super().__init__(place, who.desk, who.network, sequence, seconds)
+
+    def _tried(self, line: bytes, deadline: float) -> bytes:
+        self.lost = ""
+        try:
+            return super()._tried(line, deadline)
+        except Late as late:
+            raise Unanswered(self.lost or str(late))
+
+    def _connect(self, deadline: float) -> None:
+        try:
+            super()._connect(deadline)
+        except Lost as why:
+            self.lost = self.lost or str(why)
+            raise
 
     def _asked(self, line: bytes, deadline: float) -> bytes:
-        if self.told_on is not self.socket:
-            self.told_on = self.socket
-            told = super()._asked(b"token %s\n" % self.token, deadline)
-            if not told.startswith(b"token "):
-                raise Ended("token")
-        return super()._asked(line, deadline)
-
-
-def desk_of(place: str, who: Who, sequence: int | None, seconds: float) -> Desk:
-    """A desk that is connected: the one place that knows how a token is told."""
-    if who.token is None:
-        return Desk(place, who.desk, who.network, sequence, seconds)
-    kind = type("DeskOfToken", (TokenDesk,), {"token": who.token.encode("ascii")})
-    made: Desk = kind(place, who.desk, who.network, sequence, seconds)
-    return made
+        try:
+            if self.token is not None and self.told_on is not self.socket:
+                self.told_on = self.socket
+                if not super()._asked(b"token %s\n" % self.token.encode("ascii"), deadline).startswith(b"token "):
+                    raise Ended("token")
+            return super()._asked(line, deadline)
+        except Lost as why:
+            self.lost = self.lost or str(why)
+            raise
 
 
 def desk_of_token(place: str, token: str, seconds: float) -> str:
@@ -121,7 +136,7 @@ class Kept:
     def asked(self, entry: Entry, who: Who, line: str, sequence: int | None) -> bytes:
         """The reply to a line, on the connection that is there if the line is the next one of it."""
         if entry.desk is None:
-            entry.desk = desk_of(self.place, who, sequence, self.seconds)
+            entry.desk = WebDesk(self.place, who, sequence, self.seconds)
         elif sequence is not None and entry.desk.sequence != sequence:
             entry.desk.close()
             entry.desk.sequence = sequence
@@ -183,8 +198,8 @@ def refusal_of(fault: DeskError) -> Refusal:
         if str(fault).startswith("b'denied\\n'"):
             return Refusal(403, "denied", "the token is for a desk of another name")
         return Refusal(502, "strange", "what listens on the socket doesn't answer as `nrm-tools serve` does")
-    why = str(fault.__context__ or fault)
-    if isinstance(fault, Late) and "timed out" in why:
+    why = str(fault)
+    if why == "timed out":
         return late("no answer came in time")
     word = why[len("closed "):].partition(" ")[0] if why.startswith("closed ") else "connection"
     return Refusal(503, word, f"the server can't answer now: {why}; the same request may be sent again", PASSES)
