@@ -116,9 +116,11 @@ class WebTest(ServeTest):
             listener.settimeout(0.05)
             thread = threading.Thread(target=self.take, args=(listener, answer, ends), daemon=True)
             thread.start()
-            yield path
-            ends.set()
-            thread.join()
+            try:
+                yield path
+            finally:
+                ends.set()
+                thread.join()
 
     def take(self, listener: socket.socket, answer: Callable[[str], str | None], ends: threading.Event) -> None:
         while not ends.is_set():

@@ -63,11 +63,11 @@ class Web:
         self.kept = Kept(settings.socket, settings.seconds)
         self.name: str | None = None
         self.naming = threading.Lock()
-        watch = Watch(self.following, Asked(partial(ask_status, settings.socket, settings.seconds)))
+        self.watch = Watch(self.following, Asked(partial(ask_status, settings.socket, settings.seconds)))
         door = Door(self.kept, self.following, self.own, settings.needs_token)
         self.looks = Looks(self.kept, self.own, self.following)
         self.pages = Pages(self.following, self.looks, settings.journal)
-        self.routes = [*watching(watch), *of_door(door), *of_page(self.pages)]
+        self.routes = [*watching(self.watch), *of_door(door), *of_page(self.pages)]
 
     def own(self, network: str) -> Who:
         """In whose name this process looks: the desk of its token, or one that no other process has."""

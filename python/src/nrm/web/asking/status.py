@@ -78,17 +78,17 @@ def text_from(connection: socket.socket, deadline: float) -> str:
     while not told.endswith(b"\n\n"):
         connection.settimeout(max(0.001, deadline - time.monotonic()))
         piece = connection.recv(PIECE)
-        if not piece or len(told) > MOST or (told and not told.startswith(b"server "[:len(told)])):
-            raise NoStatus("the server doesn't answer `status`")
         told += piece
+        if not piece or len(told) > MOST or not told.startswith(b"server "[:len(told)]):
+            raise NoStatus("the server doesn't answer `status`")
     return told.decode("latin-1")
 
 
 class Asked:
     """The status as it was a moment ago, since whoever asks for it may ask often."""
 
-    def __init__(self, ask: Callable[[], Status]) -> None:
-        self.ask = ask
+    def __init__(self, ask: Callable[[], Status], every: float = LEAST_SECONDS) -> None:
+        self.ask, self.every = ask, every
         self.lock = threading.Lock()
         self.at = float("-inf")
         self.found: Status | NoStatus = NoStatus("it wasn't asked yet")
@@ -96,7 +96,7 @@ class Asked:
     def status(self) -> Status | NoStatus:
         """The status, or why there is none."""
         with self.lock:
-            if time.monotonic() - self.at >= LEAST_SECONDS:
+            if time.monotonic() - self.at >= self.every:
                 try:
                     self.found = self.ask()
                 except NoStatus as fault:
