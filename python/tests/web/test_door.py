@@ -205,7 +205,8 @@ class DoorTest(WebTest):
             kept.most = 2
             for desk in ("A", "B", "A", "C", "A", "B"):
                 web.post(f"/networks/hub/desks/{desk}/lines/{len(heard) + 1}", "book HJ-Q 1")
-            self.assertEqual([it.split(" ")[2] for it in heard if it.startswith("desk")], ["A", "B", "A", "C", "A", "B"])
+            greeted = [it.split(" ")[2] for it in heard if it.startswith("desk")]
+            self.assertEqual(greeted, ["A", "B", "A", "C", "A", "B"])
             self.assertEqual([it.desk for it in kept.entries], ["A", "B"])
             kept.idle = 0.2
             wait_for(lambda: not kept.entries, "the end of those that are idle")

@@ -27,14 +27,14 @@ class HealthTest(WebTest):
     def test_what_is_wrong_is_told_in_a_line(self) -> None:
         told = [STATUS]
         journal = self.journal("hub", "other", file=ONE.encode())
-        with self.stub(lambda line: told[-1] if line == "status" else "bad\n") as place, self.web(journal, place) as web:
+        with self.stub(lambda _: told[-1]) as place, self.web(journal, place) as web:
             web.web.watch.asked.every = 0
             self.assertEqual(web.get("/healthz")[:2], (200, "ok\n"))
             for status, wanted in (
                     (STATUS.replace("stopping no", "stopping yes"), "the server is to end\n"),
                     (STATUS.replace("halted no", "halted 7"), "halted: hub\n"),
-                    ("bad\n", "the server doesn't answer `status`\n"), ("server a\n\n", "the server tells its status in "
-                     "words that this program doesn't know\n")):
+                    ("bad\n", "the server doesn't answer `status`\n"),
+                    ("server a\n\n", "the server tells its status in words that this program doesn't know\n")):
                 told.append(status)
                 self.assertEqual(web.get("/healthz")[:2], (503, wanted))
             told.append(STATUS)
@@ -99,7 +99,8 @@ class MetricsTest(WebTest):
         self.assertEqual(value("nrm_seats_left", network="hub", leg="AB"), 299)
         self.assertEqual((value("nrm_revenue", network="hub"), value("nrm_withheld", network="hub")), (200, 100))
         self.assertEqual(value("nrm_journal_lines", network="hub"), 5)
-        self.assertEqual([value("nrm_commit_seconds_bucket", le=it) for it in ("0.001", "0.002", "+Inf")], [400, 700, 812])
+        self.assertEqual([value("nrm_commit_seconds_bucket", le=it) for it in ("0.001", "0.002", "+Inf")],
+                         [400, 700, 812])
         self.assertEqual((value("nrm_commit_seconds_sum"), value("nrm_commit_seconds_count")), (1.93, 812))
         self.assertEqual(value("nrm_server_start_time_seconds"), 1796117400.5)
         self.assertEqual(value("nrm_server_info", version="2.1.0", program="5ca1ab1e", epoch="3"), 1)
@@ -116,7 +117,8 @@ class MetricsTest(WebTest):
             until_read(web, "hub", 0)
             found = samples(web.get("/metrics").text)
         self.assertEqual(found["nrm_server_up", frozenset()], 0)  # type: ignore[index]
-        self.assertEqual(found["nrm_seats_left", frozenset({("network", "hub"), ("leg", "AB")})], 300)  # type: ignore[index]
+        left = found["nrm_seats_left", frozenset({("network", "hub"), ("leg", "AB")})]  # type: ignore[index]
+        self.assertEqual(left, 300)
         self.assertNotIn("nrm_rows_waiting", {name for name, _ in found})
 
     def test_where_the_library_isnt_there(self) -> None:

@@ -57,9 +57,9 @@ class ServingTest(WebTest):
                 self.assertEqual((answer.status, len(answer.read()) >= size), (status, True), path)
                 if method == "PUT":
                     self.assertEqual(answer.getheader("Allow"), "GET")
-            self.assertEqual(web.site.free._value, web.site.listening.connections - 1)  # type: ignore[attr-defined]
+            self.assertEqual(web.there(), 1)
             connection.close()
-            wait_for(lambda: web.site.free._value == web.site.listening.connections, "the end")  # type: ignore[attr-defined]
+            wait_for(lambda: not web.there(), "the end")
 
     def test_a_slow_request_is_cut_off(self) -> None:
         """However its bytes come: the time is that of the whole."""
@@ -79,7 +79,7 @@ class ServingTest(WebTest):
     def test_there_are_no_more_than_may_be(self) -> None:
         with self.web(self.journal(), listening={"connections": 2, "seconds": 20}) as web:
             with socket.create_connection(("127.0.0.1", web.port)), socket.create_connection(("127.0.0.1", web.port)):
-                wait_for(lambda: not web.site.free._value, "two")  # type: ignore[attr-defined]
+                wait_for(lambda: web.there() == 2, "two")
                 self.assertEqual(web.raw(b""), FULL)
             wait_for(lambda: web.get("/openapi.json").status == 200, "room")
 
@@ -96,8 +96,8 @@ class ServingTest(WebTest):
             self.assertEqual(web.get("/", Host="evil.example").status, 403)
         with self.web(self.journal(at="beyond"), listening={"is_beyond_allowed": True}) as web:
             self.assertEqual(web.get("/openapi.json", Host="sales.example").status, 200)
-        self.assertEqual([is_own_name(it) for it in ("[::1]:80", "127.9.9.9", "LOCALHOST:1", "", "10.0.0.1", "a.localhost")],
-                         [True, True, True, False, False, False])
+        names = ("[::1]:80", "127.9.9.9", "LOCALHOST:1", "", "10.0.0.1", "a.localhost")
+        self.assertEqual([is_own_name(it) for it in names], [True, True, True, False, False, False])
 
     def test_nothing_is_left_of_a_fault_of_this_program(self) -> None:
         """It is told as such, and the next request is answered."""
@@ -112,7 +112,8 @@ class ServingTest(WebTest):
     def test_the_description_has_the_routes(self) -> None:
         """All of them, each with its words, and no others; what it names is in it."""
         described = json.loads(DESCRIPTION.read_text())
-        paths = {(method.upper(), path): it for path, methods in described["paths"].items() for method, it in methods.items()}
+        paths = {(method.upper(), path): it for path, methods in described["paths"].items()
+                 for method, it in methods.items()}
         with self.web(self.journal()) as web:
             self.assertEqual(set(paths), {(it.method, it.path) for it in web.web.routes})
             self.assertEqual(web.get("/openapi.json").json, described)
@@ -127,8 +128,8 @@ class ServingTest(WebTest):
     def certificate(self) -> tuple[str, str]:
         """A certificate for this machine, and its key."""
         made, key = str(self.folder / "made.pem"), str(self.folder / "key.pem")
-        subprocess.run(["openssl", "req", "-x509", "-newkey", "ec", "-pkeyopt", "ec_paramgen_curve:prime256v1", "-nodes",
-                        "-keyout", key, "-out", made, "-days", "2", "-subj", "/CN=localhost", "-addext",
+        subprocess.run(["openssl", "req", "-x509", "-newkey", "ec", "-pkeyopt", "ec_paramgen_curve:prime256v1",
+                        "-nodes", "-keyout", key, "-out", made, "-days", "2", "-subj", "/CN=localhost", "-addext",
                         "subjectAltName=DNS:localhost,IP:127.0.0.1"], check=True, capture_output=True)
         return made, key
 
@@ -173,7 +174,8 @@ class ServingTest(WebTest):
             self.stopped("web", journal, *words, status=2)
         self.stopped("web", "nowhere", *place, says="unable to open")
         self.stopped("web", journal, *place, "--token", self.file("empty", ""), says="has no token")
-        self.stopped("web", journal, *place, "--certificate", self.file("c", "x"), "--key", "c", says="no certificate")
+        self.stopped("web", journal, *place, "--certificate", self.file("c", "x"), "--key", "c",
+                     says="no certificate")
 
 
 class StreamsTest(WebTest):

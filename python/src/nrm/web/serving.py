@@ -1,8 +1,8 @@
 """The server of HTTP: how many come, how much each may send and how long it may take, and what each is answered.
 
 `http.server` of Python's library takes the requests, a thread each, and this file bounds them: so many connections, of
-each a head and a body of so many bytes, and so many seconds for all of a request, however slowly its bytes come. What is
-answered is for `Answering` to say. May use: nrm, nrm.desks.places, nrm.web.messages.
+each a head and a body of so many bytes, and so many seconds for all of a request, however slowly its bytes come. What
+is answered is for `Answering` to say. May use: nrm, nrm.desks.places, nrm.web.messages.
 """
 from __future__ import annotations
 

@@ -7,13 +7,14 @@ HOST:PORT must be of this machine's loopback range unless --beyond-this-machine 
 what it does can't hold up the server, and it may do there what a client of the socket may.
 
 `/healthz` answers `ok`, or status 503 and what is wrong, and `/metrics` is for Prometheus, with Debian's
-python3-prometheus-client. With --page there is a page of all networks and of each, which is up to date within a second,
-with Debian's python3-jinja2. With --door a desk may send lines by HTTP, each under a number of its own, so that it is
+python3-prometheus-client. With --page there is a page of all networks and of each, up to date within a second, with
+Debian's python3-jinja2. With --door a desk may send lines by HTTP, each under a number of its own, so that it is
 carried out once. `/openapi.json` describes all paths for programs.
 
---token names a file with the token in whose name this process looks; else it has a desk's name of its own. A token that
-comes with a line goes to the server. --certificate and --key make it HTTPS. A request has at most 4,096 bytes and 16,384
-before these, and --slow seconds; at most 200 connections are there at a time.
+--token names a file with the token in whose name this process looks; else it has a desk's name of its own. A token
+that comes with a line goes to the server. --certificate and --key make it HTTPS. A request has at most 4,096 bytes, and
+16,384 before these, and --slow seconds; at most 200 connections are there at a time. Each line through the door needs a
+token with --tokens, and with --beyond-this-machine.
 
 SIGTERM, SIGINT and SIGHUP end it. The status is 0, 1 if it couldn't begin, and 2 for a usage error.
 """
@@ -38,10 +39,11 @@ def words_of(given: Sequence[str]) -> tuple[argparse.ArgumentParser, argparse.Na
     words = parser("web", __doc__)
     words.add_argument("journal", metavar="JOURNAL")
     words.add_argument("--socket", metavar="PATH", required=True, help="the server's Unix socket")
-    words.add_argument("--listen", metavar="HOST:PORT", required=True, help="where it listens; port 0 is any that is free")
+    words.add_argument("--listen", metavar="HOST:PORT", required=True, help="where it listens; port 0 is a free one")
     words.add_argument("--beyond-this-machine", action="store_true", help="lets --listen be beyond the loopback range")
     words.add_argument("--page", action="store_true", help="has the page on")
     words.add_argument("--door", action="store_true", help="has the door on, by which lines come")
+    words.add_argument("--tokens", action="store_true", help="wants a token with each line, as beyond this machine")
     words.add_argument("--token", metavar="FILE", help="a file with the token by which this process looks")
     words.add_argument("--certificate", metavar="FILE", help="of HTTPS")
     words.add_argument("--key", metavar="FILE", help="of the certificate")
@@ -68,7 +70,7 @@ def run(given: Sequence[str]) -> int:
     if (asked.certificate is None) != (asked.key is None):
         words.error("--certificate and --key come together")
     token = token_in(asked.token) if asked.token else None
-    settings = Settings(asked.journal, asked.socket, token, asked.page, asked.door, asked.beyond_this_machine,
-                        asked.answer)
+    settings = Settings(asked.journal, asked.socket, token, asked.page, asked.door,
+                        asked.tokens or asked.beyond_this_machine, asked.answer)
     listening = Listening(asked.listen, asked.beyond_this_machine, asked.certificate, asked.key, seconds=asked.slow)
     return serve(settings, listening)

@@ -36,7 +36,7 @@ class Door:
             raise Refusal(400, "number", f"the number of a line is a whole one from 1 to {LAST_SEQUENCE}")
         token = asked.token()
         if token is None and self.needs_token:
-            raise Refusal(401, "token", "a line that comes from beyond this machine needs a token",
+            raise Refusal(401, "token", "each line through this door needs a token",
                           (("WWW-Authenticate", "Bearer"),))
         who = Who(network, name_of(desk, "desk"), token)
         return told(asked, self.kept.reply(who, line_of(asked.body), int(sequence)))

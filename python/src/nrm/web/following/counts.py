@@ -1,6 +1,6 @@
 """What the lines of a network come to: seats, bookings, revenue, answers and refusals, counted as they are read.
 
-The network file says fares, legs and refunds, and each row one more line. A booking stands in arrays by its number, some
+The network file says fares and legs, and each row one more line. A booking stands in arrays by its number, with some
 thirty bytes, since there may be millions. What is shown is a `Seen`, made anew when rows have come and never changed.
 May use: nrm.network, nrm.replies.
 """

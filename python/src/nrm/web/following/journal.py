@@ -169,8 +169,8 @@ def is_same(old: Followed, now: Opened) -> bool:
 def take_rows(connection: sqlite3.Connection, opened: Opened, counts: Counts) -> None:
     """Takes the next rows of a network, a limited number."""
     for _ in range(ROWS_A_ROUND // ROWS_AT_ONCE):
-        rows = connection.execute(f"SELECT {COLUMNS} FROM line WHERE network = ? AND number > ? ORDER BY number LIMIT ?",
-                                  [opened.number, counts.lines, ROWS_AT_ONCE]).fetchall()
+        rows = connection.execute(f"SELECT {COLUMNS} FROM line WHERE network = ? AND number > ? ORDER BY number "
+                                  "LIMIT ?", [opened.number, counts.lines, ROWS_AT_ONCE]).fetchall()
         for row in rows:
             counts.take(Row(*row))
         if counts.lines >= opened.lines:

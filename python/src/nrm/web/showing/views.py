@@ -107,6 +107,6 @@ def money_of(it: Followed, look: Look) -> list[tuple[str, str]]:
     rows = [("Revenue of the bookings that stand", amount(it.seen.revenue)),
             ("Withheld of those that were cancelled", amount(it.seen.withheld))]
     if bound:
-        share = f", of which {amount(bound.revenue)} was earned then" if bound.revenue != it.seen.revenue else ""
-        rows.append(("Bound of hindsight", f"{amount(bound.bound)}{share}"))
+        then = f", when the revenue was {amount(bound.revenue)}" if bound.revenue != it.seen.revenue else ""
+        rows.append(("Bound of hindsight", f"{amount(bound.bound)}{then}"))
     return rows
