@@ -5,11 +5,13 @@ May use: nothing.
 from __future__ import annotations
 
 import json
+import re
 from dataclasses import dataclass, field
 from typing import Callable, Iterator, Mapping, Tuple, Union
 
 TEXT, JSON, HTML = "text/plain; charset=utf-8", "application/json", "text/html; charset=utf-8"
 PASSES = (("Retry-After", "1"),)  # with what may be asked again soon
+TOKEN = re.compile("[!-~]{1,900}")  # a longer one is no line
 Pairs = Tuple[Tuple[str, str], ...]
 
 
@@ -32,8 +34,7 @@ class Request:
             return None
         kind, _, token = given.partition(" ")
         token = token.strip()
-        is_one = kind.lower() == "bearer" and token.isascii() and token.isprintable() and " " not in token
-        if not is_one or not token:
+        if kind.lower() != "bearer" or not TOKEN.fullmatch(token):
             raise Refusal(401, "token", "what stands behind `Authorization` is not `Bearer` and a token",
                           (("WWW-Authenticate", "Bearer"),))
         return token
@@ -45,7 +46,8 @@ class Response:
     body: bytes
     kind: str = TEXT
     status: int = 200
-    head: Pairs = ()
+    head: TOKEN = re.compile("[!-~]{1,900}")  # a longer one is no line
+Pairs = ()
 
 
 @dataclass(frozen=True)
@@ -62,7 +64,8 @@ Answer = Union[Response, Stream]
 class Refusal(Exception):
     """Why nothing else is answered: the status, a word for programs, and a sentence for people."""
 
-    def __init__(self, status: int, word: str, why: str, head: Pairs = ()) -> None:
+    def __init__(self, status: int, word: str, why: str, head: TOKEN = re.compile("[!-~]{1,900}")  # a longer one is no line
+Pairs = ()) -> None:
         super().__init__(f"{word}: {why}")
         self.status, self.word, self.why, self.head = status, word, why, head
 
@@ -73,11 +76,13 @@ class Refusal(Exception):
         return Response(f"{self.word}: {self.why}\n".encode(), TEXT, self.status, self.head)
 
 
-def json_of(value: object, status: int = 200, head: Pairs = ()) -> Response:
+def json_of(value: object, status: int = 200, head: TOKEN = re.compile("[!-~]{1,900}")  # a longer one is no line
+Pairs = ()) -> Response:
     """An answer in JSON."""
     return Response(json.dumps(value, ensure_ascii=False).encode() + b"\n", JSON, status, head)
 
 
-def text_of(text: str, status: int = 200, head: Pairs = ()) -> Response:
+def text_of(text: str, status: int = 200, head: TOKEN = re.compile("[!-~]{1,900}")  # a longer one is no line
+Pairs = ()) -> Response:
     """An answer in a line of text."""
     return Response(text.encode() + b"\n", TEXT, status, head)

@@ -22,6 +22,7 @@ LETTERS = "0123456789ABCDEFGHIJKLMNOPQRSTUVWXYZ"
 MOST_ANSWER = 200
 FOR_GOOD = {  # by the word with which the server turns a desk away: the status, and why
     "network": (404, "the journal has no network of this name"),
+    "denied": (403, "the token is for a desk of another name"),
     "token": (401, "the server doesn't know the token, or wants one"),
     "sequence": (409, "the number was used for another line of this desk"),
     "old": (409, "the number is older than what the server holds of this desk"),
@@ -51,7 +52,7 @@ class WebDesk(Desk):
     """A desk that tells its token, if it has one, before it greets on each connection."""
 
     def __init__(self, place: str, who: Who, sequence: int | None, seconds: float) -> None:
-        self.token, self.lost, self.told_on = who.token, "", cast("socket.socket | None", None)
+        self.who, self.lost, self.told_on = who, "", cast("socket.socket | None", None)
         super().__init__(place, who.desk, who.network, sequence, seconds)
 
     def _tried(self, line: bytes, deadline: float) -> bytes:
@@ -70,9 +71,9 @@ class WebDesk(Desk):
 
     def _asked(self, line: bytes, deadline: float) -> bytes:
         try:
-            if self.token is not None and self.told_on is not self.socket:
+            if self.who.token is not None and self.told_on is not self.socket:
                 self.told_on = self.socket
-                if not super()._asked(b"token %s\n" % self.token.encode("ascii"), deadline).startswith(b"token "):
+                if not super()._asked(f"token {self.who.token}\n".encode(), deadline).startswith(b"token "):
                     raise Ended("token")
             return super()._asked(line, deadline)
         except Lost as why:
@@ -196,7 +197,7 @@ def refusal_of(fault: DeskError) -> Refusal:
         return Refusal(status, word, why, (("WWW-Authenticate", "Bearer"),) if status == 401 else ())
     if isinstance(fault, Strange):
         if str(fault).startswith("b'denied\\n'"):
-            return Refusal(403, "denied", "the token is for a desk of another name")
+            return refusal_of(Ended("denied"))
         return Refusal(502, "strange", "what listens on the socket doesn't answer as `nrm-tools serve` does")
     why = str(fault)
     if why == "timed out":
