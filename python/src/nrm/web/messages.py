@@ -46,8 +46,7 @@ class Response:
     body: bytes
     kind: str = TEXT
     status: int = 200
-    head: TOKEN = re.compile("[!-~]{1,900}")  # a longer one is no line
-Pairs = ()
+    head: Pairs = ()
 
 
 @dataclass(frozen=True)
@@ -64,8 +63,7 @@ Answer = Union[Response, Stream]
 class Refusal(Exception):
     """Why nothing else is answered: the status, a word for programs, and a sentence for people."""
 
-    def __init__(self, status: int, word: str, why: str, head: TOKEN = re.compile("[!-~]{1,900}")  # a longer one is no line
-Pairs = ()) -> None:
+    def __init__(self, status: int, word: str, why: str, head: Pairs = ()) -> None:
         super().__init__(f"{word}: {why}")
         self.status, self.word, self.why, self.head = status, word, why, head
 
@@ -76,13 +74,11 @@ Pairs = ()) -> None:
         return Response(f"{self.word}: {self.why}\n".encode(), TEXT, self.status, self.head)
 
 
-def json_of(value: object, status: int = 200, head: TOKEN = re.compile("[!-~]{1,900}")  # a longer one is no line
-Pairs = ()) -> Response:
+def json_of(value: object, status: int = 200, head: Pairs = ()) -> Response:
     """An answer in JSON."""
     return Response(json.dumps(value, ensure_ascii=False).encode() + b"\n", JSON, status, head)
 
 
-def text_of(text: str, status: int = 200, head: TOKEN = re.compile("[!-~]{1,900}")  # a longer one is no line
-Pairs = ()) -> Response:
+def text_of(text: str, status: int = 200, head: Pairs = ()) -> Response:
     """An answer in a line of text."""
     return Response(text.encode() + b"\n", TEXT, status, head)
