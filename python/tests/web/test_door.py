@@ -91,6 +91,8 @@ class DoorTest(WebTest):
                 with self.subTest(path=path, line=line[:20], head=head):
                     told = web.post(path, line, **JSON, **head)
                     self.assertEqual((told.status, told.json["error"]), (status, word))
+                    if "Idempotency_Key" in head:
+                        self.want_in(str(told.json["why"]), "`Idempotency-Key` is a whole number")
             self.same_told(web.post(f"{AT}/1", "book HJ-Q 1"), 200, "ok 1\n")
         self.assertEqual(len(rows_in(journal)), 1)
 

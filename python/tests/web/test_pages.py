@@ -149,9 +149,16 @@ class PagesTest(WebTest):
             web.get("/networks/two")
             wait_for(lambda: "hindsight" in heard, "the bound")
             self.assertEqual({it.split(" ")[1] for it in heard if it.startswith("desk")}, {"two"})
+            self.write(journal, [("book LOC 1", "ok 1")], network=2)
+            until_read(web, "two", 2)
+            wait_for(lambda: not web.web.looks.entries["two"].is_asked, "the end of what is asked")
             for _ in range(5):
                 web.get("/networks/two")
+            time.sleep(0.2)
             self.assertEqual(heard.count("hindsight"), 1, "at most every 30 seconds")
+            web.web.looks.clock = lambda: time.monotonic() + 31
+            web.get("/networks/two")
+            wait_for(lambda: heard.count("hindsight") == 2, "the next bound")
 
     @needs("jinja2")
     def test_what_is_in_the_journal_stays_text(self) -> None:
