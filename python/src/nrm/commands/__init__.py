@@ -28,5 +28,6 @@ NAMED = {
     "status": "nrm.commands.live.status",
     "token": "nrm.commands.live.token",
     "resume": "nrm.commands.live.resume",
+    "web": "nrm.commands.live.web",
 }
 ALONE = ("audit",)  # these begin and end by themselves

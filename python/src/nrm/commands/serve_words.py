@@ -1,14 +1,16 @@
 """The words of a server of many desks: where clients come, who may, what ends waiting, which program answers, how often
 plans are made, and what is told.
 
-May use: nrm.desks.places, nrm.desks.relay.clients, nrm.desks.relay.doors.guards, nrm.desks.relay.telling.events,
-nrm.program.
+May use: nrm, nrm.desks.desk, nrm.desks.places, nrm.desks.relay.clients, nrm.desks.relay.doors.guards,
+nrm.desks.relay.telling.events, nrm.program.
 """
 from __future__ import annotations
 
 import argparse
 import re
 
+from nrm import Stop, bytes_in
+from nrm.desks.desk import TOKEN
 from nrm.desks.places import OWN_RIGHTS, Places
 from nrm.desks.relay.clients import Limits
 from nrm.desks.relay.doors.guards import Guard
@@ -16,6 +18,7 @@ from nrm.desks.relay.telling.events import FORMS, LEVELS, Log
 from nrm.program import PIECE
 
 LEAST_EVERY = 60
+MOST_TOKEN = 1000  # bytes of its file
 
 
 def count(text: str) -> int:
@@ -47,6 +50,14 @@ def every(text: str) -> int:
     if value < LEAST_EVERY:
         raise ValueError
     return value
+
+
+def token_in(path: str) -> str:
+    """The token of a file."""
+    token = bytes_in(path, MOST_TOKEN).decode("latin-1").strip()
+    if not TOKEN.fullmatch(token):
+        raise Stop(f"{path} has no token: one word, and nothing else")
+    return token
 
 
 def add_places(words: argparse.ArgumentParser) -> None:

@@ -197,16 +197,19 @@ class Desk:
         return reply
 
     def _tried(self, line: bytes, deadline: float) -> bytes:
-        """The reply to a line, or to none, on this connection or a next one."""
+        """The reply to a line, or to none, on this connection or a next one. Late tells what went wrong first, since
+        what goes wrong last is that time is over."""
+        first: Lost | None = None
         while True:
             try:
                 if not self.socket:
                     self._connect(deadline)
                 return self._asked(line, deadline) if line else b""
             except Lost as why:
+                first = first or why
                 self.close()
                 if time.monotonic() + PAUSE > deadline:
-                    raise Late(f"{self.place}: no answer in {self.seconds:g} seconds: {why}")
+                    raise Late(f"{self.place}: no answer in {self.seconds:g} seconds: {first}") from first
                 time.sleep(PAUSE)
             except DeskError:
                 self.close()

@@ -8,12 +8,14 @@ from __future__ import annotations
 import os
 import re
 import socket
+import ssl
 import time
 from dataclasses import dataclass, fields
 from typing import Callable, Mapping, Sequence, Tuple, Type, TypeVar, Union
 
 ASKED = b"status\n"
 END = b"\n\n"
+TOLD_TOKEN = re.compile(rb"token [^\n]*\n")  # before it, to who gave one
 PIECE = 65_536
 MOST_BYTES = 64_000_000  # of an answer
 MOST_SHOWN = 200  # characters of a strange line
@@ -211,26 +213,29 @@ READERS: Mapping[str, Callable[[str], object]] = {"str": str, "int": whole, "flo
 # How it is asked for
 
 
-def ask_status(place: Place, seconds: float) -> Status:
-    """The status of the server at the path of a Unix socket, or at a pair of host and port, within some seconds."""
-    return status_of(asked_text(place, seconds))
+def ask_status(place: Place, seconds: float, token: str | None = None, tls: ssl.SSLContext | None = None) -> Status:
+    """The status of the server at the path of a Unix socket, or at a pair of host and port, within some seconds; with
+    the token of a desk that may look, and by TLS, where a port wants them."""
+    return status_of(asked_text(place, seconds, token, tls))
 
 
-def asked_text(place: Place, seconds: float) -> str:
+def asked_text(place: Place, seconds: float, token: str | None = None, tls: ssl.SSLContext | None = None) -> str:
     """What a server answers, as it came."""
     deadline = time.monotonic() + seconds
     try:
-        with connected(place, seconds) as connection:
-            connection.sendall(ASKED)
-            return answer_of(connection, deadline).decode("latin-1")
+        with connected(place, seconds, tls) as connection:
+            connection.sendall((b"token %s\n" % token.encode() if token else b"") + ASKED)
+            told = answer_of(connection, deadline)
+            return (TOLD_TOKEN.sub(b"", told, 1) if token else told).decode("latin-1")
     except (OSError, OverflowError, UnicodeError) as why:
         raise NoStatus(f"no status of {shown(place)}: {getattr(why, 'strerror', None) or why}")
 
 
-def connected(place: Place, seconds: float) -> socket.socket:
+def connected(place: Place, seconds: float, tls: ssl.SSLContext | None) -> socket.socket:
     """A connection to a place."""
     if isinstance(place, tuple):
-        return socket.create_connection(place, seconds)
+        plain = socket.create_connection(place, seconds)
+        return tls.wrap_socket(plain, server_hostname=place[0]) if tls else plain
     made = socket.socket(socket.AF_UNIX)
     made.settimeout(seconds)
     try:
@@ -251,8 +256,8 @@ def answer_of(connection: socket.socket, deadline: float) -> bytes:
         connection.settimeout(left)
         piece = connection.recv(PIECE)
         told += piece
-        if not piece and re.fullmatch(rb"closed [^\n]*\n", told):
-            raise NoStatus(f"the server says: {told.decode('latin-1').rstrip()}")
+        if not piece and (found := re.fullmatch(rb"(?:token [^\n]*\n)?(closed [^\n]*)\n", told)):
+            raise NoStatus(f"the server says: {found[1].decode('latin-1')}")
         if not piece or len(told) > MOST_BYTES:
             raise StrangeStatus(f"no status came, but {told[:MOST_SHOWN]!r}")
     return told
