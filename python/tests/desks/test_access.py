@@ -10,7 +10,7 @@ from unittest import mock
 from harness import WithinTest
 from nrm import Stop
 from nrm.desks import access
-from nrm.desks.access import RIGHTS, Right, add_desk, hash_of, read_access
+from nrm.desks.access import CLOCK, RIGHTS, Right, add_desk, hash_of, read_access
 
 ONE = "sha256:6b86b273ff34fce19d6b804eff5a3f5747ada4eaa22f1d49c01e52ddb7875b4b"  # of `1`, as sha256sum has it
 TWO = "sha256:d4735e3a265e16eee03f59718b9b5d03019c07d8b6c51f90da3a666eec13ab35"  # of `2`
@@ -34,6 +34,13 @@ class Files(WithinTest):
         self.assertEqual([found.has(it) for it in (one, *others)], [True, False, False])
         self.assertNotIn(ONE[7:], repr(one))
 
+    def test_names_like_those_that_the_server_gives(self) -> None:
+        """Its own desk is in no file, and stays whatever is there."""
+        self.file("desks", entry("CLOCK-1", ONE) + entry("AT-1X", TWO))
+        found = read_access("desks")
+        self.assertEqual(sorted(it.name for it in found.desks.values()), ["AT-1X", "CLOCK-1"])
+        self.assertEqual((found.has(CLOCK), found.has(Right("CLOCK", "", ("look", "book")))), (True, False))
+
     def test_what_is_refused_in_a_file(self) -> None:
         """With the entry, and without what may be a token."""
         for text, says in [
@@ -42,7 +49,10 @@ class Files(WithinTest):
                 (b"\xff", "is no text in UTF-8"),
                 ("token = 1", "[token]: that is no name"), ("[d1]", "[d1]: that is no name"),
                 ('["D 1"]', "[D 1]: that is no name"), ('[""]', "[]: that is no name"),
-                (entry("A" * 13), f"[{'A' * 13}]: that is no name"), ("D1 = 5", "[D1]: token and rights are wanted"),
+                (entry("A" * 13), f"[{'A' * 13}]: that is no name"),
+                (entry("CLOCK"), "[CLOCK]: that name is one that the server gives"),
+                (entry("AT-0"), "[AT-0]: that name is one"), (entry("AT-1234567"), "[AT-1234567]: that name is one"),
+                ("D1 = 5", "[D1]: token and rights are wanted"),
                 (entry() + "roles = 1", "[D1]: nothing is called roles"),
                 (entry() + f"{SECRET} = 1", "[D1]: nothing is called (a long text)"),
                 (entry("D1.x"), "[D1]: nothing is called x"),

@@ -62,6 +62,8 @@ class Server:
             hall = Hall(self.journal, self.answering, self.limits, self.every, self.log)
             networks = networks_in(hall.reader)
             allow_files(self.limits.clients + FILES_OF_A_PROGRAM * len(networks) + SPARE_FILES)
+            for it in listeners:
+                it.listen(BACKLOG)  # before the path is there, by which others see that they may come
             listeners += [path.listener(places.rights)] if path else []
             self.tell_of_the_beginning(hall, networks)
             look_at_files(hall, access, context)

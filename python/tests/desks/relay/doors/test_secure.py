@@ -56,6 +56,30 @@ class Secured(GuardedTest):
             self.assertEqual(talk(serve, b"ask LOC\n"), b"ask LOC 299 leg AB\n", "on the Unix socket")
             self.assertNotIn(token.decode(), serve.told())
 
+    def test_who_may_ask_for_the_status(self) -> None:
+        """On the port a desk that may look, and on the Unix socket anybody but a desk that mayn't."""
+        may, mayn_t = self.token("D1", "look"), self.token("D2", "book")
+        with self.secured(self.journal(file=ONE.encode())) as serve:
+            status = b"token %s\nstatus\n" % may
+            for told in (self.told_by_tls(serve, status + b"status\nbook LOC 1\n"), talk(serve, status + b"x\n")):
+                self.assertRegex(told, rb"^token D1\nserver (?s:.*)\n\nclosed status\n$")
+            self.assertRegex(talk(serve, b"status\nstatus\n"), rb"^server (?s:.*)\n\nserver (?s:.*)\n\n$")
+            refused = b"token %s\nstatus\n" % mayn_t
+            for lines, wanted in [(b"status\n", b"closed token\n"), (refused, b"token D2\nclosed token\n")]:
+                self.assertEqual(self.told_by_tls(serve, lines), wanted)
+            self.assertEqual(talk(serve, refused), b"token D2\nclosed token\n")
+            self.assertEqual(talk(serve, b"status\n" + b"token %s\n" % may)[-16:], b"\n\nclosed status\n")
+            place, ca = f"{ADDRESS}:{port_of(serve)}", ("--ca", str(self.folder / "made.cert"))
+            files = [str(self.file(name, it.decode() + "\n")) for name, it in (("may", may), ("mayn_t", mayn_t))]
+            told = self.told("status", place, "--token", files[0], *ca)
+            self.assertEqual(told[:7], "server ")
+            for words, says in [((place, *ca), "closed token"), ((place, "--token", files[1], *ca), "closed token"),
+                                ((place, "--token", str(self.file("none", "")), *ca), "has no token"),
+                                ((place, "--ca", "absent"), "absent has no certificates"),
+                                ((place, "--ca", str(self.file("odd", "x"))), "odd has no certificates")]:
+                self.stopped("status", *words, status=1, says=says)
+            self.stopped("status", serve.path, *ca, status=2, says="--ca is for HOST:PORT")
+
     def test_a_desk_in_python_comes_by_tls(self) -> None:
         token = self.token("D1", "look", "book").decode()
         self.certified("elsewhere", at="other")

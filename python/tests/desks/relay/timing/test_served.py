@@ -68,7 +68,7 @@ class Served(ServeTest):
                     self.assertEqual(f"optimised {told['value']}", rows[at + 1][2])
                     changed = [leg for leg in plans[at] if plans[at][leg] != plans[at + 1][leg]]
                     self.assertEqual(told["changed"], ",".join(changed) or "none")
-                    self.assertRegex(told["seconds"], r"^\d+\.\d{3}$")
+                    self.assertRegex(told["seconds"], r"^\d+\.\d{1,3}$")
 
     def test_what_was_missed_at_a_start_and_after_a_kill(self) -> None:
         """The latest alone, and once, in each network that wants it; two sides of it are told."""
