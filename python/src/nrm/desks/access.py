@@ -8,7 +8,8 @@ The file is TOML. It has no token, but the SHA-256 of each, in hexadecimal. A pl
 bytes of chance: there are too many to try, so that it needs no salt, and no hash that takes long. Who comes is looked
 up by the hash of the token that he gave, in a dictionary. How long that takes depends on hashes, of which nobody can
 make one that begins as he likes; so it tells nothing to go by. What is wrong in the file is told without the text that
-may be a token. No entry may have a name that the server gives itself: CLOCK, and AT-1, AT-2 and so on. May use: nrm, nrm.network, nrm.telling.libraries.
+may be a token. No entry may have a name that the server gives itself: CLOCK, and AT-1, AT-2 and so on. May use: nrm,
+nrm.network, nrm.telling.libraries.
 """
 from __future__ import annotations
 

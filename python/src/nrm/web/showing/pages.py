@@ -1,8 +1,8 @@
 """The pages as HTML, made of the templates in `static` by jinja2, which escapes each name and text.
 
 May use: nrm, nrm.desks.journals.answered, nrm.desks.journals.networks, nrm.desks.journals.tables,
-nrm.telling.libraries, nrm.web.asking.looks, nrm.web.following.journal, nrm.web.messages, nrm.web.showing.events, nrm.web.showing.views,
-nrm.web.showing.words.
+nrm.telling.libraries, nrm.web.asking.looks, nrm.web.following.journal, nrm.web.messages, nrm.web.showing.events,
+nrm.web.showing.views, nrm.web.showing.words.
 """
 from __future__ import annotations
 
