@@ -32,7 +32,7 @@ NOT_RUN = {  # by the beginning of the commands; the reason
     "nrm plan bid network.csv > plan.new": USERS_OWN, "nrm print network.csv > canonical.new": USERS_OWN,
     "nrm print old.csv > new.part": USERS_OWN, "sender |": USERS_OWN, "head -c 123 replies": USERS_OWN,
     "nrm-tools resume network.csv": USERS_OWN, "awk '/^ok /": USERS_OWN,
-    "/usr/bin/python3 -m distributed": SERVERS, "openssl req": SERVERS,
+    "/usr/bin/python3 -m distributed": SERVERS, "openssl req -x509 -newkey rsa": SERVERS,
     "nrm-tools simulate": MINUTES, "nrm-tools authorise": MINUTES,
     "nrm-tools thresholds mine/train.csv 5 --search": MINUTES,
     "nrm-tools thresholds examples/season/network.csv 5 --search": MINUTES,
@@ -40,8 +40,8 @@ NOT_RUN = {  # by the beginning of the commands; the reason
     "git clone": "it proves all crates again", "install -m 755": "it installs into the system",
     "sqlite3 mine/bookings.db 'SELECT * FROM kept WHERE number = N'": "N stands for a number that was told",
 }
-# commands of Debian's packages glpk-utils, qsopt-ex, sqlite3, socat, gcc and nodejs: not run where one isn't there
-NEEDS = ("glpsol", "esolver", "sqlite3", "socat", "cc", "node")
+# commands of Debian's packages glpk-utils, qsopt-ex, sqlite3, socat, gcc, nodejs, openssl and curl: not run without them
+NEEDS = ("glpsol", "esolver", "sqlite3", "socat", "cc", "node", "openssl", "curl")
 ENDS = {  # by the beginning of the commands that end with another status than 0 on purpose: the status
     "python3 examples/line/make.py trains": 1, "python3 examples/line/make.py line": 1, "sed 's/AB 120/AB 119/'": 1,
     "sed 's/^protect BC 4 6/": 1, "nrm-tools explain mine/train.csv": 3, 'cp "$store-wal" mine/backup': 1}

@@ -25,6 +25,9 @@ NAMED = {
     "averaged": "nrm.commands.seasons.averaged",
     "journal": "nrm.commands.live.journal",
     "serve": "nrm.commands.live.serve",
+    "status": "nrm.commands.live.status",
+    "token": "nrm.commands.live.token",
     "resume": "nrm.commands.live.resume",
+    "web": "nrm.commands.live.web",
 }
 ALONE = ("audit",)  # these begin and end by themselves

@@ -1,15 +1,24 @@
-"""The words of a server of many desks: where clients come, what ends waiting, and which program answers.
+"""The words of a server of many desks: where clients come, who may, what ends waiting, which program answers, how often
+plans are made, and what is told.
 
-May use: nrm.desks.places, nrm.desks.relay.clients, nrm.program.
+May use: nrm, nrm.desks.desk, nrm.desks.places, nrm.desks.relay.clients, nrm.desks.relay.doors.guards,
+nrm.desks.relay.telling.events, nrm.program.
 """
 from __future__ import annotations
 
 import argparse
 import re
 
+from nrm import Stop, bytes_in
+from nrm.desks.desk import TOKEN
 from nrm.desks.places import OWN_RIGHTS, Places
 from nrm.desks.relay.clients import Limits
+from nrm.desks.relay.doors.guards import Guard
+from nrm.desks.relay.telling.events import FORMS, LEVELS, Log
 from nrm.program import PIECE
+
+LEAST_EVERY = 60
+MOST_TOKEN = 1000  # bytes of its file
 
 
 def count(text: str) -> int:
@@ -34,6 +43,23 @@ def seconds(text: str) -> float:
     return value
 
 
+def every(text: str) -> int:
+    """The seconds of a time that is said in seconds, minutes or hours, and is no shorter than a minute."""
+    found = re.fullmatch("([1-9][0-9]{0,7})([mh]?)", text)
+    value = int(found[1]) * {"": 1, "m": 60, "h": 3600}[found[2]] if found else 0
+    if value < LEAST_EVERY:
+        raise ValueError
+    return value
+
+
+def token_in(path: str) -> str:
+    """The token of a file."""
+    token = bytes_in(path, MOST_TOKEN).decode("latin-1").strip()
+    if not TOKEN.fullmatch(token):
+        raise Stop(f"{path} has no token: one word, and nothing else")
+    return token
+
+
 def add_places(words: argparse.ArgumentParser) -> None:
     """The options for where clients come, and for the program."""
     words.add_argument("--socket", metavar="PATH", help="the Unix socket")
@@ -43,6 +69,13 @@ def add_places(words: argparse.ArgumentParser) -> None:
     words.add_argument("--beyond-this-machine", action="store_true", help="lets --listen be beyond the loopback range")
     words.add_argument("--program", nargs="+", metavar="WORD",
                        help="what runs `nrm_desks`; else it is that of this folder, or the one on the path")
+
+
+def add_guard(words: argparse.ArgumentParser) -> None:
+    """The options for the files that say who may come."""
+    words.add_argument("--desks", metavar="FILE", help="the desks that may come, and what each may do")
+    words.add_argument("--certificate", metavar="FILE", help="the certificate of --listen, which then speaks TLS alone")
+    words.add_argument("--key", metavar="FILE", help="the key of the certificate")
 
 
 def add_limits(words: argparse.ArgumentParser) -> None:
@@ -61,6 +94,21 @@ def add_limits(words: argparse.ArgumentParser) -> None:
                        help="for which a program without clients stays; %(default)s")
 
 
+def add_clock(words: argparse.ArgumentParser) -> None:
+    """The option for how often plans are made."""
+    words.add_argument("--every", type=every, default=0, metavar="TIME",
+                       help="has the plan of each network with times made anew after so many seconds, or minutes as "
+                            f"30m, or hours as 2h, if lines were written since; at least {LEAST_EVERY} seconds")
+
+
+def add_log(words: argparse.ArgumentParser) -> None:
+    """The options for what is told on standard error."""
+    words.add_argument("--log", choices=FORMS, default=Log.form,
+                       help="the form of what is told on standard error; %(default)s")
+    words.add_argument("--log-level", choices=LEVELS, default=Log.level,
+                       help="the least level that is told there; %(default)s")
+
+
 def places_in(words: argparse.ArgumentParser, asked: argparse.Namespace) -> Places:
     """Where clients come, as the words say; an end with the usage where they say nowhere."""
     if not (asked.socket or asked.listen):
@@ -68,6 +116,19 @@ def places_in(words: argparse.ArgumentParser, asked: argparse.Namespace) -> Plac
     if "" in (asked.socket, asked.listen, asked.journal):
         words.error("JOURNAL, --socket and --listen want a name")
     return Places(asked.socket, asked.mode, asked.listen, asked.beyond_this_machine)
+
+
+def guard_in(words: argparse.ArgumentParser, asked: argparse.Namespace) -> Guard:
+    """The files that say who may come, as the words say; an end with the usage where one is missing."""
+    if "" in (asked.desks, asked.certificate, asked.key):
+        words.error("--desks, --certificate and --key want the name of a file")
+    if bool(asked.certificate) != bool(asked.key):
+        words.error("--certificate and --key go together")
+    if asked.certificate and not asked.listen:
+        words.error("--certificate and --key are for --listen")
+    if asked.desks and asked.listen and not asked.certificate:
+        words.error("with --desks, --listen needs --certificate and --key: a token mustn't be read on its way")
+    return Guard(asked.desks, asked.certificate, asked.key)
 
 
 def limits_in(words: argparse.ArgumentParser, asked: argparse.Namespace) -> Limits:

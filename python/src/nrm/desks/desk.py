@@ -9,10 +9,14 @@ With the package installed, or its folder on Python's path, as by `PYTHONPATH=py
             if isinstance(answer, Sold): ..
 
 `Desk(path, name)` asks the controllers of `nrm-tools serve` through its Unix socket, or through TCP if it is given a
-pair of host and port, in the name of a desk; where the journal has several networks, `network` names one. Each line has
-a number of the desk's own, so one that was sent and not answered is sent again by itself on a new connection, and
-carried out once. What one is asked for that has no such meaning, as a party of 0, is a ValueError, and nothing is sent.
-The answers:
+pair of host and port, in the name of a desk; where the journal has several networks, `network` names one. `token` is
+the desk's token, where the server asks for one, and `tls` has a port speak TLS, which checks the server's name:
+
+    Desk(("seats.example", 7443), "COUNTER-7", token=token, tls=ssl.create_default_context())
+
+Each line has a number of the desk's own, so one that was sent and not answered is sent again by itself on a new
+connection, and carried out once. What one is asked for that has no such meaning, as a party of 0, is a ValueError, and
+nothing is sent. The answers:
 
     book          Sold, NoLeg, NoFare, Unknown        cancel      Cancelled, Unknown
     reoptimise    Optimised, Overflow, Unknown        leg         Leg, Unknown
@@ -30,6 +34,7 @@ from __future__ import annotations
 import os
 import re
 import socket
+import ssl
 import time
 from typing import Tuple, Type, Union, cast
 
@@ -45,6 +50,7 @@ PIECE = 65_536
 PAUSE = 0.05  # the seconds before a desk tries again to connect
 MOST_SHOWN = 200  # characters of a strange reply
 LAST_SEQUENCE = 999_999_999_999_999
+TOKEN = re.compile(r"[!-~]{1,900}")
 HAS_MORE = re.compile(rb"value |leg [^ ]+ seats \d+ authorised \d+ sold [1-9]")  # up to an empty line
 PASSES = re.compile(r"clients|half|idle|journal|stopping|memory|gone|program \d+")  # so the desk comes again
 Path = Union[str, "os.PathLike[str]"]
@@ -64,7 +70,8 @@ class Late(DeskError):
 
 class Ended(DeskError):
     """The desk was turned away for a reason that doesn't pass, which is told: `sequence`, since the number was used for
-    another line, `elsewhere`, since another connection is this desk now, `network`, `halted` and so on."""
+    another line, `elsewhere`, since another connection is this desk now, `token`, since it has none that may come,
+    `denied`, since its token is another desk's, `network`, `halted` and so on."""
 
 
 class Strange(DeskError):
@@ -86,11 +93,18 @@ class Desk:
     network    the name of the network, where there are several
     sequence   the number of the first line; else it is the one behind the last that the journal has of this desk
     seconds    how long an answer may take, with all tries, before it is Late
+    token      by which the server knows the desk; without `tls` a port has it as anybody on the way can read it
+    tls        what a port's certificate is checked by, and its name, as `ssl.create_default_context()` makes it
     """
 
     def __init__(self, place: Place, name: str, network: str | None = None, sequence: int | None = None,
-                 seconds: float = SECONDS) -> None:
+                 seconds: float = SECONDS, token: str | None = None, tls: ssl.SSLContext | None = None) -> None:
         self.place, self.name, self.network, self.seconds = place, a_name(name), network, seconds
+        if tls and not isinstance(place, tuple):
+            raise ValueError("tls is for a pair of host and port")
+        if token is not None and not TOKEN.fullmatch(token):
+            raise ValueError("the token has a character that no token has, or none")
+        self.token, self.tls = token, tls
         self.pending: str | None = None
         self.socket: socket.socket | None = None
         self.left = b""
@@ -183,16 +197,19 @@ class Desk:
         return reply
 
     def _tried(self, line: bytes, deadline: float) -> bytes:
-        """The reply to a line, or to none, on this connection or a next one."""
+        """The reply to a line, or to none, on this connection or a next one. Late tells what went wrong first, since
+        what goes wrong last is that time is over."""
+        first: Lost | None = None
         while True:
             try:
                 if not self.socket:
                     self._connect(deadline)
                 return self._asked(line, deadline) if line else b""
             except Lost as why:
+                first = first or why
                 self.close()
                 if time.monotonic() + PAUSE > deadline:
-                    raise Late(f"{self.place}: no answer in {self.seconds:g} seconds: {why}")
+                    raise Late(f"{self.place}: no answer in {self.seconds:g} seconds: {first}") from first
                 time.sleep(PAUSE)
             except DeskError:
                 self.close()
@@ -208,16 +225,39 @@ class Desk:
                 self.socket.settimeout(until(deadline))
                 self.socket.connect(os.fspath(cast(Path, self.place)))
             else:
-                self.socket = socket.create_connection(cast(Tuple[str, int], self.place), until(deadline))
+                self.socket = self._port(deadline)
+        except ssl.SSLCertVerificationError as why:
+            raise Strange(f"the server's certificate: {why.verify_message}")
         except (OSError, OverflowError, UnicodeError) as why:
             raise Lost(getattr(why, "strerror", None) or str(why))
+        self._give_token(deadline)
         words = ["desk", *([self.network] if self.network else []), self.name,
                  *([str(self.sequence)] if self.sequence else [])]
         told = self._asked(" ".join(words).encode() + b"\n", deadline)
+        if told == b"denied\n":
+            raise Ended("denied")
         found = re.fullmatch(rb"at ([1-9][0-9]{0,14})\n", told)
         if not found or self.sequence not in (0, int(found[1])):
             raise Strange(f"{told[:MOST_SHOWN]!r} to a greeting")
         self.sequence = int(found[1])
+
+    def _port(self, deadline: float) -> socket.socket:
+        """A connection to a port, by TLS if it is to be."""
+        host, port = cast(Tuple[str, int], self.place)
+        made = socket.create_connection((host, port), until(deadline))
+        try:
+            return self.tls.wrap_socket(made, server_hostname=host) if self.tls else made
+        except BaseException:
+            made.close()
+            raise
+
+    def _give_token(self, deadline: float) -> None:
+        """Says by the token which desk this is, if there is one."""
+        if self.token is None:
+            return
+        told = self._asked(f"token {self.token}\n".encode(), deadline)
+        if not told.startswith(b"token "):
+            raise Strange(f"{told[:MOST_SHOWN]!r} to a token")
 
     def _asked(self, line: bytes, deadline: float) -> bytes:
         """The reply to a line that is sent on this connection."""

@@ -27,7 +27,8 @@ def is_debians() -> bool:
 
 def lacks(libraries: Sequence[str]) -> str:
     """A sentence that says that this Python lacks some libraries, and which of Debian's packages have them."""
-    names, packages = " and no ".join(KNOWN_AS.get(it, it) for it in libraries), [f"python3-{it}" for it in libraries]
+    names = " and no ".join(KNOWN_AS.get(it, it) for it in libraries)
+    packages = [f"python3-{it.replace('_', '-')}" for it in libraries]
     if is_debians():
         advice = f"`apt-get install {' '.join(packages)}` installs what is missing"
     else:

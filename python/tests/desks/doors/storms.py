@@ -7,11 +7,13 @@ is so many clients at a socket for some seconds; the status is 1 if none was cut
 from __future__ import annotations
 
 import contextlib
+import re
 import resource
 import select
 import socket
 import sys
 import time
+from collections import Counter
 
 from desks.relay.serves import Serve
 from desks.servers import answers
@@ -48,11 +50,11 @@ def answered_soon(waits: list[float]) -> None:
 
 
 def told_now_and_then(serve: Serve, since: float) -> None:
-    """Sees that what is told on standard error is no more than a line a second, and no traceback."""
+    """Sees that what is told on standard error is no more than a line a second of each kind, and no traceback."""
     told, seconds = serve.told(), time.monotonic() - since
-    if "Traceback" in told or told.count("\n") > seconds + 3:
-        raise AssertionError(f"a line a second in {seconds:.1f} seconds, and not {told.count(chr(10))} lines: "
-                             f"{told[:600]!r}")
+    [(kind, count)] = Counter(re.sub(r"^\S+ | times=\d+", "", it) for it in told.splitlines()).most_common(1)
+    if "Traceback" in told or count > seconds + 2:
+        raise AssertionError(f"a line a second in {seconds:.1f} seconds, and not {count} of {kind!r}: {told[:600]!r}")
 
 
 def storm(path: str, count: int, seconds: float) -> bool:

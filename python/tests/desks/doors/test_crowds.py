@@ -48,7 +48,7 @@ class Crowds(ServeTest):
             with serve.connect() as last:
                 self.assertEqual(answers(last, LOOK, 1), [REPLY], "a new one")
             told_now_and_then(serve, begun)
-            self.want_in(serve.told(), "turned away, since 20 were there")
+            self.want_in(serve.told(), "event=turned-away most=20")
 
     def test_as_many_as_may_come_at_once_are_answered(self) -> None:
         """And as many again, once these have left."""
@@ -72,7 +72,7 @@ class Crowds(ServeTest):
             others = [all_.enter_context(serve.connect()) for _ in range(6)]
             answered_soon(waits_of(first, 3.5))
             told_now_and_then(serve, begun)
-            self.want_in(serve.told(), "those who come have to wait: Too many open files")
+            self.want_in(serve.told(), 'event=waiting why="Too many open files"')
             resource.prlimit(process, resource.RLIMIT_NOFILE, before)
             for it in others:
                 self.assertEqual(answers(it, LOOK, 1), [REPLY], "who had to wait")

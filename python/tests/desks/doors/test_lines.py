@@ -9,7 +9,7 @@ import threading
 import time
 from pathlib import Path
 
-from desks.relay.serves import ONE, TOLD, ServeTest, all_told, journal_of, rows_in, talk
+from desks.relay.serves import ONE, ServeTest, all_told, journal_of, rows_in, talk
 from desks.servers import answers, child_of
 from harness import EXAMPLES, wait_for
 from nrm.program import Program
@@ -47,7 +47,7 @@ class Lines(ServeTest):
                 self.assertEqual(answers(other, b"book HJ-Q 1\n" * 300, 300)[0], b"ok 1\n", "another's reply")
                 if time.monotonic() - begun > 5:
                     self.fail("the others to notice nothing")
-                wait_for(lambda: "didn't take their replies" in serve.told(), f"the end of it with {options}", 10)
+                wait_for(lambda: "event=unread" in serve.told(), f"the end of it with {options}", 10)
                 self.assertEqual(answers(other, b"cancel 1\n", 1), [b"cancelled 1 270\n"], "another's reply")
 
     def test_a_line_that_is_too_long_is_told(self) -> None:
@@ -127,7 +127,7 @@ class Lines(ServeTest):
             self.assertNotEqual(os.getpgid(serve.program()), os.getpgid(serve.process.pid))
             serve.end(sent=signal.SIGINT)
             self.assertEqual(all_told(client), b"closed stopping\n")
-            self.assertEqual(serve.told().count("\n"), 1, serve.told())
+            self.assertEqual(serve.told().count("event="), serve.told().count("\n"), "no traceback")
 
     def test_a_program_that_falls_silent_is_ended(self) -> None:
         """While it serves, with what it has started; and one that has closed its output."""
@@ -143,12 +143,12 @@ class Lines(ServeTest):
             os.kill(below, signal.SIGSTOP)
             client.sendall(b"book LOC 1\n")
             self.assertEqual(all_told(client), b"closed program 137\n", "what a client is told")
-            self.want_in(serve.told(), "network one: the program hasn't answered for 2 seconds, and is ended\n")
+            self.want_in(serve.told(), "level=error tool=nrm-tools-serve event=silent network=one seconds=2.0\n")
             wait_for(lambda: not Path(f"/proc/{below}").exists(), "the end of what it has started")
             self.assertEqual(talk(serve, b"desk D1 1\nbook LOC 1\n"), b"at 1\nok 1\n", "the next run's reply")
         with self.served(journals["closes"], "--slow", "1", program=programs["closes"]) as serve:
             self.assertEqual(talk(serve, b"desk D1\n"), b"closed program 137\n")
-            self.want_in(serve.told(), f"{TOLD}network one: the program ended with status 137\n")
+            self.want_in(serve.told(), "event=program-ended network=one status=137\n")
 
 
 class Heard(threading.Thread):

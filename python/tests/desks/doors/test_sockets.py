@@ -53,7 +53,7 @@ class Sockets(ServeTest):
                 if is_beyond:
                     serve.end(2, sent=None)
         with self.served(self.one(), "--listen", "0.0.0.0:0", "--beyond-this-machine") as serve:
-            self.want_in(serve.told(), "listening on 0.0.0.0:")
+            self.want_in(serve.told(), "event=listening on=0.0.0.0:")
 
     def test_what_is_no_socket_is_left_alone(self) -> None:
         (self.folder / "socket").write_text("mine")
@@ -130,8 +130,8 @@ class Sockets(ServeTest):
                                  env=variables) for journal in journals]
         try:
             told = [it.stderr.readline() for it in many]
-            listening = Counter(it.startswith(f"{TOLD}listening on") for it in told)
-            self.assertEqual(listening, {True: 1, False: 7}, told)
+            begun = Counter("event=started" in it for it in told)
+            self.assertEqual(begun, {True: 1, False: 7}, told)
             with killed.connect() as connection:
                 self.assertEqual(answers(connection, LOOK, 1), [REPLY], "its reply")
         finally:

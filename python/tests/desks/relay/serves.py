@@ -19,6 +19,7 @@ from nrm.desks.journals.tables import begin, using
 from nrm.program import Program
 
 TOLD = "nrm-tools serve: "
+LISTENS = "event=listening"
 PATIENT = 3 * SECONDS  # for what takes long where much else is at work, as that a server begins or ends
 ONE = "periods,1,1\nleg,AB,300\nproduct,LOC,200,AB\n"  # a network of one leg
 
@@ -55,8 +56,8 @@ class Serve:
 
     def wait_until_it_listens(self) -> None:
         try:
-            wait_for(lambda: "listening on" in self.told() or self.process.poll() is not None, "a server", PATIENT)
-            assert "listening on" in self.told()
+            wait_for(lambda: LISTENS in self.told() or self.process.poll() is not None, "a server", PATIENT)
+            assert LISTENS in self.told()
         except AssertionError:
             self.process.kill()
             self.process.wait()

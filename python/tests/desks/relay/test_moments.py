@@ -11,10 +11,11 @@ from pathlib import Path
 
 import preload  # of the folder tests at the top
 from desks.relay.faults import failing, library
-from desks.relay.serves import ONE, TOLD, Serve, ServeTest, all_told, journal_of, rows_in, talk
+from desks.relay.serves import ONE, Serve, ServeTest, all_told, journal_of, rows_in, talk
 from desks.servers import answers
-from harness import wait_for
+from harness import SECONDS, wait_for
 from nrm.desks.journals.writing import Given, Writer
+from nrm.desks.status import ask_status
 from nrm.program import Program
 
 SEES_NO_LOCK = "import fcntl\nfcntl.flock = lambda *_: None\n"
@@ -63,7 +64,7 @@ class Moments(ServeTest):
                     stopped.process.send_signal(signal.SIGCONT)
                     self.assertEqual(client.recv(100), b"closed journal\n", line)
                     stopped.end(1, None)
-                    self.want_in(stopped.told(), "another server has the journal now")
+                    self.want_in(stopped.told(), "level=error tool=nrm-tools-serve event=lost\n")
                     self.assertEqual(talk(other, b"desk D1 2\nbook LOC 5\n"), b"at 2\nok 3\n")
             self.same(rows_in(journal, "SELECT epoch, desk, sequence, reply FROM line"), (1, "D1", 1, "ok 1"),
                       (2, "D2", 1, "ok 2"), (2, "D1", 2, "ok 3"))
@@ -80,7 +81,7 @@ class Moments(ServeTest):
             os.unlink(held)
             self.assertEqual(client.recv(100), b"closed journal\n")
             serve.end(1, None)
-            self.want_in(serve.told(), "another server has the journal now")
+            self.want_in(serve.told(), "level=error tool=nrm-tools-serve event=lost\n")
         self.same(rows_in(journal, "SELECT halted, lines FROM network JOIN head USING (network)"), (None, MANY + 5))
 
     def test_a_line_answered_memory_isnt_in_the_journal(self) -> None:
@@ -90,6 +91,8 @@ class Moments(ServeTest):
         journal = journal_of(self.folder / "journal", program, {"net": ("first", ONE.encode())})
         with self.served(journal, program=program) as serve:
             self.assertEqual(talk(serve, b"desk D1 1\nbook LOC 1\n"), b"at 1\nmemory\n")
+            self.want_in(serve.told(), "level=warning tool=nrm-tools-serve event=memory network=net\n")
+            self.assertEqual([it.memory for it in ask_status(serve.path, SECONDS).networks], [1])
         self.same(rows_in(journal))
 
     def late(self) -> tuple[str, Program]:
@@ -122,7 +125,7 @@ class Moments(ServeTest):
                     self.assertIn(told, (b"ok %d\n" % count, b"closed journal\n"))
                 self.assertEqual(all_told(other), b"closed journal\n")
                 serve.end(74, None)
-                self.want_in(serve.told(), f"{TOLD}{journal}: {why}\n")
+                self.want_in(serve.told(), f'event=journal-fault why="{journal}: {why}"\n')
             self.assertGreaterEqual(len(rows_in(journal)), count - 1)
             with self.served(journal) as serve:
                 wanted = b"".join(b"ok %d\n" % it for it in range(1, count + 1))

@@ -11,7 +11,7 @@ from contextlib import closing
 from pathlib import Path
 
 from desks.relay.crowds.troubles import OTHER
-from desks.relay.serves import ONE, TOLD, ServeTest, all_told, journal_of, rows_in, talk
+from desks.relay.serves import ONE, ServeTest, all_told, journal_of, rows_in, talk
 from desks.servers import answers, child_of
 from harness import SECONDS, SOURCES, wait_for
 from nrm.desks.desk import Desk, Sold
@@ -55,12 +55,12 @@ class Serving(ServeTest):
             self.assertEqual(answers(client, b"desk C-7\nbook HJ-Q 2\n", 2), [b"at 1\n", b"ok 1\n"])
             os.kill(serve.program(), signal.SIGKILL)
             self.assertEqual(all_told(client), b"closed program 137\n")
-            self.want_in(serve.told(), f"{TOLD}network hub: the program ended with status 137\n")
+            self.want_in(serve.told(), "level=warning tool=nrm-tools-serve event=program-ended network=hub status=137")
             self.assertEqual(talk(serve, b"desk C-7 2\nbook HJ-Q 1\n"), b"at 2\nok 2\n")
 
     def test_a_port_is_as_good_as_a_path(self) -> None:
         with self.served(self.journal(), "--listen", "127.0.0.1:0") as serve:
-            port = int(serve.told().split("listening on 127.0.0.1:")[1].split("\n")[0])
+            port = int(serve.told().split("event=listening on=127.0.0.1:")[1].split("\n")[0])
             with socket.create_connection(("127.0.0.1", port), SECONDS) as client:
                 self.assertEqual(answers(client, b"desk D1\nbook HJ-Q 2\n", 2), [b"at 1\n", b"ok 1\n"])
             with Desk(("127.0.0.1", port), "D1") as desk:
@@ -135,7 +135,7 @@ class Serving(ServeTest):
                 deaf.setsockopt(socket.SOL_SOCKET, socket.SO_RCVBUF, 4096)
                 deaf.setblocking(False)
                 deadline = time.monotonic() + SECONDS
-                while "don't take" not in serve.told() and "didn't take" not in serve.told():
+                while "event=unread" not in serve.told():
                     self.assertLess(time.monotonic(), deadline)
                     try:
                         deaf.send(b"plan\n" * 50)
@@ -143,8 +143,9 @@ class Serving(ServeTest):
                         time.sleep(0.05)
                     except OSError:
                         break
-            wait_for(lambda: "1 clients cut off that didn't take their replies" in serve.told(), "what is told")
-        self.want_in(serve.told(), "1 clients turned away, since 2 were there")
+            wait_for(lambda: "level=warning tool=nrm-tools-serve event=unread\n" in serve.told(), "what is told")
+        for told in ("turned-away most=2", "closed reason=half network=hub", "closed reason=idle network=hub"):
+            self.want_in(serve.told(), f"level=warning tool=nrm-tools-serve event={told}\n")
 
     def test_a_desk_is_one_connection(self) -> None:
         with self.served(self.journal()) as serve, serve.connect() as first, serve.connect() as second:
@@ -165,11 +166,11 @@ class Serving(ServeTest):
             self.assertEqual(talk(serve, b"desk two D1\n"), b"at 3\n")
             self.assertEqual(talk(serve, b"desk one D1\n"), b"closed halted\n")
             why = "row 2, `book LOC 2` of D1 2 with the reply `ok 9`, isn't what the program answers"
-            self.want_in(serve.told(), f"{TOLD}network one is halted: {why}\n")
+            self.want_in(serve.told(), f'level=error tool=nrm-tools-serve event=halted network=one row=2 why="{why}"\n')
         self.same(rows_in(journal, "SELECT name, halted FROM network"), ("one", why), ("two", None))
         self.want_in(self.told("journal", "look", "journal"), f", halted: {why}, program ")
         with self.served(journal) as serve:
-            self.want_in(serve.told(), "network one is halted: row 2")
+            self.want_in(serve.told(), 'event=halted network=one why="row 2, ')
             self.assertEqual(talk(serve, b"desk one D1\n"), b"closed halted\n")
 
     def test_lines_that_are_gone_halt_a_network(self) -> None:
@@ -196,8 +197,8 @@ class Serving(ServeTest):
         with self.served(journal) as serve:
             self.assertEqual(talk(serve, b"desk one D1\nbook LOC 1\n"), b"at 1\nok 1\n")
         with self.served(journal, program=other) as serve:
-            self.want_in(serve.told(), f"network one isn't answered: it began with the program "
-                                       f"{self.desks_program.checksum()}, and this one is {other.checksum()}\n")
+            self.want_in(serve.told(), f"event=version network=one began={self.desks_program.checksum()} "
+                                       f"answers={other.checksum()}\n")
             self.assertEqual(talk(serve, b"desk one D1\nbook LOC 1\n"), b"closed version\n")
             self.assertEqual(talk(serve, b"desk two D1\nbook LOC 1\n"), b"at 1\nok 1\n")
         self.same(rows_in(journal, "SELECT name, program FROM network"), ("one", self.desks_program.checksum()),
@@ -262,7 +263,8 @@ class Serving(ServeTest):
             below = Path(f"/proc/{serve.process.pid}/task/{serve.process.pid}/children")
             wait_for(lambda: not below.read_text(), "the end of the program")
             self.assertEqual(talk(serve, b"desk D1\nbook HJ-Q 1\n"), b"at 2\nok 2\n")
-            self.assertEqual(serve.told().count("\n"), 1)
+            events = [it.split("event=")[1].split()[0] for it in serve.told().splitlines()]
+            self.same(events, "started", "listening", "begun", "ended", "begun")
 
     def test_a_program_that_fails_is_told(self) -> None:
         for name, text, told in (("ends", "#!/bin/sh\nexit 6\n", b"closed program 6\n"),
@@ -272,7 +274,7 @@ class Serving(ServeTest):
             journal = self.journal(at=f"journal-{name}")
             with self.served(journal, "--answer", "1", "--slow", "1", program=Program((path,))) as serve:
                 self.assertEqual(talk(serve, b"desk D1\n"), told)
-                self.want_in(serve.told(), "network hub: the program ended with status")
+                self.want_in(serve.told(), "event=program-ended network=hub status=")
 
     def test_a_journal_that_is_held_keeps_lines_waiting(self) -> None:
         """Nothing is answered before it is written, and looks are answered."""
@@ -287,7 +289,7 @@ class Serving(ServeTest):
                 with self.assertRaises((TimeoutError, socket.timeout)):
                     client.recv(100)
                 self.assertEqual(len(rows_in(journal)), 0)
-                wait_for(lambda: "the journal is held by another process" in serve.told(), "what is told")
+                wait_for(lambda: "event=journal-held seconds=" in serve.told(), "what is told")
                 connection.execute("ROLLBACK")
             client.settimeout(SECONDS)
             self.assertEqual(client.recv(100), b"ok 1\n")

@@ -1,7 +1,8 @@
 """A journal of many desks: begun, given networks, looked at, and copied while a server writes it.
 
     nrm-tools journal begin JOURNAL
-    nrm-tools journal open JOURNAL NAME MODE FILE [--program WORD...]
+    nrm-tools journal open JOURNAL NAME MODE FILE [--departure TIME [--begins K=TIME]...] [--program WORD...]
+    nrm-tools journal times JOURNAL NAME [--departure TIME [--begins K=TIME]...]
     nrm-tools journal end JOURNAL NAME
     nrm-tools journal import JOURNAL NAME MODE FILE OLD [--program WORD...]
     nrm-tools journal look JOURNAL [NETWORK [NUMBER] [--desk NAME] [--booking NUMBER]]
@@ -13,6 +14,11 @@ has read its file and made the opening plan: the file byte for byte, the mode, a
 is named by --program, or is that of this folder, or the one on the path. A server that is at work answers for it at
 once. The name begins with a small letter, and has at most 40 of `a` to `z`, `0` to `9`, `.`, `_` and `-`. `end` has a
 network looked at alone from now on.
+
+--departure says when it departs, and --begins, as often as there are such periods, when period K begins, from 2 to the
+last of the network file: `nrm-tools serve` then has a plan made for it. A TIME is as 2026-12-31T10:00+01:00 or
+2026-12-31T09:00:00Z. Times rise with the periods, and lie before the departure; a period may be left out. `times` tells
+them, in UTC, or sets them all anew, while a server is at work too.
 
 `import` puts a network into it with the lines of OLD, the text journal that `nrm-tools desks` of earlier releases kept,
 and `tools/desks.py` before it; the mode and the network file are those of that session. They are carried out once more,
@@ -32,15 +38,16 @@ from typing import Sequence
 
 from nrm import bytes_in
 from nrm.commands.running import parser
-from nrm.desks.importing import TextJournal, import_network
+from nrm.desks.earlier.importing import TextJournal, import_network
 from nrm.desks.journals.looking import Wanted, copy, lines_of, summary
-from nrm.desks.journals.networks import end_network, open_network, see_that_it_is_free
-from nrm.desks.journals.tables import begin, using
+from nrm.desks.journals.networks import end_network, file_of, known, put_network, see_that_it_is_free
+from nrm.desks.journals.tables import begin, change, using
+from nrm.desks.journals.times.said import Times, lines_of_times, see_that_it_has, set_times, times_in, times_of
 from nrm.desks.relay.programs import see_that_it_opens
 from nrm.program import Program
 from nrm.replies import MODES
 
-WAYS = {"begin": (0, 0), "open": (3, 3), "end": (1, 1), "import": (4, 4), "look": (0, 2),
+WAYS = {"begin": (0, 0), "open": (3, 3), "times": (1, 1), "end": (1, 1), "import": (4, 4), "look": (0, 2),
         "backup": (1, 1)}  # and how many words follow
 
 
@@ -60,20 +67,43 @@ def words_of(given: Sequence[str]) -> tuple[argparse.ArgumentParser, argparse.Na
     words.add_argument("--program", nargs="+", metavar="WORD", help="what runs `nrm_desks`")
     words.add_argument("--desk", metavar="NAME", help="the lines of a desk")
     words.add_argument("--booking", type=number, metavar="NUMBER", help="the lines of a booking")
+    words.add_argument("--departure", metavar="TIME", help="when the network departs")
+    words.add_argument("--begins", action="append", default=[], metavar="K=TIME", help="when period K begins")
     asked = words.parse_args(given)
     least, most = WAYS[asked.way]
     if not least <= len(asked.words) <= most:
         words.error(f"`{asked.way}` has {most} words behind the journal, and not {len(asked.words)}")
+    if (asked.departure is not None or asked.begins) and asked.way not in ("open", "times"):
+        words.error("--departure and --begins are for `open` and `times`")
+    if asked.begins and asked.departure is None:
+        words.error("--begins wants --departure too")
     return words, asked
 
 
-def open_one(path: str, name: str, mode: str, file: str, program: Program) -> None:
-    """Puts a network into a journal, if the program opens it."""
+def open_one(path: str, name: str, mode: str, file: str, program: Program, times: Times | None) -> None:
+    """Puts a network into a journal with its times, if the program opens it."""
     text = bytes_in(file)
     with using(path, is_to_write=True) as connection:
         see_that_it_is_free(connection, name)
         see_that_it_opens(program, mode, text, file)
-        open_network(connection, name, mode, text, program.checksum())
+        if times:
+            see_that_it_has(text, times)
+        with change(connection):
+            number = put_network(connection, name, mode, text, program.checksum())
+            if times:
+                set_times(connection, number, times)
+
+
+def times_of_one(path: str, name: str, times: Times | None) -> None:
+    """Sets the times of a network, or prints them."""
+    with using(path, is_to_write=times is not None) as connection:
+        network = known(connection, name)
+        if times:
+            see_that_it_has(file_of(connection, network.number), times)
+            with change(connection):
+                set_times(connection, network.number, times)
+        else:
+            print("\n".join(lines_of_times(times_of(connection, network.number))))
 
 
 def import_one(path: str, name: str, mode: str, file: str, old: str, program: Program) -> None:
@@ -100,15 +130,18 @@ def look(words: argparse.ArgumentParser, asked: argparse.Namespace) -> None:
 def run(given: Sequence[str]) -> int:
     """Does what the first word says."""
     words, asked = words_of(given)
+    times = times_in(asked.departure, asked.begins) if asked.departure is not None else None
     if asked.way == "begin":
         begin(asked.journal)
+    elif asked.way == "times":
+        times_of_one(asked.journal, asked.words[0], times)
     elif asked.way in ("open", "import"):
         if asked.words[1] not in MODES:
             words.error(f"the mode is one of {', '.join(MODES)}")
         program = Program.found(asked.program, "nrm_desks")
         if asked.way == "open":
             name, mode, file = asked.words
-            open_one(asked.journal, name, mode, file, program)
+            open_one(asked.journal, name, mode, file, program, times)
         else:
             name, mode, file, old = asked.words
             import_one(asked.journal, name, mode, file, old, program)

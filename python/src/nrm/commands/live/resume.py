@@ -21,7 +21,7 @@ import sys
 from typing import Sequence
 
 from nrm.commands.running import add_program, parser
-from nrm.desks.resuming import Kept, go_on, place_to_go_on_at
+from nrm.desks.earlier.resuming import Kept, go_on, place_to_go_on_at
 from nrm.program import Program
 from nrm.replies import MODES
 

@@ -10,17 +10,32 @@ client sends goes to that program as it comes; what the program gives out to be 
 all networks that wait by one commit; and then the program sends its replies. Where there are several networks the first
 line of a client names one, `desk NETWORK NAME` or `desk NETWORK NAME SEQUENCE`; where there is one it may.
 
+With --desks a file says which desks may come, by which token, and what each may do: `nrm-tools token` writes it. A
+client's first line `token TOKEN` is answered `token NAME`, or `closed token`; on HOST:PORT it must come, and on PATH it
+may. Then HOST:PORT needs --certificate and --key, by which it speaks TLS, and nothing else. These files are read anew
+when they have changed: a desk that isn't in the file as it was is cut off.
+
+When a period begins of a network whose times are in the journal, the desk CLOCK has a plan made for it, once; with
+--every, at least 60 seconds, or minutes as 30m, or hours as 2h, the plan is made anew when that has passed since the
+last and lines were written, until the departure.
+
 A network is halted, and the others go on, if the program doesn't answer as the journal has it, or the journal doesn't
-take a row: `nrm-tools journal look JOURNAL` tells why. One that began with another program isn't answered, and standard
-error tells both checksums; --program names the program, and has it answer for networks without lines, and for those
+take a row: `nrm-tools journal look JOURNAL` tells why. One that began with another program isn't answered, and the log
+tells both checksums; --program names the program, and has it answer for networks without lines, and for those
 that have ended. A second server at the same journal is refused while the first lives.
 
 A client that is cut off gets one line, `closed WHY`, after the replies to those of its lines that were taken: `closed
 clients` if there are as many as may be, `closed network` if it names none that the journal has, `closed halted`,
 `closed version` if the network began with another program, `closed half` if the end of a line doesn't come, `closed
-idle` if nothing does, `closed journal` if the journal can't be written, `closed stopping` when the server is told to
-end, `closed program STATUS` when the network's program has ended, and what the program itself says. One that doesn't
-take its replies can't be told.
+idle` if nothing does, `closed journal` if the journal can't be written, `closed token` if it may not come, `closed
+status` if it asked for that and then something else, `closed stopping` when the server is told to end, `closed program
+STATUS` when the network's program has ended, and what the program itself says. One that doesn't take its replies can't
+be told.
+
+What the server does is told on standard error, an event a line: `key=value`, objects with --log json, and with --log
+systemd the level before each line as the journal of systemd takes it. --log-level says the least that is told. What
+comes more than once a second is counted. A client whose first line is `status` gets what the server has counted, as
+`nrm-tools status` prints it, and may ask again.
 
 SIGTERM, SIGINT and SIGHUP end it: no more lines are taken, and those that were taken are answered. The status is 0, 74
 if the journal couldn't be written, 1 if it couldn't begin or another server has the journal, and 2 for a usage error.
@@ -30,9 +45,11 @@ from __future__ import annotations
 from typing import Sequence
 
 from nrm.commands.running import parser
-from nrm.commands.serve_words import add_limits, add_places, limits_in, places_in
+from nrm.commands.serve_words import (add_clock, add_guard, add_limits, add_log, add_places, guard_in, limits_in,
+                                      places_in)
 from nrm.desks.relay.hall import Answering
 from nrm.desks.relay.serving import Server
+from nrm.desks.relay.telling.events import Log
 from nrm.program import Program
 
 
@@ -41,8 +58,13 @@ def run(given: Sequence[str]) -> int:
     words = parser("serve", __doc__)
     words.add_argument("journal", metavar="JOURNAL")
     add_places(words)
+    add_guard(words)
     add_limits(words)
+    add_clock(words)
+    add_log(words)
     asked = words.parse_args(given)
-    places, limits = places_in(words, asked), limits_in(words, asked)
+    places, guard, limits = places_in(words, asked), guard_in(words, asked), limits_in(words, asked)
+    log = Log(asked.log, asked.log_level)
     program = Program.found(asked.program, "nrm_desks")
-    return Server(asked.journal, Answering(program, program.checksum(), bool(asked.program)), places, limits).run()
+    answering = Answering(program, program.checksum(), bool(asked.program))
+    return Server(asked.journal, answering, places, limits, guard, asked.every, log).run()

@@ -8,7 +8,7 @@ import os
 import queue
 import threading
 import time
-from dataclasses import dataclass, field
+from dataclasses import dataclass, field, replace
 from typing import Sequence
 
 from nrm.desks.journals.writing import Busy, Given, Writer
@@ -18,10 +18,12 @@ PAUSE = 0.005  # the seconds before it is tried again, while somebody else write
 
 @dataclass(frozen=True)
 class Written:
-    """What became of a commit: the rows, why those of a network were refused, or why nothing of it counts."""
+    """What became of a commit: the rows, why those of a network were refused, or why nothing of it counts, and the
+    seconds that it took with all waiting."""
     given: Sequence[Given]
     refused: dict[int, str] = field(default_factory=dict)
     fault: Exception | None = None
+    seconds: float = 0.0
 
 
 class Commits(threading.Thread):
@@ -47,15 +49,17 @@ class Commits(threading.Thread):
 
 def written_by(writer: Writer, given: Sequence[Given]) -> Written:
     """Writes rows, and waits as long as somebody else writes."""
+    begun = time.monotonic()
     while not (done := tried(writer, given)):
         time.sleep(PAUSE)
-    return done
+    return replace(done, seconds=time.monotonic() - begun)
 
 
 def tried(writer: Writer, given: Sequence[Given]) -> Written | None:
     """Writes rows; nothing if somebody else writes. What failed otherwise may have been written or not."""
+    begun = time.monotonic()
     try:
-        return Written(given, writer.write(given))
+        return Written(given, writer.write(given), seconds=time.monotonic() - begun)
     except Busy:
         return None
     except Exception as fault:

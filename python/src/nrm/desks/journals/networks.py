@@ -82,10 +82,17 @@ def see_that_it_is_free(connection: sqlite3.Connection, name: str) -> None:
 def open_network(connection: sqlite3.Connection, name: str, mode: str, file: bytes, program: str) -> None:
     """Puts a network into a journal. If a server is at work it is that server's."""
     with change(connection):
-        see_that_it_is_free(connection, name)
-        made = connection.execute("INSERT INTO network (name, mode, file, program, begun) VALUES (?, ?, ?, ?, ?)",
-                                  [name, mode, file, program, now()])
-        connection.execute("INSERT INTO head SELECT ?, 0, coalesce(max(epoch), 0) FROM tenure", [made.lastrowid])
+        put_network(connection, name, mode, file, program)
+
+
+def put_network(connection: sqlite3.Connection, name: str, mode: str, file: bytes, program: str) -> int:
+    """Puts a network into a journal, within a change, and gives its number."""
+    see_that_it_is_free(connection, name)
+    made = connection.execute("INSERT INTO network (name, mode, file, program, begun) VALUES (?, ?, ?, ?, ?)",
+                              [name, mode, file, program, now()])
+    connection.execute("INSERT INTO head SELECT ?, 0, coalesce(max(epoch), 0) FROM tenure", [made.lastrowid])
+    assert made.lastrowid
+    return made.lastrowid
 
 
 def end_network(connection: sqlite3.Connection, name: str) -> None:

@@ -75,6 +75,28 @@ CREATE VIEW cancellation AS
             THEN CAST(substr(reply, 11 + instr(substr(reply, 11), ' ')) AS INTEGER) END AS amount, reply
     FROM journal WHERE line GLOB 'cancel *';
 """
+# the lines that asked for a plan, but for those whose period the network hasn't, and the period that one asks for
+ASKS_FOR_A_PLAN = "line GLOB 'reoptimise *' AND reply <> 'unknown'"
+PERIOD = "CAST(substr(line, 12) AS INTEGER)"
+LATER_TABLES = f"""
+-- When the periods of a network begin, as far as that is known; the first began with it.
+CREATE TABLE IF NOT EXISTS period (
+    network INTEGER NOT NULL REFERENCES network,
+    period INTEGER NOT NULL,
+    begins INTEGER NOT NULL,
+    PRIMARY KEY (network, period)
+) WITHOUT ROWID;
+
+-- When a network departs, if that is known.
+CREATE TABLE IF NOT EXISTS departure (
+    network INTEGER PRIMARY KEY REFERENCES network,
+    departs INTEGER NOT NULL
+);
+
+-- The lines that asked for a plan, by their numbers and by their periods.
+CREATE INDEX IF NOT EXISTS plan_by_number ON line (network, number) WHERE {ASKS_FOR_A_PLAN};
+CREATE INDEX IF NOT EXISTS plan_by_period ON line (network, {PERIOD}) WHERE {ASKS_FOR_A_PLAN};
+"""  # which a journal of an earlier release gets when it is next opened to be written
 
 
 class NoJournal(Stop):
@@ -117,7 +139,18 @@ def opened(path: str, is_to_write: bool = False) -> sqlite3.Connection:
     except Stop:
         made.close()
         raise
+    if is_to_write:
+        add_later_tables(path, made)
     return made
+
+
+def add_later_tables(path: str, connection: sqlite3.Connection) -> None:
+    """Has a journal of an earlier release get what was added since; where all is there nothing is written."""
+    try:
+        connection.executescript(LATER_TABLES)
+    except sqlite3.Error as fault:
+        connection.close()
+        raise Stop(f"{path}: {fault}")
 
 
 @contextlib.contextmanager
@@ -156,7 +189,7 @@ def begin(path: str) -> None:
     """Makes a journal without a network."""
     with made(path) as connection:
         connection.execute("PRAGMA journal_mode = WAL")
-        connection.executescript(f"BEGIN; {TABLES}; PRAGMA application_id = {APPLICATION}; "
+        connection.executescript(f"BEGIN; {TABLES}{LATER_TABLES} PRAGMA application_id = {APPLICATION}; "
                                  f"PRAGMA user_version = {VERSION}; COMMIT")
 
 

@@ -1,21 +1,30 @@
 """The clients: how much of each the program has and hasn't used, what waits to be sent to it, and when it is cut off.
 
-May use: nrm.desks.frames, nrm.desks.relay.loop.
+May use: nrm.desks.access, nrm.desks.frames, nrm.desks.relay.doors.secure, nrm.desks.relay.doors.tokens,
+nrm.desks.relay.loop, nrm.desks.relay.telling.counters.
 """
 from __future__ import annotations
 
 import re
 import socket
+import ssl
 from dataclasses import dataclass
 from typing import Protocol
 
+from nrm.desks.access import Right
 from nrm.desks.frames import MOST, WINDOW
+from nrm.desks.relay.doors.secure import RECORD, Secure
+from nrm.desks.relay.doors.tokens import FRONT, Tokens
 from nrm.desks.relay.loop import READ, WRITE, Loop
+from nrm.desks.relay.telling.counters import Counters
 
 PIECE = 16_384  # bytes that are read at a time
 LONGEST = 1000  # of a first line that names a network
 NAMES_A_NETWORK = re.compile(rb"desk [a-z]")  # as no greeting of a desk alone does
-LIKE = b"desk a"
+ASKS_STATUS = re.compile(rb"status\r?\n")
+FRONTS = (b"desk a", b"status\n", b"status\r\n")  # as long as what came is one of these, more must come
+LOOK = "look"  # the right that one needs who gave a token and asks for the status
+HERE = "here"  # the address of all who come by a Unix socket
 
 
 @dataclass(frozen=True)
@@ -52,7 +61,8 @@ class Hall(Protocol):
     """What a client needs of the server that it came to."""
     limits: Limits
     loop: Loop
-    unread: int
+    tokens: Tokens
+    counters: Counters
 
     def enter(self, client: Client, network: str | None, data: bytes) -> None:
         """Finds a client its network, the only one if it named none, and gives it what came so far."""
@@ -60,17 +70,36 @@ class Hall(Protocol):
     def leave(self, client: Client) -> None:
         """Forgets a client."""
 
+    def status_text(self) -> bytes:
+        """What is answered to a line `status`."""
+
+    def tell_of_closed(self, client: Client, why: str) -> None:
+        """Counts and tells why a client is closed."""
+
+    def tell_of_unread(self) -> None:
+        """Counts and tells that a client is dropped which doesn't take its replies."""
+
 
 class Client:
     """A connection. The bytes that the program has of it and hasn't used are counted, and those behind the last line
-    feed; nothing else is looked at once its network is known."""
+    feed; nothing else is looked at once its desk and its network are known."""
 
-    def __init__(self, hall: Hall, connection: socket.socket) -> None:
+    def __init__(self, hall: Hall, connection: socket.socket, address: str = HERE,
+                 context: ssl.SSLContext | None = None) -> None:
         connection.setblocking(False)
         if connection.family != socket.AF_UNIX:
             connection.setsockopt(socket.IPPROTO_TCP, socket.TCP_NODELAY, 1)
-        self.hall, self.socket, self.file = hall, connection, connection.fileno()
+        self.hall, self.address, self.counters = hall, address, hall.counters
+        self.secure = Secure(connection, context) if context else None
+        self.socket = self.secure or connection
+        self.file = self.socket.fileno()
+        self.least = RECORD if context else 1  # the bytes for which there must be room when it is read
+        self.right: Right | None = None  # by its token
+        self.is_to_give_token = hall.tokens.access is not None and address != HERE
+        self.may_give_token = True
         self.session: Session | None = None
+        self.network: str | None = None  # its name, once it is known
+        self.asks_status = self.is_told = False  # whether that it is closed was told
         self.place = -1  # none yet
         self.first, self.out = b"", bytearray()
         self.unused = self.tail = 0
@@ -89,29 +118,38 @@ class Client:
         if not self.is_open:
             return
         self.is_heard = not (self.has_ended or self.why or self.is_done or self.is_waiting or len(self.out) > MOST
-                             or self.unused >= WINDOW or self.session and self.session.is_full)
+                             or self.unused > WINDOW - self.least or self.session and self.session.is_full
+                             or self.asks_status and self.out)
         what = (READ if self.is_heard else 0) | (WRITE if self.out else 0)
+        what = self.secure.watched(what) if self.secure else what
         self.hall.loop.want(self.file, what, self.read if what == READ else self.ready)
 
     def ready(self, what: int) -> None:
         """Reads and sends what can be."""
         if self.out and what != READ:
             self.send()
-        if self.is_open and what != WRITE and not (self.has_ended or self.is_done):
+            if self.asks_status and self.first:
+                self.tell_status()
+        is_to_read = what != WRITE or self.secure and self.secure.is_to_write
+        if self.is_open and is_to_read and not (self.has_ended or self.is_done):
             self.read(what)
 
     def read(self, what: int) -> None:
         """Reads a piece, as long as the program may have more of this client."""
         room = WINDOW - self.unused
-        if room <= 0:
+        if room < self.least:
             return
         try:
             piece = self.socket.recv(room if room < PIECE else PIECE)
         except BlockingIOError:
+            self.watch()
             return
         except OSError:
             self.vanish()
             return
+        self.counters.bytes_in += len(piece)
+        if self.secure:
+            self.watch()
         if piece and self.session:
             self.pass_on(piece)
         elif piece:
@@ -120,11 +158,17 @@ class Client:
             self.end()
 
     def choose(self, piece: bytes) -> None:
-        """Finds the network by the first line, if that names one; else by its first bytes."""
+        """Finds the desk by the first line, if that has a token, and the network by the next one, if that names one, or
+        by its first bytes."""
         self.first += piece
         self.since = self.hall.loop.now
+        if self.may_give_token and not self.is_without_token():
+            return
+        if self.asks_status or ASKS_STATUS.match(self.first):
+            self.ask_status()
+            return
         if not NAMES_A_NETWORK.match(self.first):
-            if self.first != LIKE[:len(self.first)]:
+            if not any(it.startswith(self.first) for it in FRONTS):
                 self.enter(None, self.first)
             return
         line, feed, rest = self.first.partition(b"\n")
@@ -133,6 +177,64 @@ class Client:
             self.enter(network.decode("latin-1"), b" ".join([b"desk", *words]) + b"\n" + rest)
         elif len(line) >= LONGEST:
             self.finish("long")
+
+    def ask_status(self) -> None:
+        """Is told the status from now on, and nothing else, if it may look."""
+        self.asks_status = True
+        if self.right and LOOK not in self.right.rights:
+            self.finish("token")
+        else:
+            self.tell_status()
+
+    def tell_status(self) -> None:
+        """Answers each line `status`, as soon as what was told before it is taken. Another line ends the connection."""
+        while self.first and not (self.out or self.is_done) and self.is_open:
+            if ASKS_STATUS.match(self.first):
+                self.first = self.first.partition(b"\n")[2]
+                self.put(self.hall.status_text())
+            elif any(it.startswith(self.first) for it in FRONTS[1:]):
+                return
+            else:
+                self.finish("status")
+    def is_without_token(self) -> bool:
+        """Whether the first line is another than one with a token, and may be; that one is taken once it is whole."""
+        if FRONT[:len(self.first)] == self.first[:len(FRONT)]:
+            line, feed, rest = self.first.partition(b"\n")
+            if len(line) >= LONGEST:
+                self.finish("long")
+            elif feed:
+                self.first = rest
+                self.give_token(line[len(FRONT):])
+            return False
+        if self.is_to_give_token:
+            self.finish("token")
+            return False
+        self.may_give_token = False
+        return True
+
+    def give_token(self, token: bytes) -> None:
+        """Has a token looked up. Nothing is read until it is answered, which may be later."""
+        self.is_waiting, self.may_give_token = True, False
+        self.right, wait = self.hall.tokens.asked(self.address, token)
+        if wait:
+            self.hall.loop.call_at(self.hall.loop.now + wait, self.answer_token)
+            self.watch()
+        else:
+            self.answer_token()
+
+    def answer_token(self) -> None:
+        """Says which desk it is, and goes on with what came behind; or ends it."""
+        if not self.is_open or self.is_done:
+            return
+        self.is_waiting = self.is_to_give_token = False
+        if not self.right:
+            self.finish("token")
+            return
+        self.put(f"token {self.right.name}\n".encode())
+        rest, self.first = self.first, b""
+        if rest and self.is_open:
+            self.choose(rest)
+        self.watch()
 
     def enter(self, network: str | None, data: bytes) -> None:
         """Comes to a network, whose program may still have to begin."""
@@ -158,7 +260,7 @@ class Client:
         self.unused += size
         self.tail = size - 1 - last if last >= 0 else self.tail + size
         self.session.give(self, piece)
-        if self.unused >= WINDOW:
+        if self.unused > WINDOW - self.least:
             self.watch()
 
     def end(self) -> None:
@@ -192,6 +294,7 @@ class Client:
             except OSError:
                 self.vanish()
                 return
+            self.counters.bytes_out += sent
             if sent == len(data):
                 return
             data = data[sent:]
@@ -202,7 +305,9 @@ class Client:
         """Sends what the connection takes."""
         if self.out:
             try:
-                del self.out[:self.socket.send(self.out)]
+                sent = self.socket.send(self.out)
+                del self.out[:sent]
+                self.counters.bytes_out += sent
             except BlockingIOError:
                 pass
             except OSError:
@@ -245,7 +350,13 @@ class Client:
 
     def finish(self, why: str | None) -> None:
         """Says why, and ends the connection once all is sent. The program knows it no more."""
+        if why and self.is_open and not self.is_done:
+            self.is_told = True
+            self.hall.tell_of_closed(self, why)
         self.session, self.is_waiting, self.is_done, self.since = None, False, True, self.hall.loop.now
+        if self.secure and not self.secure.is_shaken:
+            self.vanish()  # nothing can be said to it
+            return
         if why:
             self.out += f"closed {why}\n".encode()
         self.send()
@@ -262,7 +373,8 @@ class Client:
 
     def cut_off(self) -> None:
         """It doesn't take its replies, so what is unsent is dropped."""
-        self.hall.unread += 1
+        self.is_told = True
+        self.hall.tell_of_unread()
         self.vanish()
 
     def vanish(self) -> None:
@@ -287,5 +399,6 @@ class Client:
             self.cut_off()
         elif not (self.is_waiting or self.is_done or self.why or self.has_ended or self.unused > self.tail):
             has_half = self.tail or self.first
-            if now - self.since > (limits.slow if has_half else limits.idle):
-                self.leave("half" if has_half else "idle")
+            is_to_begin = self.is_to_give_token or self.secure and not self.secure.is_shaken
+            if now - self.since > (limits.slow if has_half or is_to_begin else limits.idle):
+                self.leave("half" if has_half else "token" if is_to_begin else "idle")

@@ -1,9 +1,10 @@
 """What stands between clients, programs and the journal: who comes to which network, which rows wait to be written, and
 what became of them.
 
-May use: nrm, nrm.desks.journals.commits, nrm.desks.journals.networks, nrm.desks.journals.tables,
-nrm.desks.journals.writing, nrm.desks.relay, nrm.desks.relay.clients, nrm.desks.relay.loop, nrm.desks.relay.sessions,
-nrm.program.
+May use: nrm, nrm.desks.access, nrm.desks.journals.commits, nrm.desks.journals.networks, nrm.desks.journals.tables,
+nrm.desks.journals.writing, nrm.desks.relay.clients, nrm.desks.relay.doors.tokens, nrm.desks.relay.loop,
+nrm.desks.relay.sessions, nrm.desks.relay.telling.counters, nrm.desks.relay.telling.events,
+nrm.desks.relay.telling.status, nrm.desks.relay.timing.clock, nrm.program.
 """
 from __future__ import annotations
 
@@ -12,14 +13,19 @@ from dataclasses import dataclass
 from typing import Sequence
 
 from nrm import Stop
+from nrm.desks.access import Access
 from nrm.desks.journals.commits import Commits, Written, tried
 from nrm.desks.journals.networks import Opened, file_of, network_in, networks_in, rows_of
 from nrm.desks.journals.tables import opened
 from nrm.desks.journals.writing import Fenced, Given, Writer, answer_by, halt, head_of
-from nrm.desks.relay import log
 from nrm.desks.relay.clients import Client, Limits
+from nrm.desks.relay.doors.tokens import Tokens
 from nrm.desks.relay.loop import READ, Loop
 from nrm.desks.relay.sessions import ANSWERS, BEGINS, RESTS, WAITS, Session
+from nrm.desks.relay.telling.counters import Counters
+from nrm.desks.relay.telling.events import Events, Log
+from nrm.desks.relay.telling.status import Now, Teller
+from nrm.desks.relay.timing.clock import Clock
 from nrm.program import Program
 
 JOURNAL_FAULT = 74
@@ -42,8 +48,9 @@ class Answering:
 class Hall:
     """Takes clients to their networks, and has rows written."""
 
-    def __init__(self, path: str, answering: Answering, limits: Limits) -> None:
+    def __init__(self, path: str, answering: Answering, limits: Limits, every: int = 0, log: Log = Log()) -> None:
         self.path, self.answering, self.limits, self.loop = path, answering, limits, Loop()
+        self.events, self.counters = Events(self.loop, log), Counters()
         self.writer = Writer(path, answering.checksum)
         self.reader = opened(path)
         self.commits = Commits(self.writer)
@@ -51,31 +58,43 @@ class Hall:
         self.loop.want(self.commits.told, READ, self.written)
         self.loop.looks.append(self.look)
         self.clients: set[Client] = set()
+        self.tokens = Tokens(self.events.tell)
+        self.loop.looks.append(self.tokens.tell_of_refused)
         self.sessions: dict[str, Session] = {}
+        self.teller = Teller(path, answering.checksum, self.writer.epoch, limits.clients, self.reader, self.counters,
+                             self.sessions, lambda: self.loop.now)
         self.to_begin: list[Session] = []
         self.waiting: list[tuple[Session, Given]] = []  # whose rows wait to be written
         self.in_writing: list[tuple[Session, Given]] = []
         self.stops = False
         self.running = 0  # programs
-        self.writes_since = self.stops_since = self.gathers_until = self.loop.now
+        self.writes_since = self.held_since = self.stops_since = self.gathers_until = self.loop.now
         self.took = 0.0  # the seconds of the last commit
         self.gather = 0.0  # the seconds for which those who were just answered are waited for
         self.expected: set[Session] = set()  # those that were given lines, and have given out no rows since
-        self.unread = self.turned_away = 0  # how many clients, since that was told last
-        self.no_more: str | None = None  # why no further client could be taken, since that was told last
         self.fault: str | None = None
         self.status = 0
+        self.clock = Clock(self, every)
 
     # Who comes
 
     def enter(self, client: Client, network: str | None, data: bytes) -> None:
         """Takes a client to the network that it named, or to the only one."""
         session = self.session_of(network)
+        client.network = session.network.name if session else None
         why = "stopping" if self.stops else "network" if not session else self.refusal(session)
         if why or not session:
             client.finish(why)
         else:
             session.enter(client, data)
+
+    def admit(self, access: Access) -> None:
+        """Has some desks come from now on, and no others; those that mayn't any more, or mayn't do the same, are cut
+        off."""
+        self.tokens.access = access
+        for client in [*self.clients]:
+            if client.right and not access.has(client.right):
+                client.leave("token")
 
     def session_of(self, name: str | None) -> Session | None:
         """The session of a network's name, or the only one."""
@@ -105,11 +124,13 @@ class Hall:
         return network.program == self.answering.checksum or is_free
 
     def leave(self, client: Client) -> None:
+        if client in self.clients and not client.is_told:
+            self.tell_of_closed(client, "gone")
         self.clients.discard(client)
 
     def is_full_of_clients(self) -> bool:
         """Whether as many are there as may be."""
-        return len(self.clients) >= self.limits.clients
+        return len(self.clients) - len(self.clock.asked) >= self.limits.clients
 
     # Programs
 
@@ -144,14 +165,17 @@ class Hall:
             session.start(self.answering.program.words, file_of(self.reader, network.number),
                           rows_of(self.reader, network.number))
             self.running += 1
+            self.counters.begun += 1
         except OSError as fault:
-            log(f"network {network.name}: {self.answering.program.words[0]}: {fault.strerror}")
+            self.events.tell("program-ended", network=network.name, status=1,
+                             told=f"{self.answering.program.words[0]}: {fault.strerror}")
             session.state, session.begins_at = RESTS, self.loop.now + 1
             session.tell_all("program 1", False)
 
     def over(self, session: Session) -> None:
         """A program has ended: one that was to end begins anew if somebody waits, and others may begin."""
         self.running -= 1
+        self.counters.ended += 1
         self.waiting = [it for it in self.waiting if it[0] is not session]
         if session.coming and not self.stops:
             session.state = WAITS
@@ -199,6 +223,7 @@ class Hall:
     def carry_on(self, done: Written) -> None:
         """A commit is done: the programs are told that their rows are kept, and the next is made."""
         written, self.in_writing = self.in_writing, []
+        self.count(done)
         if done.fault:
             self.fail(done.fault)
             return
@@ -208,17 +233,22 @@ class Hall:
         self.gathers_until = self.loop.now + 2 * self.gather
         for session, given in written:
             if given.network in done.refused:
-                self.halted(session, done.refused[given.network])
+                self.halted(session, given.before + 1, done.refused[given.network])
             elif session.run == given.run and session.process:
                 session.kept(given.rows.count(b"\n"))
         self.write()
         self.begin_some()
 
+    def count(self, done: Written) -> None:
+        """Counts a commit, and the rows that it wrote."""
+        rows = 0 if done.fault else sum(it.count() for it in done.given if it.network not in done.refused)
+        self.counters.commit(done.seconds, rows, not (done.fault or done.refused))
+
     # What halts a network, and all
 
     def halt(self, session: Session, row: int, why: str) -> None:
-        """Has nobody answer for a network, whose row the program doesn't take. If another server has the journal, it may
-        have written while the rows were read: then it is this one that ends."""
+        """Has nobody answer for a network, whose row the program doesn't take. If another server has the journal, it
+        may have written while the rows were read: then it is this one that ends."""
         if head_of(self.reader, session.network.number)[0] != self.writer.epoch:
             self.fail(Fenced(LOST))
             return
@@ -226,19 +256,25 @@ class Hall:
                                     [session.network.number, row]).fetchone()
         told = f"row {row}{', `{}` of {} {} with the reply `{}`,'.format(*found) if found else ''} {why}"
         halt(self.path, session.network.number, told)
-        self.halted(session, told)
+        self.halted(session, row, told)
 
-    def halted(self, session: Session, why: str) -> None:
+    def halted(self, session: Session, row: int, why: str) -> None:
         """A network is halted in the journal: its program ends, and its clients are told."""
-        log(f"network {session.network.name} is halted: {why}")
+        self.events.tell("halted", network=session.network.name, row=row, why=why)
         network = network_in(self.reader, session.network.name)
         session.network = network or session.network
         session.kill()
 
     def fail(self, fault: Exception) -> None:
         """Nothing more can be written, or nobody knows what was: all ends, and the next server sees what is there."""
+        if self.fault:
+            return
         self.fault = str(fault) if isinstance(fault, Stop) else f"{self.path}: {fault}"
         self.status = 1 if isinstance(fault, Stop) else JOURNAL_FAULT
+        if isinstance(fault, Stop):
+            self.events.tell("lost")
+        else:
+            self.events.tell("journal-fault", why=self.fault)
         self.stops, self.stops_since = True, self.loop.now
         for session in self.sessions.values():
             session.kill()
@@ -250,6 +286,7 @@ class Hall:
         """Takes no more lines, and ends once those that were taken are answered."""
         if not self.stops:
             self.stops, self.stops_since = True, self.loop.now
+            self.events.tell("stopping")
             for client in [*self.clients]:
                 client.leave("stopping")
         self.end_if_done()
@@ -272,7 +309,7 @@ class Hall:
             client.look()
         for session in self.sessions.values():
             self.look_at(session)
-        self.tell_of_clients()
+        self.look_at_the_journal()
         self.begin_some()
         if self.stops:
             self.end_if_done()
@@ -284,28 +321,44 @@ class Hall:
         limits = self.limits
         session.silent += 1 if session.is_asked() else 0
         if session.silent == math.ceil(limits.answer) + 1:
-            log(f"network {session.network.name}: the program hasn't answered for {limits.answer:g} seconds, "
-                "and is ended")
+            self.events.tell("silent", network=session.network.name, seconds=limits.answer)
             session.kill()
         is_left = session.state == ANSWERS and not session.places
         if is_left and self.loop.now - session.rests_since > limits.linger:
             session.end()
 
-    def tell_of_clients(self) -> None:
-        """Tells how many were cut off, or turned away, or have to wait, and what the journal waits for."""
-        if self.unread:
-            log(f"{self.unread} clients cut off that didn't take their replies")
-        if self.turned_away:
-            log(f"{self.turned_away} clients turned away, since {self.limits.clients} were there")
-        if self.no_more:
-            log(f"those who come have to wait: {self.no_more}")
-        if self.in_writing and self.loop.now - self.writes_since > self.limits.slow:
-            log("the journal is held by another process, and nothing is answered until it lets go")
-            self.writes_since = self.loop.now
-        self.unread, self.turned_away, self.no_more = 0, 0, None
+    def look_at_the_journal(self) -> None:
+        """Tells, now and then, that another process holds the journal: nothing is answered until it lets go."""
+        now = self.loop.now
+        if self.in_writing and now - max(self.writes_since, self.held_since) > self.limits.slow:
+            self.events.tell("journal-held", seconds=now - self.writes_since)
+            self.held_since = now
+
+    # What is told
+
+    def tell_of_closed(self, client: Client, why: str) -> None:
+        """Counts and tells why a client is closed."""
+        self.counters.closed[why] += 1
+        self.events.tell("closed", reason=why, network=client.network)
+
+    def tell_of_unread(self) -> None:
+        """Counts and tells that a client is dropped which doesn't take its replies."""
+        self.counters.unread += 1
+        self.events.tell("unread")
+
+    def tell_of_turned_away(self) -> None:
+        """Counts and tells that a client is turned away, since as many as may be are there."""
+        self.counters.turned_away += 1
+        self.events.tell("turned-away", most=self.limits.clients)
+
+    def status_text(self) -> bytes:
+        """What is answered to a line `status`."""
+        waiting = sum(given.count() for _, given in [*self.in_writing, *self.waiting])
+        return self.teller.status(Now(len(self.clients), waiting, self.running, self.stops)).text().encode()
 
     def close(self) -> None:
-        """Ends what is left."""
+        """Ends what is left, and tells what was counted."""
+        self.events.close()
         for session in self.sessions.values():
             session.kill()
         self.commits.asked.put(None)

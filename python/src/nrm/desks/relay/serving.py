@@ -1,7 +1,8 @@
 """A server of a journal from beginning to end: the doors by which clients come, signals, and the status.
 
-May use: nrm.desks.journals.networks, nrm.desks.journals.tables, nrm.desks.journals.writing, nrm.desks.places,
-nrm.desks.relay, nrm.desks.relay.clients, nrm.desks.relay.hall, nrm.desks.relay.loop.
+May use: nrm.desks.access, nrm.desks.journals.networks, nrm.desks.journals.tables, nrm.desks.journals.writing,
+nrm.desks.places, nrm.desks.relay.clients, nrm.desks.relay.doors.guards, nrm.desks.relay.hall, nrm.desks.relay.loop,
+nrm.desks.relay.telling.events.
 """
 from __future__ import annotations
 
@@ -9,32 +10,40 @@ import contextlib
 import os
 import signal
 import socket
+import ssl
 from dataclasses import dataclass, field
 from typing import Sequence
 
-from nrm.desks.journals.networks import networks_in
+from nrm.desks.access import Access
+from nrm.desks.journals.networks import Opened, networks_in
 from nrm.desks.journals.tables import using
 from nrm.desks.journals.writing import locked
 from nrm.desks.places import Places, SocketPath, allow_files, tcp_socket
-from nrm.desks.relay import log
-from nrm.desks.relay.clients import Client, Limits
+from nrm.desks.relay.clients import HERE, Client, Limits
+from nrm.desks.relay.doors.guards import Guard, Watched
 from nrm.desks.relay.hall import Answering, Hall
 from nrm.desks.relay.loop import READ
+from nrm.desks.relay.telling.events import Log
 
 SPARE_FILES = 64  # beside those of clients and programs
 FILES_OF_A_PROGRAM = 2
 BACKLOG = 1024  # clients that may wait to be taken
 IN_A_ROUND = 32  # of those, so many are taken before others are answered
+CLOSED = b"closed clients\n"  # that isn't told where TLS is spoken, since the handshake would come first
 ENDS = (signal.SIGTERM, signal.SIGINT, signal.SIGHUP)
 
 
 @dataclass(frozen=True)
 class Server:
-    """The journal, the program that answers, where clients come, and the limits."""
+    """The journal, the program that answers, where clients come, the limits, the files that say who may come, after how
+    many seconds plans are made anew, if they are, and how the log is written."""
     journal: str
     answering: Answering
     places: Places
     limits: Limits = field(default_factory=Limits)
+    guard: Guard = field(default_factory=Guard)
+    every: int = 0
+    log: Log = field(default_factory=Log)
 
     def run(self) -> int:
         """Serves until this process is told to end, or the journal can't be written, and gives the status."""
@@ -46,21 +55,28 @@ class Server:
     def run_alone(self) -> int:
         """Serves, as the only server of the journal."""
         places = self.places
+        access, context = self.guard.access(), self.guard.context()
         listeners = [tcp_socket(places.listen, places.is_beyond_allowed)] if places.listen else []
         path = SocketPath(places.socket) if places.socket else None
         try:
-            hall = Hall(self.journal, self.answering, self.limits)
-            self.tell_of_networks(hall)
+            hall = Hall(self.journal, self.answering, self.limits, self.every, self.log)
+            networks = networks_in(hall.reader)
+            allow_files(self.limits.clients + FILES_OF_A_PROGRAM * len(networks) + SPARE_FILES)
+            for it in listeners:
+                it.listen(BACKLOG)  # before the path is there, by which others see that they may come
             listeners += [path.listener(places.rights)] if path else []
-            return self.serve(hall, listeners, path)
+            self.tell_of_the_beginning(hall, networks)
+            look_at_files(hall, access, context)
+            return self.serve(hall, listeners, path, context)
         finally:
             if path:
                 path.leave()
 
-    def serve(self, hall: Hall, listeners: Sequence[socket.socket], path: SocketPath | None) -> int:
+    def serve(self, hall: Hall, listeners: Sequence[socket.socket], path: SocketPath | None,
+              context: Watched[ssl.SSLContext] | None) -> int:
         """Takes clients until it is to end."""
         wake_by_signals(hall)
-        doors = [Door(hall, it) for it in listeners]
+        doors = [Door(hall, it, context) for it in listeners]
         hall.loop.looks += [it.open for it in doors]
         try:
             hall.loop.run()
@@ -68,20 +84,33 @@ class Server:
             if path:
                 path.unlink()
             hall.close()
-        if hall.fault:
-            log(hall.fault)
+        hall.events.tell("stopped", status=hall.status)
         return hall.status
 
-    def tell_of_networks(self, hall: Hall) -> None:
-        """Lets so many files be open, and tells which networks aren't answered."""
-        networks = networks_in(hall.reader)
-        allow_files(self.limits.clients + FILES_OF_A_PROGRAM * len(networks) + SPARE_FILES)
+    def tell_of_the_beginning(self, hall: Hall, networks: Sequence[Opened]) -> None:
+        """Tells that it has begun, and which networks aren't answered. What may keep it from that was done before, so
+        that whoever can't begin tells nothing but why."""
+        answers = hall.answering.checksum
+        hall.events.tell("started", journal=self.journal, epoch=hall.writer.epoch, networks=len(networks),
+                         program=answers)
         for it in networks:
             if it.halted:
-                log(f"network {it.name} is halted: {it.halted}")
+                hall.events.tell("halted", network=it.name, why=it.halted)
             elif not hall.is_answered(it):
-                log(f"network {it.name} isn't answered: it began with the program {it.program}, and this one is "
-                    f"{hall.answering.checksum}")
+                hall.events.tell("version", network=it.name, began=it.program, answers=answers)
+
+
+def look_at_files(hall: Hall, access: Watched[Access] | None, context: Watched[ssl.SSLContext] | None) -> None:
+    """Has the desks of a file come, and once a second has it seen whether that or the certificate has changed."""
+    def look() -> None:
+        if access and access.has_changed(hall.events.tell):
+            hall.admit(access.said)
+        if context:
+            context.has_changed(hall.events.tell)
+
+    if access:
+        hall.admit(access.said)
+    hall.loop.looks.append(look)
 
 
 def wake_by_signals(hall: Hall) -> None:
@@ -101,12 +130,13 @@ def wake_by_signals(hall: Hall) -> None:
 class Door:
     """A socket that listens. It takes a few clients at a time, so that a crowd of them doesn't keep others waiting."""
 
-    def __init__(self, hall: Hall, listener: socket.socket) -> None:
+    def __init__(self, hall: Hall, listener: socket.socket, context: Watched[ssl.SSLContext] | None) -> None:
         self.hall, self.listener = hall, listener
+        self.context = context if listener.family != socket.AF_UNIX else None
         listener.setblocking(False)
         listener.listen(BACKLOG)
         name = listener.getsockname()
-        log(f"listening on {name if isinstance(name, str) else '{}:{}'.format(*name)}")
+        hall.events.tell("listening", on=name if isinstance(name, str) else "{}:{}".format(*name))
         self.open()
 
     def open(self) -> None:
@@ -121,22 +151,29 @@ class Door:
             return
         for _ in range(IN_A_ROUND):
             try:
-                connection, _ = self.listener.accept()
+                connection, address = self.listener.accept()
             except (BlockingIOError, ConnectionAbortedError):
                 return
             except OSError as fault:  # as of too many open files, or no memory
-                hall.no_more = fault.strerror
+                hall.events.tell("waiting", why=fault.strerror)
                 hall.loop.forget(self.listener.fileno())  # until the next second
                 return
             if hall.is_full_of_clients():
-                hall.turned_away += 1
-                turn_away(connection)
+                hall.tell_of_turned_away()
+                turn_away(connection, CLOSED if not self.context else b"")
             else:
-                hall.clients.add(Client(hall, connection))
+                self.let_in(connection, address[0] if address else HERE)
+
+    def let_in(self, connection: socket.socket, address: str) -> None:
+        """Has a client at a connection, unless it is no more."""
+        with contextlib.suppress(OSError):
+            context = self.context.said if self.context else None
+            self.hall.clients.add(Client(self.hall, connection, address, context))
+            self.hall.counters.came += 1
 
 
-def turn_away(connection: socket.socket) -> None:
-    """Says why, and ends a connection."""
+def turn_away(connection: socket.socket, why: bytes) -> None:
+    """Says why, if it can be said, and ends a connection."""
     with contextlib.suppress(OSError), connection:
         connection.setblocking(False)
-        connection.send(b"closed clients\n")
+        connection.send(why)

@@ -1,7 +1,7 @@
 """The run of a network's program: the journal is given again, clients have places, and its frames are carried out.
 
-May use: nrm.desks.frames, nrm.desks.journals.networks, nrm.desks.relay, nrm.desks.relay.clients,
-nrm.desks.relay.loop, nrm.desks.relay.programs.
+May use: nrm.desks.access, nrm.desks.frames, nrm.desks.journals.networks, nrm.desks.relay.clients,
+nrm.desks.relay.loop, nrm.desks.relay.programs, nrm.desks.relay.telling.events.
 """
 from __future__ import annotations
 
@@ -12,24 +12,27 @@ import subprocess
 from typing import Iterator, Protocol, Sequence
 
 from nrm.desks import frames
+from nrm.desks.access import RIGHTS
 from nrm.desks.frames import Frames
 from nrm.desks.journals.networks import Opened
-from nrm.desks.relay import log
 from nrm.desks.relay.clients import Client
 from nrm.desks.relay.loop import READ, WRITE, Loop
 from nrm.desks.relay.programs import begun
+from nrm.desks.relay.telling.events import Events
 
 PIECE = 65_536  # bytes that are read at a time: a pipe has no more
 FEW_HELD = 4_096  # bytes that may go to the program with the word that its rows are kept
 FULL = 1_048_576  # bytes that wait for the program, beyond which its clients aren't read
 AT_END = 2  # the seconds in which a program ends whose output has ended
-ALL_RIGHTS, RIGHTS_TO_LOOK = "look,book,cancel-own,cancel-any,plan,greet", "look,greet"
+RIGHTS_TO_LOOK = "look", "greet"
 RESTS, WAITS, BEGINS, ANSWERS, ENDS = range(5)
+MEMORY = b"memory"  # the reply to a line for which there wasn't enough
 
 
 class Keeper(Protocol):
     """What a session needs of its server."""
     loop: Loop
+    events: Events
     gather: float
     expected: set[Session]
 
@@ -62,9 +65,9 @@ class Session:
         self.awaited: set[int] = set()
         self.again: Iterator[bytes] | None = None
         self.is_due = self.is_full = self.is_keeping = self.is_held = self.is_timed = False
-        self.run = self.lines = self.silent = 0
+        self.run = self.lines = self.silent = self.memory = 0
         self.told = ""
-        self.rests_since = self.begins_at = keeper.loop.now
+        self.rests_since = self.begins_at = self.begun_at = keeper.loop.now
 
     # How it begins
 
@@ -87,6 +90,7 @@ class Session:
         os.set_blocking(self.output, False)
         self.state, self.again, self.told, self.silent = BEGINS, rows, "", 0
         self.run += 1
+        self.begun_at = self.keeper.loop.now
         self.lines, self.free = self.network.lines, list(range(frames.PLACES))
         self.keeper.loop.want(self.output, READ, self.hear)
         self.flush()
@@ -95,9 +99,15 @@ class Session:
         """Gives a client a place."""
         place = heapq.heappop(self.free)
         self.places[place] = client
-        rights = RIGHTS_TO_LOOK if self.network.is_ended else ALL_RIGHTS
-        self.put(frames.opened(place, f"AT-{place}", rights))
+        self.put(frames.opened(place, *self.desk_of(client, place)))
         client.seat(self, place, data)
+
+    def desk_of(self, client: Client, place: int) -> tuple[str, str]:
+        """Whose desk a client is at a place, and what it may do: by its token, or else all. In a network that has ended
+        it may look alone."""
+        name, rights = (client.right.name, client.right.rights) if client.right else (f"AT-{place}", RIGHTS)
+        may = [it for it in rights if it in RIGHTS_TO_LOOK or not self.network.is_ended]
+        return name, ",".join(may) or "none"
 
     def seat_all(self) -> None:
         """Gives those who wait their places, as far as there are some."""
@@ -204,8 +214,16 @@ class Session:
                 place = int(words[1])
                 self.awaited.add(place)
                 self.places[place].used(int(words[2]), data)
+                if MEMORY in data:
+                    self.count_memory(data)
             else:
                 self.take(words, data)
+
+    def count_memory(self, data: bytes) -> None:
+        """Counts the replies, of those that were sent, that tell of too little memory."""
+        if count := data.split(b"\n").count(MEMORY):
+            self.memory += count
+            self.keeper.events.tell("memory", network=self.network.name)
 
     def take(self, words: Sequence[bytes], data: bytes) -> None:
         """Carries out a frame that comes less often."""
@@ -236,6 +254,8 @@ class Session:
             self.kill()
             return
         self.state, self.rests_since = ANSWERS, self.keeper.loop.now
+        self.keeper.events.tell("begun", network=self.network.name, lines=rows,
+                                seconds=self.rests_since - self.begun_at)
         self.seat_all()
 
     # How it ends
@@ -260,9 +280,10 @@ class Session:
         self.state, self.out, self.held, self.frames, self.again = RESTS, bytearray(), bytearray(), Frames(), None
         self.is_keeping = False
         self.keeper.expected.discard(self)
-        if was != ENDS and not self.network.halted:
-            log(f"network {self.network.name}: the program ended with status {status}"
-                f"{f': {self.told}' if self.told else ''}")
+        if was == ENDS:
+            self.keeper.events.tell("ended", network=self.network.name)
+        elif not self.network.halted:
+            self.keeper.events.tell("program-ended", network=self.network.name, status=status, told=self.told or None)
             self.begins_at = self.keeper.loop.now + 1  # so that one that fails at once doesn't begin all the time
         self.tell_all("halted" if self.network.halted else f"program {status}", was == ENDS)
         self.keeper.over(self)

@@ -1,0 +1,81 @@
+"""What the server answers to a line `status`: what was counted, and what is now.
+
+May use: nrm, nrm.desks.journals.networks, nrm.desks.relay.sessions, nrm.desks.relay.telling.counters,
+nrm.desks.relay.telling.events, nrm.desks.status.
+"""
+from __future__ import annotations
+
+import os
+import sqlite3
+import time
+from dataclasses import dataclass
+from typing import Callable, Mapping
+
+from nrm import __version__
+from nrm.desks.journals.networks import Opened, networks_in
+from nrm.desks.relay.sessions import Session
+from nrm.desks.relay.telling.counters import Counters
+from nrm.desks.relay.telling.events import time_text
+from nrm.desks.status import STATES, Clients, Commits, Network, Programs, Server, Status
+
+SECOND = 1.0
+LOG = "-wal"  # behind the name of a journal: what isn't in the file itself yet
+
+
+@dataclass(frozen=True)
+class Now:
+    """What changes by itself and is only looked at."""
+    clients: int
+    waiting: int
+    programs: int
+    is_stopping: bool
+
+
+class Teller:
+    """Makes the answers. The journal is asked for its networks, and for its size, at most once a second."""
+
+    def __init__(self, path: str, program: str, epoch: int, most: int, reader: sqlite3.Connection,
+                 counters: Counters, sessions: Mapping[str, Session], clock: Callable[[], float]) -> None:
+        self.path, self.program, self.epoch, self.most = path, program, epoch, most
+        self.reader, self.counters, self.sessions, self.clock = reader, counters, sessions, clock
+        self.started = time_text(time.time_ns() // 1_000_000)
+        self.looked: float | None = None
+        self.networks: list[Opened] = []
+        self.size = 0
+
+    def status(self, now: Now) -> Status:
+        """The status at this moment."""
+        self.look()
+        counted = self.counters
+        return Status(
+            Server(__version__.lstrip("v"), self.program, self.started, self.epoch, self.size, now.is_stopping),
+            Clients(now.clients, self.most, counted.came, counted.turned_away, counted.unread, counted.bytes_in,
+                    counted.bytes_out),
+            {why.replace(" ", "-"): count for why, count in counted.closed.items()},
+            Commits(counted.commits, counted.seconds, counted.longest, counted.rows, now.waiting, counted.failed),
+            counted.within(), Programs(now.programs, counted.begun, counted.ended),
+            tuple(status_of(it, self.sessions.get(it.name)) for it in self.networks))
+
+    def look(self) -> None:
+        """Asks the journal, unless that was done within the last second."""
+        if self.looked is None or self.clock() - self.looked >= SECOND:
+            self.looked, self.networks = self.clock(), networks_in(self.reader)
+            self.size = sum(size_of(it) for it in (self.path, self.path + LOG))
+
+
+def size_of(path: str) -> int:
+    """The bytes of a file, and none if it isn't there."""
+    try:
+        return os.stat(path).st_size
+    except OSError:
+        return 0
+
+
+def status_of(network: Opened, session: Session | None) -> Network:
+    """What is told of a network, and of its session if somebody came to it."""
+    if not session:
+        return Network(network.name, network.mode, STATES[0], 0, network.lines, network.halted is not None, 0)
+    lines = session.lines if session.process else network.lines
+    is_halted = (session.network.halted or network.halted) is not None
+    return Network(network.name, network.mode, STATES[session.state], len(session.places) + len(session.coming), lines,
+                   is_halted, session.memory)

@@ -1,0 +1,170 @@
+"""What a monitor is told: whether all is well, in a line, and what there is to count, as Prometheus reads it.
+
+What is counted by network comes from the journal, and the rest from the line `status`. The text is written by Debian's
+python3-prometheus-client. May use: nrm.desks.status, nrm.telling.libraries, nrm.web.asking.status,
+nrm.web.following.journal, nrm.web.messages.
+"""
+from __future__ import annotations
+
+from dataclasses import dataclass
+from datetime import datetime, timezone
+from math import isinf
+from typing import Any, Iterator, cast
+
+from nrm.desks.status import NoStatus, Status
+from nrm.telling.libraries import is_there, lacks
+from nrm.web.asking.status import Asked
+from nrm.web.following.journal import Followed, Following
+from nrm.web.messages import Refusal, Request, Response, text_of
+
+LIBRARY = "prometheus_client"
+MOST_NAMED = 20  # networks in a sentence
+STARTED = "%Y-%m-%dT%H:%M:%S.%fZ"
+
+
+@dataclass(frozen=True)
+class Watch:
+    """The journal, and the server's status."""
+    following: Following
+    asked: Asked
+
+    def health(self, asked: Request) -> Response:
+        """`ok`, or what is wrong."""
+        status = self.asked.status()
+        wrong = "; ".join(what_is_wrong(self.following, status))
+        return text_of(wrong or "ok", 503 if wrong else 200)
+
+    def metrics(self, asked: Request) -> Response:
+        """All that is counted."""
+        if not is_there(LIBRARY):
+            raise Refusal(501, "library", f"there are no metrics, since {lacks([LIBRARY])}")
+        import prometheus_client as client
+        registry = client.CollectorRegistry()
+        registry.register(cast(Any, self))
+        return Response(client.generate_latest(registry), client.CONTENT_TYPE_LATEST)
+
+    def describe(self) -> list[Any]:
+        """What the library would ask for before anything is counted."""
+        return []
+
+    def collect(self) -> Iterator[Any]:
+        """What is counted, for the library."""
+        status = self.asked.status()
+        is_up = not isinstance(status, NoStatus)
+        yield gauge("nrm_server_up", "Whether the server answers the line `status`", int(is_up))
+        yield gauge("nrm_journal_read", "Whether the journal can be read", int(self.following.fault is None))
+        yield from of_networks(list(self.following.networks.values()))
+        if isinstance(status, Status):
+            yield from of_server(status)
+            yield from of_commits(status)
+            yield from of_clients(status)
+
+
+def what_is_wrong(following: Following, status: Status | NoStatus) -> Iterator[str]:
+    """What is wrong, a sentence each."""
+    if isinstance(status, NoStatus):
+        yield str(status)
+    elif status.server.stopping:
+        yield "the server is to end"
+    if following.fault:
+        yield following.fault
+    seen = following.networks
+    told = () if isinstance(status, NoStatus) else status.networks
+    halted = sorted({it.name for it in seen.values() if it.halted} | {it.network for it in told if it.halted})
+    if halted:
+        more = f" and {len(halted) - MOST_NAMED} more" if len(halted) > MOST_NAMED else ""
+        yield f"halted: {', '.join(halted[:MOST_NAMED])}{more}"
+    yield from (f"{it.name}: {it.fault}" for it in seen.values() if it.fault)
+
+
+# The families of what is counted
+
+
+def family(kind: str, name: str, told: str, labels: tuple[str, ...]) -> Any:
+    """A family of a kind with labels."""
+    from prometheus_client import core
+    return getattr(core, f"{kind}MetricFamily")(name, told, labels=labels)
+
+
+def gauge(name: str, told: str, value: float) -> Any:
+    """What is now."""
+    made = family("Gauge", name, told, ())
+    made.add_metric([], value)
+    return made
+
+
+def counter(name: str, told: str, value: float) -> Any:
+    """What was counted since the server began."""
+    made = family("Counter", name, told, ())
+    made.add_metric([], value)
+    return made
+
+
+def of_networks(networks: list[Followed]) -> Iterator[Any]:
+    """What the journal tells of each network."""
+    lines = family("Counter", "nrm_lines", "Lines of the journal by what they were answered",
+                   ("network", "kind", "answer"))
+    left = family("Gauge", "nrm_seats_left", "Authorised seats that aren't sold", ("network", "leg"))
+    authorised = family("Gauge", "nrm_seats_authorised", "Seats that may be sold", ("network", "leg"))
+    rows = family("Gauge", "nrm_journal_lines", "Lines that the journal has of a network", ("network",))
+    halted = family("Gauge", "nrm_network_halted", "Whether nobody answers for a network", ("network",))
+    revenue = family("Gauge", "nrm_revenue", "What the bookings that stand earn, in currency units", ("network",))
+    withheld = family("Gauge", "nrm_withheld", "What was retained of those that were cancelled", ("network",))
+    for it in networks:
+        for (kind, answer), count in sorted(it.seen.answers.items()):
+            lines.add_metric([it.name, kind, answer], count)
+        for leg in it.seen.legs:
+            left.add_metric([it.name, leg.name], leg.left)
+            authorised.add_metric([it.name, leg.name], leg.authorised)
+        rows.add_metric([it.name], it.lines)
+        halted.add_metric([it.name], int(it.halted is not None))
+        revenue.add_metric([it.name], it.seen.revenue)
+        withheld.add_metric([it.name], it.seen.withheld)
+    yield from (lines, left, authorised, rows, halted, revenue, withheld)
+
+
+def of_server(status: Status) -> Iterator[Any]:
+    """What the server tells of itself and its programs."""
+    from prometheus_client.core import InfoMetricFamily
+    server, programs = status.server, status.programs
+    yield InfoMetricFamily("nrm_server", "The server and its program", value={
+        "version": server.version, "program": server.program, "epoch": str(server.epoch)})
+    yield gauge("nrm_server_start_time_seconds", "When the server began, in seconds since 1970",
+                datetime.strptime(server.started, STARTED).replace(tzinfo=timezone.utc).timestamp())
+    yield gauge("nrm_journal_bytes", "The size of the journal", server.journal_bytes)
+    yield gauge("nrm_programs", "Programs that answer now", programs.now)
+    yield counter("nrm_programs_begun", "Programs that were begun", programs.begun)
+    memory = family("Counter", "nrm_memory_replies", "Replies `memory`, for which there was too little of it",
+                    ("network",))
+    for it in status.networks:
+        memory.add_metric([it.network], it.memory)
+    yield memory
+
+
+def of_commits(status: Status) -> Iterator[Any]:
+    """What the server tells of its writing."""
+    from prometheus_client.core import HistogramMetricFamily
+    commits = status.commits
+    buckets = [("+Inf" if isinf(bound) else f"{bound:g}", float(count)) for bound, count in status.commit_times]
+    if buckets:
+        yield HistogramMetricFamily("nrm_commit_seconds", "The seconds that commits took", buckets=buckets,
+                                    sum_value=commits.seconds)
+    yield gauge("nrm_commit_longest_seconds", "The longest commit", commits.longest)
+    yield counter("nrm_rows_written", "Rows that were written", commits.rows)
+    yield gauge("nrm_rows_waiting", "Rows that are given out and not yet written", commits.waiting)
+    yield counter("nrm_commits_failed", "Commits that failed", commits.failed)
+
+
+def of_clients(status: Status) -> Iterator[Any]:
+    """What the server tells of who is connected and who was closed."""
+    clients = status.clients
+    yield gauge("nrm_desks_connected", "Clients that are connected", clients.now)
+    yield gauge("nrm_desks_most", "Clients that may be", clients.most)
+    yield counter("nrm_clients", "Clients that came", clients.ever)
+    yield counter("nrm_clients_turned_away", "Clients that came when as many were there as may be",
+                  clients.turned_away)
+    yield counter("nrm_clients_unread", "Clients that didn't take their replies", clients.unread)
+    closed = family("Counter", "nrm_clients_closed", "Clients that were cut off", ("reason",))
+    for reason, count in sorted(status.closed.items()):
+        closed.add_metric([reason], count)
+    yield closed

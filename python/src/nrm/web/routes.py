@@ -1,0 +1,142 @@
+"""Which path is for whom: the routes, as the description in openapi.json has them too, and what answers each.
+
+May use: nrm.desks.journals.networks, nrm.desks.status, nrm.web.asking.kept, nrm.web.asking.looks,
+nrm.web.asking.status, nrm.web.door.lines, nrm.web.following.journal, nrm.web.messages, nrm.web.metrics,
+nrm.web.showing.pages.
+"""
+from __future__ import annotations
+
+import re
+import threading
+from dataclasses import dataclass
+from functools import partial
+from pathlib import Path
+from typing import Callable
+from urllib.parse import unquote
+
+from nrm.desks.journals.networks import NAME
+from nrm.desks.status import ask_status
+from nrm.web.asking.kept import Kept, Who, desk_of_token, own_desk
+from nrm.web.asking.looks import Looks
+from nrm.web.asking.status import Asked
+from nrm.web.door.lines import Door, no_network
+from nrm.web.following.journal import Following
+from nrm.web.messages import JSON, Answer, Refusal, Request, Response
+from nrm.web.metrics import Watch
+from nrm.web.showing.pages import Pages
+
+DESCRIPTION = Path(__file__).with_name("openapi.json")
+ALWAYS, PAGE, DOOR = "always", "page", "door"
+OFF = {PAGE: "the page isn't on: `--page` has it on", DOOR: "the door isn't on: `--door` has it on"}
+
+
+@dataclass(frozen=True)
+class Settings:
+    """The journal and the socket, what is on, and in whose name this process looks."""
+    journal: str
+    socket: str
+    token: str | None = None
+    has_page: bool = False
+    has_door: bool = False
+    needs_token: bool = False
+    seconds: float = 10.0
+
+
+@dataclass(frozen=True)
+class Route:
+    """A method and a path, in which a word in braces is any, for the part that it belongs to."""
+    method: str
+    path: str
+    part: str
+    call: Callable[..., Answer]
+
+    def words_of(self, path: str) -> list[str] | None:
+        """The words of a path that stand for those in braces; None for another path."""
+        found = re.fullmatch(re.sub(r"\{[a-z]+\}", "([^/]+)", self.path.replace(".", r"\.")), path)
+        return [unquote(it, "latin-1") for it in found.groups()] if found else None
+
+
+class Web:
+    """All that answers: what follows the journal, what asks the server, and the routes."""
+
+    def __init__(self, settings: Settings) -> None:
+        self.settings = settings
+        self.following = Following(settings.journal)
+        self.kept = Kept(settings.socket, settings.seconds)
+        self.name: str | None = None
+        self.naming = threading.Lock()
+        self.watch = Watch(self.following, Asked(partial(ask_status, settings.socket, settings.seconds)))
+        door = Door(self.kept, self.following, self.own, settings.needs_token)
+        self.looks = Looks(self.kept, self.own, self.following)
+        self.pages = Pages(self.following, self.looks, settings.journal)
+        self.routes = [*watching(self.watch), *of_door(door), *of_page(self.pages)]
+
+    def own(self, network: str) -> Who:
+        """In whose name this process looks: the desk of its token, or one that no other process has."""
+        token = self.settings.token
+        with self.naming:
+            if self.name is None:
+                self.name = desk_of_token(self.settings.socket, token, self.settings.seconds) if token else own_desk()
+        return Who(network, self.name, token)
+
+    def answer(self, asked: Request) -> Answer:
+        """What is answered to a request; a Refusal where nothing else is."""
+        method = "GET" if asked.method == "HEAD" else asked.method
+        found = [(it, words) for it in self.routes if (words := it.words_of(asked.path)) is not None]
+        if not found:
+            raise Refusal(404, "path", "there is nothing at this path")
+        for route, words in found:
+            if route.method == method:
+                return self.called(route, asked, words)
+        methods = ", ".join(it.method for it, _ in found)
+        raise Refusal(405, "method", f"this path takes {methods}", (("Allow", methods),))
+
+    def called(self, route: Route, asked: Request, words: list[str]) -> Answer:
+        """The answer of a route, if its part is on and the network's name may be one."""
+        if not self.is_on(route.part):
+            raise Refusal(404, "off", OFF[route.part])
+        if route.path.startswith("/networks/") and not NAME.fullmatch(words[0]):
+            raise no_network()
+        return route.call(asked, *words)
+
+    def is_on(self, part: str) -> bool:
+        """Whether a part is on."""
+        return part == ALWAYS or (self.settings.has_page if part == PAGE else self.settings.has_door)
+
+    def tidy(self) -> None:
+        """What is done beside following, a few times a second."""
+        self.kept.sweep()
+        self.looks.keep_up()
+
+
+def watching(watch: Watch) -> list[Route]:
+    """The routes of who watches."""
+    return [Route("GET", "/healthz", ALWAYS, watch.health), Route("GET", "/metrics", ALWAYS, watch.metrics),
+            Route("GET", "/openapi.json", ALWAYS, description)]
+
+
+def of_door(door: Door) -> list[Route]:
+    """The routes of the door."""
+    network = "/networks/{network}"
+    return [Route("POST", f"{network}/desks/{{desk}}/lines/{{sequence}}", DOOR, door.line),
+            Route("POST", f"{network}/desks/{{desk}}/lines", DOOR, door.line_by_key),
+            Route("GET", f"{network}/ask/{{product}}", DOOR, door.ask),
+            Route("GET", f"{network}/legs/{{leg}}", DOOR, door.leg),
+            Route("GET", f"{network}/plan", DOOR, door.plan),
+            Route("GET", f"{network}/hindsight", DOOR, door.hindsight),
+            Route("GET", f"{network}/bookings/{{number}}", DOOR, door.booking)]
+
+
+def of_page(pages: Pages) -> list[Route]:
+    """The routes of the page."""
+    network = "/networks/{network}"
+    return [Route("GET", "/", PAGE, pages.networks), Route("GET", "/events", PAGE, pages.networks_as_they_change),
+            Route("GET", "/page.css", PAGE, pages.style), Route("GET", "/page.js", PAGE, pages.script),
+            Route("GET", network, PAGE, pages.network),
+            Route("GET", f"{network}/events", PAGE, pages.network_as_it_changes),
+            Route("GET", f"{network}/lines/{{number}}", PAGE, pages.line)]
+
+
+def description(asked: Request) -> Response:
+    """The description of all routes, for programs."""
+    return Response(DESCRIPTION.read_bytes(), JSON)

@@ -1,0 +1,1 @@
+"""Tests of who comes to a server, and is who he says."""

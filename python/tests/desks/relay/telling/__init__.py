@@ -1,0 +1,1 @@
+"""Tests of what the server tells: its log, its counters, and its status."""
