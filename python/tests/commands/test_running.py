@@ -22,7 +22,7 @@ OF_NRM = {"none": 3, "folder": 9, "refused": 3}
 OWN_STATUSES = {"audit": OF_NRM, "explain": OF_NRM}  # those of the program
 SOLD = ["--departs", "departure", "--booked", "booked on", "--product", "product", "--seats", "seats"]
 ACCOUNTS = [sys.executable, str(TOP / "tests" / "reference.py"), "why"]  # in the place of `nrm_why`
-SERVE = {"serve", "journal", "web"}  # these have tests of their own: the first and the last go on until they are ended
+SERVE = {"serve", "journal", "status", "token", "web"}  # these have tests of their own: of networks they have none
 TOLD_ON_THE_WAY = ("nrm-tools season: no pictures", "nrm-tools log: ", "nrm-tools simulate: ", "nrm-tools asked: ",
                    "nrm-tools demand: ", "nrm-tools authorise: ", "nrm-tools averaged: ")
 OF_DASK = ("simulate", "authorise")
