@@ -130,7 +130,11 @@ class Hall:
 
     def is_full_of_clients(self) -> bool:
         """Whether as many are there as may be."""
-        return len(self.clients) - len(self.clock.asked) >= self.limits.clients
+        return self.count_of_clients() >= self.limits.clients
+
+    def count_of_clients(self) -> int:
+        """How many are there, but for the clock's own."""
+        return len(self.clients) - len(self.clock.asked)
 
     # Programs
 
@@ -354,7 +358,7 @@ class Hall:
     def status_text(self) -> bytes:
         """What is answered to a line `status`."""
         waiting = sum(given.count() for _, given in [*self.in_writing, *self.waiting])
-        return self.teller.status(Now(len(self.clients), waiting, self.running, self.stops)).text().encode()
+        return self.teller.status(Now(self.count_of_clients(), waiting, self.running, self.stops)).text().encode()
 
     def close(self) -> None:
         """Ends what is left, and tells what was counted."""

@@ -10,9 +10,10 @@ from pathlib import Path
 
 from desks.relay.serves import ServeTest, all_told, journal_of, rows_in, talk
 from desks.servers import HUB, answers
-from harness import wait_for
+from harness import SECONDS, wait_for
 from nrm.desks.journals.tables import change, using
 from nrm.desks.journals.times.said import Times, set_times
+from nrm.desks.status import ask_status
 from nrm.program import Program
 from nrm.replies import answer_of, replies_of
 
@@ -95,6 +96,18 @@ class Served(ServeTest):
                     wait_for(lambda: clock_of(serve.told(), "clock-failed"), "what is told")
                 self.assertEqual(clock_of(serve.told(), "clock-failed"), [
                     {"network": "net", "period": "2", "why": reply, "again": "60" if reply == "memory" else "no"}])
+
+    def test_it_isnt_counted(self) -> None:
+        """While it asks the status tells of who asks for that alone."""
+        silent = Program((self.script("silent", "import time\ntime.sleep(600)\n"),))
+        journal = journal_of(self.folder / "journal", silent, {"net": ("bid", b"")})
+        self.set(journal, {2: -5})
+        with self.serve(journal, "--slow", "2", program=silent) as serve:
+            wait_for(Path(f"/proc/{serve.process.pid}/task/{serve.process.pid}/children").read_text, "a program")
+            told = ask_status(serve.path, SECONDS)
+            self.assertEqual((told.clients.now, told.clients.ever, told.networks[0].clients), (1, 1, 1))
+            serve.process.terminate()
+            serve.end(sent=None)
 
     def test_it_takes_nobodys_place(self) -> None:
         """One that asks counts as no client, and ends as the server does."""
