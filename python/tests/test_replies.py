@@ -40,10 +40,10 @@ class Answers(unittest.TestCase):
             with self.assertRaises(NoAnswer, msg=text):
                 answer_of(text.encode() + b"\n")
 
-    def test_a_plan_says_what_is_kept_from_a_product(self) -> None:
+    def test_a_plan_says_what_is_protected_from_a_product(self) -> None:
         plan = plan_of("value 1/1\nnest AB P 4/1 2\nnest AB Q 9/1 1\nprotect AB 6".split("\n"))
-        self.assertEqual((plan.mode, plan.kept_from("AB", "P"), plan.kept_from("AB", "Q")), ("davn", 6, 0))
-        self.assertEqual((Plan().mode, Plan().kept_from("AB", "P"), plan_of(["value 1/1"]).mode), ("first", 0, "bid"))
+        self.assertEqual((plan.mode, plan.protected_from("AB", "P"), plan.protected_from("AB", "Q")), ("davn", 6, 0))
+        self.assertEqual((Plan().mode, Plan().protected_from("AB", "P"), plan_of(["value 1/1"]).mode), ("first", 0, "bid"))
 
     def test_cuts_are_read(self) -> None:
         self.assertEqual(cuts_of("AB", CUTS), Cuts((400,), (500, 150), 1200))

@@ -8,7 +8,7 @@ use Rattle.nrm_model.specs.Network.{NetworkValue, least_of, product_of}
 use Rattle.nrm_model.specs.declared.limits.TheConstants.{MOST_PARTY}
 use Rattle.nrm_book.specs.declared.booking.Booking.{Booking}
 use Rattle.nrm_book.specs.Bookings.{left_on}
-use Rattle.nrm_plan.specs.Plans.{PlanValue, fare_refuses, kept_from}
+use Rattle.nrm_plan.specs.Plans.{PlanValue, fare_refuses, protected_from}
 use Rattle.nrm_control.specs.declared.answer.Answer.{Answer}
 use Rattle.nrm_control.specs.declared.answer.Answer.TheVariants as answer
 use Rattle.nrm_account.specs.Laws.{LargestIsSold}
@@ -62,7 +62,7 @@ module _ (net : NetworkValue) (plan : PlanValue) (bookings : List Booking) (numb
   left i = left_on (inventory_of net) bookings i
 
   abbrev kept : ℕ → ℕ
-  kept i = kept_from net plan i j
+  kept i = protected_from net plan i j
 
   abbrev largest_if : Bool → ℕ
   largest_if b = if b then 0 else least_of (MOST_PARTY ∷ map (free left kept 0) legs)

@@ -9,7 +9,7 @@ use Rattle.nrm_book.specs.Bookings.{left_on, sold_on}
 use Rattle.nrm_book.specs.declared.booking.Booking.{Booking}
 use Rattle.nrm_lp.specs.declared.certificate.Certificate.{Certificate}
 use Rattle.nrm_lp.specs.Certified.{sizes}
-use Rattle.nrm_plan.specs.Plans.{PlanValue, kept_from}
+use Rattle.nrm_plan.specs.Plans.{PlanValue, protected_from}
 use Rattle.nrm_session.specs.Replies.{Reply, no_fare, no_leg, sold}
 
 -- one leg of a request: its authorised seats, those of them that are sold and that are left, the seats that are protected from the product,
@@ -78,7 +78,7 @@ leg_account net plan bookings j party i = record {
   authorised = (leg_of net i).authorised;
   sold = sold_on (inventory_of net) bookings i;
   left = left_on (inventory_of net) bookings i;
-  protected = kept_from net plan i j;
+  protected = protected_from net plan i j;
   needs = party;
   price = deciding_price plan.mode plan.certificate i;
 }

@@ -5,13 +5,13 @@ use Rattle.nrm_model.specs.Network.{NetworkValue, least_of, product_of}
 use Rattle.nrm_model.specs.declared.limits.TheConstants.{MOST_PARTY}
 use Rattle.nrm_book.specs.Bookings.{left_on}
 use Rattle.nrm_book.specs.declared.booking.Booking.{Booking}
-use Rattle.nrm_plan.specs.Plans.{PlanValue, fare_refuses, kept_from}
+use Rattle.nrm_plan.specs.Plans.{PlanValue, fare_refuses, protected_from}
 use Rattle.nrm_control.specs.Verdict.{verdict_of}
 use Rattle.nrm_session.specs.Replies.{Reply, bad, reply_to}
 
 -- the seats of a leg that are open to product j: those left that are not protected from it
 abbrev pub open_seats : NetworkValue → PlanValue → List Booking → ℕ → ℕ → ℕ
-open_seats net plan bookings j i = left_on (inventory_of net) bookings i - kept_from net plan i j
+open_seats net plan bookings j i = left_on (inventory_of net) bookings i - protected_from net plan i j
 
 -- none, where the fare refuses; else the least number of open seats of its legs, and no more than a line may ask for
 abbrev pub largest_party : NetworkValue → PlanValue → List Booking → ℕ → ℕ

@@ -27,7 +27,7 @@ fn open_seats(net: &Network, plan: &Plan, book: &Book, product: u16, leg: u8) ->
     ensures { result ≡ open_seats net.now plan.now book.now.bookings product leg }
 {
     book.left(leg)
-        .saturating_sub(plan.kept_from(net, leg, product))
+        .saturating_sub(plan.protected_from(net, leg, product))
 }
 
 // The least of so many seats and of those that are open on these legs.

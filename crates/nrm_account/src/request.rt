@@ -57,7 +57,7 @@ fn leg_line(
     let numbers = LegNumbers {
         authorised: its.authorised,
         left: book.left(number),
-        protected: plan.kept_from(net, number, product),
+        protected: plan.protected_from(net, number, product),
         needs: party,
     };
     leg(&its.name, &numbers)

@@ -1,15 +1,12 @@
 -- How a call ends, out of how its parts went.
-use Rattle.std.proofs.Common.{ℕ, ◌≡◌, ◌∙◌, ◌<◌, ◌⊎◌, true, false, List, [], ◌++◌, take, Option, Some, None, Ok, Err, refl, sym, ap, subst, inl, inr}
+use Rattle.std.proofs.Common.{ℕ, ◌≡◌, ◌∙◌, ◌<◌, true, false, List, Option, Some, Ok, Err, refl, sym, ap, subst, inl, inr}
 use Rattle.std.specs.Prelude.{⊤}
 use Rattle.nrm_edge.specs.Causes.{Rose}
 use Rattle.nrm_model.specs.Network.{NetworkValue}
 use Rattle.nrm_simplex.specs.declared.fault.SolveFault.{SolveFault}
 use Rattle.nrm_simplex.specs.declared.fault.SolveFault.TheVariants as fault
-use Rattle.nrm_hindsight.specs.Requests.{tallies_of}
-use Rattle.nrm_hindsight.specs.Selections.ChosenFrom.{none as none_chosen}
 use Rattle.nrm_control.specs.State.{opening}
-use Rattle.nrm_control.specs.Standing.{ControlValue, IsStartFault, StandsFor}
-use Rattle.nrm_stream.specs.Commands.{commands_of, whole_commands}
+use Rattle.nrm_control.specs.Standing.{ControlValue, IsStartFault}
 use Rattle.nrm_stream.specs.declared.command.Command.{Command}
 use Rattle.nrm_outside.specs.NetworkFile.{CountsFetch, OpensFile, reason_line}
 use Rattle.nrm_outside.specs.Outside.{LeftStream, OnFile, Outside, Wrote, WroteCut}
@@ -21,14 +18,17 @@ use Rattle.nrm_session.specs.Serving.{CountsFaults, ServesBy, Streams}
 use Rattle.nrm_session.specs.declared.serving.End.{End}
 use Rattle.nrm_session.specs.declared.serving.End.TheVariants as end
 use Rattle.nrm_account.specs.Tellers.{Tells, TellsCut, reading_of}
-use Rattle.nrm_account.specs.Readings.{Reading, Reads, unread}
+use Rattle.nrm_account.specs.Readings.{Reading, Reads}
 use Rattle.nrm_account.specs.declared.teller.Teller.{Teller}
-use Rattle.nrm_accounting.specs.Ends.{Begins, Ends, Lacks, Ran, ReadsCut, ReadsTo, file_fault, overflow, refused, stream_limit, streams_at, usage}
+use Rattle.nrm_outside.specs.Puts.{PutsIfSome, PutsLine, status_for, unplanned_line}
+use Rattle.nrm_session.proofs.ServedBy.{HasBegun, opened, served-as, serves-weaker}
+use Rattle.nrm_accounting.specs.Ends.{Begins, Ends, Ran, ReadsCut, ReadsTo, file_fault, overflow, refused, stream_limit, streams_at, usage}
 use Rattle.nrm_accounting.specs.Ends.{Tells as TellsLine}
 use Rattle.nrm_accounting.specs.Jobs.{WhyJob, absent_line}
-use Rattle.nrm_accounting.specs.Inner.Parts.{EndsReading, EndsSession, PutsIfSome, PutsLine, accounted, lacking, ran_out, status_for, unplanned_line}
+use Rattle.nrm_accounting.specs.Inner.Parts.{EndsReading, EndsSession, accounted, lacking, ran_out}
 use Rattle.nrm_accounting.specs.declared.status.WhyStatus.{WhyStatus}
 use Rattle.nrm_accounting.specs.declared.status.WhyStatus.TheVariants as status
+use Rattle.nrm_accounting.specs.declared.status.TheConstants.{STATUSES}
 
 -- ---- a line in place of a session
 module _ (asked : Option WhyJob) (before after : Outside) (left : LeftStream before after) where
@@ -38,14 +38,14 @@ module _ (asked : Option WhyJob) (before after : Outside) (left : LeftStream bef
   whole s text (file_fault job asks rose) wrote = record { text = text; tells = file_fault job asks rose; wrote = wrote; left = left }
   whole s text (overflow job net n number asks on large) wrote = record { text = text; tells = overflow job net n number asks on large; wrote = wrote; left = left }
 
-  pub told-ends : (goes s : WhyStatus) (text : List ℕ) → TellsLine asked before after goes text → PutsLine text goes before.held after.held before.sink_faults after.sink_faults s → Ends asked before after s
+  pub told-ends : (goes s : WhyStatus) (text : List ℕ) → TellsLine asked before after goes text → PutsLine STATUSES text goes before.held after.held before.sink_faults after.sink_faults s → Ends asked before after s
   told-ends goes s text tells (inl (is, wrote, same)) = rw is (whole goes text tells wrote)
   told-ends goes s text tells (inr (is, front, rose)) = rw is (rose, inr (inl (record { status = goes; text = text; tells = tells; wrote = front; left = left })))
 
 module _ (job : WhyJob) (before after : Outside) (left : LeftStream before after) where
   -- no network
   pub without-network : (reason : NoNetwork) (s : WhyStatus) → OpensFile before.files job.file (Err reason) → CountsFetch before.file_faults after.file_faults (Err reason)
-      → PutsIfSome (reason_line reason) (status_for reason) before.held after.held before.sink_faults after.sink_faults s → Ends (Some job) before after s
+      → PutsIfSome STATUSES (reason_line reason) (status_for STATUSES reason) before.held after.held before.sink_faults after.sink_faults s → Ends (Some job) before after s
   without-network none.Absent s file counts puts = told-ends (Some job) before after left status.Refused s (refusal_line no_file) (refused job no_file refl file) puts
   without-network (none.Refused row cause) s file counts puts = told-ends (Some job) before after left status.Refused s (refusal_line (at_row row cause)) (refused job (at_row row cause) refl file) puts
   without-network none.Fault s file counts puts = told-ends (Some job) before after left status.FileFault s file_fault_line (file_fault job refl counts.1) puts
@@ -53,49 +53,13 @@ module _ (job : WhyJob) (before after : Outside) (left : LeftStream before after
 
   -- no plan
   pub without-plan : (net : NetworkValue) → OnFile before.files job.file (λ contents. network_under contents ≡ Ok net) → (why : SolveFault) (s : WhyStatus) → IsStartFault net job.mode why
-      → PutsIfSome (unplanned_line why) status.Overflow before.held after.held before.sink_faults after.sink_faults s → Ends (Some job) before after s
+      → PutsIfSome STATUSES (unplanned_line why) status.Overflow before.held after.held before.sink_faults after.sink_faults s → Ends (Some job) before after s
   without-plan net on fault.NoMemory s is (told, kept, same) = rw told (inl (record { job = job; asks = refl; wrote = kept; left = left }))
   without-plan net on (fault.Overflow pivots number) s (n, large, is) puts =
       told-ends (Some job) before after left status.Overflow s (overflow_line (told_pivots n) number) (overflow job net n number refl on large)
-      (subst (λ (k : ℕ). PutsLine (overflow_line k number) status.Overflow before.held after.held before.sink_faults after.sink_faults s) is puts)
+      (subst (λ (k : ℕ). PutsLine STATUSES (overflow_line k number) status.Overflow before.held after.held before.sink_faults after.sink_faults s) is puts)
 
 -- ---- a session
--- what is served by one meaning is served by a weaker one
-pub serves-weaker : (whole cut whole' cut' : List Command → List ℕ → Type 0) → ((c : List Command) (o : List ℕ) → whole c o → whole' c o) → ((c : List Command) (o : List ℕ) → cut c o → cut' c o)
-    → (before after : Streams) (limit : ℕ) (e : End) → ServesBy whole cut before after limit e → ServesBy whole' cut' before after limit e
-serves-weaker whole cut whole' cut' w k before after limit end.Done (taken, output, did, ended, is) = (taken, output, did, ended, w (commands_of taken) output is)
-serves-weaker whole cut whole' cut' w k before after limit end.ReadFault (taken, output, did, is) = (taken, output, did, w (whole_commands taken) output is)
-serves-weaker whole cut whole' cut' w k before after limit end.WriteFault (taken, output, did, inl (inl is)) = (taken, output, did, inl (inl (k (whole_commands taken) output is)))
-serves-weaker whole cut whole' cut' w k before after limit end.WriteFault (taken, output, did, inl (inr is)) = (taken, output, did, inl (inr (w (whole_commands taken) output is)))
-serves-weaker whole cut whole' cut' w k before after limit end.WriteFault (taken, output, did, inr (ended, inl is)) = (taken, output, did, inr (ended, inl (k (commands_of taken) output is)))
-serves-weaker whole cut whole' cut' w k before after limit end.WriteFault (taken, output, did, inr (ended, inr is)) = (taken, output, did, inr (ended, inr (w (commands_of taken) output is)))
-serves-weaker whole cut whole' cut' w k before after limit end.TooLong (taken, output, took, long, wrote, is) = (taken, output, took, long, wrote, w (whole_commands (take limit taken)) output is)
-
--- what both meanings imply
-served-as : (X : Type 0) (whole cut : List Command → List ℕ → Type 0) → ((c : List Command) (o : List ℕ) → whole c o → X) → ((c : List Command) (o : List ℕ) → cut c o → X)
-    → (before after : Streams) (limit : ℕ) (e : End) → ServesBy whole cut before after limit e → X
-served-as X whole cut w k before after limit end.Done (taken, output, did, ended, is) = w (commands_of taken) output is
-served-as X whole cut w k before after limit end.ReadFault (taken, output, did, is) = w (whole_commands taken) output is
-served-as X whole cut w k before after limit end.WriteFault (taken, output, did, inl (inl is)) = k (whole_commands taken) output is
-served-as X whole cut w k before after limit end.WriteFault (taken, output, did, inl (inr is)) = w (whole_commands taken) output is
-served-as X whole cut w k before after limit end.WriteFault (taken, output, did, inr (ended, inl is)) = k (commands_of taken) output is
-served-as X whole cut w k before after limit end.WriteFault (taken, output, did, inr (ended, inr is)) = w (commands_of taken) output is
-served-as X whole cut w k before after limit end.TooLong (taken, output, took, long, wrote, is) = w (whole_commands (take limit taken)) output is
-
--- a controller that has just begun stands for the opening with its plan
-abbrev pub HasBegun : NetworkValue → ControlValue → Type 0
-HasBegun net start = start ≡ record { net = net; plan = start.plan; bookings = []; next = 1; tallies = tallies_of net []; withheld = 0 }
-
-pub opened : (start : ControlValue) (net : NetworkValue) → HasBegun net start → StandsFor start (opening start.plan)
-opened start net begun = record {
-  plan = refl;
-  bookings = sym (ap (λ (c : ControlValue). c.bookings) begun);
-  next = sym (ap (λ (c : ControlValue). c.next) begun);
-  tallies = ap (λ (n : NetworkValue). tallies_of n []) (ap (λ (c : ControlValue). c.net) begun) ∙ sym (ap (λ (c : ControlValue). c.tallies) begun);
-  choice = none_chosen;
-  withheld = sym (ap (λ (c : ControlValue). c.withheld) begun);
-}
-
 module _ (asked : Option WhyJob) (before : Outside) (begins : Begins asked before) (start new : ControlValue) (teller now : Teller)
     (begun : HasBegun begins.net start) (plan : start.plan ≡ begins.plan) (fresh : teller ≡ record { asked = begins.job.number; left = begins.job.number; planned = 0; ran_out = false }) where
   net-is : start.net ≡ begins.net

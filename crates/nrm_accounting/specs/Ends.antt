@@ -1,5 +1,5 @@
 -- How the program that accounts for an answer ends: what each status says of the words, the files, the stream and what was written.
-use Rattle.std.specs.Prelude.{ℕ, ℤ, ◌≡◌, ◌≢◌, ◌<◌, ◌⊎◌, true, false, List, [], ◌++◌, take, Option, Some, None, Ok, Err, ⊤}
+use Rattle.std.specs.Prelude.{ℕ, ℤ, ◌≡◌, ◌<◌, ◌⊎◌, true, false, List, ◌++◌, take, Option, Some, None, Ok, Err, ⊤}
 use Rattle.nrm_model.specs.Network.{NetworkValue}
 use Rattle.nrm_model.specs.declared.limits.TheConstants.{MOST_STREAM_BYTES}
 use Rattle.nrm_plan.specs.Plans.{IsOpeningPlan, OpeningOverflows, PlanValue}
@@ -105,7 +105,3 @@ Ends asked before after status.Overflow = Told asked before after status.Overflo
 Ends asked before after status.TooLong = Ran asked before after (λ last. ⊤) end.TooLong
 Ends asked before after status.FileFault = Told asked before after status.FileFault
 Ends asked before after status.NoLine = Lacks asked before after Wrote
-
--- after every status but that of a failed output nothing is held back, from an output on that held nothing back
-abbrev pub SentOn : WhyStatus → List ℕ → List ℕ → Type 0
-SentOn result unsent unsent' = result ≢ status.WriteFault → unsent ≡ [] → unsent' ≡ []

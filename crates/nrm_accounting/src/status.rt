@@ -2,6 +2,8 @@
 ghost use Rattle.std.specs.Prelude.{◌≡◌};
 ghost use Rattle.nrm_accounting.specs.Numbers.{number_of};
 
+use nrm_outside::Statuses;
+
 /// How the program ended. Those that come with a line of text write it to standard output.
 #[derive(Clone, Copy, Debug, PartialEq, Eq)]
 pub enum WhyStatus {
@@ -46,3 +48,12 @@ impl WhyStatus {
         }
     }
 }
+
+/// Those by which it says what each program over a network may have to say.
+pub(crate) const STATUSES: Statuses<WhyStatus> = Statuses {
+    refused: WhyStatus::Refused,
+    file_fault: WhyStatus::FileFault,
+    overflow: WhyStatus::Overflow,
+    no_memory: WhyStatus::NoMemory,
+    write_fault: WhyStatus::WriteFault,
+};

@@ -1,6 +1,6 @@
 //! The top call of the program that accounts for an answer.
 ghost use Rattle.std.specs.Prelude.{◌≡◌, ◌≤◌, ◌<◌, ◌^◌, is_some, map, option_map, string_bytes, IfSome, Some};
-ghost use Rattle.nrm_outside.specs.Outside.{outside};
+ghost use Rattle.nrm_outside.specs.Outside.{SentOn, outside};
 ghost use Rattle.nrm_session.specs.Serving.{ServesBy, streams};
 ghost use Rattle.nrm_session.specs.declared.serving.TheConstants.{LATEST_START};
 ghost use Rattle.nrm_text.specs.Numbers.{whole_between};
@@ -8,12 +8,13 @@ ghost use Rattle.nrm_account.specs.Tellers.{Tells, TellsCut, can_tell};
 ghost use Rattle.nrm_account.specs.Laws.{AccountsAreOfTheirLines, AccountsGiveReplies, LargestPartiesAreSold, OutOfMemoryWritesNothing};
 ghost use Rattle.nrm_session.specs.Serving.{CountsFaults};
 ghost use Rattle.nrm_session.specs.Serving.{SentOn as SentAtEnd};
-ghost use Rattle.nrm_accounting.specs.Ends.{Ends, SentOn, stream_limit};
+ghost use Rattle.nrm_accounting.specs.Ends.{Ends, stream_limit};
 ghost use Rattle.nrm_accounting.specs.Inner.Parts.{job_in};
 ghost use Rattle.nrm_accounting.specs.Jobs.{why_job_of};
 
 use crate::WhyStatus;
-use crate::put::{end_session, put_line, put_reason, put_unplanned};
+use crate::put::end_session;
+use crate::status::STATUSES;
 use nrm_account::{Teller, Telling};
 use nrm_control::Controller;
 use nrm_edge::{Files, Sink, Source};
@@ -104,15 +105,15 @@ fn run_job<F: Files, S: Source, K: Sink>(
     requires { job.number < 2 ^ 63 }
     ensures ends { let at = outside F.contents F.faults S.coming S.faults K.held K.faults in
         Ends (Some (job_in job.entry)) (at files.old source.old sink.old) (at files.new source.new sink.new) result }
-    ensures sent { SentOn result (K.unsent sink.old) (K.unsent sink.new) }
+    ensures sent { SentOn WhyStatus.WriteFault result (K.unsent sink.old) (K.unsent sink.new) }
 {
     let net = match open_network(alloc, files, job.file) {
         Ok(net) => net,
-        Err(reason) => return put_reason(sink, reason),
+        Err(reason) => return STATUSES.put_reason(sink, reason),
     };
     let mut controller = match Controller::start(alloc, net, job.mode) {
         Ok(controller) => controller,
-        Err(why) => return put_unplanned(sink, why),
+        Err(why) => return STATUSES.put_unplanned(sink, why),
     };
     let mut teller = Teller::new(job.number);
     let end = read_stream(alloc, &mut controller, &mut teller, source, sink);
@@ -138,7 +139,7 @@ pub fn run_why<F: Files, S: Source, K: Sink>(
 ) -> WhyStatus
     ensures call { let at = outside F.contents F.faults S.coming S.faults K.held K.faults in
         Ends (why_job_of (map string_bytes words.now)) (at files.old source.old sink.old) (at files.new source.new sink.new) result }
-    ensures sent { SentOn result (K.unsent sink.old) (K.unsent sink.new) }
+    ensures sent { SentOn WhyStatus.WriteFault result (K.unsent sink.old) (K.unsent sink.new) }
     ensures accounts { AccountsAreOfTheirLines }
     ensures replies { AccountsGiveReplies }
     ensures largest { LargestPartiesAreSold }
@@ -146,6 +147,6 @@ pub fn run_why<F: Files, S: Source, K: Sink>(
 {
     match asked_in(words) {
         Some(job) => run_job(alloc, job, files, source, sink),
-        None => put_line(sink, USAGE, WhyStatus::Usage),
+        None => STATUSES.put_line(sink, USAGE, WhyStatus::Usage),
     }
 }

@@ -55,10 +55,10 @@ impl Book {
     /// in all.
     ///
     /// # Errors
-    /// Want of memory.
+    /// Memory runs out.
     pub fn new(alloc: Global, net: &Network) -> Result<Book, AllocError>
         ensures empty { IfOk result (λ book. book ≡ record { inventory = inventory_of net.now; bookings = []; next = 1 }) }
-        ensures kept { IfOk result IsBook }
+        ensures sound { IfOk result IsBook }
     {
         let authorised = net.authorised_of_legs(alloc)?;
         let fares = net.fares_of_products(alloc)?;
@@ -95,7 +95,7 @@ impl Book {
     /// The bookings that stand, by rising number.
     pub fn bookings(&self) -> Bookings<'_>
         ensures bookings { result ≡ self.now.bookings }
-        ensures kept { IsBook self.now }
+        ensures sound { IsBook self.now }
     {
         self.bookings.iter()
     }
@@ -117,7 +117,7 @@ impl Book {
     /// The number of the next booking. Numbers begin at 1 and are never used again.
     pub fn next(&self) -> u64
         ensures next { result ≡ self.now.next }
-        ensures kept { IsBook self.now }
+        ensures sound { IsBook self.now }
     {
         self.bookings.next()
     }
@@ -131,7 +131,7 @@ impl Book {
         requires next { self.old.next < BOOKING_LIMIT }
         ensures number { result ≡ self.old.next }
         ensures added { self.new ≡ with_booking self.old product party }
-        ensures kept { IsBook self.new }
+        ensures sound { IsBook self.new }
     {
         let number = self.next();
         self.load(Booking {
@@ -147,7 +147,7 @@ impl Book {
     pub fn load(&mut self, booking: Booking)
         requires { IsLoadable self.old booking }
         ensures loaded { self.new ≡ with_loaded self.old booking }
-        ensures kept { IsBook self.new }
+        ensures sound { IsBook self.new }
     {
         self.bookings.push(booking);
         self.sold.sell(
@@ -165,7 +165,7 @@ impl Book {
         ensures removed { self.new ≡ record self.old { bookings = without self.old.bookings number } }
         ensures within { IfSome result (λ booking. booking.product < length self.old.inventory.legs) }
         ensures dead { IfNone result (self.new ≡ self.old) }
-        ensures kept { IsBook self.new }
+        ensures sound { IsBook self.new }
     {
         let booking = self.bookings.remove(number)?;
         self.sold.give_back(

@@ -27,7 +27,7 @@ impl SeatsSold {
     /// None are sold.
     ///
     /// # Errors
-    /// Want of memory.
+    /// Memory runs out.
     pub(crate) fn new(alloc: Global, net: &Network) -> Result<SeatsSold, AllocError>
         ensures { IfOk result (λ sold. sold ≡ seats_sold (inventory_of net.now) []) }
     {

@@ -35,7 +35,7 @@ impl Standing {
     /// None stand, with room for twice as many as are asked for, and the next number 1.
     ///
     /// # Errors
-    /// Want of memory.
+    /// Memory runs out.
     pub(crate) fn with_room(alloc: Global, room: usize) -> Result<Standing, AllocError>
         requires { room ≤ 63936 }
         ensures items { IfOk result (λ standing. standing.items ≡ []) }

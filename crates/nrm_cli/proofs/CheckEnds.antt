@@ -11,10 +11,11 @@ use Rattle.nrm_dual.specs.declared.verdict.Verdict.{Verdict}
 use Rattle.nrm_dual.specs.declared.verdict.Verdict.TheVariants as verdict
 use Rattle.nrm_outside.specs.Outside.{LeftStream, OnFile, Outside, WroteCut}
 use Rattle.nrm_outside.specs.Refusals.{file_fault_line}
+use Rattle.nrm_outside.specs.Puts.{PutsIfSome, PutsLine}
 use Rattle.nrm_cli.specs.Certificates.{LacksCertificate, certificate_under, lacking_line, no_certificate, refused_for, verdict_line}
 use Rattle.nrm_cli.specs.Ends.{Ends, Failures, FilesFailedBefore, status_of}
 use Rattle.nrm_cli.specs.Jobs.{check_file}
-use Rattle.nrm_cli.specs.Inner.Parts.{ChecksFile, CountsCertificate, OpensCertificate, PutsIfSome, PutsLine, PutsVerdict, lack_line}
+use Rattle.nrm_cli.specs.Inner.Parts.{ChecksFile, CountsCertificate, OpensCertificate, PutsVerdict, lack_line}
 use Rattle.nrm_cli.specs.Inner.Parts.{lack_status}
 use Rattle.nrm_cli.specs.Tells.{Gives, Lacks, Opens, Tells, lacking, optimal, wrong, file_fault}
 use Rattle.nrm_cli.specs.declared.certificate.NoCertificate.{NoCertificate}
@@ -22,6 +23,7 @@ use Rattle.nrm_cli.specs.declared.certificate.NoCertificate.TheVariants as lacks
 use Rattle.nrm_cli.specs.declared.status.Status.{Status}
 use Rattle.nrm_cli.specs.declared.status.Status.TheVariants as status
 use Rattle.nrm_cli.proofs.ToldEnds.{told-ends}
+use Rattle.nrm_cli.specs.declared.status.TheConstants.{STATUSES}
 
 -- ---- the end of a check whose first file gave a network
 module _ (file certificate : List ℕ) (before after : Outside) (net : NetworkValue) (opens : Opens (Some (check_file file certificate)) (check_file file certificate) before net) (left : LeftStream before after) where
@@ -32,7 +34,7 @@ module _ (file certificate : List ℕ) (before after : Outside) (net : NetworkVa
   IsTold s text = Tells (Some (check_file file certificate)) before after s text
 
   abbrev Puts : List ℕ → Status → Status → Type 0
-  Puts text goes s = PutsLine text goes before.held after.held before.sink_faults after.sink_faults s
+  Puts text goes s = PutsLine STATUSES text goes before.held after.held before.sink_faults after.sink_faults s
 
   gives : (given : Certificate) → OnFile before.files certificate (λ contents. certificate_under net contents ≡ Ok given)
       → Gives (Some (check_file file certificate)) before net given
@@ -60,13 +62,13 @@ module _ (file certificate : List ℕ) (before after : Outside) (net : NetworkVa
 
   unread-ends : (o : Option CertRefusal) (s : Status)
       → OnFile before.files certificate (λ contents. IfSome o (λ cause. certificate_under net contents ≡ Err (refused_for cause)))
-      → PutsIfSome (option_map (λ cause. lacking_line net (refused_for cause)) o) status.Refused before.held after.held before.sink_faults after.sink_faults s → IsEnd s
+      → PutsIfSome STATUSES (option_map (λ cause. lacking_line net (refused_for cause)) o) status.Refused before.held after.held before.sink_faults after.sink_faults s → IsEnd s
   unread-ends None s on (is, kept, same) = rw is (kept, left)
   unread-ends (Some cause) s on puts =
       told-ends (Some (check_file file certificate)) before after status.Refused s (lacking_line net (refused_for cause)) (lacking net (refused_for cause) (lacks-so (refused_for cause) on)) puts left
 
   lacks-ends : (reason : NoCertificate) (s : Status) → OpensCertificate net before.files certificate (Err reason) → CountsCertificate {C = Certificate} before.file_faults after.file_faults (Err reason)
-      → PutsIfSome (lack_line net reason) (lack_status reason) before.held after.held before.sink_faults after.sink_faults s → IsEnd s
+      → PutsIfSome STATUSES (lack_line net reason) (lack_status reason) before.held after.held before.sink_faults after.sink_faults s → IsEnd s
   lacks-ends lacks.Absent s on counts puts =
       told-ends (Some (check_file file certificate)) before after status.Refused s (lacking_line net no_certificate) (lacking net no_certificate (lacks-so no_certificate on)) puts left
   lacks-ends (lacks.Unread fault) s on counts puts = unread-ends (refusal_of fault) s on puts
@@ -76,7 +78,7 @@ module _ (file certificate : List ℕ) (before after : Outside) (net : NetworkVa
   by-opened : (opened : Result Certificate NoCertificate) (s : Status) → OpensCertificate net before.files certificate opened
       → CountsCertificate before.file_faults after.file_faults opened
       → MatchResult opened (λ given. PutsVerdict net given before.held after.held before.sink_faults after.sink_faults s)
-      (λ reason. PutsIfSome (lack_line net reason) (lack_status reason) before.held after.held before.sink_faults after.sink_faults s) → IsEnd s
+      (λ reason. PutsIfSome STATUSES (lack_line net reason) (lack_status reason) before.held after.held before.sink_faults after.sink_faults s) → IsEnd s
   by-opened (Ok given) s on counts puts = found-ends given s on puts
   by-opened (Err reason) s on counts puts = lacks-ends reason s on counts puts
 
@@ -86,7 +88,7 @@ module _ (file certificate : List ℕ) (before after : Outside) (net : NetworkVa
 
 -- ---- and which counts stay
 module _ (before after : Outside) (net : NetworkValue) (source : after.source_faults ≡ before.source_faults) where
-  line-failures : (text : List ℕ) (goes s : Status) → PutsLine text goes before.held after.held before.sink_faults after.sink_faults s
+  line-failures : (text : List ℕ) (goes s : Status) → PutsLine STATUSES text goes before.held after.held before.sink_faults after.sink_faults s
       → (after.sink_faults ≡ before.sink_faults → Failures goes before after) → (WroteCut before after text → FilesFailedBefore before after) → Failures s before after
   line-failures text goes s (inl (is, wrote, same)) whole cut = rw is (whole same)
   line-failures text goes s (inr (is, front, rose)) whole cut = rw is (source, cut front)
@@ -100,13 +102,13 @@ module _ (before after : Outside) (net : NetworkValue) (source : after.source_fa
   quiet verdict.WrongValue files sink = record { files = files; source = source; sink = sink }
 
   if-some-failures : (o : Option (List ℕ)) (goes s : Status)
-      → PutsIfSome o goes before.held after.held before.sink_faults after.sink_faults s
+      → PutsIfSome STATUSES o goes before.held after.held before.sink_faults after.sink_faults s
       → (after.sink_faults ≡ before.sink_faults → Failures goes before after) → (after.sink_faults ≡ before.sink_faults → Failures status.NoMemory before after) → after.file_faults ≡ before.file_faults → Failures s before after
   if-some-failures None goes s (is, kept, same) whole none files = rw is (none same)
   if-some-failures (Some text) goes s puts whole none files = line-failures text goes s puts whole (λ front. inl files)
 
   lacks-failures : (reason : NoCertificate) (s : Status) → CountsCertificate {C = Certificate} before.file_faults after.file_faults (Err reason)
-      → PutsIfSome (lack_line net reason) (lack_status reason) before.held after.held before.sink_faults after.sink_faults s → Failures s before after
+      → PutsIfSome STATUSES (lack_line net reason) (lack_status reason) before.held after.held before.sink_faults after.sink_faults s → Failures s before after
   lacks-failures lacks.Absent s counts puts =
       if-some-failures (lack_line net lacks.Absent) status.Refused s puts (λ sink. record { files = counts; source = source; sink = sink }) (λ sink. record { files = counts; source = source; sink = sink }) counts
   lacks-failures (lacks.Unread fault) s counts puts =
@@ -116,7 +118,7 @@ module _ (before after : Outside) (net : NetworkValue) (source : after.source_fa
   by-opened-failures : (opened : Result Certificate NoCertificate) (s : Status)
       → CountsCertificate before.file_faults after.file_faults opened
       → MatchResult opened (λ given. PutsVerdict net given before.held after.held before.sink_faults after.sink_faults s)
-      (λ reason. PutsIfSome (lack_line net reason) (lack_status reason) before.held after.held before.sink_faults after.sink_faults s) → Failures s before after
+      (λ reason. PutsIfSome STATUSES (lack_line net reason) (lack_status reason) before.held after.held before.sink_faults after.sink_faults s) → Failures s before after
   by-opened-failures (Ok given) s counts (inl (is, kept, same)) = rw is (record { files = counts; source = source; sink = same })
   by-opened-failures (Ok given) s counts (inr v) = line-failures (verdict_line net v.found) (status_of v.found) s v.puts (λ sink. quiet v.found counts sink) (λ front. inl counts)
   by-opened-failures (Err reason) s counts puts = lacks-failures reason s counts puts

@@ -26,13 +26,14 @@ use Rattle.nrm_session.proofs.Runs.{runs}
 use Rattle.nrm_cli.specs.Certificates.{LacksCertificate, certificate_under, verdict_line}
 use Rattle.nrm_cli.specs.Jobs.{Job, run_file, plan_file, check_file, print_file, run_made, cut_leg, value_leg, HasNetwork, NamesFile}
 use Rattle.nrm_cli.specs.Jobs.{TakesStream, mode_of_job}
+use Rattle.nrm_cli.specs.Jobs.{HasNetworkFrom, Origin, of_file, of_number, origin_of}
 use Rattle.nrm_cli.specs.LegThresholds.{CutsTold}
 use Rattle.nrm_cli.specs.LegValues.{ValuesTold}
 use Rattle.nrm_gen.specs.MadeCommands.{made_commands}
 use Rattle.nrm_gen.specs.MadeNetwork.{made_network}
 use Rattle.nrm_cli.specs.Made.{MadeRun, summary_line}
 use Rattle.nrm_cli.specs.Ends.{Completes, CompletesJob, Ends, NothingHinders, OrRanOut, RanOut, RunWrites, Starts, TellsOverflow, status_of}
-use Rattle.nrm_cli.specs.Tells.{Gives, GivesNetwork, Lacks, Opens, Reads, Refuses, RefusesNetwork, Tells, usage, refused, lacking, optimal}
+use Rattle.nrm_cli.specs.Tells.{Gives, GivesNetwork, GivesNetworkFrom, Lacks, Opens, Reads, Refuses, RefusesNetwork, RefusesNetworkFrom, Tells, usage, refused, lacking, optimal}
 use Rattle.nrm_cli.specs.Tells.{wrong, planned, overflow, summed, printed, cuts_told, values_told, file_fault}
 use Rattle.nrm_cli.specs.declared.status.Status.{Status}
 use Rattle.nrm_cli.specs.declared.status.Status.TheVariants as status
@@ -65,26 +66,16 @@ file-taken : (told : Option Folder) (file : List ℕ) (net : NetworkValue) (refu
 file-taken told file net refusal (files, is, gives) on =
     let same : Err refusal ≡ Ok net = sym (on-told told files file (λ f. network_under f ≡ Err refusal) is on) ∙ gives in cc
 
--- so it is of a job
-gives-for : (job : Job) (told : Option Folder) (net given : NetworkValue) → HasNetwork job told net → GivesNetwork job told given
-    → given ≡ net
-gives-for (run_file m file) told net given has gives = on-file told file net given has gives
-gives-for (plan_file m file) told net given has gives = on-file told file net given has gives
-gives-for (check_file file certificate) told net given has gives = on-file told file net given has gives
-gives-for (print_file file) told net given has gives = on-file told file net given has gives
-gives-for (run_made m number) told net given has gives = gives ∙ sym has
-gives-for (cut_leg file leg groups) told net given has gives = on-file told file net given has gives
-gives-for (value_leg file leg) told net given has gives = on-file told file net given has gives
+-- so it is of an origin
+gives-for : (origin : Origin) (told : Option Folder) (net given : NetworkValue) → HasNetworkFrom origin told net
+    → GivesNetworkFrom origin told given → given ≡ net
+gives-for (of_file file) told net given has gives = on-file told file net given has gives
+gives-for (of_number number) told net given has gives = gives ∙ sym has
 
-refuses-for : (job : Job) (told : Option Folder) (net : NetworkValue) (refusal : Refusal) → HasNetwork job told net
-    → RefusesNetwork job told refusal → ⊥
-refuses-for (run_file m file) told net refusal has on = file-taken told file net refusal has on
-refuses-for (plan_file m file) told net refusal has on = file-taken told file net refusal has on
-refuses-for (check_file file certificate) told net refusal has on = file-taken told file net refusal has on
-refuses-for (print_file file) told net refusal has on = file-taken told file net refusal has on
-refuses-for (run_made m number) told net refusal has never = never
-refuses-for (cut_leg file leg groups) told net refusal has on = file-taken told file net refusal has on
-refuses-for (value_leg file leg) told net refusal has on = file-taken told file net refusal has on
+refuses-for : (origin : Origin) (told : Option Folder) (net : NetworkValue) (refusal : Refusal) → HasNetworkFrom origin told net
+    → RefusesNetworkFrom origin told refusal → ⊥
+refuses-for (of_file file) told net refusal has on = file-taken told file net refusal has on
+refuses-for (of_number number) told net refusal has never = never
 
 -- a run over the lines of a stream is there, so its output is
 some-run : (net : NetworkValue) (plan : PlanValue) (stream : List ℕ) → (output : List ℕ) × RunWrites net plan (commands_of stream) output
@@ -98,7 +89,7 @@ some-made net plan number =
     let (replies, last, run, suffices) = runs net (opening plan) (made_commands number) in
     (summary_line net replies last, record { replies = replies; last = last; run = run; suffices = suffices; summary = refl })
 
--- want of memory is one of the ends that a good job may have
+-- running out of memory is one of the ends that a good job may have
 ran-complete : (job : Job) (net : NetworkValue) (before after : Outside) → RanOut (Some job) before after
     → CompletesJob job net before after status.NoMemory
 ran-complete (run_file m file) net before after (kept, left) = (
@@ -122,10 +113,10 @@ module _ (asked : Option Job) (before after : Outside) (job : Job) (net : Networ
   same-job other is = let e = sym is ∙ asks in cc
 
   same-net : (other : Job) (given : NetworkValue) → Opens asked other before given → given ≡ net
-  same-net other given (is, has) = gives-for job before.files net given valid (subst (λ (j : Job). GivesNetwork j before.files given) (same-job other is) has)
+  same-net other given (is, has) = gives-for (origin_of job) before.files net given valid (subst (λ (j : Job). GivesNetwork j before.files given) (same-job other is) has)
 
   not-refused : (refusal : Refusal) → Refuses asked before refusal → ⊥
-  not-refused refusal r = refuses-for job before.files net refusal valid (subst (λ (j : Job). RefusesNetwork j before.files refusal) (same-job r.job r.asks) r.refused)
+  not-refused refusal r = refuses-for (origin_of job) before.files net refusal valid (subst (λ (j : Job). RefusesNetwork j before.files refusal) (same-job r.job r.asks) r.refused)
 
   -- ---- the words ask for a certificate to be checked, which the second file gives
   module _ (files : Folder) (told : before.files ≡ Some files) (file certificate : List ℕ) (shown : Certificate) (known : job ≡ check_file file certificate) (reads : certificate_under net (files certificate) ≡ Ok shown) where

@@ -267,7 +267,7 @@ lines_of_values : values_text two_legs (codes "AB") 3 (1 ∷ []) (record { histo
 unfolding digits fraction.◌over◌
 lines_of_values = refl
 
--- two classes of two histories, on three seats: 2200 over four combinations is 550, and two seats are kept for the dearer one
+-- two classes of two histories, on three seats: 2200 over four combinations is 550, and two seats are protected for the dearer one
 abbrev high_and_low : NetworkValue
 high_and_low = record two_legs {
   histories = 2;

@@ -1,24 +1,26 @@
 -- How a job ends where its file gives no network.
-use Rattle.std.proofs.Common.{ℕ, ◌≡◌, ◌≤◌, List, Option, Result, Some, Ok, Err, arith, inl, inr, refl}
+use Rattle.std.proofs.Common.{ℕ, ◌≡◌, ◌≤◌, List, Option, Result, Some, Ok, Err, inl, inr, refl}
 use Rattle.nrm_model.specs.Network.{NetworkValue}
 use Rattle.nrm_edge.specs.Fetch.{Folder}
 use Rattle.nrm_outside.specs.NetworkFile.{CountsFetch, OpensFile}
-use Rattle.nrm_outside.specs.Outside.{Goes, Outside, LeftStream, OnFile}
+use Rattle.nrm_outside.specs.Outside.{Outside, LeftStream, OnFile}
 use Rattle.nrm_outside.specs.Refusals.{Refusal, network_under, no_file, at_row, refusal_line, file_fault_line}
 use Rattle.nrm_outside.specs.declared.network_file.NoNetwork.{NoNetwork}
 use Rattle.nrm_outside.specs.declared.network_file.NoNetwork.TheVariants as none
+use Rattle.nrm_outside.specs.Puts.{PutsReason, TellsNoNetwork}
+use Rattle.nrm_outside.proofs.Opened.{opened-goes}
 use Rattle.nrm_cli.specs.Ends.{Ends, Failures}
 use Rattle.nrm_cli.specs.Jobs.{Job, NamesFile}
 use Rattle.nrm_cli.specs.Inner.Does.{Does}
-use Rattle.nrm_cli.specs.Inner.Parts.{PutsReason, TellsNoNetwork}
 use Rattle.nrm_cli.specs.Tells.{RefusesNetwork, refused, file_fault}
 use Rattle.nrm_cli.specs.declared.status.Status.{Status}
 use Rattle.nrm_cli.specs.declared.status.Status.TheVariants as status
 use Rattle.nrm_cli.proofs.ToldEnds.{told-ends}
+use Rattle.nrm_cli.specs.declared.status.TheConstants.{STATUSES}
 
 -- nothing was written and the stream was left
 ran-out : (job : Job) (before after : Outside) (s : Status)
-    → PutsReason none.NoMemory before.held after.held before.sink_faults after.sink_faults s → LeftStream before after
+    → PutsReason STATUSES none.NoMemory before.held after.held before.sink_faults after.sink_faults s → LeftStream before after
     → Ends (Some job) before after s
 ran-out job before after s (told, kept, same) left = rw told (kept, left)
 
@@ -29,7 +31,7 @@ IsOfFile job file = (files : Option Folder) (refusal : Refusal) → OnFile files
 pub without-network : (job : Job) (file : List ℕ) → NamesFile job → IsOfFile job file
     → (before after : Outside) (reason : NoNetwork) (s : Status)
     → OpensFile before.files file (Err reason) → CountsFetch before.file_faults after.file_faults (Err reason)
-    → PutsReason reason before.held after.held before.sink_faults after.sink_faults s → LeftStream before after → Ends (Some job) before after s
+    → PutsReason STATUSES reason before.held after.held before.sink_faults after.sink_faults s → LeftStream before after → Ends (Some job) before after s
 without-network job name names of_file before after none.Absent s file counts puts left =
     told-ends (Some job) before after status.Refused s (refusal_line no_file) (refused no_file (record { job = job; asks = refl; refused = of_file before.files no_file file })) puts left
 without-network job name names of_file before after (none.Refused row cause) s file counts puts left =
@@ -41,7 +43,7 @@ without-network job name names of_file before after none.NoMemory s file counts 
 -- and which counts stay
 pub without-failures : (before after : Outside) (reason : NoNetwork) (s : Status)
     → CountsFetch before.file_faults after.file_faults (Err reason)
-    → PutsReason reason before.held after.held before.sink_faults after.sink_faults s → after.source_faults ≡ before.source_faults → Failures s before after
+    → PutsReason STATUSES reason before.held after.held before.sink_faults after.sink_faults s → after.source_faults ≡ before.source_faults → Failures s before after
 without-failures before after none.Absent s counts (inl (is, wrote, same)) source = rw is (record { files = counts; source = source; sink = same })
 without-failures before after none.Absent s counts (inr (is, front, rose)) source = rw is (source, inl counts)
 without-failures before after (none.Refused row cause) s counts (inl (is, wrote, same)) source = rw is (record { files = counts; source = source; sink = same })
@@ -50,25 +52,11 @@ without-failures before after none.Fault s counts (inl (is, wrote, same)) source
 without-failures before after none.Fault s counts (inr (is, front, rose)) source = rw is (source, inr (counts.1, front))
 without-failures before after none.NoMemory s counts (is, kept, same) source = rw is (record { files = counts; source = source; sink = same })
 
--- and no count falls
-opened-later : (before now : ℕ) (opened : Result NetworkValue NoNetwork) → CountsFetch before now opened → before ≤ now
-opened-later before now (Ok net) same = omega (arith, same)
-opened-later before now (Err none.Absent) same = omega (arith, same)
-opened-later before now (Err (none.Refused row cause)) same = omega (arith, same)
-opened-later before now (Err none.Fault) rose = rose.0
-opened-later before now (Err none.NoMemory) same = omega (arith, same)
-
-pub opened-goes : (before after : Outside) (opened : Result NetworkValue NoNetwork)
-    → CountsFetch before.file_faults after.file_faults opened → after.files ≡ before.files
-    → after.source_faults ≡ before.source_faults → before.sink_faults ≤ after.sink_faults → Goes before after
-opened-goes before after opened counts stays source later =
-    record { files = stays; file_faults = opened-later before.file_faults after.file_faults opened counts; source_faults = omega (arith, source); sink_faults = later }
-
 -- so the job is done where there was no network and it was put why
 pub without-opened : (job : Job) (file : List ℕ) → NamesFile job → IsOfFile job file
     → (before after : Outside) (opened : Result NetworkValue NoNetwork) (s : Status)
     → OpensFile before.files file opened → CountsFetch before.file_faults after.file_faults opened → after.files ≡ before.files
-    → TellsNoNetwork opened before.held after.held before.sink_faults after.sink_faults s → LeftStream before after
+    → TellsNoNetwork STATUSES opened before.held after.held before.sink_faults after.sink_faults s → LeftStream before after
     → after.source_faults ≡ before.source_faults → before.sink_faults ≤ after.sink_faults → Does (Some job) before after s
 without-opened job file names of_file before after (Ok net) s opens counts stays told left source later = absurd told
 without-opened job file names of_file before after (Err reason) s opens counts stays told left source later = record {

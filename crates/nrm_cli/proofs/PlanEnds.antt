@@ -10,13 +10,15 @@ use Rattle.nrm_control.specs.Standing.{IsStartFault}
 use Rattle.nrm_report.specs.Texts.{plan_text}
 use Rattle.nrm_outside.specs.Outside.{LeftStream, Outside}
 use Rattle.nrm_outside.specs.Words.{overflow_line, told_pivots}
+use Rattle.nrm_outside.specs.Puts.{PutsLine, PutsUnplanned, TellsUnplanned}
 use Rattle.nrm_cli.specs.Ends.{Ends, Failures}
 use Rattle.nrm_cli.specs.Jobs.{Job, plan_file, mode_of_job}
-use Rattle.nrm_cli.specs.Inner.Parts.{PutsLine, PutsPlan, PutsUnplanned, TellsUnplanned}
+use Rattle.nrm_cli.specs.Inner.Parts.{PutsPlan}
 use Rattle.nrm_cli.specs.Tells.{Opens, overflow, planned}
 use Rattle.nrm_cli.specs.declared.status.Status.{Status}
 use Rattle.nrm_cli.specs.declared.status.Status.TheVariants as status
 use Rattle.nrm_cli.proofs.ToldEnds.{told-ends}
+use Rattle.nrm_cli.specs.declared.status.TheConstants.{STATUSES}
 
 -- what lacks a plan lacks a start
 pub start-fault : (net : NetworkValue) (m : Mode) (why : SolveFault) → IsPlanFault net m (inventory_of net).authorised 1 why
@@ -26,21 +28,21 @@ start-fault net m fault.NoMemory is = tt
 
 module _ (job : Job) (m : Mode) (net : NetworkValue) (before after : Outside) (has : mode_of_job job ≡ Some m) (opens : Opens (Some job) job before net) (left : LeftStream before after) where
   -- ---- no plan
-  ran-out : (s : Status) → PutsUnplanned fault.NoMemory before.held after.held before.sink_faults after.sink_faults s
+  ran-out : (s : Status) → PutsUnplanned STATUSES fault.NoMemory before.held after.held before.sink_faults after.sink_faults s
       → Ends (Some job) before after s
   ran-out s (told, kept, same) = rw told (kept, left)
 
   pub unplanned-ends : (why : SolveFault) (s : Status) → IsStartFault net m why
-      → PutsUnplanned why before.held after.held before.sink_faults after.sink_faults s → Ends (Some job) before after s
+      → PutsUnplanned STATUSES why before.held after.held before.sink_faults after.sink_faults s → Ends (Some job) before after s
   unplanned-ends fault.NoMemory s is puts = ran-out s puts
   unplanned-ends (fault.Overflow pivots number) s (n, large, counted) puts =
       told-ends (Some job) before after status.Overflow s (overflow_line (told_pivots n) number) (overflow job m net n number has opens large)
-      (subst (λ (k : ℕ). PutsLine (overflow_line k number) status.Overflow before.held after.held before.sink_faults after.sink_faults s) counted puts) left
+      (subst (λ (k : ℕ). PutsLine STATUSES (overflow_line k number) status.Overflow before.held after.held before.sink_faults after.sink_faults s) counted puts) left
 
 -- and which counts stay
 pub unplanned-failures : (before after : Outside) → after.file_faults ≡ before.file_faults → after.source_faults ≡ before.source_faults
     → (why : SolveFault) (s : Status)
-    → PutsUnplanned why before.held after.held before.sink_faults after.sink_faults s → Failures s before after
+    → PutsUnplanned STATUSES why before.held after.held before.sink_faults after.sink_faults s → Failures s before after
 unplanned-failures before after files source fault.NoMemory s (is, kept, same) = rw is (record { files = files; source = source; sink = same })
 unplanned-failures before after files source (fault.Overflow pivots number) s (inl (is, wrote, same)) = rw is (record { files = files; source = source; sink = same })
 unplanned-failures before after files source (fault.Overflow pivots number) s (inr (is, front, rose)) = rw is (source, inl files)
@@ -49,7 +51,7 @@ unplanned-failures before after files source (fault.Overflow pivots number) s (i
 pub without-plan : {T : Type 0} (job : Job) (m : Mode) (net : NetworkValue) (before after : Outside) → mode_of_job job ≡ Some m
     → Opens (Some job) job before net → LeftStream before after → after.file_faults ≡ before.file_faults → after.source_faults ≡ before.source_faults
     → (planned : Result T SolveFault) → IfErr planned (IsStartFault net m) → (s : Status)
-    → TellsUnplanned planned before.held after.held before.sink_faults after.sink_faults s
+    → TellsUnplanned STATUSES planned before.held after.held before.sink_faults after.sink_faults s
     → Ends (Some job) before after s × Failures s before after
 without-plan job m net before after has opens left files source (Ok made) is s told = absurd told
 without-plan job m net before after has opens left files source (Err why) is s told =

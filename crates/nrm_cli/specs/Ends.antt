@@ -1,5 +1,5 @@
 -- How the program ends: what each status says of the words, the files, the stream and what was written.
-use Rattle.std.specs.Prelude.{ℕ, ℤ, [], ◌≡◌, ◌≢◌, ◌+◌, ◌≤◌, ◌⊎◌, List, length, take, Option, Some, None, Ok}
+use Rattle.std.specs.Prelude.{ℕ, ℤ, ◌≡◌, ◌+◌, ◌≤◌, ◌⊎◌, List, length, take, Option, Some, None, Ok}
 use Rattle.std.specs.Io.KnownBytes.{Consumes, IsAtEnd}
 use Rattle.nrm_edge.specs.Fetch.{Folder}
 use Rattle.nrm_model.specs.declared.mode.Mode.{Mode}
@@ -136,7 +136,7 @@ status_of (verdict.WrongProduct j) = status.Wrong
 status_of (verdict.WrongLeg i) = status.Wrong
 status_of verdict.WrongValue = status.Wrong
 
--- a status with its whole output, or want of memory with nothing written
+-- a status with its whole output, or memory ran out and nothing was written
 abbrev pub OrRanOut : Outside → Outside → Status → Status → List ℕ → Type 0
 OrRanOut before after s wanted output = ((s ≡ wanted) × Wrote before after output) ⊎ ((s ≡ status.NoMemory) × WroteNothing before after)
 
@@ -184,7 +184,3 @@ abbrev pub Completes : Option Job → Outside → Outside → Status → Type 0
 Completes asked before after s =
     (job : Job) (net : NetworkValue) → asked ≡ Some job → HasNetwork job before.files net → NothingHinders job before after
     → CompletesJob job net before after s
-
--- after every status but that of a failed output nothing is kept back, from an output on that kept nothing back
-abbrev pub SentOn : Status → List ℕ → List ℕ → Type 0
-SentOn result unsent unsent' = result ≢ status.WriteFault → unsent ≡ [] → unsent' ≡ []

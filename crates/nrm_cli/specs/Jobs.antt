@@ -24,44 +24,46 @@ pub data Job : Type 0 where
   cut_leg : List ℕ → List ℕ → ℕ → Job
   value_leg : List ℕ → List ℕ → Job
 
--- the network of a job: that of its file, where the files are told; or that which is made of a number, whatever the files
+-- what the network of a job is read or made of: a file, or a number
+pub data Origin : Type 0 where
+  of_file : List ℕ → Origin
+  of_number : ℕ → Origin
+
+abbrev pub origin_of : Job → Origin
+origin_of (run_file m file) = of_file file
+origin_of (plan_file m file) = of_file file
+origin_of (check_file file certificate) = of_file file
+origin_of (print_file file) = of_file file
+origin_of (run_made m number) = of_number number
+origin_of (cut_leg file leg groups) = of_file file
+origin_of (value_leg file leg) = of_file file
+
+-- the network of an origin: that of its file, where the files are told; or that which is made of a number, whatever the files
+abbrev pub HasNetworkFrom : Origin → Option Folder → NetworkValue → Type 0
+HasNetworkFrom (of_file file) told net = (files : Folder) × (told ≡ Some files) × (network_under (files file) ≡ Ok net)
+HasNetworkFrom (of_number number) told net = net ≡ made_network number
+
 abbrev pub HasNetwork : Job → Option Folder → NetworkValue → Type 0
-HasNetwork (run_file m file) told net = (files : Folder) × (told ≡ Some files) × (network_under (files file) ≡ Ok net)
-HasNetwork (plan_file m file) told net = (files : Folder) × (told ≡ Some files) × (network_under (files file) ≡ Ok net)
-HasNetwork (check_file file certificate) told net = (files : Folder) × (told ≡ Some files) × (network_under (files file) ≡ Ok net)
-HasNetwork (print_file file) told net = (files : Folder) × (told ≡ Some files) × (network_under (files file) ≡ Ok net)
-HasNetwork (run_made m number) told net = net ≡ made_network number
-HasNetwork (cut_leg file leg groups) told net = (files : Folder) × (told ≡ Some files) × (network_under (files file) ≡ Ok net)
-HasNetwork (value_leg file leg) told net = (files : Folder) × (told ≡ Some files) × (network_under (files file) ≡ Ok net)
+HasNetwork job told net = HasNetworkFrom (origin_of job) told net
 
 -- a job that names a file, and one that takes the stream
+abbrev pub IsFile : Origin → Type 0
+IsFile (of_file file) = ⊤
+IsFile (of_number number) = ⊥
+
 abbrev pub NamesFile : Job → Type 0
-NamesFile (run_file m file) = ⊤
-NamesFile (plan_file m file) = ⊤
-NamesFile (check_file file certificate) = ⊤
-NamesFile (print_file file) = ⊤
-NamesFile (run_made m number) = ⊥
-NamesFile (cut_leg file leg groups) = ⊤
-NamesFile (value_leg file leg) = ⊤
+NamesFile job = IsFile (origin_of job)
 
 abbrev pub TakesStream : Job → Type 0
 TakesStream (run_file m file) = ⊤
-TakesStream (plan_file m file) = ⊥
-TakesStream (check_file file certificate) = ⊥
-TakesStream (print_file file) = ⊥
-TakesStream (run_made m number) = ⊥
-TakesStream (cut_leg file leg groups) = ⊥
-TakesStream (value_leg file leg) = ⊥
+TakesStream _ = ⊥
 
 -- the mode of a job that has an opening plan
 abbrev pub mode_of_job : Job → Option Mode
 mode_of_job (run_file m file) = Some m
 mode_of_job (plan_file m file) = Some m
-mode_of_job (check_file file certificate) = None
-mode_of_job (print_file file) = None
 mode_of_job (run_made m number) = Some m
-mode_of_job (cut_leg file leg groups) = None
-mode_of_job (value_leg file leg) = None
+mode_of_job _ = None
 
 -- a made run, where its mode and its number are good
 abbrev pub made_run_of : Option Mode → Option ℕ → Option Job

@@ -79,7 +79,7 @@ summary_line net replies s =
     (hindsight_word (last_of replies)))
 
 -- a text is the summary of a run from the opening with a plan, over the commands that are made of a number, in which no
--- line wants for memory
+-- line runs out of memory
 pub record MadeRun (net : NetworkValue) (plan : PlanValue) (number : ℕ) (text : List ℕ) : Type 0 where
   pub replies : List Reply
   pub last : SeatState

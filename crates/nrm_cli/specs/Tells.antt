@@ -1,6 +1,5 @@
 -- The texts that the program tells, each with its status and its cause.
 use Rattle.std.specs.Prelude.{ℕ, ℤ, ◌≡◌, ◌≢◌, List, Option, Some, None, Ok, Err}
-use Rattle.nrm_model.specs.Limits.{IsNetwork}
 use Rattle.nrm_model.specs.Network.{NetworkValue}
 use Rattle.nrm_model.specs.declared.mode.Mode.{Mode}
 use Rattle.nrm_network.specs.Canonical.{canonical_file}
@@ -19,37 +18,33 @@ use Rattle.nrm_outside.specs.Outside.{Outside, OnFile, FilesFailed, Wrote, Wrote
 use Rattle.nrm_outside.specs.Refusals.{Refusal, network_under, refusal_line, file_fault_line}
 use Rattle.nrm_outside.specs.Words.{overflow_line, told_pivots}
 use Rattle.nrm_cli.specs.Certificates.{LacksCertificate, certificate_under, lacking_line, verdict_line}
-use Rattle.nrm_cli.specs.Jobs.{Job, run_file, plan_file, check_file, print_file, run_made, cut_leg, value_leg, mode_of_job, NamesFile}
-use Rattle.nrm_cli.specs.Jobs.{usage_line}
+use Rattle.nrm_cli.specs.Jobs.{Job, plan_file, check_file, print_file, run_made, cut_leg, value_leg, mode_of_job, NamesFile}
+use Rattle.nrm_cli.specs.Jobs.{Origin, of_file, of_number, origin_of, usage_line}
 use Rattle.nrm_cli.specs.LegThresholds.{CutsTold}
 use Rattle.nrm_cli.specs.LegValues.{ValuesTold}
 use Rattle.nrm_cli.specs.Made.{MadeRun}
 use Rattle.nrm_cli.specs.declared.status.Status.{Status}
 use Rattle.nrm_cli.specs.declared.status.Status.TheVariants as status
 
--- where the files are told, the file of a job gives this network; and a number makes it
+-- where the files are told, the file of an origin gives this network; and a number makes it
+abbrev pub GivesNetworkFrom : Origin → Option Folder → NetworkValue → Type 0
+GivesNetworkFrom (of_file file) files net = OnFile files file (λ contents. network_under contents ≡ Ok net)
+GivesNetworkFrom (of_number number) files net = net ≡ made_network number
+
 abbrev pub GivesNetwork : Job → Option Folder → NetworkValue → Type 0
-GivesNetwork (run_file m file) files net = OnFile files file (λ contents. network_under contents ≡ Ok net)
-GivesNetwork (plan_file m file) files net = OnFile files file (λ contents. network_under contents ≡ Ok net)
-GivesNetwork (check_file file certificate) files net = OnFile files file (λ contents. network_under contents ≡ Ok net)
-GivesNetwork (print_file file) files net = OnFile files file (λ contents. network_under contents ≡ Ok net)
-GivesNetwork (run_made m number) files net = net ≡ made_network number
-GivesNetwork (cut_leg file leg groups) files net = OnFile files file (λ contents. network_under contents ≡ Ok net)
-GivesNetwork (value_leg file leg) files net = OnFile files file (λ contents. network_under contents ≡ Ok net)
+GivesNetwork job files net = GivesNetworkFrom (origin_of job) files net
 
 -- the words ask for a job, and it has this network
 abbrev pub Opens : Option Job → Job → Outside → NetworkValue → Type 0
 Opens asked job before net = (asked ≡ Some job) × GivesNetwork job before.files net
 
--- where the files are told, the file of a job is refused so; a made network never is
+-- where the files are told, the file of an origin is refused so; a made network never is
+abbrev pub RefusesNetworkFrom : Origin → Option Folder → Refusal → Type 0
+RefusesNetworkFrom (of_file file) files refusal = OnFile files file (λ contents. network_under contents ≡ Err refusal)
+RefusesNetworkFrom (of_number number) files refusal = ⊥
+
 abbrev pub RefusesNetwork : Job → Option Folder → Refusal → Type 0
-RefusesNetwork (run_file m file) files refusal = OnFile files file (λ contents. network_under contents ≡ Err refusal)
-RefusesNetwork (plan_file m file) files refusal = OnFile files file (λ contents. network_under contents ≡ Err refusal)
-RefusesNetwork (check_file file certificate) files refusal = OnFile files file (λ contents. network_under contents ≡ Err refusal)
-RefusesNetwork (print_file file) files refusal = OnFile files file (λ contents. network_under contents ≡ Err refusal)
-RefusesNetwork (run_made m number) files refusal = ⊥
-RefusesNetwork (cut_leg file leg groups) files refusal = OnFile files file (λ contents. network_under contents ≡ Err refusal)
-RefusesNetwork (value_leg file leg) files refusal = OnFile files file (λ contents. network_under contents ≡ Err refusal)
+RefusesNetwork job files refusal = RefusesNetworkFrom (origin_of job) files refusal
 
 -- the words ask for a job whose file is refused so
 pub record Refuses (asked : Option Job) (before : Outside) (refusal : Refusal) : Type 0 where

@@ -113,7 +113,7 @@ fn line_numbering(text: &[u8], number: u32, end: &[u8]) -> Line
     line
 }
 
-// The line that says why a certificate is refused. `None` exactly for want of memory.
+// The line that says why a certificate is refused. `None` exactly if memory runs out.
 fn line_of_fault(net: &Network, fault: CertFault) -> Option<Line>
     requires { IsOfNetwork net.now fault }
     ensures { result ≡ option_map (λ cause. lacking_line net.now (refused_for cause)) (refusal_of fault) }
@@ -139,7 +139,7 @@ fn line_of_fault(net: &Network, fault: CertFault) -> Option<Line>
 }
 
 impl NoCertificate {
-    /// The line that says why there is no certificate. `None` exactly for want of memory.
+    /// The line that says why there is no certificate. `None` exactly if memory runs out.
     pub(crate) fn line(self, net: &Network) -> Option<Line>
         requires { IsLackOf net.now self }
         ensures { result ≡ lack_line net.now self }

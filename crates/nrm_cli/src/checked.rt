@@ -3,14 +3,15 @@ ghost use Rattle.std.specs.Prelude.{◌≡◌, ◌≤◌, IfOk, length};
 ghost use Rattle.nrm_fraction.specs.Large.{size_limit};
 ghost use Rattle.nrm_lp.specs.Shape.{HasShape};
 ghost use Rattle.nrm_dlp.specs.Programs.{opening_program};
-ghost use Rattle.nrm_cli.specs.Ends.{SentOn, status_of};
+ghost use Rattle.nrm_outside.specs.Outside.{SentOn};
+ghost use Rattle.nrm_cli.specs.Ends.{status_of};
 ghost use Rattle.nrm_cli.specs.Inner.Does.{DoesBeside, files_and_sink};
 ghost use Rattle.nrm_cli.specs.Jobs.{check_file as check_job};
 ghost use Rattle.nrm_cli.specs.Inner.Parts.{ChecksFile, PutsCompared, PutsVerdict};
 
 use crate::Status;
 use crate::certificate::{line_of_verdict, open_certificate};
-use crate::put::{network_or_told, put_line};
+use crate::status::STATUSES;
 use nrm_dlp::opening_program;
 use nrm_dual::{Verdict, check};
 use nrm_edge::{Files, Sink};
@@ -44,13 +45,13 @@ fn put_compared<K: Sink>(
     ensures puts { PutsCompared net.now certificate.now program
         (K.held sink.old) (K.held sink.new) (K.faults sink.old) (K.faults sink.new) result }
     ensures later { K.faults sink.old ≤ K.faults sink.new }
-    ensures sent { SentOn result (K.unsent sink.old) (K.unsent sink.new) }
+    ensures sent { SentOn Status.WriteFault result (K.unsent sink.old) (K.unsent sink.new) }
 {
     match program {
         Ok(program) => {
             let verdict = check(&program, certificate);
             let line = line_of_verdict(net, verdict);
-            put_line(sink, line.bytes(), status_with(verdict))
+            STATUSES.put_line(sink, line.bytes(), status_with(verdict))
         }
         Err(_) => Status::NoMemory,
     }
@@ -66,7 +67,7 @@ fn put_checked<K: Sink>(
     requires { HasShape size_limit (length net.now.products) (length net.now.legs) certificate.now }
     ensures puts { PutsVerdict net.now certificate.now (K.held sink.old) (K.held sink.new) (K.faults sink.old) (K.faults sink.new) result }
     ensures later { K.faults sink.old ≤ K.faults sink.new }
-    ensures sent { SentOn result (K.unsent sink.old) (K.unsent sink.new) }
+    ensures sent { SentOn Status.WriteFault result (K.unsent sink.old) (K.unsent sink.new) }
 {
     put_compared(net, opening_program(alloc, net), certificate, sink)
 }
@@ -83,12 +84,12 @@ fn check_certificate<F: Files, K: Sink>(
         (F.faults files.old) (F.faults files.new) (K.faults sink.old) (K.faults sink.new) result }
     ensures files { F.contents files.new ≡ F.contents files.old }
     ensures later { K.faults sink.old ≤ K.faults sink.new }
-    ensures sent { SentOn result (K.unsent sink.old) (K.unsent sink.new) }
+    ensures sent { SentOn Status.WriteFault result (K.unsent sink.old) (K.unsent sink.new) }
 {
     match open_certificate(alloc, files, name, net) {
         Ok(certificate) => put_checked(alloc, net, &certificate, sink),
         Err(reason) => match reason.line(net) {
-            Some(line) => put_line(sink, line.bytes(), reason.status()),
+            Some(line) => STATUSES.put_line(sink, line.bytes(), reason.status()),
             None => Status::NoMemory,
         },
     }
@@ -104,9 +105,9 @@ pub(crate) fn check_file<F: Files, K: Sink>(
 ) -> Status
     ensures does { let at = files_and_sink F.contents F.faults K.held K.faults in
         DoesBeside (check_job name.now certificate.now) (at files.old sink.old) (at files.new sink.new) result }
-    ensures sent { SentOn result (K.unsent sink.old) (K.unsent sink.new) }
+    ensures sent { SentOn Status.WriteFault result (K.unsent sink.old) (K.unsent sink.new) }
 {
-    match network_or_told(open_network(alloc, files, name), sink) {
+    match STATUSES.network_or_told(open_network(alloc, files, name), sink) {
         Ok(net) => check_certificate(alloc, &net, certificate, files, sink),
         Err(told) => told,
     }

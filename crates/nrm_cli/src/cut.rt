@@ -3,14 +3,14 @@ ghost use Rattle.std.specs.Prelude.{◌≡◌, ◌≤◌, ◌+◌, ◌*◌, ◌+
 ghost use Rattle.std.specs.Int.{IsInRange};
 ghost use Rattle.nrm_text.specs.Words.{spaced};
 ghost use Rattle.nrm_cluster.specs.declared.limits.TheConstants.{MOST_GROUPS};
-ghost use Rattle.nrm_cli.specs.Ends.{SentOn};
+ghost use Rattle.nrm_outside.specs.Outside.{SentOn};
 ghost use Rattle.nrm_cli.specs.Inner.Does.{DoesBeside, files_and_sink};
 ghost use Rattle.nrm_cli.specs.Inner.Parts.{PutsTold};
 ghost use Rattle.nrm_cli.specs.Jobs.{cut_leg as cut_job};
 ghost use Rattle.nrm_cli.specs.LegThresholds.{CutsTold, IsCut, IsUnused, cuts_text, numbers_line};
 
 use crate::Status;
-use crate::put::{network_or_told, put_line};
+use crate::status::STATUSES;
 use nrm_cluster::{Cuts, best_cuts, leg_points};
 use nrm_edge::{Files, Sink};
 use nrm_model::Network;
@@ -94,11 +94,11 @@ fn put_cuts<K: Sink>(alloc: Global, net: &Network, name: &Name, groups: u8, sink
     ensures puts { PutsTold (CutsTold net.now name.now groups)
         (K.held sink.old) (K.held sink.new) (K.faults sink.old) (K.faults sink.new) result }
     ensures later { K.faults sink.old ≤ K.faults sink.new }
-    ensures sent { SentOn result (K.unsent sink.old) (K.unsent sink.new) }
+    ensures sent { SentOn Status.WriteFault result (K.unsent sink.old) (K.unsent sink.new) }
 {
     match cuts_of(alloc, net, name, groups) {
-        Ok(Some(text)) => put_line(sink, text.bytes(), Status::Done),
-        Ok(None) => put_line(sink, b"no leg\n", Status::NoLeg),
+        Ok(Some(text)) => STATUSES.put_line(sink, text.bytes(), Status::Done),
+        Ok(None) => STATUSES.put_line(sink, b"no leg\n", Status::NoLeg),
         Err(_) => Status::NoMemory,
     }
 }
@@ -115,9 +115,9 @@ pub(crate) fn cut_leg<F: Files, K: Sink>(
     requires { IsInRange 1 MOST_GROUPS groups }
     ensures does { let at = files_and_sink F.contents F.faults K.held K.faults in
         DoesBeside (cut_job file.now leg.now groups) (at files.old sink.old) (at files.new sink.new) result }
-    ensures sent { SentOn result (K.unsent sink.old) (K.unsent sink.new) }
+    ensures sent { SentOn Status.WriteFault result (K.unsent sink.old) (K.unsent sink.new) }
 {
-    match network_or_told(open_network(alloc, files, file), sink) {
+    match STATUSES.network_or_told(open_network(alloc, files, file), sink) {
         Ok(net) => put_cuts(alloc, &net, leg, groups, sink),
         Err(told) => told,
     }

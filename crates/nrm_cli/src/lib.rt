@@ -8,7 +8,6 @@ mod cut;
 mod made;
 mod planned;
 mod printed;
-mod put;
 mod served;
 mod status;
 #[cfg(test)]

@@ -9,7 +9,7 @@ ghost use Rattle.nrm_control.specs.Standing.{ControlValue, IsControl};
 ghost use Rattle.nrm_session.specs.Answering.{IsTellable, reply_in};
 ghost use Rattle.nrm_session.specs.declared.reply.Reply.TheVariants as answered;
 ghost use Rattle.nrm_gen.specs.MadeCommands.{command_count, made_commands};
-ghost use Rattle.nrm_cli.specs.Ends.{SentOn};
+ghost use Rattle.nrm_outside.specs.Outside.{SentOn};
 ghost use Rattle.nrm_cli.specs.Jobs.{run_made as made_job};
 ghost use Rattle.nrm_cli.specs.Made.{count_words, hindsight_word, summary_words};
 ghost use Rattle.nrm_cli.specs.Inner.Does.{DoesBeside, sink_beside};
@@ -17,7 +17,7 @@ ghost use Rattle.nrm_cli.specs.Inner.Parts.{AnswersMade, HasBegun, PutsSummary, 
 
 use crate::Status;
 use crate::counts::Counts;
-use crate::put::{planned_or_told, put_line};
+use crate::status::STATUSES;
 use nrm_control::Controller;
 use nrm_edge::Sink;
 use nrm_gen::{Maker, made};
@@ -26,7 +26,7 @@ use nrm_session::{Reply, carry_out};
 use nrm_text::Line;
 use std::alloc::Global;
 
-// A reply. `None` exactly for want of memory.
+// A reply. `None` exactly if memory runs out.
 fn with_memory(reply: Reply) -> Option<Reply>
     ensures { MatchOption result (reply ≡ answered.Memory) (λ told. (told ≡ reply) × (reply ≢ answered.Memory)) }
 {
@@ -36,7 +36,7 @@ fn with_memory(reply: Reply) -> Option<Reply>
     }
 }
 
-// The replies to all commands that are left but the last one, counted, and that to the last. `None` where a line wants for memory.
+// The replies to all commands that are left but the last one, counted, and that to the last. `None` where a line runs out of memory.
 fn answer_all(
     alloc: Global,
     controller: &mut Controller,
@@ -114,12 +114,12 @@ fn put_summary<K: Sink>(
     ensures puts { (net : NetworkValue) (number : ℕ) → HasBegun net controller.old → rest_of maker.old ≡ made_commands number
         → PutsSummary net controller.old.plan number (K.held sink.old) (K.held sink.new) (K.faults sink.old) (K.faults sink.new) result }
     ensures later { K.faults sink.old ≤ K.faults sink.new }
-    ensures sent { SentOn result (K.unsent sink.old) (K.unsent sink.new) }
+    ensures sent { SentOn Status.WriteFault result (K.unsent sink.old) (K.unsent sink.new) }
 {
     match answer_all(alloc, controller, maker) {
         Some((counts, last)) => {
             let revenue = controller.book().revenue();
-            put_line(
+            STATUSES.put_line(
                 sink,
                 line_of_summary(&counts, revenue, last).bytes(),
                 Status::Done,
@@ -130,16 +130,16 @@ fn put_summary<K: Sink>(
 }
 
 /// Makes the network and the commands of a number, has the controller of this mode answer them, and writes one line that sums the
-/// replies up. Where a line wants for memory nothing is written.
+/// replies up. Where a line runs out of memory nothing is written.
 pub(crate) fn run_made<K: Sink>(alloc: Global, mode: Mode, number: u32, sink: &mut K) -> Status
     ensures does { (files : Option Folder) (faults : ℕ) → let at = sink_beside K.held K.faults files faults in
         DoesBeside (made_job mode number) (at sink.old) (at sink.new) result }
-    ensures sent { SentOn result (K.unsent sink.old) (K.unsent sink.new) }
+    ensures sent { SentOn Status.WriteFault result (K.unsent sink.old) (K.unsent sink.new) }
 {
     let Ok((net, maker)) = made(alloc, number) else {
         return Status::NoMemory;
     };
-    match planned_or_told(Controller::start(alloc, net, mode), sink) {
+    match STATUSES.planned_or_told(Controller::start(alloc, net, mode), sink) {
         Ok(controller) => {
             let mut controller = controller;
             let mut maker = maker;

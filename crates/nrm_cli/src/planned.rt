@@ -5,13 +5,13 @@ ghost use Rattle.nrm_edge.specs.Causes.{HasCause};
 ghost use Rattle.nrm_edge.specs.Pieces.{AppendsCut};
 ghost use Rattle.nrm_plan.specs.Plans.{IsPlanOf};
 ghost use Rattle.nrm_report.specs.Texts.{plan_text};
-ghost use Rattle.nrm_cli.specs.Ends.{SentOn};
+ghost use Rattle.nrm_outside.specs.Outside.{SentOn};
 ghost use Rattle.nrm_cli.specs.Jobs.{plan_file as plan_job};
 ghost use Rattle.nrm_cli.specs.Inner.Does.{DoesBeside, files_and_sink};
 ghost use Rattle.nrm_cli.specs.Inner.Parts.{PutsPlan};
 
 use crate::Status;
-use crate::put::{network_or_told, planned_or_told};
+use crate::status::STATUSES;
 use nrm_edge::{Failed, Files, Sink};
 use nrm_model::{Mode, Network};
 use nrm_outside::open_network;
@@ -35,9 +35,9 @@ fn send_plan<K: Sink>(net: &Network, plan: &Plan, sink: &mut K) -> Result<(), Fa
 fn put_plan<K: Sink>(alloc: Global, net: &Network, mode: Mode, sink: &mut K) -> Status
     ensures puts { PutsPlan net.now mode (K.held sink.old) (K.held sink.new) (K.faults sink.old) (K.faults sink.new) result }
     ensures later { K.faults sink.old ≤ K.faults sink.new }
-    ensures sent { SentOn result (K.unsent sink.old) (K.unsent sink.new) }
+    ensures sent { SentOn Status.WriteFault result (K.unsent sink.old) (K.unsent sink.new) }
 {
-    let plan = match planned_or_told(Plan::opening(alloc, net, mode), sink) {
+    let plan = match STATUSES.planned_or_told(Plan::opening(alloc, net, mode), sink) {
         Ok(plan) => plan,
         Err(told) => return told,
     };
@@ -57,9 +57,9 @@ pub(crate) fn plan_file<F: Files, K: Sink>(
 ) -> Status
     ensures does { let at = files_and_sink F.contents F.faults K.held K.faults in
         DoesBeside (plan_job mode name.now) (at files.old sink.old) (at files.new sink.new) result }
-    ensures sent { SentOn result (K.unsent sink.old) (K.unsent sink.new) }
+    ensures sent { SentOn Status.WriteFault result (K.unsent sink.old) (K.unsent sink.new) }
 {
-    match network_or_told(open_network(alloc, files, name), sink) {
+    match STATUSES.network_or_told(open_network(alloc, files, name), sink) {
         Ok(net) => put_plan(alloc, &net, mode, sink),
         Err(told) => told,
     }

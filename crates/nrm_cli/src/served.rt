@@ -1,14 +1,14 @@
 //! Serves the stream: the controller of a network file answers each line.
 ghost use Rattle.std.specs.Prelude.{◌≡◌, ◌≤◌, Some};
 ghost use Rattle.nrm_session.specs.Serving.{CountsFaults, Serves, streams};
-ghost use Rattle.nrm_outside.specs.Outside.{outside};
-ghost use Rattle.nrm_cli.specs.Ends.{SentOn, stream_limit};
+ghost use Rattle.nrm_outside.specs.Outside.{SentOn, outside};
+ghost use Rattle.nrm_cli.specs.Ends.{stream_limit};
 ghost use Rattle.nrm_cli.specs.Inner.Does.{Does};
 ghost use Rattle.nrm_cli.specs.Jobs.{run_file as run_job};
 ghost use Rattle.nrm_cli.specs.Inner.Parts.{status_at};
 
 use crate::Status;
-use crate::put::{network_or_told, planned_or_told};
+use crate::status::STATUSES;
 use nrm_control::Controller;
 use nrm_edge::{Files, Sink, Source};
 use nrm_model::{MOST_STREAM_BYTES, Mode};
@@ -40,7 +40,7 @@ fn answer_stream<S: Source, K: Sink>(
         Serves controller.old controller.new (at source.old sink.old) (at source.new sink.new) stream_limit result }
     ensures counts { let at = streams S.coming S.faults K.held K.faults in
         CountsFaults (at source.old sink.old) (at source.new sink.new) result }
-    ensures sent { SentOn (status_at result) (K.unsent sink.old) (K.unsent sink.new) }
+    ensures sent { SentOn Status.WriteFault (status_at result) (K.unsent sink.old) (K.unsent sink.new) }
 {
     serve(alloc, controller, source, sink, MOST_STREAM_BYTES)
 }
@@ -56,13 +56,13 @@ pub(crate) fn run_file<F: Files, S: Source, K: Sink>(
 ) -> Status
     ensures does { let at = outside F.contents F.faults S.coming S.faults K.held K.faults in
         Does (Some (run_job mode name.now)) (at files.old source.old sink.old) (at files.new source.new sink.new) result }
-    ensures sent { SentOn result (K.unsent sink.old) (K.unsent sink.new) }
+    ensures sent { SentOn Status.WriteFault result (K.unsent sink.old) (K.unsent sink.new) }
 {
-    let net = match network_or_told(open_network(alloc, files, name), sink) {
+    let net = match STATUSES.network_or_told(open_network(alloc, files, name), sink) {
         Ok(net) => net,
         Err(told) => return told,
     };
-    match planned_or_told(Controller::start(alloc, net, mode), sink) {
+    match STATUSES.planned_or_told(Controller::start(alloc, net, mode), sink) {
         Ok(controller) => {
             let mut controller = controller;
             status_at(answer_stream(alloc, &mut controller, source, sink))

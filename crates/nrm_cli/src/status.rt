@@ -2,6 +2,8 @@
 ghost use Rattle.std.specs.Prelude.{◌≡◌};
 ghost use Rattle.nrm_cli.specs.Numbers.{number_of};
 
+use nrm_outside::Statuses;
+
 /// How the program ended. Those that come with a line of text write it to standard output.
 #[derive(Clone, Copy, Debug, PartialEq, Eq)]
 pub enum Status {
@@ -17,7 +19,7 @@ pub enum Status {
     ReadFault,
     /// Standard output failed.
     WriteFault,
-    /// Want of memory, before anything was written.
+    /// Memory ran out, before anything was written.
     NoMemory,
     /// The opening program leaves the range of the solver's numbers.
     Overflow,
@@ -39,3 +41,12 @@ impl Status {
         self as u8
     }
 }
+
+/// Those by which it says what each program over a network may have to say.
+pub(crate) const STATUSES: Statuses<Status> = Statuses {
+    refused: Status::Refused,
+    file_fault: Status::FileFault,
+    overflow: Status::Overflow,
+    no_memory: Status::NoMemory,
+    write_fault: Status::WriteFault,
+};

@@ -4,15 +4,14 @@ ghost use Rattle.nrm_session.specs.Headline.{RequestsAreAnswered};
 ghost use Rattle.nrm_session.specs.Hindsight.{HindsightBounds};
 ghost use Rattle.nrm_session.specs.LastPlan.{PrintedPricesAreOptimal};
 ghost use Rattle.nrm_session.specs.Laws.{EachListHasARun, OtherLinesNeedNoMemory, PlansAreKept, RepliesAreDetermined, RunsHaveFirstParts};
-ghost use Rattle.nrm_session.specs.Laws.{SeatsAreKept, StatesAreDetermined};
+ghost use Rattle.nrm_session.specs.Laws.{RunsOversellNoLeg, StatesAreDetermined};
 ghost use Rattle.nrm_session.specs.Money.{MoneyAddsUp};
 ghost use Rattle.nrm_session.specs.PhysicalSeats.{PhysicalSeatsDecideNothing};
 ghost use Rattle.nrm_cluster.specs.Laws.{NoGroupingCostsLess};
 ghost use Rattle.nrm_legdp.specs.Laws.{NoPolicyEarnsMore, ProtectionsEarnAll};
 ghost use Rattle.nrm_outside.specs.NetworkFile.{FilesGiveNetworks};
-ghost use Rattle.nrm_outside.specs.Outside.{outside};
+ghost use Rattle.nrm_outside.specs.Outside.{SentOn, outside};
 ghost use Rattle.nrm_cli.specs.Call.{Call};
-ghost use Rattle.nrm_cli.specs.Ends.{SentOn};
 ghost use Rattle.nrm_cli.specs.Jobs.{job_of};
 ghost use Rattle.nrm_cli.specs.LegMeans.{ValuesAreMeans};
 ghost use Rattle.nrm_cli.specs.LegTexts.{LegTextsAreDetermined};
@@ -26,8 +25,8 @@ use crate::cut::cut_leg;
 use crate::made::run_made;
 use crate::planned::plan_file;
 use crate::printed::print_file;
-use crate::put::put_line;
 use crate::served::run_file;
+use crate::status::STATUSES;
 use crate::valued::value_leg;
 use crate::words::{Asked, asked_in};
 use nrm_edge::{Files, Sink, Source};
@@ -48,7 +47,7 @@ fn run_asked<F: Files, S: Source, K: Sink>(
     requires { IfSome asked.now IsWithin }
     ensures does { let at = outside F.contents F.faults S.coming S.faults K.held K.faults in
         Does (option_map job_in asked.now) (at files.old source.old sink.old) (at files.new source.new sink.new) result }
-    ensures sent { SentOn result (K.unsent sink.old) (K.unsent sink.new) }
+    ensures sent { SentOn Status.WriteFault result (K.unsent sink.old) (K.unsent sink.new) }
 {
     match asked {
         Some(Asked::Run(mode, name)) => run_file(alloc, *mode, name, files, source, sink),
@@ -60,7 +59,7 @@ fn run_asked<F: Files, S: Source, K: Sink>(
         Some(Asked::Made(mode, number)) => run_made(alloc, *mode, *number, sink),
         Some(Asked::Cuts(name, leg, groups)) => cut_leg(alloc, name, leg, *groups, files, sink),
         Some(Asked::Values(name, leg)) => value_leg(alloc, name, leg, files, sink),
-        None => put_line(sink, USAGE, Status::Usage),
+        None => STATUSES.put_line(sink, USAGE, Status::Usage),
     }
 }
 
@@ -77,7 +76,7 @@ fn run_asked<F: Files, S: Source, K: Sink>(
 /// that nothing is kept back at the end.
 ///
 /// The other clauses are laws about every run of a session, and so about that one. A request for a product of the
-/// network is sold exactly when on every leg the party and what is kept from the product fit the seats left, and its
+/// network is sold exactly when on every leg the party and what is protected from the product fit the seats left, and its
 /// fare reaches the sum of its legs' bid prices where the mode has them; else the first leg that is short is named, or
 /// the fare, and no other reply is given; what is sold stands (`requests`). No leg has more seats sold than are authorised
 /// (`seats`), and physical seats decide nothing: from one state, with its plan, on networks that differ in them alone the replies differ
@@ -104,9 +103,9 @@ pub fn run<F: Files, S: Source, K: Sink>(
 ) -> Status
     ensures call { let at = outside F.contents F.faults S.coming S.faults K.held K.faults in
         Call (job_of (map string_bytes words.now)) (at files.old source.old sink.old) (at files.new source.new sink.new) result }
-    ensures sent { SentOn result (K.unsent sink.old) (K.unsent sink.new) }
+    ensures sent { SentOn Status.WriteFault result (K.unsent sink.old) (K.unsent sink.new) }
     ensures requests { RequestsAreAnswered }
-    ensures seats { SeatsAreKept }
+    ensures seats { RunsOversellNoLeg }
     ensures optimal { PlansAreKept }
     ensures printed { PrintedPricesAreOptimal }
     ensures hindsight { HindsightBounds }

@@ -9,7 +9,7 @@ ghost use Rattle.nrm_model.specs.declared.limits.TheConstants.{MOST_HISTORIES};
 ghost use Rattle.nrm_legdp.specs.declared.limits.TheConstants.{MOST_CLASSES};
 ghost use Rattle.nrm_legdp.specs.Classes.{count_told};
 ghost use Rattle.nrm_legdp.specs.Table.{AreClasses, values_of};
-ghost use Rattle.nrm_cli.specs.Ends.{SentOn};
+ghost use Rattle.nrm_outside.specs.Outside.{SentOn};
 ghost use Rattle.nrm_cli.specs.Inner.Does.{DoesBeside, files_and_sink};
 ghost use Rattle.nrm_cli.specs.Inner.Parts.{PutsTold};
 ghost use Rattle.nrm_cli.specs.Jobs.{value_leg as value_job};
@@ -18,7 +18,7 @@ ghost use Rattle.nrm_cli.specs.LegValues.{their_demand, values_text};
 ghost use Rattle.nrm_cli.specs.declared.status.Status.TheVariants as status;
 
 use crate::Status;
-use crate::put::{network_or_told, put_line};
+use crate::status::STATUSES;
 use nrm_edge::{Files, Sink};
 use nrm_legdp::{ClassFault, Classes, LegTable, leg_classes, leg_values};
 use nrm_model::Network;
@@ -169,12 +169,12 @@ fn put_values<K: Sink>(alloc: Global, net: &Network, name: &Name, sink: &mut K) 
         (K.held sink.old) (K.held sink.new) (K.faults sink.old) (K.faults sink.new) result }
     ensures memory { result ≡ status.NoMemory → HasClasses net.now name.now }
     ensures later { K.faults sink.old ≤ K.faults sink.new }
-    ensures sent { SentOn result (K.unsent sink.old) (K.unsent sink.new) }
+    ensures sent { SentOn Status.WriteFault result (K.unsent sink.old) (K.unsent sink.new) }
 {
     match values_on(alloc, net, name) {
-        Ok(text) => put_line(sink, text.bytes(), Status::Done),
+        Ok(text) => STATUSES.put_line(sink, text.bytes(), Status::Done),
         Err(ClassFault::Count(count)) => {
-            put_line(sink, line_of_no_classes(count).bytes(), Status::NoClass)
+            STATUSES.put_line(sink, line_of_no_classes(count).bytes(), Status::NoClass)
         }
         Err(ClassFault::NoMemory) => Status::NoMemory,
     }
@@ -191,9 +191,9 @@ pub(crate) fn value_leg<F: Files, K: Sink>(
 ) -> Status
     ensures does { let at = files_and_sink F.contents F.faults K.held K.faults in
         DoesBeside (value_job file.now leg.now) (at files.old sink.old) (at files.new sink.new) result }
-    ensures sent { SentOn result (K.unsent sink.old) (K.unsent sink.new) }
+    ensures sent { SentOn Status.WriteFault result (K.unsent sink.old) (K.unsent sink.new) }
 {
-    match network_or_told(open_network(alloc, files, file), sink) {
+    match STATUSES.network_or_told(open_network(alloc, files, file), sink) {
         Ok(net) => put_values(alloc, &net, leg, sink),
         Err(told) => told,
     }

@@ -84,7 +84,7 @@ fn lengths_of(
 /// The chosen division into at most so many pieces.
 ///
 /// # Errors
-/// Want of memory.
+/// Memory runs out.
 pub(crate) fn chosen_division(
     alloc: Global,
     values: &[u32],

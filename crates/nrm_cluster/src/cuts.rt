@@ -76,7 +76,7 @@ fn last_values(
 /// `weights` the seats that were asked for at each.
 ///
 /// # Errors
-/// Want of memory.
+/// Memory runs out.
 pub fn best_cuts(
     alloc: Global,
     values: &[u32],

@@ -11,7 +11,7 @@ use Rattle.nrm_model.proofs.Inventories.{legs-count, legs_of-product, product_of
 use Rattle.nrm_book.specs.declared.booking.Booking.{Booking}
 use Rattle.nrm_book.specs.Bookings.{left_on}
 use Rattle.nrm_book.proofs.Sold.{uses-each}
-use Rattle.nrm_plan.specs.Plans.{AreSeatsLeft, PlanValue, fare_refuses, kept_from}
+use Rattle.nrm_plan.specs.Plans.{AreSeatsLeft, PlanValue, fare_refuses, protected_from}
 use Rattle.nrm_control.specs.State.{seats_left}
 use Rattle.nrm_control.specs.Verdict.{leg_refuses, verdict_of}
 use Rattle.nrm_control.specs.declared.answer.Answer.TheVariants as answer
@@ -43,7 +43,7 @@ pub seats-cover : (net : NetworkValue) (inventory : Inventory) (plan : PlanValue
     → All (λ i. party ≤ left_on inventory bookings i) (legs_of inventory j)
 seats-cover net inventory plan bookings party j product legs is found same none =
     let own : legs_of inventory j ≡ legs = ap (λ (v : Inventory). legs_of v j) is ∙ legs_of-product net j product found ∙ sym same in
-    rw own (subst (λ (v : Inventory). All (λ i. party ≤ left_on v bookings i) legs) (sym is) (none-refuses (left_on (inventory_of net) bookings) (λ i. kept_from net plan i j) party legs (sym none)))
+    rw own (subst (λ (v : Inventory). All (λ i. party ≤ left_on v bookings i) legs) (sym is) (none-refuses (left_on (inventory_of net) bookings) (λ i. protected_from net plan i j) party legs (sym none)))
 
 -- what the first leg that refuses, if there is one, and then the fare, say of the verdict
 pub verdict-is : (net : NetworkValue) (plan : PlanValue) (bookings : List Booking) (next party j : ℕ) (product : Product) (legs : List ℕ) (refusing : Option ℕ)

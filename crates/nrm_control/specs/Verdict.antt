@@ -5,14 +5,14 @@ use Rattle.nrm_model.specs.Inventory.{inventory_of}
 use Rattle.nrm_model.specs.Network.{NetworkValue, product_of}
 use Rattle.nrm_book.specs.Bookings.{left_on}
 use Rattle.nrm_book.specs.declared.booking.Booking.{Booking}
-use Rattle.nrm_plan.specs.Plans.{PlanValue, fare_refuses, kept_from}
+use Rattle.nrm_plan.specs.Plans.{PlanValue, fare_refuses, protected_from}
 use Rattle.nrm_control.specs.declared.answer.Answer.{Answer}
 use Rattle.nrm_control.specs.declared.answer.Answer.TheVariants as answer
 
 -- a leg refuses where its seats left don't cover the party and the seats that the plan in force keeps from the product: those protected
 -- for the buckets above its own
 abbrev pub leg_refuses : NetworkValue → PlanValue → List Booking → ℕ → ℕ → ℕ → Bool
-leg_refuses net plan bookings j party i = nat_lt (left_on (inventory_of net) bookings i) (party + kept_from net plan i j)
+leg_refuses net plan bookings j party i = nat_lt (left_on (inventory_of net) bookings i) (party + protected_from net plan i j)
 
 -- the first leg that refuses, in the product's own order; else the fare, where it refuses by the plan in force; else the request is sold
 -- with the next number

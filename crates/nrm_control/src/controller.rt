@@ -52,7 +52,7 @@ impl Model for Controller {
     ghost invariant = { λ c. IsInForce c.network c.plan c.book c.tallies.items c.withheld };
 }
 
-// Whether the seats left of a product's leg don't cover the party and the seats that are kept from the product.
+// Whether the seats left of a product's leg don't cover the party and the seats that are protected from the product.
 fn refuses(net: &Network, plan: &Plan, book: &Book, leg: u8, product: u16, party: u16) -> bool
     requires plan { IsPlanOf net.now plan.now }
     requires book { book.now.inventory ≡ inventory_of net.now }
@@ -61,7 +61,7 @@ fn refuses(net: &Network, plan: &Plan, book: &Book, leg: u8, product: u16, party
     requires uses { uses_leg (inventory_of net.now) leg product ≡ true }
     ensures { result ≡ leg_refuses net.now plan.now book.now.bookings product party leg }
 {
-    let kept = plan.kept_from(net, leg, product);
+    let kept = plan.protected_from(net, leg, product);
     u32::from(book.left(leg)) < u32::from(party) + u32::from(kept)
 }
 
@@ -184,7 +184,7 @@ impl Controller {
         ensures begins { IfOk result (λ controller. controller
             ≡ record { net = net; plan = controller.plan; bookings = []; next = 1; tallies = tallies_of net []; withheld = 0 }) }
         ensures plan { IfOk result (λ controller. IsOpeningPlan net mode controller.plan) }
-        ensures kept { IfOk result IsControl }
+        ensures sound { IfOk result IsControl }
         ensures fault { IfErr result (IsStartFault net mode) }
     {
         let plan = Plan::opening(alloc, &net, mode)?;
@@ -207,7 +207,7 @@ impl Controller {
         ensures answer { result ≡ verdict_of self.old.net self.old.plan self.old.bookings self.old.next product party }
         ensures leg { IsOnNetwork self.old.net result }
         ensures changed { self.new ≡ with_answer self.old product party result }
-        ensures kept { IsControl self.new }
+        ensures sound { IsControl self.new }
         ensures state { (s : SeatState) → StandsFor self.old s → StandsFor self.new (after_request self.old.net s product party) }
     {
         let place = product as usize;
@@ -226,7 +226,7 @@ impl Controller {
         requires product { product < length self.now.net.products }
         ensures answer { result ≡ verdict_of self.now.net self.now.plan self.now.bookings self.now.next product party }
         ensures leg { IsOnNetwork self.now.net result }
-        ensures kept { IsControl self.now }
+        ensures sound { IsControl self.now }
     {
         verdict_on(&self.network, &self.plan, &self.book, product, party)
     }
@@ -236,7 +236,7 @@ impl Controller {
     pub fn load(&mut self, booking: Booking)
         requires { IsLoadable (book_of self.old) booking }
         ensures loaded { self.new ≡ with_answer self.old booking.product booking.party (Answer.Sold booking.number) }
-        ensures kept { IsControl self.new }
+        ensures sound { IsControl self.new }
         ensures state { (s : SeatState) → StandsFor self.old s
             → StandsFor self.new (after_answer s booking.product booking.party (Answer.Sold booking.number)) }
     {
@@ -260,7 +260,7 @@ impl Controller {
               withheld = self.old.withheld + withheld_by self.old.net self.old.bookings number;
             } }
         ensures dead { IfNone result (self.new ≡ self.old) }
-        ensures kept { IsControl self.new }
+        ensures sound { IsControl self.new }
         ensures state { (s : SeatState) → StandsFor self.old s → StandsFor self.new (after_cancellation self.old.net s number) }
     {
         let booking = self.book.remove(number)?;
@@ -291,7 +291,7 @@ impl Controller {
         ensures fault { IfErr result (IsPlanFault self.old.net self.old.plan.mode (seats_left self.old.net self.old.bookings) period) }
         ensures unchanged { OnErr result (self.new ≡ self.old) }
         ensures rest { self.new ≡ record self.old { plan = self.new.plan } }
-        ensures kept { IsControl self.new }
+        ensures sound { IsControl self.new }
         ensures state { (s : SeatState) → StandsFor self.old s → StandsFor self.new (with_plan s self.new.plan) }
     {
         let mode = self.plan.mode();
@@ -319,7 +319,7 @@ impl Controller {
     pub fn withheld(&self) -> u128
         ensures withheld { result ≡ self.now.withheld }
         ensures small { result < 2 ^ 77 }
-        ensures kept { IsControl self.now }
+        ensures sound { IsControl self.now }
     {
         self.withheld
     }
@@ -329,7 +329,7 @@ impl Controller {
     pub fn tally(&self, product: u16) -> u16
         requires { product < length self.now.net.products }
         ensures tally { result ≡ slice_index self.now.tallies product }
-        ensures kept { IsControl self.now }
+        ensures sound { IsControl self.now }
     {
         self.tallies[product as usize]
     }
@@ -337,7 +337,7 @@ impl Controller {
     /// The network.
     pub fn network(&self) -> &Network
         ensures network { result.now ≡ self.now.net }
-        ensures kept { IsControl self.now }
+        ensures sound { IsControl self.now }
     {
         &self.network
     }
@@ -345,7 +345,7 @@ impl Controller {
     /// The plan in force: that of the last optimisation that was made.
     pub fn plan(&self) -> &Plan
         ensures plan { result.now ≡ self.now.plan }
-        ensures kept { IsControl self.now }
+        ensures sound { IsControl self.now }
     {
         &self.plan
     }
@@ -353,7 +353,7 @@ impl Controller {
     /// The book of what was sold. It is one of the network, on which no leg has more seats sold than are authorised.
     pub fn book(&self) -> &Book
         ensures book { result.now ≡ book_of self.now }
-        ensures kept { IsControl self.now }
+        ensures sound { IsControl self.now }
     {
         &self.book
     }

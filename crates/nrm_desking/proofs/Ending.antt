@@ -1,14 +1,11 @@
 -- How a call ends, out of how its parts went.
-use Rattle.std.proofs.Common.{ℕ, ◌≡◌, ◌≢◌, ◌∙◌, false, List, [], Option, Some, Ok, Err, refl, sym, ap, subst, inl, inr}
+use Rattle.std.proofs.Common.{ℕ, ◌≡◌, ◌≢◌, false, List, Option, Some, Ok, Err, refl, sym, subst, inl, inr}
 use Rattle.std.specs.Prelude.{⊤}
 use Rattle.nrm_edge.specs.Causes.{Rose}
 use Rattle.nrm_model.specs.Network.{NetworkValue}
 use Rattle.nrm_simplex.specs.declared.fault.SolveFault.{SolveFault}
 use Rattle.nrm_simplex.specs.declared.fault.SolveFault.TheVariants as fault
-use Rattle.nrm_hindsight.specs.Requests.{tallies_of}
-use Rattle.nrm_hindsight.specs.Selections.ChosenFrom.{none as none_chosen}
-use Rattle.nrm_control.specs.State.{opening}
-use Rattle.nrm_control.specs.Standing.{ControlValue, IsStartFault, StandsFor}
+use Rattle.nrm_control.specs.Standing.{ControlValue, IsStartFault}
 use Rattle.nrm_outside.specs.NetworkFile.{CountsFetch, OpensFile, reason_line}
 use Rattle.nrm_outside.specs.Outside.{LeftStream, OnFile, Outside, Wrote}
 use Rattle.nrm_outside.specs.Refusals.{at_row, file_fault_line, network_under, no_file, refusal_line}
@@ -18,9 +15,9 @@ use Rattle.nrm_outside.specs.declared.network_file.NoNetwork.TheVariants as none
 use Rattle.nrm_session.specs.Serving.{Streams}
 use Rattle.nrm_hub.specs.declared.again.AgainFault.{AgainFault}
 use Rattle.nrm_hub.specs.declared.again.AgainFault.TheVariants as again
+use Rattle.nrm_outside.specs.Puts.{PutsIfSome, PutsLine, status_for, unplanned_line}
 use Rattle.nrm_desking.specs.Ends.{Begins, Ends, Ran, Tells, file_fault, overflow, refused, streams_at, usage}
 use Rattle.nrm_desking.specs.Inner.Ending.{EndsServing}
-use Rattle.nrm_desking.specs.Inner.Parts.{PutsIfSome, PutsLine, status_for, unplanned_line}
 use Rattle.nrm_desking.specs.Inner.Serving.{ServesTo}
 use Rattle.nrm_desking.specs.Jobs.{DesksJob}
 use Rattle.nrm_desking.specs.Served.{HasEnded, HasNoRow, IsNoFrame, NothingIsLeft, Served, ServedCut, is_ready}
@@ -28,6 +25,7 @@ use Rattle.nrm_desking.specs.declared.serving.ServeEnd.{ServeEnd}
 use Rattle.nrm_desking.specs.declared.serving.ServeEnd.TheVariants as end
 use Rattle.nrm_desking.specs.declared.status.DesksStatus.{DesksStatus}
 use Rattle.nrm_desking.specs.declared.status.DesksStatus.TheVariants as status
+use Rattle.nrm_desking.specs.declared.status.TheConstants.{STATUSES}
 
 -- ---- a line in place of frames
 module _ (asked : Option DesksJob) (before after : Outside) (left : LeftStream before after) where
@@ -37,14 +35,14 @@ module _ (asked : Option DesksJob) (before after : Outside) (left : LeftStream b
   whole s text (file_fault job asks rose) wrote = record { text = text; tells = file_fault job asks rose; wrote = wrote; left = left }
   whole s text (overflow job net n number asks on large) wrote = record { text = text; tells = overflow job net n number asks on large; wrote = wrote; left = left }
 
-  pub told-ends : (goes s : DesksStatus) (text : List ℕ) → Tells asked before after goes text → PutsLine text goes before.held after.held before.sink_faults after.sink_faults s → Ends asked before after s
+  pub told-ends : (goes s : DesksStatus) (text : List ℕ) → Tells asked before after goes text → PutsLine STATUSES text goes before.held after.held before.sink_faults after.sink_faults s → Ends asked before after s
   told-ends goes s text tells (inl (is, wrote, same)) = rw is (whole goes text tells wrote)
   told-ends goes s text tells (inr (is, front, rose)) = rw is (rose, inr (inl (record { status = goes; text = text; tells = tells; wrote = front; left = left })))
 
 module _ (job : DesksJob) (before after : Outside) (left : LeftStream before after) where
   -- no network
   pub without-network : (reason : NoNetwork) (s : DesksStatus) → OpensFile before.files job.file (Err reason) → CountsFetch before.file_faults after.file_faults (Err reason)
-      → PutsIfSome (reason_line reason) (status_for reason) before.held after.held before.sink_faults after.sink_faults s → Ends (Some job) before after s
+      → PutsIfSome STATUSES (reason_line reason) (status_for STATUSES reason) before.held after.held before.sink_faults after.sink_faults s → Ends (Some job) before after s
   without-network none.Absent s file counts puts = told-ends (Some job) before after left status.Refused s (refusal_line no_file) (refused job no_file refl file) puts
   without-network (none.Refused row cause) s file counts puts = told-ends (Some job) before after left status.Refused s (refusal_line (at_row row cause)) (refused job (at_row row cause) refl file) puts
   without-network none.Fault s file counts puts = told-ends (Some job) before after left status.FileFault s file_fault_line (file_fault job refl counts.1) puts
@@ -52,25 +50,13 @@ module _ (job : DesksJob) (before after : Outside) (left : LeftStream before aft
 
   -- no plan
   pub without-plan : (net : NetworkValue) → OnFile before.files job.file (λ contents. network_under contents ≡ Ok net) → (why : SolveFault) (s : DesksStatus) → IsStartFault net job.mode why
-      → PutsIfSome (unplanned_line why) status.Overflow before.held after.held before.sink_faults after.sink_faults s → Ends (Some job) before after s
+      → PutsIfSome STATUSES (unplanned_line why) status.Overflow before.held after.held before.sink_faults after.sink_faults s → Ends (Some job) before after s
   without-plan net on fault.NoMemory s is (told, kept, same) = rw told (inl (record { job = job; asks = refl; wrote = kept; left = left }))
   without-plan net on (fault.Overflow pivots number) s (n, large, is) puts =
       told-ends (Some job) before after left status.Overflow s (overflow_line (told_pivots n) number) (overflow job net n number refl on large)
-      (subst (λ (k : ℕ). PutsLine (overflow_line k number) status.Overflow before.held after.held before.sink_faults after.sink_faults s) is puts)
+      (subst (λ (k : ℕ). PutsLine STATUSES (overflow_line k number) status.Overflow before.held after.held before.sink_faults after.sink_faults s) is puts)
 
 -- ---- frames
--- a controller that has just begun stands for the opening with its plan
-pub opened : (start : ControlValue) (net : NetworkValue)
-    → start ≡ record { net = net; plan = start.plan; bookings = []; next = 1; tallies = tallies_of net []; withheld = 0 } → StandsFor start (opening start.plan)
-opened start net begun = record {
-  plan = refl;
-  bookings = sym (ap (λ (c : ControlValue). c.bookings) begun);
-  next = sym (ap (λ (c : ControlValue). c.next) begun);
-  tallies = ap (λ (n : NetworkValue). tallies_of n []) (ap (λ (c : ControlValue). c.net) begun) ∙ sym (ap (λ (c : ControlValue). c.tallies) begun);
-  choice = none_chosen;
-  withheld = sym (ap (λ (c : ControlValue). c.withheld) begun);
-}
-
 module _ (asked : Option DesksJob) (before : Outside) (begins : Begins asked before) (found after : Outside) (coming : after.coming ≡ found.coming)
     (source : after.source_faults ≡ found.source_faults) where
   same-streams : after.held ≡ found.held → after.sink_faults ≡ found.sink_faults → streams_at found ≡ streams_at after

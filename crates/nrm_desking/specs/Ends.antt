@@ -1,5 +1,5 @@
 -- How the program of many desks ends: what each status says of the words, the file, the frames and what was written.
-use Rattle.std.specs.Prelude.{ℕ, ℤ, ◌≡◌, ◌≢◌, ◌⊎◌, false, List, [], Option, Some, None, Ok, Err, ⊤}
+use Rattle.std.specs.Prelude.{ℕ, ℤ, ◌≡◌, ◌⊎◌, false, List, Option, Some, None, Ok, Err, ⊤}
 use Rattle.nrm_model.specs.Network.{NetworkValue}
 use Rattle.nrm_plan.specs.Plans.{IsOpeningPlan, OpeningOverflows, PlanValue}
 use Rattle.nrm_control.specs.State.{opening}
@@ -111,7 +111,3 @@ Ends asked before after status.FileFault = Told asked before after status.FileFa
 Ends asked before after status.NoFrame = Ran asked before after (λ start served. IsNoFrame served)
 Ends asked before after status.NoRow = StopsAtNoRow asked before after Wrote
 Ends asked before after status.Differs = StopsAtOther asked before after Wrote
-
--- after every status but that of a failed output nothing is held back, from an output on that held nothing back
-abbrev pub SentOn : DesksStatus → List ℕ → List ℕ → Type 0
-SentOn result unsent unsent' = result ≢ status.WriteFault → unsent ≡ [] → unsent' ≡ []

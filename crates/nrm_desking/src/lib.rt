@@ -3,7 +3,6 @@
 
 mod handling;
 mod incoming;
-mod put;
 mod serving;
 mod status;
 #[cfg(test)]

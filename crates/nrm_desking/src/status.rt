@@ -2,6 +2,8 @@
 ghost use Rattle.std.specs.Prelude.{◌≡◌};
 ghost use Rattle.nrm_desking.specs.Numbers.{number_of};
 
+use nrm_outside::Statuses;
+
 /// How the program ended. Those that come with a line of text write it to standard output.
 #[derive(Clone, Copy, Debug, PartialEq, Eq)]
 pub enum DesksStatus {
@@ -52,3 +54,12 @@ impl DesksStatus {
         }
     }
 }
+
+/// Those by which it says what each program over a network may have to say.
+pub(crate) const STATUSES: Statuses<DesksStatus> = Statuses {
+    refused: DesksStatus::Refused,
+    file_fault: DesksStatus::FileFault,
+    overflow: DesksStatus::Overflow,
+    no_memory: DesksStatus::NoMemory,
+    write_fault: DesksStatus::WriteFault,
+};

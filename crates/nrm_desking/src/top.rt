@@ -3,18 +3,18 @@ ghost use Rattle.std.specs.Prelude.{◌≡◌, Some, is_some, map, option_map, s
 ghost use Rattle.nrm_account.specs.Laws.{LargestPartiesAreSold};
 ghost use Rattle.nrm_frames.specs.Frames.{FramesDontDependOnPieces};
 ghost use Rattle.nrm_hub.specs.Desks.{DesksAreServed, RightsHold, RowsGiveTheState};
-ghost use Rattle.nrm_outside.specs.Outside.{outside};
+ghost use Rattle.nrm_outside.specs.Outside.{SentOn, outside};
 ghost use Rattle.nrm_session.specs.Hindsight.{HindsightBounds};
-ghost use Rattle.nrm_session.specs.Laws.{SeatsAreKept};
-ghost use Rattle.nrm_desking.specs.Ends.{Ends, SentOn};
+ghost use Rattle.nrm_session.specs.Laws.{RunsOversellNoLeg};
+ghost use Rattle.nrm_desking.specs.Ends.{Ends};
 ghost use Rattle.nrm_desking.specs.Inner.Parts.{job_in};
 ghost use Rattle.nrm_desking.specs.Inner.Ending.{EndsServing, PutsFault};
 ghost use Rattle.nrm_desking.specs.Jobs.{desks_job_of};
 
 use crate::DesksStatus;
 use crate::incoming::Incoming;
-use crate::put::{put_line, put_reason, put_unplanned};
 use crate::serving::{ServeEnd, serve};
+use crate::status::STATUSES;
 use nrm_control::Controller;
 use nrm_edge::{Files, Sink, Source};
 use nrm_frames::{put_differs, put_no_row};
@@ -59,7 +59,7 @@ pub fn asks_for_desks(words: &[String]) -> bool
 // Puts the frame that says at which row rows can't be given again; or memory ran out for them.
 fn put_fault<K: Sink>(sink: &mut K, fault: AgainFault) -> DesksStatus
     ensures puts { PutsFault fault (K.held sink.old) (K.held sink.new) (K.faults sink.old) (K.faults sink.new) result }
-    ensures sent { SentOn result (K.unsent sink.old) (K.unsent sink.new) }
+    ensures sent { SentOn DesksStatus.WriteFault result (K.unsent sink.old) (K.unsent sink.new) }
 {
     let (put, status) = match fault {
         AgainFault::NoRow(row) => (put_no_row(sink, row), DesksStatus::NoRow),
@@ -75,7 +75,7 @@ fn put_fault<K: Sink>(sink: &mut K, fault: AgainFault) -> DesksStatus
 // Says how the serving of frames ended.
 fn end_serving<K: Sink>(sink: &mut K, end: ServeEnd) -> DesksStatus
     ensures ends { EndsServing end (K.held sink.old) (K.held sink.new) (K.faults sink.old) (K.faults sink.new) result }
-    ensures sent { SentOn result (K.unsent sink.old) (K.unsent sink.new) }
+    ensures sent { SentOn DesksStatus.WriteFault result (K.unsent sink.old) (K.unsent sink.new) }
 {
     match end {
         ServeEnd::Done => DesksStatus::Done,
@@ -97,15 +97,15 @@ fn run_job<F: Files, S: Source, K: Sink>(
 ) -> DesksStatus
     ensures ends { let at = outside F.contents F.faults S.coming S.faults K.held K.faults in
         Ends (Some (job_in job.entry)) (at files.old source.old sink.old) (at files.new source.new sink.new) result }
-    ensures sent { SentOn result (K.unsent sink.old) (K.unsent sink.new) }
+    ensures sent { SentOn DesksStatus.WriteFault result (K.unsent sink.old) (K.unsent sink.new) }
 {
     let net = match open_network(alloc, files, job.file) {
         Ok(net) => net,
-        Err(reason) => return put_reason(sink, reason),
+        Err(reason) => return STATUSES.put_reason(sink, reason),
     };
     let controller = match Controller::start(alloc, net, job.mode) {
         Ok(controller) => controller,
-        Err(why) => return put_unplanned(sink, why),
+        Err(why) => return STATUSES.put_unplanned(sink, why),
     };
     let Ok(mut incoming) = Incoming::new(alloc) else {
         return DesksStatus::NoMemory;
@@ -138,17 +138,17 @@ pub fn run_desks<F: Files, S: Source, K: Sink>(
 ) -> DesksStatus
     ensures call { let at = outside F.contents F.faults S.coming S.faults K.held K.faults in
         Ends (desks_job_of (map string_bytes words.now)) (at files.old source.old sink.old) (at files.new source.new sink.new) result }
-    ensures sent { SentOn result (K.unsent sink.old) (K.unsent sink.new) }
+    ensures sent { SentOn DesksStatus.WriteFault result (K.unsent sink.old) (K.unsent sink.new) }
     ensures served { DesksAreServed }
     ensures rights { RightsHold }
     ensures rows { RowsGiveTheState }
     ensures frames { FramesDontDependOnPieces }
     ensures asks { LargestPartiesAreSold }
-    ensures seats { SeatsAreKept }
+    ensures seats { RunsOversellNoLeg }
     ensures hindsight { HindsightBounds }
 {
     match asked_in(words) {
         Some(job) => run_job(alloc, job, files, source, sink),
-        None => put_line(sink, USAGE, DesksStatus::Usage),
+        None => STATUSES.put_line(sink, USAGE, DesksStatus::Usage),
     }
 }

@@ -18,7 +18,7 @@ use std::alloc::{AllocError, Global};
 /// The program of a network with these caps, leg by leg, and bounds, product by product.
 ///
 /// # Errors
-/// Want of memory.
+/// Memory runs out.
 pub fn program_of(
     alloc: Global,
     net: &Network,
@@ -42,7 +42,7 @@ pub fn program_of(
 /// on each leg at most its authorised seats; periods count from 1.
 ///
 /// # Errors
-/// Want of memory.
+/// Memory runs out.
 pub fn program_at(
     alloc: Global,
     net: &Network,
@@ -62,7 +62,7 @@ pub fn program_at(
 /// The program before anything is sold: that of period 1 with every authorised seat left.
 ///
 /// # Errors
-/// Want of memory.
+/// Memory runs out.
 pub fn opening_program(alloc: Global, net: &Network) -> Result<Program, AllocError>
     ensures { IfOk result (λ program. program ≡ opening_program net.now) }
 {
@@ -75,7 +75,7 @@ pub fn opening_program(alloc: Global, net: &Network) -> Result<Program, AllocErr
 /// among the product's legs.
 ///
 /// # Errors
-/// Want of memory.
+/// Memory runs out.
 pub fn hindsight_program(
     alloc: Global,
     net: &Network,

@@ -16,7 +16,7 @@ pub data CertRefusal : Type 0 where
   no_leg : ℕ → CertRefusal
   too_fine : CertRefusal
 
--- the refusal that a call's fault tells; want of memory tells none
+-- the refusal that a call's fault tells; that memory ran out tells none
 abbrev pub refusal_of : CertFault → Option CertRefusal
 refusal_of fault.Long = Some too_long
 refusal_of (fault.Line number) = Some (bad_line number)
@@ -37,7 +37,7 @@ abbrev pub IsRefusedFor : {A : Type 0} → Option CertRefusal → Result A CertR
 IsRefusedFor (Some refusal) file = file ≡ Err refusal
 IsRefusedFor None file = ⊤
 
--- the answer of a call is what the file gives; want of memory is free
+-- the answer of a call is what the file gives; running out of memory is free
 abbrev pub AnswersCertificate : Result Certificate CertFault → Result Certificate CertRefusal → Type 0
 AnswersCertificate (Ok certificate) file = file ≡ Ok certificate
 AnswersCertificate (Err cause) file = IsRefusedFor (refusal_of cause) file

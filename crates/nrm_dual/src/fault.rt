@@ -32,7 +32,7 @@ pub enum CertFault {
     /// A number of the certificate reaches 2^48.
     #[error("too fine")]
     TooFine,
-    /// Want of memory.
+    /// Memory ran out.
     #[error("out of memory")]
     NoMemory,
 }

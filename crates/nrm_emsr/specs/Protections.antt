@@ -1,4 +1,4 @@
--- Protection levels: how many seats of a leg are kept for its higher buckets, by the share of the demand histories.
+-- Protection levels: how many seats of a leg are protected for its higher buckets, by the share of the demand histories.
 use Rattle.std.specs.Prelude.{ℕ, zero, suc, ◌+◌, ◌-◌, ◌==◌, not, Bool, List, map, max, sum_by, nat_lt, pos, if◌then◌else◌}
 use Rattle.std.specs.List.{count_by, range_with_len}
 use Rattle.nrm_fraction.specs.Fraction.{Fraction, ◌*ᶠ◌, less, whole}

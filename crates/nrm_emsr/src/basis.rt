@@ -33,7 +33,7 @@ pub struct Basis {
 /// from. `table` is that of the network and the certificate.
 ///
 /// # Errors
-/// Want of memory.
+/// Memory runs out.
 pub fn basis_of(
     alloc: Global,
     net: &Network,

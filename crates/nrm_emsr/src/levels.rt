@@ -22,7 +22,7 @@ use std::alloc::{AllocError, Global};
 /// `table` is that of the network and the certificate.
 ///
 /// # Errors
-/// Want of memory.
+/// Memory runs out.
 pub fn protections(
     alloc: Global,
     net: &Network,

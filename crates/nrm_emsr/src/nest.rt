@@ -24,7 +24,7 @@ pub(crate) struct Nested {
 /// The products of a leg, in file order.
 ///
 /// # Errors
-/// Want of memory.
+/// Memory runs out.
 pub(crate) fn nested_on(
     alloc: Global,
     net: &Network,

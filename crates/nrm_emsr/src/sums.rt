@@ -31,7 +31,7 @@ pub(crate) struct Sums {
 /// The sums over bucket 1 alone.
 ///
 /// # Errors
-/// Want of memory.
+/// Memory runs out.
 pub(crate) fn first_sums(
     alloc: Global,
     net: &Network,

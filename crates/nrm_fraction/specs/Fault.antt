@@ -1,4 +1,4 @@
--- What a fault says: the first number that is too large, or nothing for want of memory.
+-- What a fault says: the first number that is too large, or nothing if memory ran out.
 use Rattle.std.specs.Prelude.{◌≡◌, ℤ, Option, Some}
 use Rattle.nrm_fraction.specs.declared.fault.RowFault.{RowFault}
 use Rattle.nrm_fraction.specs.declared.fault.RowFault.TheVariants.{Large, NoMemory}

@@ -7,7 +7,7 @@ pub enum RowFault {
     /// They are Large: the denominator or a number reaches the limit in size. The first one that does, the denominator
     /// first and then the numbers in order.
     Large { number: i128 },
-    /// Want of memory.
+    /// Memory ran out.
     NoMemory,
 }
 

@@ -38,7 +38,7 @@ impl Model for Maker {
 /// The network that is made of a number, and the maker of its commands.
 ///
 /// # Errors
-/// Want of memory.
+/// Memory runs out.
 pub fn made(alloc: Global, number: u32) -> Result<(Network, Maker), AllocError>
     ensures network { IfOk result (λ r. r.0 ≡ made_network number) }
     ensures maker { IfOk result (λ r. r.1 ≡ record { state = state_after number 1992; given = 0 }) }

@@ -1,6 +1,6 @@
 //! A client of the hub: who it is, what came from it and was not used yet, and what waits to be told to it. The bytes that were used stay at
 //! the front until more come.
-ghost use Rattle.std.specs.Prelude.{ℕ, ◌≡◌, ◌==◌, ◌<◌, ◌≤◌, ◌+◌, ◌++◌, ◌∷◌, ◌^◌, [], drop, length, position, take, None, Some, true};
+ghost use Rattle.std.specs.Prelude.{ℕ, ◌≡◌, ◌≢◌, ◌==◌, ◌<◌, ◌≤◌, ◌+◌, ◌++◌, ◌∷◌, ◌^◌, ◌⊎◌, [], drop, length, position, take, None, Some, false, true};
 ghost use Rattle.nrm_hub.specs.Clients.{after_telling, closed_for, new_client, with_piece};
 ghost use Rattle.nrm_hub.specs.Asked.{asked_in};
 ghost use Rattle.nrm_hub.specs.Clients.{after_line, joined_as};
@@ -165,8 +165,11 @@ impl Client {
         waiting < MOST_LINE && line_end(part(&self.bytes, self.start, waiting)).is_none()
     }
 
-    /// Whether a line of it waits.
-    pub(crate) fn has_line(&self) -> bool {
+    /// Whether a line of it waits, and it isn't to be closed.
+    pub(crate) fn has_line(&self) -> bool
+        ensures none { result ≡ false → (self.now.closing ≢ None) ⊎ HasNoLine self.now }
+        ensures stays { result ≡ true → self.now.closing ≡ None }
+    {
         self.closing.is_none() && !self.has_no_line()
     }
 

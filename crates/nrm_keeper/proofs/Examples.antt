@@ -55,8 +55,8 @@ without_none = refl
 
 -- ---- values of the table
 
-kept_from : kept_of (Int (pos 7)) (Text (codes "THRU")) (Int (pos 2)) ≡ Some (row 7)
-kept_from = refl
+protected_from : kept_of (Int (pos 7)) (Text (codes "THRU")) (Int (pos 2)) ≡ Some (row 7)
+protected_from = refl
 
 -- number -1
 negative_number : kept_of (Int (negsuc 0)) (Text (codes "THRU")) (Int (pos 2)) ≡ None

@@ -1,6 +1,5 @@
 -- Which counts of files, stream and output stay, and that none falls.
-use Rattle.std.proofs.Common.{ℕ, ◌≡◌, ◌≤◌, List, Result, Ok, Err, arith, inl, inr}
-use Rattle.nrm_model.specs.Network.{NetworkValue}
+use Rattle.std.proofs.Common.{ℕ, ◌≡◌, List, Err, arith, inl, inr}
 use Rattle.nrm_simplex.specs.declared.fault.SolveFault.{SolveFault}
 use Rattle.nrm_simplex.specs.declared.fault.SolveFault.TheVariants as fault
 use Rattle.nrm_outside.specs.NetworkFile.{CountsFetch, reason_line}
@@ -12,21 +11,23 @@ use Rattle.nrm_session.specs.declared.serving.End.{End}
 use Rattle.nrm_session.specs.declared.serving.End.TheVariants as end
 use Rattle.nrm_keeper.specs.declared.row.KeepFault.{KeepFault}
 use Rattle.nrm_keeper.specs.declared.row.KeepFault.TheVariants as keep
+use Rattle.nrm_outside.specs.Puts.{PutsIfSome, PutsLine, status_for, unplanned_line}
 use Rattle.nrm_keeping.specs.Ends.{Failures, streams_at}
-use Rattle.nrm_keeping.specs.Inner.Parts.{PutsIfSome, PutsLine, status_at, status_for, unlisted_line, unplanned_line}
+use Rattle.nrm_keeping.specs.Inner.Parts.{status_at, unlisted_line}
 use Rattle.nrm_keeping.specs.declared.status.KeptStatus.{KeptStatus}
 use Rattle.nrm_keeping.specs.declared.status.KeptStatus.TheVariants as status
+use Rattle.nrm_keeping.specs.declared.status.TheConstants.{STATUSES}
 
 -- a line with a status after which nothing failed, or a line that was cut
 pub told-counts : (before after : Outside) (goes s : KeptStatus) (text : List ℕ) → after.file_faults ≡ before.file_faults → after.source_faults ≡ before.source_faults
-    → PutsLine text goes before.held after.held before.sink_faults after.sink_faults s → (NothingFailed before after → Failures goes before after) → Failures s before after
+    → PutsLine STATUSES text goes before.held after.held before.sink_faults after.sink_faults s → (NothingFailed before after → Failures goes before after) → Failures s before after
 told-counts before after goes s text files source (inl (is, wrote, same)) quiet = rw is (quiet (record { files = files; source = source; sink = same }))
 told-counts before after goes s text files source (inr (is, front, rose)) quiet = rw is (source, inl files)
 
 -- no network
 pub without-failures : (before after : Outside) (reason : NoNetwork) (s : KeptStatus)
     → CountsFetch before.file_faults after.file_faults (Err reason)
-    → PutsIfSome (reason_line reason) (status_for reason) before.held after.held before.sink_faults after.sink_faults s → after.source_faults ≡ before.source_faults → Failures s before after
+    → PutsIfSome STATUSES (reason_line reason) (status_for STATUSES reason) before.held after.held before.sink_faults after.sink_faults s → after.source_faults ≡ before.source_faults → Failures s before after
 without-failures before after none.Absent s counts (inl (is, wrote, same)) source = rw is (record { files = counts; source = source; sink = same })
 without-failures before after none.Absent s counts (inr (is, front, rose)) source = rw is (source, inl counts)
 without-failures before after (none.Refused row cause) s counts (inl (is, wrote, same)) source = rw is (record { files = counts; source = source; sink = same })
@@ -37,12 +38,12 @@ without-failures before after none.NoMemory s counts (is, kept, same) source = r
 
 -- no plan, and no rows
 pub unplanned-failures : (before after : Outside) (why : SolveFault) (s : KeptStatus) → after.file_faults ≡ before.file_faults → after.source_faults ≡ before.source_faults
-    → PutsIfSome (unplanned_line why) status.Overflow before.held after.held before.sink_faults after.sink_faults s → Failures s before after
+    → PutsIfSome STATUSES (unplanned_line why) status.Overflow before.held after.held before.sink_faults after.sink_faults s → Failures s before after
 unplanned-failures before after (fault.Overflow pivots number) s files source puts = told-counts before after status.Overflow s _ files source puts (λ quiet. quiet)
 unplanned-failures before after fault.NoMemory s files source (is, kept, same) = rw is (record { files = files; source = source; sink = same })
 
 pub unlisted-failures : (before after : Outside) (why : KeepFault) (s : KeptStatus) → after.file_faults ≡ before.file_faults → after.source_faults ≡ before.source_faults
-    → PutsIfSome (unlisted_line why) status.StoreFault before.held after.held before.sink_faults after.sink_faults s → Failures s before after
+    → PutsIfSome STATUSES (unlisted_line why) status.StoreFault before.held after.held before.sink_faults after.sink_faults s → Failures s before after
 unlisted-failures before after keep.Failed s files source puts = told-counts before after status.StoreFault s _ files source puts (λ quiet. quiet)
 unlisted-failures before after keep.NoMemory s files source (is, kept, same) = rw is (record { files = files; source = source; sink = same })
 
@@ -60,17 +61,3 @@ served-goes before after same files end.Done (took, sank) = record { files = sam
 served-goes before after same files end.ReadFault (rose, later, sank) = record { files = same; file_faults = omega (arith, files); source_faults = later; sink_faults = omega (arith, sank) }
 served-goes before after same files end.WriteFault (rose, later, took) = record { files = same; file_faults = omega (arith, files); source_faults = omega (arith, took); sink_faults = later }
 served-goes before after same files end.TooLong (took, sank) = record { files = same; file_faults = omega (arith, files); source_faults = omega (arith, took); sink_faults = omega (arith, sank) }
-
--- a line in place of a session
-opened-later : (before now : ℕ) (opened : Result NetworkValue NoNetwork) → CountsFetch before now opened → before ≤ now
-opened-later before now (Ok net) same = omega (arith, same)
-opened-later before now (Err none.Absent) same = omega (arith, same)
-opened-later before now (Err (none.Refused row cause)) same = omega (arith, same)
-opened-later before now (Err none.Fault) rose = rose.0
-opened-later before now (Err none.NoMemory) same = omega (arith, same)
-
-pub opened-goes : (before after : Outside) (opened : Result NetworkValue NoNetwork)
-    → CountsFetch before.file_faults after.file_faults opened → after.files ≡ before.files
-    → after.source_faults ≡ before.source_faults → before.sink_faults ≤ after.sink_faults → Goes before after
-opened-goes before after opened counts stays source later =
-    record { files = stays; file_faults = opened-later before.file_faults after.file_faults opened counts; source_faults = omega (arith, source); sink_faults = later }

@@ -1,5 +1,5 @@
 -- How a call ends, out of how its parts went.
-use Rattle.std.proofs.Common.{ℕ, ◌≡◌, ◌∙◌, ◌≤◌, List, [], ◌∷◌, ◌++◌, take, Option, Some, None, Ok, Err, refl, sym, ap, subst, arith, inl, inr}
+use Rattle.std.proofs.Common.{ℕ, ◌≡◌, ◌∙◌, ◌≤◌, List, [], ◌∷◌, ◌++◌, Option, Some, None, Ok, Err, refl, sym, ap, subst, arith, inl, inr}
 use Rattle.nrm_edge.specs.Causes.{counted}
 use Rattle.nrm_model.specs.Inventory.{inventory_of}
 use Rattle.nrm_model.specs.Limits.{IsNetwork}
@@ -13,7 +13,6 @@ use Rattle.nrm_hindsight.specs.Selections.{ChosenFrom}
 use Rattle.nrm_hindsight.specs.Selections.ChosenFrom.{none as none_chosen}
 use Rattle.nrm_control.specs.State.{SeatState}
 use Rattle.nrm_control.specs.Standing.{ControlValue, IsControl, IsStartFault, StandsFor}
-use Rattle.nrm_stream.specs.Commands.{commands_of, whole_commands}
 use Rattle.nrm_stream.specs.declared.command.Command.{Command}
 use Rattle.nrm_outside.specs.NetworkFile.{CountsFetch, OpensFile, reason_line}
 use Rattle.nrm_outside.specs.Outside.{LeftStream, OnFile, Wrote}
@@ -24,14 +23,16 @@ use Rattle.nrm_outside.specs.declared.network_file.NoNetwork.TheVariants as none
 use Rattle.nrm_session.specs.Serving.{CountsFaults, ServesBy, Streams}
 use Rattle.nrm_session.specs.declared.serving.End.{End}
 use Rattle.nrm_session.specs.declared.serving.End.TheVariants as end
+use Rattle.nrm_session.proofs.ServedBy.{served-as, serves-weaker}
 use Rattle.nrm_keeper.specs.declared.keeper.Keeper.{Ghosts}
 use Rattle.nrm_keeper.specs.declared.row.KeptRow.{KeptRow}
 use Rattle.nrm_keeper.specs.declared.row.KeepFault.{KeepFault}
 use Rattle.nrm_keeper.specs.declared.row.KeepFault.TheVariants as keep
 use Rattle.nrm_keeper.specs.Rows.{Keeps, Lists, has_failed}
+use Rattle.nrm_outside.specs.Puts.{PutsIfSome, PutsLine, status_for, unplanned_line}
 use Rattle.nrm_keeping.specs.Ends.{Begins, Ends, KeptOutside, Leaves, NoSession, RowsStay, RunsOn, RunsOnCut, Starts, StoreDidNotFail, Tells, file_fault, overflow, refused, store_fault, store_refused, stream_limit, streams_at, usage}
 use Rattle.nrm_keeping.specs.Jobs.{KeptJob, store_fault_line, store_refused_line}
-use Rattle.nrm_keeping.specs.Inner.Parts.{PutsIfSome, PutsLine, loaded_in, status_at, status_for, unlisted_line, unplanned_line}
+use Rattle.nrm_keeping.specs.Inner.Parts.{loaded_in, status_at, unlisted_line}
 use Rattle.nrm_keeping.specs.Inner.Keeping.{KeptRefines, KeptRefinesCut}
 use Rattle.nrm_keeping.specs.Inner.Reading.{Reading, Trusts, rows_by}
 use Rattle.nrm_keeping.specs.Rows.{AreRows, Loaded, load, load_behind, loaded_state, rows_of}
@@ -40,6 +41,7 @@ use Rattle.nrm_keeping.specs.declared.status.KeptStatus.{KeptStatus}
 use Rattle.nrm_keeping.specs.declared.status.KeptStatus.TheVariants as status
 use Rattle.nrm_keeping.proofs.Again.{load-again}
 use Rattle.nrm_keeping.proofs.KeptRows.{load-rows}
+use Rattle.nrm_keeping.specs.declared.status.TheConstants.{STATUSES}
 
 -- ---- a line in place of a session
 module _ (asked : Option KeptJob) (before after : KeptOutside) where
@@ -51,7 +53,7 @@ module _ (asked : Option KeptJob) (before after : KeptOutside) where
   whole s text rest (store_fault begins rose) wrote = record { text = text; tells = store_fault begins rose; wrote = wrote; rest = rest }
   whole s text rest (store_refused begins rows number listed refuses) wrote = record { text = text; tells = store_refused begins rows number listed refuses; wrote = wrote; rest = rest }
 
-  pub told-ends : (goes s : KeptStatus) (text : List ℕ) → NoSession before after text → Tells asked before after goes text → PutsLine text goes before.at.held after.at.held before.at.sink_faults after.at.sink_faults s → Ends asked before after s
+  pub told-ends : (goes s : KeptStatus) (text : List ℕ) → NoSession before after text → Tells asked before after goes text → PutsLine STATUSES text goes before.at.held after.at.held before.at.sink_faults after.at.sink_faults s → Ends asked before after s
   told-ends goes s text rest tells (inl (is, wrote, same)) = rw is (whole goes text rest tells wrote)
   told-ends goes s text rest tells (inr (is, front, rose)) = rw is (rose, inr (record { status = goes; text = text; tells = tells; wrote = front; rest = rest }))
 
@@ -65,7 +67,7 @@ module _ (job : KeptJob) (before after : KeptOutside) (left : LeftStream before.
 
   -- no network
   pub without-network : (reason : NoNetwork) (s : KeptStatus) → StoreDidNotFail before after → OpensFile before.at.files job.file (Err reason) → CountsFetch before.at.file_faults after.at.file_faults (Err reason)
-      → PutsIfSome (reason_line reason) (status_for reason) before.at.held after.at.held before.at.sink_faults after.at.sink_faults s → Ends (Some job) before after s
+      → PutsIfSome STATUSES (reason_line reason) (status_for STATUSES reason) before.at.held after.at.held before.at.sink_faults after.at.sink_faults s → Ends (Some job) before after s
   without-network none.Absent s count file counts puts = told-ends (Some job) before after status.Refused s (refusal_line no_file) (idle (refusal_line no_file) count) (refused job no_file refl file) puts
   without-network (none.Refused row cause) s count file counts puts = told-ends (Some job) before after status.Refused s (refusal_line (at_row row cause)) (idle (refusal_line (at_row row cause)) count) (refused job (at_row row cause) refl file) puts
   without-network none.Fault s count file counts puts = told-ends (Some job) before after status.FileFault s file_fault_line (idle file_fault_line count) (file_fault job refl counts.1) puts
@@ -73,48 +75,26 @@ module _ (job : KeptJob) (before after : KeptOutside) (left : LeftStream before.
 
   -- no plan
   pub without-plan : (net : NetworkValue) → OnFile before.at.files job.file (λ contents. network_under contents ≡ Ok net) → (why : SolveFault) (s : KeptStatus) → StoreDidNotFail before after → IsStartFault net job.mode why
-      → PutsIfSome (unplanned_line why) status.Overflow before.at.held after.at.held before.at.sink_faults after.at.sink_faults s → Ends (Some job) before after s
+      → PutsIfSome STATUSES (unplanned_line why) status.Overflow before.at.held after.at.held before.at.sink_faults after.at.sink_faults s → Ends (Some job) before after s
   without-plan net on fault.NoMemory s count is (told, kept, same) = rw told (record { job = job; asks = refl; wrote = kept; rest = idle [] count })
   without-plan net on (fault.Overflow pivots number) s count (n, large, is) puts =
       told-ends (Some job) before after status.Overflow s (overflow_line (told_pivots n) number) (idle (overflow_line (told_pivots n) number) count) (overflow job net n number refl on large)
-      (subst (λ (k : ℕ). PutsLine (overflow_line k number) status.Overflow before.at.held after.at.held before.at.sink_faults after.at.sink_faults s) is puts)
+      (subst (λ (k : ℕ). PutsLine STATUSES (overflow_line k number) status.Overflow before.at.held after.at.held before.at.sink_faults after.at.sink_faults s) is puts)
 
   -- no rows
   pub without-rows : (T : Type 0) (begins : Begins (Some job) before) (why : KeepFault) (s : KeptStatus) → after.store_faults ≡ counted (has_failed {T = T} (Err why)) before.store_faults
-      → PutsIfSome (unlisted_line why) status.StoreFault before.at.held after.at.held before.at.sink_faults after.at.sink_faults s → Ends (Some job) before after s
+      → PutsIfSome STATUSES (unlisted_line why) status.StoreFault before.at.held after.at.held before.at.sink_faults after.at.sink_faults s → Ends (Some job) before after s
   without-rows T begins keep.Failed s rose puts =
       told-ends (Some job) before after status.StoreFault s store_fault_line (record { left = left; stays = stays; store = inr (rose, refl) }) (store_fault begins rose) puts
   without-rows T begins keep.NoMemory s count (told, kept, same) = rw told (record { job = job; asks = refl; wrote = kept; rest = idle [] count })
 
   -- rows that don't load
   pub without-load : (begins : Begins (Some job) before) (rows : List KeptRow) (number : ℕ) (s : KeptStatus) → StoreDidNotFail before after → Lists rows before.rows → load begins.net rows ≡ Err number
-      → PutsLine (store_refused_line number) status.StoreRefused before.at.held after.at.held before.at.sink_faults after.at.sink_faults s → Ends (Some job) before after s
+      → PutsLine STATUSES (store_refused_line number) status.StoreRefused before.at.held after.at.held before.at.sink_faults after.at.sink_faults s → Ends (Some job) before after s
   without-load begins rows number s count listed refuses puts =
       told-ends (Some job) before after status.StoreRefused s (store_refused_line number) (idle (store_refused_line number) count) (store_refused begins rows number listed refuses) puts
 
 -- ---- a session
--- what is served by one meaning is served by a weaker one
-serves-weaker : (whole cut whole' cut' : List Command → List ℕ → Type 0) → ((c : List Command) (o : List ℕ) → whole c o → whole' c o) → ((c : List Command) (o : List ℕ) → cut c o → cut' c o)
-    → (before after : Streams) (limit : ℕ) (e : End) → ServesBy whole cut before after limit e → ServesBy whole' cut' before after limit e
-serves-weaker whole cut whole' cut' w k before after limit end.Done (taken, output, did, ended, is) = (taken, output, did, ended, w (commands_of taken) output is)
-serves-weaker whole cut whole' cut' w k before after limit end.ReadFault (taken, output, did, is) = (taken, output, did, w (whole_commands taken) output is)
-serves-weaker whole cut whole' cut' w k before after limit end.WriteFault (taken, output, did, inl (inl is)) = (taken, output, did, inl (inl (k (whole_commands taken) output is)))
-serves-weaker whole cut whole' cut' w k before after limit end.WriteFault (taken, output, did, inl (inr is)) = (taken, output, did, inl (inr (w (whole_commands taken) output is)))
-serves-weaker whole cut whole' cut' w k before after limit end.WriteFault (taken, output, did, inr (ended, inl is)) = (taken, output, did, inr (ended, inl (k (commands_of taken) output is)))
-serves-weaker whole cut whole' cut' w k before after limit end.WriteFault (taken, output, did, inr (ended, inr is)) = (taken, output, did, inr (ended, inr (w (commands_of taken) output is)))
-serves-weaker whole cut whole' cut' w k before after limit end.TooLong (taken, output, took, long, wrote, is) = (taken, output, took, long, wrote, w (whole_commands (take limit taken)) output is)
-
--- what both meanings imply
-served-as : (X : Type 0) (whole cut : List Command → List ℕ → Type 0) → ((c : List Command) (o : List ℕ) → whole c o → X) → ((c : List Command) (o : List ℕ) → cut c o → X)
-    → (before after : Streams) (limit : ℕ) (e : End) → ServesBy whole cut before after limit e → X
-served-as X whole cut w k before after limit end.Done (taken, output, did, ended, is) = w (commands_of taken) output is
-served-as X whole cut w k before after limit end.ReadFault (taken, output, did, is) = w (whole_commands taken) output is
-served-as X whole cut w k before after limit end.WriteFault (taken, output, did, inl (inl is)) = k (whole_commands taken) output is
-served-as X whole cut w k before after limit end.WriteFault (taken, output, did, inl (inr is)) = w (whole_commands taken) output is
-served-as X whole cut w k before after limit end.WriteFault (taken, output, did, inr (ended, inl is)) = k (commands_of taken) output is
-served-as X whole cut w k before after limit end.WriteFault (taken, output, did, inr (ended, inr is)) = w (commands_of taken) output is
-served-as X whole cut w k before after limit end.TooLong (taken, output, took, long, wrote, is) = w (whole_commands (take limit taken)) output is
-
 -- what is trusted of the keeper after a session was trusted before its first line
 pub served-trusts : {P : Type 0} (keeps : Ghosts P) (how : Reading) (start new : ControlValue) (listed ended : P) (before after : Streams) (limit : ℕ) (e : End)
     → ServesBy (KeptRefines keeps (start, listed) (new, ended)) (KeptRefinesCut keeps (start, listed) (new, ended)) before after limit e → Trusts keeps how ended → Trusts keeps how listed

@@ -127,7 +127,7 @@ refused_keeps (suc j, found, sells) = cc
 dead_keeps : ChangesBook two_legs one_left (command.Cancel 1) → ⊥
 dead_keeps (b, live) = cc
 
--- want of memory there changes nothing
+-- running out of memory there changes nothing
 wanting : KeptStep two_legs two_sold (command.Cancel 2) (told memory) two_sold
 wanting = lacks_memory (local 2 1, refl)
 

@@ -28,7 +28,7 @@ use Rattle.nrm_session.proofs.PrintedPlans.{printed-from}
 use Rattle.nrm_session.proofs.OtherLines.{other-lines}
 use Rattle.nrm_session.proofs.Seats.{kept, product-below}
 use Rattle.nrm_keeper.specs.declared.row.KeptRow.{KeptRow}
-use Rattle.nrm_keeping.specs.Laws.{FaultsLeaveNothing, KeptHindsightBounds, KeptMoneyAddsUp, KeptPlansAreOptimal, KeptRunsHaveFirstParts, KeptSeatsAreKept, carried_out, replies_to_those}
+use Rattle.nrm_keeping.specs.Laws.{FaultsLeaveNothing, KeptHindsightBounds, KeptMoneyAddsUp, KeptPlansAreOptimal, KeptRunsHaveFirstParts, KeptRunsOversellNoLeg, carried_out, replies_to_those}
 use Rattle.nrm_keeping.specs.Rows.{Loaded, booking_of, load, load_behind, loaded_more, loaded_state, nothing_loaded, row_fits}
 use Rattle.nrm_keeping.specs.Step.{KeptReply, KeptStep, as_ever, lacks_memory, not_stored, told}
 use Rattle.nrm_keeping.proofs.Loads.{fits-of}
@@ -107,7 +107,7 @@ loaded-kept net plan rows l loads =
     let all = within-loaded net nothing_loaded l rows none loads in
     record { products = λ k d at. omega (arith, all.products k d at, length-map net.products (λ (p : Product). p.legs)); seats = all.seats }
 
-pub seats-kept : KeptSeatsAreKept
+pub seats-kept : KeptRunsOversellNoLeg
 seats-kept net plan rows l loads = (
   loaded-kept net plan rows l loads,
   (λ s' commands replies run. kept.1 net (loaded_state plan l) s' (carried_out commands replies) (replies_to_those replies) (loaded-kept net plan rows l loads)

@@ -216,10 +216,6 @@ Completes asked before after s =
     → network_under (files job.file) ≡ Ok net → NothingHinders before after s
     → TellsOverflow job net before after s × RefusesRows job net before after s × AnswersAll job net before after s
 
--- after every status but that of a failed output nothing is kept back, from an output on that kept nothing back
-abbrev pub SentOn : KeptStatus → List ℕ → List ℕ → Type 0
-SentOn result unsent unsent' = result ≢ status.WriteFault → unsent ≡ [] → unsent' ≡ []
-
 -- `ends`: for each status what the words, the files, the rows, the stream and the written bytes were. `complete`: good words, a valid file,
 -- rows that are told and load, nothing that failed and a short stream give the whole output, or memory ran out and nothing was written.
 -- `failures`: a count of faults rises, by one, only with the status of its fault. `goes`: no count of these falls, and the files stay.

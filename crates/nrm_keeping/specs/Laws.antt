@@ -46,8 +46,8 @@ FaultsLeaveNothing = (net : NetworkValue) (s s' : SeatState) (commands : List Co
     → KeptRun net s commands replies s' → Run net s (carried_out commands replies) (replies_to_those replies) s'
 
 -- no leg has more seats sold than are authorised once rows have loaded, nor after any commands from there
-abbrev pub KeptSeatsAreKept : Type 0
-KeptSeatsAreKept = (net : NetworkValue) (plan : PlanValue) (rows : List KeptRow) (l : Loaded) → load net rows ≡ Ok l
+abbrev pub KeptRunsOversellNoLeg : Type 0
+KeptRunsOversellNoLeg = (net : NetworkValue) (plan : PlanValue) (rows : List KeptRow) (l : Loaded) → load net rows ≡ Ok l
     → IsKept net (loaded_state plan l)
     × ((s' : SeatState) (commands : List Command) (replies : List KeptReply) → KeptRun net (loaded_state plan l) commands replies s'
     → IsKept net s')

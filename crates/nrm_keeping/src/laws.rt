@@ -1,5 +1,5 @@
 //! Laws of sessions that keep their bookings. Each is the contract of a function that does nothing.
-ghost use Rattle.nrm_keeping.specs.Laws.{FaultsLeaveNothing, KeptHindsightBounds, KeptMoneyAddsUp, KeptPlansAreOptimal, KeptRunsHaveFirstParts, KeptSeatsAreKept, RowsLoadAgain};
+ghost use Rattle.nrm_keeping.specs.Laws.{FaultsLeaveNothing, KeptHindsightBounds, KeptMoneyAddsUp, KeptPlansAreOptimal, KeptRunsHaveFirstParts, KeptRunsOversellNoLeg, RowsLoadAgain};
 
 /// A line that is answered `store` or `memory` leaves everything as it was: without such lines a run is one of a session without a store.
 pub fn faults_leave_nothing()
@@ -8,8 +8,8 @@ pub fn faults_leave_nothing()
 
 /// No leg has more seats sold than are authorised once rows have loaded, nor after any commands from there, whatever the faults of the
 /// store.
-pub fn kept_seats_are_kept()
-    ensures { KeptSeatsAreKept }
+pub fn kept_runs_oversell_no_leg()
+    ensures { KeptRunsOversellNoLeg }
 {}
 
 /// At each line of hindsight that tells a value, no selection of the loaded bookings and of the requests since that fits the authorised

@@ -11,7 +11,9 @@ mod status;
 mod tests;
 mod top;
 
-pub use laws::{faults_leave_nothing, kept_hindsight_bounds, kept_seats_are_kept, rows_load_again};
+pub use laws::{
+    faults_leave_nothing, kept_hindsight_bounds, kept_runs_oversell_no_leg, rows_load_again,
+};
 pub use loading::LAST_KEPT;
 pub use status::KeptStatus;
 pub use top::{asks_for_a_session, run_kept};

@@ -71,7 +71,7 @@ pub(crate) fn load_rows(controller: &mut Controller, rows: &[KeptRow]) -> Result
     ensures network { controller.new.net ≡ controller.old.net }
     ensures plan { controller.new.plan ≡ controller.old.plan }
     ensures stands { StandsFor controller.new (loaded_state controller.new.plan (loaded_in controller.new)) }
-    ensures kept { IsControl controller.new }
+    ensures sound { IsControl controller.new }
     ensures low { controller.old.next ≤ LATEST_START → controller.new.next ≤ LATEST_START }
 {
     // For its clause alone: this is a controller of a network within the limits.

@@ -2,6 +2,8 @@
 ghost use Rattle.std.specs.Prelude.{◌≡◌};
 ghost use Rattle.nrm_keeping.specs.Numbers.{number_of};
 
+use nrm_outside::Statuses;
+
 /// How the program ended. Those that come with a line of text write it to standard output.
 #[derive(Clone, Copy, Debug, PartialEq, Eq)]
 pub enum KeptStatus {
@@ -15,7 +17,7 @@ pub enum KeptStatus {
     ReadFault,
     /// Standard output failed.
     WriteFault,
-    /// Want of memory, before anything was written.
+    /// Memory ran out, before anything was written.
     NoMemory,
     /// The opening program leaves the range of the solver's numbers.
     Overflow,
@@ -49,3 +51,12 @@ impl KeptStatus {
         }
     }
 }
+
+/// Those by which it says what each program over a network may have to say.
+pub(crate) const STATUSES: Statuses<KeptStatus> = Statuses {
+    refused: KeptStatus::Refused,
+    file_fault: KeptStatus::FileFault,
+    overflow: KeptStatus::Overflow,
+    no_memory: KeptStatus::NoMemory,
+    write_fault: KeptStatus::WriteFault,
+};

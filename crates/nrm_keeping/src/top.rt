@@ -1,22 +1,23 @@
 //! The top call of the program that keeps its bookings.
 ghost use Rattle.std.specs.Prelude.{◌≡◌, ◌≤◌, Some, is_some, map, option_map, string_bytes};
 ghost use Rattle.nrm_outside.specs.NetworkFile.{FilesGiveNetworks};
-ghost use Rattle.nrm_outside.specs.Outside.{Goes};
+ghost use Rattle.nrm_outside.specs.Outside.{Goes, SentOn};
 ghost use Rattle.nrm_session.specs.Clerks.{is_control};
 ghost use Rattle.nrm_session.specs.Serving.{CountsFaults, ServesBy, streams};
 ghost use Rattle.nrm_session.specs.declared.serving.TheConstants.{LATEST_START};
-ghost use Rattle.nrm_keeping.specs.Ends.{Ends, Failures, KeptCall, SentOn, kept_outside, stream_limit};
+ghost use Rattle.nrm_keeping.specs.Ends.{Ends, Failures, KeptCall, kept_outside, stream_limit};
 ghost use Rattle.nrm_keeping.specs.Inner.Keeping.{KeptRefines, KeptRefinesCut};
 ghost use Rattle.nrm_keeping.specs.Inner.Parts.{job_in, status_at};
 ghost use Rattle.nrm_keeping.specs.Jobs.{kept_job_of};
-ghost use Rattle.nrm_keeping.specs.Laws.{FaultsLeaveNothing, KeptHindsightBounds, KeptMoneyAddsUp, KeptPlansAreOptimal, KeptRunsHaveFirstParts, KeptSeatsAreKept};
+ghost use Rattle.nrm_keeping.specs.Laws.{FaultsLeaveNothing, KeptHindsightBounds, KeptMoneyAddsUp, KeptPlansAreOptimal, KeptRunsHaveFirstParts, KeptRunsOversellNoLeg};
 ghost use Rattle.nrm_keeping.specs.Laws.{RowsLoadAgain};
 ghost use Rattle.nrm_keeping.specs.Inner.Reading.{Reading, Trusts, rows_by};
 
 use crate::KeptStatus;
 use crate::keeping::Keeping;
 use crate::loading::load_rows;
-use crate::put::{put_line, put_reason, put_refused, put_unlisted, put_unplanned};
+use crate::put::{put_refused, put_unlisted};
+use crate::status::STATUSES;
 use nrm_control::Controller;
 use nrm_edge::{Files, Sink, Source};
 use nrm_keeper::Keeper;
@@ -86,7 +87,7 @@ fn answer_stream<S: Source, K: Sink, P: Keeper>(
         (at source.old sink.old) (at source.new sink.new) stream_limit result }
     ensures counts { let at = streams S.coming S.faults K.held K.faults in
         CountsFaults (at source.old sink.old) (at source.new sink.new) result }
-    ensures sent { SentOn (status_at result) (K.unsent sink.old) (K.unsent sink.new) }
+    ensures sent { SentOn KeptStatus.WriteFault (status_at result) (K.unsent sink.old) (K.unsent sink.new) }
     ensures ready { is_control (controller.new, keeper.new) }
 {
     serve_by::<Keeping, P, S, K>(alloc, controller, keeper, source, sink, MOST_STREAM_BYTES)
@@ -108,15 +109,15 @@ fn run_job<F: Files, S: Source, K: Sink, P: Keeper>(
         Failures result (at files.old source.old sink.old keeper.old).at (at files.new source.new sink.new keeper.new).at }
     ensures goes { let at = kept_outside F.contents F.faults S.coming S.faults K.held K.faults P.rows P.faults in
         Goes (at files.old source.old sink.old keeper.old).at (at files.new source.new sink.new keeper.new).at }
-    ensures sent { SentOn result (K.unsent sink.old) (K.unsent sink.new) }
+    ensures sent { SentOn KeptStatus.WriteFault result (K.unsent sink.old) (K.unsent sink.new) }
 {
     let net = match open_network(alloc, files, job.file) {
         Ok(net) => net,
-        Err(reason) => return put_reason(sink, reason),
+        Err(reason) => return STATUSES.put_reason(sink, reason),
     };
     let mut controller = match Controller::start(alloc, net, job.mode) {
         Ok(controller) => controller,
-        Err(why) => return put_unplanned(sink, why),
+        Err(why) => return STATUSES.put_unplanned(sink, why),
     };
     let rows = match keeper.all(alloc) {
         Ok(rows) => rows,
@@ -161,9 +162,9 @@ pub fn run_kept<F: Files, S: Source, K: Sink, P: Keeper>(
         × (let at = kept_outside F.contents F.faults S.coming S.faults K.held K.faults P.shown P.faults in
         KeptCall (kept_job_of (map string_bytes words.now)) (at files.old source.old sink.old keeper.old)
         (at files.new source.new sink.new keeper.new) result) }
-    ensures sent { SentOn result (K.unsent sink.old) (K.unsent sink.new) }
+    ensures sent { SentOn KeptStatus.WriteFault result (K.unsent sink.old) (K.unsent sink.new) }
     ensures faults { FaultsLeaveNothing }
-    ensures seats { KeptSeatsAreKept }
+    ensures seats { KeptRunsOversellNoLeg }
     ensures hindsight { KeptHindsightBounds }
     ensures money { KeptMoneyAddsUp }
     ensures printed { KeptPlansAreOptimal }
@@ -173,6 +174,6 @@ pub fn run_kept<F: Files, S: Source, K: Sink, P: Keeper>(
 {
     match asked_in(words) {
         Some(job) => run_job(alloc, job, files, source, sink, keeper),
-        None => put_line(sink, USAGE, KeptStatus::Usage),
+        None => STATUSES.put_line(sink, USAGE, KeptStatus::Usage),
     }
 }

@@ -69,12 +69,12 @@ local_protects : protection local_fares 10 1 ≡ 3
 local_protects = refl
 
 -- three classes of four histories and three seats, worked in the page on nests: the second seat is worth just what the second class pays, and
--- isn't kept for the first
+-- isn't protected for the first
 abbrev pub three_classes : DemandValue
 three_classes = record { histories = 4; fares = 600 ∷ 300 ∷ 200 ∷ []; demands = 1 ∷ 1 ∷ 2 ∷ 2 ∷ 0 ∷ 2 ∷ 0 ∷ 2 ∷ 0 ∷ 1 ∷ 1 ∷ 0 ∷ [] }
 
-equal_worth_is_not_kept : map (protection three_classes 3) (1 ∷ 2 ∷ []) ≡ 1 ∷ 2 ∷ []
-equal_worth_is_not_kept = refl
+equal_worth_is_not_protected : map (protection three_classes 3) (1 ∷ 2 ∷ []) ≡ 1 ∷ 2 ∷ []
+equal_worth_is_not_protected = refl
 
 three_classes_value : value three_classes 3 3 ≡ 1075 * (4 * 4 * 4)
 three_classes_value = refl

@@ -96,7 +96,7 @@ impl Model for LegTable {
 /// `n` histories.
 ///
 /// # Errors
-/// Want of memory.
+/// Memory runs out.
 pub fn leg_values(
     alloc: Global,
     fares: &[u32],
@@ -138,7 +138,7 @@ impl LegTable {
         self.rows[usize::from(j)][usize::from(x)]
     }
 
-    /// The protection of the first j classes: the seats that are kept for them from the class behind.
+    /// The protection of the first j classes: the seats that are protected for them from the class behind.
     pub fn protection(&self, j: u8) -> u16
         requires { j < length self.now.protections }
         ensures { result ≡ slice_index self.now.protections j }

@@ -41,11 +41,11 @@ impl NameTable {
     /// Adds a name that isn't there, with the next number.
     ///
     /// # Errors
-    /// Want of memory; the names stay as they are.
+    /// Memory runs out; the names stay as they are.
     pub fn add(&mut self, name: Name) -> Result<(), AllocError>
         requires { list_any (λ other. bytes_eq other name) self.old ≡ false }
         ensures added { OnOk result (self.new ≡ self.old ++ name ∷ []) }
-        ensures kept { OnErr result (self.new ≡ self.old) }
+        ensures unchanged { OnErr result (self.new ≡ self.old) }
     {
         self.names.insert(name)?;
         Ok(())

@@ -62,7 +62,7 @@ impl Network {
     /// The network of these parts. `demand` is in seats, product by product, history by history, period by period.
     ///
     /// # Errors
-    /// Want of memory for the tables of names and the lists of the products of each leg.
+    /// Memory runs out for the tables of names and the lists of the products of each leg.
     pub fn new(
         alloc: Global,
         histories: u8,
@@ -94,7 +94,7 @@ impl Network {
     /// The same, with the tables of the names, for a caller that has them.
     ///
     /// # Errors
-    /// Want of memory for the lists of the products of each leg.
+    /// Memory runs out for the lists of the products of each leg.
     pub fn with_tables(
         alloc: Global,
         histories: u8,
@@ -265,7 +265,7 @@ impl Network {
     /// The authorised seats of each leg.
     ///
     /// # Errors
-    /// Want of memory.
+    /// Memory runs out.
     pub fn authorised_of_legs(&self, alloc: Global) -> Result<Vec<u16>, AllocError>
         ensures seats { IfOk result (λ seats. seats.items ≡ (inventory_of self.now).authorised) }
         ensures limits { IsNetwork self.now }
@@ -276,7 +276,7 @@ impl Network {
     /// The fare of each product.
     ///
     /// # Errors
-    /// Want of memory.
+    /// Memory runs out.
     pub fn fares_of_products(&self, alloc: Global) -> Result<Vec<u32>, AllocError>
         ensures fares { IfOk result (λ fares. fares.items ≡ (inventory_of self.now).fares) }
         ensures limits { IsNetwork self.now }
@@ -290,7 +290,7 @@ impl Network {
     /// The legs of each product, in its own order.
     ///
     /// # Errors
-    /// Want of memory.
+    /// Memory runs out.
     pub fn legs_of_products(&self, alloc: Global) -> Result<Vec<Vec<u8>>, AllocError>
         ensures legs { IfOk result (λ legs. map (λ v. v.items) legs.items ≡ (inventory_of self.now).legs) }
         ensures limits { IsNetwork self.now }

@@ -282,7 +282,7 @@ impl Draft {
     /// Takes the next row.
     ///
     /// # Errors
-    /// The first check that refuses the row against those before it, or want of memory.
+    /// The first check that refuses the row against those before it, or memory ran out.
     pub(crate) fn take(&mut self, alloc: Global, row: &RowFields<'_>) -> Result<(), RowRefusal>
         requires { (taken : List Row) × Stands self.old taken }
         ensures { Takes self.old self.new (fields_in row.now) result }
@@ -314,7 +314,7 @@ impl Draft {
     /// The network of the rows, of which there were so many. It has the draft's tables of names.
     ///
     /// # Errors
-    /// There is no leg or no product: the place after the last row; or want of memory for what the network keeps beside its parts.
+    /// There is no leg or no product: the place after the last row; or memory ran out for what the network keeps beside its parts.
     pub(crate) fn finish(self, alloc: Global, rows: u32) -> Result<Network, NetFault>
         requires stands { (taken : List Row) × Stands self taken }
         requires few { rows < 2 ^ 32 - 1 }

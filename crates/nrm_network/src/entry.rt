@@ -225,7 +225,7 @@ fn read_refund<'a>(counts: Counts, row: &RowFields<'_>) -> Result<Entry<'a>, Row
 /// recent name is that of the product whose demand was given last.
 ///
 /// # Errors
-/// The first check that it fails, or want of memory.
+/// The first check that it fails, or memory ran out.
 pub(crate) fn read_row<'a>(
     alloc: Global,
     counts: Counts,

@@ -108,7 +108,7 @@ impl From<csv::Error> for NetFault {
 
     ghost from_gives = { λ _ fault. fault ≡ NoMemory };
 
-    // A reader of bytes that takes records of any length fails only for want of memory.
+    // A reader of bytes that takes records of any length fails only if memory runs out.
     fn from(_: csv::Error) -> NetFault {
         NetFault::NoMemory
     }

@@ -86,7 +86,7 @@ fn is_plain(bytes: &[u8]) -> bool
 ///
 /// # Errors
 /// The row that the file is refused at, and why: row 0 where the file is longer than 4,194,304 bytes, the place after
-/// the last row where there is no leg or no product. Or want of memory.
+/// the last row where there is no leg or no product. Or memory runs out.
 pub fn parse(alloc: Global, bytes: &[u8]) -> Result<Network, NetFault>
     ensures { AnswersFile result (file_of bytes.now) }
 {

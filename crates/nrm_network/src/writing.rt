@@ -180,7 +180,7 @@ fn push_demands(text: &mut Vec<u8>, net: &Network) -> Result<(), AllocError>
 /// It is read back as the same network.
 ///
 /// # Errors
-/// Want of memory.
+/// Memory runs out.
 pub fn print(alloc: Global, net: &Network) -> Result<Vec<u8>, AllocError>
     ensures file { IfOk result (λ file. file.items ≡ canonical_file net.now) }
     ensures read { IfOk result (λ file. file_of file.items ≡ Ok net.now) }

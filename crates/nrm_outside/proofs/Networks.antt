@@ -1,11 +1,11 @@
 -- What a file gives is a network within the limits.
-use Rattle.std.proofs.Common.{ℕ, ◌≡◌, List, Option, Some, None, Result, Ok, Err}
+use Rattle.std.proofs.Common.{ℕ, ◌≡◌, Some, None, Result, Ok, Err}
 use Rattle.nrm_model.specs.Network.{NetworkValue}
 use Rattle.nrm_network.specs.File.{file_of}
 use Rattle.nrm_network.specs.declared.fault.Why.{Why}
 use Rattle.nrm_network.proofs.ReadNetwork.{read-is-network}
 use Rattle.nrm_outside.specs.NetworkFile.{FilesGiveNetworks}
-use Rattle.nrm_outside.specs.Refusals.{Refusal, network_in, network_under}
+use Rattle.nrm_outside.specs.Refusals.{Refusal, network_in}
 
 pub taken-network : FilesGiveNetworks
 taken-network None net gives = absurd (err-ok gives)

@@ -10,7 +10,7 @@ use Rattle.nrm_outside.specs.declared.network_file.NoNetwork.{NoNetwork}
 use Rattle.nrm_outside.specs.declared.network_file.NoNetwork.TheVariants as none
 
 -- the network of the file of this name, where the files are told, or why there is none; a fault of the files tells nothing of
--- them, and want of memory is free
+-- them, and running out of memory is free
 abbrev pub OpensFile : Option Folder → List ℕ → Result NetworkValue NoNetwork → Type 0
 OpensFile files name (Ok net) = OnFile files name (λ file. network_under file ≡ Ok net)
 OpensFile files name (Err none.Absent) = OnFile files name (λ file. network_under file ≡ Err no_file)
@@ -26,7 +26,7 @@ CountsFetch before now (Err (none.Refused row cause)) = now ≡ before
 CountsFetch before now (Err none.Fault) = (before ≤ now) × Rose before now
 CountsFetch before now (Err none.NoMemory) = now ≡ before
 
--- what is written of a reason: the line of a refusal or of a fault of the files, and nothing for want of memory
+-- what is written of a reason: the line of a refusal or of a fault of the files, and nothing if memory ran out
 abbrev pub reason_line : NoNetwork → Option (List ℕ)
 reason_line none.Absent = Some (refusal_line no_file)
 reason_line (none.Refused row cause) = Some (refusal_line (at_row row cause))

@@ -1,13 +1,15 @@
-//! What programs over a network have in common: from a file's name to its network, what they see of the outside, the line that
-//! says why there is no network, the words for modes, the line of a program that is too large, and sending a line.
+//! What programs over a network have in common: from a file's name to its network, what they see of the outside, the words for modes, and
+//! a line with the status that goes with it, such as the one that says why there is no network.
 #![tactic(auto)]
 
 mod line;
 mod network_file;
+mod put;
 #[cfg(test)]
 mod tests;
 mod words;
 
 pub use line::{line_of_overflow, send_line};
 pub use network_file::{NoNetwork, open_network};
+pub use put::Statuses;
 pub use words::{mode_in, words_given};

@@ -26,7 +26,7 @@ fn line_at_row(row: u32, why: Why) -> Line
 }
 
 impl NoNetwork {
-    /// The line that says why there is no network. `None` exactly for want of memory, of which nothing is written.
+    /// The line that says why there is no network. `None` exactly if memory runs out, of which nothing is written.
     pub fn line(self) -> Option<Line>
         ensures { result ≡ reason_line self }
     {

@@ -17,7 +17,7 @@ pub enum NoNetwork {
     Refused { row: u32, why: Why },
     /// The files failed.
     Fault,
-    /// Want of memory.
+    /// Memory ran out.
     NoMemory,
 }
 
@@ -66,7 +66,7 @@ fn network_in(alloc: Global, fetched: Fetched) -> Result<Network, NoNetwork>
 /// The network of the file of this name.
 ///
 /// # Errors
-/// No file has the name, or it is refused; the files failed; want of memory.
+/// No file has the name, or it is refused; the files failed; memory runs out.
 pub fn open_network<F: Files>(
     alloc: Global,
     files: &mut F,

@@ -37,7 +37,7 @@ fares_in_halves = refl
 only_under_bid_prices : map (λ m. fare_refuses two_legs_five_products (planned m at_150_and_80) 4) (mode.FirstCome ∷ mode.Davn ∷ []) ≡ false ∷ false ∷ []
 only_under_bid_prices = refl
 
--- first come, first served has no certificate, and never wants for memory
+-- first come, first served has no certificate, and never runs out of memory
 no_certificate : IsPlanOf two_legs_five_products (planned mode.FirstCome at_150_and_80) → ⊥
 no_certificate of = let none : Some at_150_and_80 ≡ None = of.certificate in cc
 

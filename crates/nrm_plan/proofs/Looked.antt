@@ -16,7 +16,7 @@ use Rattle.nrm_virtual.specs.Table.{HasPair, IsTableOf, TableValue, bucket_in}
 use Rattle.nrm_virtual.proofs.Tables.{bucket-is}
 use Rattle.nrm_plan.specs.Laws.{AreThoseDefined, NestsAreThoseDefined}
 use Rattle.nrm_plan.specs.Nesting.{AreNestsOf, NestsValue, level_at}
-use Rattle.nrm_plan.specs.Plans.{HasNests, IsPlanOf, PlanValue, kept_from, seats_kept}
+use Rattle.nrm_plan.specs.Plans.{HasNests, IsPlanOf, PlanValue, protected_from, seats_protected}
 
 -- a bucket is one of the leg's
 pub bucket-within : (net : NetworkValue) (cert : Certificate) (i j : ℕ) → (1 ≤ bucket_of net cert i j) × (bucket_of net cert i j ≤ bucket_count net i)
@@ -48,23 +48,23 @@ module _ (net : NetworkValue) (k : ℕ) (cert : Certificate) (nests : NestsValue
 
 -- a plan that has nests is one for virtual nesting
 abbrev pub NestsOf : NetworkValue → PlanValue → NestsValue → Type 0
-NestsOf net plan nests = (cert : Certificate) × AreNestsOf net plan.period cert nests × ((i j : ℕ) → kept_from net plan i j ≡ protection_of net cert i plan.period (bucket_of net cert i j - 1))
+NestsOf net plan nests = (cert : Certificate) × AreNestsOf net plan.period cert nests × ((i j : ℕ) → protected_from net plan i j ≡ protection_of net cert i plan.period (bucket_of net cert i j - 1))
 
 pub plan-nests : (net : NetworkValue) (plan : PlanValue) (nests : NestsValue) → IsPlanOf net plan → plan.nests ≡ Some nests → NestsOf net plan nests
 plan-nests net plan nests of has = by plan.mode plan.certificate refl refl (subst (λ (n : Option NestsValue). HasNests net plan.period plan.mode plan.certificate n) has of.nests)
   where
     by : (m : Mode) (cert : Option Certificate) → plan.mode ≡ m → plan.certificate ≡ cert → HasNests net plan.period m cert (Some nests)
-        → (c : Certificate) × AreNestsOf net plan.period c nests × ((i j : ℕ) → seats_kept net plan.mode plan.period plan.certificate i j ≡ protection_of net c i plan.period (bucket_of net c i j - 1))
+        → (c : Certificate) × AreNestsOf net plan.period c nests × ((i j : ℕ) → seats_protected net plan.mode plan.period plan.certificate i j ≡ protection_of net c i plan.period (bucket_of net c i j - 1))
     by mode.FirstCome cert em ec nested = absurd (none-some nests (sym nested))
     by mode.Bid cert em ec nested = absurd (none-some nests (sym nested))
     by mode.Davn None em ec nested = absurd nested
-    by mode.Davn (Some c) em ec nested = (c, nested, λ i j. (λ n. seats_kept net (em n) plan.period (ec n) i j))
+    by mode.Davn (Some c) em ec nested = (c, nested, λ i j. (λ n. seats_protected net (em n) plan.period (ec n) i j))
 
 -- and one that has none keeps no seats
-pub no-nests : (net : NetworkValue) (plan : PlanValue) → IsPlanOf net plan → plan.nests ≡ None → (i j : ℕ) → kept_from net plan i j ≡ 0
+pub no-nests : (net : NetworkValue) (plan : PlanValue) → IsPlanOf net plan → plan.nests ≡ None → (i j : ℕ) → protected_from net plan i j ≡ 0
 no-nests net plan of has i j = by plan.mode plan.certificate (subst (λ (n : Option NestsValue). HasNests net plan.period plan.mode plan.certificate n) has of.nests)
   where
-    by : (m : Mode) (cert : Option Certificate) → HasNests net plan.period m cert None → seats_kept net m plan.period cert i j ≡ 0
+    by : (m : Mode) (cert : Option Certificate) → HasNests net plan.period m cert None → seats_protected net m plan.period cert i j ≡ 0
     by mode.FirstCome cert nested = refl
     by mode.Bid cert nested = refl
     by mode.Davn None nested = refl

@@ -109,15 +109,15 @@ fare_refuses_by net mode.Davn cert j = false
 abbrev pub fare_refuses : NetworkValue → PlanValue → ℕ → Bool
 fare_refuses net plan j = fare_refuses_by net plan.mode plan.certificate j
 
--- the seats that are kept from product j on its leg i: under virtual nesting those protected for the buckets above its own
-abbrev pub seats_kept : NetworkValue → Mode → ℕ → Option Certificate → ℕ → ℕ → ℕ
-seats_kept net mode.FirstCome k cert i j = 0
-seats_kept net mode.Bid k cert i j = 0
-seats_kept net mode.Davn k None i j = 0
-seats_kept net mode.Davn k (Some cert) i j = protection_of net cert i k (bucket_of net cert i j - 1)
+-- the seats that are protected from product j on its leg i: under virtual nesting those protected for the buckets above its own
+abbrev pub seats_protected : NetworkValue → Mode → ℕ → Option Certificate → ℕ → ℕ → ℕ
+seats_protected net mode.FirstCome k cert i j = 0
+seats_protected net mode.Bid k cert i j = 0
+seats_protected net mode.Davn k None i j = 0
+seats_protected net mode.Davn k (Some cert) i j = protection_of net cert i k (bucket_of net cert i j - 1)
 
-abbrev pub kept_from : NetworkValue → PlanValue → ℕ → ℕ → ℕ
-kept_from net plan i j = seats_kept net plan.mode plan.period plan.certificate i j
+abbrev pub protected_from : NetworkValue → PlanValue → ℕ → ℕ → ℕ
+protected_from net plan i j = seats_protected net plan.mode plan.period plan.certificate i j
 
 -- a plan's bid prices are optimal duals: its certificate has an optimal allocation and optimal bid prices, against every allocation and
 -- all prices of the program at the plan's seats left and period, and its value is the gain of the one and the cost of the others

@@ -4,7 +4,7 @@
 //! - `SeatsLeft`, begun with `new` and filled by `push`, or `of` a list, which `as_slice` gives again: the seats left, leg by leg;
 //! - `opening`, the plan before anything is sold, and `make`, the plan at some seats left from a period on;
 //! - `mode` and `period`, what was optimised, and `mean_value`, `certificate` and `price`, what that gave;
-//! - `kept_from`, for each leg of a request, and `fare_refuses`, where its legs have the seats;
+//! - `protected_from`, for each leg of a request, and `fare_refuses`, where its legs have the seats;
 //! - `bucket` and `protection`, the nests of a plan, to be told.
 #![tactic(auto)]
 

@@ -1,5 +1,5 @@
 //! The nests of a network at bid prices: buckets and protections, worked out once and looked up after. Beside them stand the
-//! seats that are kept from each product on each leg, in one list, so that a request looks up one number for a leg.
+//! seats that are protected from each product on each leg, in one list, so that a request looks up one number for a leg.
 ghost use Rattle.std.specs.Prelude.{ℕ, ◌≡◌, ◌-◌, ◌*◌, ◌<◌, ◌≤◌, IfOk, Some, [], slice_index_or, length, map, true};
 ghost use Rattle.std.specs.Int.{IsInRange};
 ghost use Rattle.std.specs.List.{range_with_len};
@@ -78,7 +78,7 @@ fn level_at(levels: &[u16], bucket: u8) -> u16
     levels[bucket as usize - 1]
 }
 
-// The seats that are kept from a product on one of its legs.
+// The seats that are protected from a product on one of its legs.
 fn kept_at(
     net: &Network,
     buckets: &BucketTable,
@@ -99,7 +99,7 @@ fn kept_at(
     )
 }
 
-// Puts the seats that are kept from a leg's products into their places.
+// Puts the seats that are protected from a leg's products into their places.
 fn put_leg(
     kept: &mut Vec<u16>,
     net: &Network,
@@ -122,7 +122,7 @@ fn put_leg(
     }
 }
 
-// The seats that are kept from each product on each of its legs, and 0 where it doesn't use the leg.
+// The seats that are protected from each product on each of its legs, and 0 where it doesn't use the leg.
 fn kept_in_all(
     alloc: Global,
     net: &Network,
@@ -145,7 +145,7 @@ impl Nests {
     /// The nests of a network at the bid prices of a certificate, from period `period` on.
     ///
     /// # Errors
-    /// Want of memory.
+    /// Memory runs out.
     pub(crate) fn build(
         alloc: Global,
         net: &Network,
@@ -186,8 +186,8 @@ impl Nests {
         level_at(&self.protections[leg as usize], bucket)
     }
 
-    /// The seats that are kept from a product on one of its legs: those protected for the buckets above its own.
-    pub(crate) fn kept_from(&self, leg: u8, product: u16) -> u16
+    /// The seats that are protected from a product on one of its legs: those protected for the buckets above its own.
+    pub(crate) fn protected_from(&self, leg: u8, product: u16) -> u16
         requires { HasPair self.now.buckets leg product }
         ensures { (b : ℕ) → bucket_in self.now.buckets leg product ≡ Some b
             → result ≡ level_at (slice_index_or self.now.protections leg []) (b - 1) }

@@ -10,7 +10,7 @@ ghost use Rattle.nrm_model.specs.Limits.{IsNetwork};
 ghost use Rattle.nrm_virtual.specs.Table.{HasPair, bucket_in};
 ghost use Rattle.nrm_plan.specs.Nesting.{NestsValue, level_at};
 ghost use Rattle.nrm_plan.specs.Plans.{AreSeatsLeft, IsOpeningPlan, IsPlanFault, IsPlanFor, IsPlanOf, HasCertificate, HasNests};
-ghost use Rattle.nrm_plan.specs.Plans.{fare_refuses, kept_from, value_of};
+ghost use Rattle.nrm_plan.specs.Plans.{fare_refuses, protected_from, value_of};
 
 use crate::SeatsLeft;
 use crate::fares::below_bid_prices;
@@ -206,17 +206,17 @@ impl Plan {
         }
     }
 
-    /// The seats that are kept from a product on one of its legs: under virtual nesting those protected for the buckets
+    /// The seats that are protected from a product on one of its legs: under virtual nesting those protected for the buckets
     /// above the product's, and none in the other modes. It takes no memory, and works nothing out anew.
-    pub fn kept_from(&self, net: &Network, leg: u8, product: u16) -> u16
+    pub fn protected_from(&self, net: &Network, leg: u8, product: u16) -> u16
         requires plan { IsPlanOf net.now self.now }
         requires leg { leg < length net.now.legs }
         requires product { product < length net.now.products }
         requires uses { uses_leg (inventory_of net.now) leg product ≡ true }
-        ensures { result ≡ kept_from net.now self.now leg product }
+        ensures { result ≡ protected_from net.now self.now leg product }
     {
         match self.nests.as_ref() {
-            Some(nests) => nests.kept_from(leg, product),
+            Some(nests) => nests.protected_from(leg, product),
             None => 0,
         }
     }

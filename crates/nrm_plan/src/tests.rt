@@ -105,11 +105,11 @@ fn kept_at_opening(alloc: Global) -> Result<[u16; 5], SolveFault> {
     let net = two_legs_five_products(alloc)?;
     let plan = Plan::opening(alloc, &net, Mode::Davn)?;
     Ok([
-        plan.kept_from(&net, 0, 0),
-        plan.kept_from(&net, 0, 1),
-        plan.kept_from(&net, 0, 2),
-        plan.kept_from(&net, 1, 3),
-        plan.kept_from(&net, 1, 4),
+        plan.protected_from(&net, 0, 0),
+        plan.protected_from(&net, 0, 1),
+        plan.protected_from(&net, 0, 2),
+        plan.protected_from(&net, 1, 3),
+        plan.protected_from(&net, 1, 4),
     ])
 }
 

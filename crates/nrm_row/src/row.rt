@@ -231,7 +231,7 @@ impl Row {
             MatchResult result
             (λ _. (self.new ≡ exact) × (large_number size_limit exact ≡ None))
             (λ f. IsFault f (large_number size_limit exact)) }
-        ensures kept { OnErr result (self.new ≡ self.old) }
+        ensures unchanged { OnErr result (self.new ≡ self.old) }
     {
         // For the unit row's invariant alone.
         let _ = &unit.den;

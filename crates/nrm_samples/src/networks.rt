@@ -30,7 +30,7 @@ fn through_and_local(alloc: Global, order: &[u8]) -> Result<Vec<Product>, AllocE
 /// two periods.
 ///
 /// # Errors
-/// Want of memory, as of the other networks.
+/// Memory runs out, as of the other networks.
 pub fn two_legs(alloc: Global) -> Result<Network, AllocError>
     ensures { IfOk result (λ net. net ≡ networks.two_legs) }
 {

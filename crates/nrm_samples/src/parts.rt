@@ -17,7 +17,7 @@ pub(crate) fn name(text: &[u8]) -> Name
 /// A leg of this name with so many physical seats, so many authorised seats and these thresholds.
 ///
 /// # Errors
-/// Want of memory.
+/// Memory runs out.
 pub(crate) fn leg(
     alloc: Global,
     text: &[u8],
@@ -39,7 +39,7 @@ pub(crate) fn leg(
 /// A product of this name at a fare, with a refund percentage, over the legs of these numbers.
 ///
 /// # Errors
-/// Want of memory.
+/// Memory runs out.
 pub(crate) fn product(
     alloc: Global,
     text: &[u8],

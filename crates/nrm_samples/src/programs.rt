@@ -8,7 +8,7 @@ use std::alloc::{AllocError, Global};
 /// The opening program of the network of two legs and five products: 40 seats on each leg over four histories.
 ///
 /// # Errors
-/// Want of memory.
+/// Memory runs out.
 pub fn two_legs_five_products_program(alloc: Global) -> Result<Program, AllocError>
     ensures { IfOk result (λ program. program ≡ programs.two_legs_five_products_program) }
 {

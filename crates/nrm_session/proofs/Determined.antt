@@ -40,7 +40,7 @@ pub some-plan : (o : Option Fraction) → memory ≡ optimised_at o → ⊥
 some-plan None e = cc
 some-plan (Some value) e = cc
 
--- two replies are one reply, or neither wants for memory
+-- two replies are one reply, or neither runs out of memory
 abbrev Agree : Reply → Reply → Type 0
 Agree reply other = (other ≡ reply) ⊎ ((reply ≢ memory) × (other ≢ memory))
 

@@ -86,7 +86,7 @@ plans_again = optimises (first_for 1 (0 ∷ 0 ∷ [])) (record {
 after_the_last_period : (s : SeatState) → Step there_and_back s (command.Reoptimise 2) unknown s
 after_the_last_period s = (refl, refl)
 
--- first come, first served never wants for memory
+-- first come, first served never runs out of memory
 never_wanting : (s : SeatState) → Reoptimises there_and_back (sold_once first) 1 memory s → ⊥
 never_wanting s made = by memory s refl made
   where

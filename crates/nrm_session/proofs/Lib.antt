@@ -16,6 +16,7 @@ pub mod SeatlessLegs  -- what two networks that differ in their physical seats a
 pub mod SeatlessNests  -- the buckets and protections of two such networks
 pub mod SeatlessPlans  -- the plans of two such networks, and their texts
 pub mod Seats  -- no step oversells a leg
+pub mod ServedBy  -- what follows from how a session was served, whatever was made of its commands
 pub mod SessionEnds  -- from the bytes that were taken so far to what each end of a session says
 pub mod Steps  -- what the controller's calls answer is a step
 pub mod Verdicts  -- the reply to a request is the one that the headline says

@@ -16,7 +16,7 @@ use Rattle.std.specs.Int.{IsInRange}
 use Rattle.nrm_session.proofs.Periods.{had}
 use Rattle.nrm_session.proofs.Determined.{some-plan}
 
--- no answer to a request is want of memory
+-- no answer to a request is that memory ran out
 answered : (net : NetworkValue) (a : Answer) → memory ≡ reply_to net a → ⊥
 answered net (answer.Sold number) e = cc
 answered net (answer.Leg i) e = cc
@@ -29,7 +29,7 @@ neither : {X : Type 0} (o : Option X) (none : Reply) (some : X → Reply) (s' ke
 neither None none some s' kept changed apart others given = apart given.0
 neither (Some x) none some s' kept changed apart others given = others x given.0
 
--- an optimisation for want of memory solves a program, and leaves all as it was
+-- an optimisation for which memory ran out solves a program, and leaves all as it was
 again : (net : NetworkValue) (s : SeatState) (k : ℕ) (reply : Reply) (s' : SeatState) → reply ≡ memory → Reoptimises net s k reply s'
     → (s.plan.mode ≢ mode.FirstCome) × (s' ≡ s)
 again net s k reply s' is (optimises plan for) = absurd (some-plan (value_of net plan) (sym is))

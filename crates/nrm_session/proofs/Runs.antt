@@ -31,7 +31,7 @@ for-option : {X : Type 0} (o : Option X) (none : Reply) (some : X → Reply) (ke
 for-option None none some kept changed one other = (none, kept, (refl, refl), one)
 for-option (Some x) none some kept changed one other = (some x, changed x, (refl, refl), other x)
 
--- no request wants for memory, and no plan that is made
+-- no request runs out of memory, and no plan that is made
 answered : (net : NetworkValue) (given : Answer) → reply_to net given ≢ memory
 answered net (answer.Sold number) = λ e. cc
 answered net (answer.Leg i) = λ e. cc

@@ -17,7 +17,7 @@ use Rattle.nrm_virtual.specs.Buckets.{bucket_of}
 use Rattle.nrm_emsr.specs.Protections.{protection_of}
 use Rattle.nrm_plan.specs.Nesting.{NestsValue}
 use Rattle.nrm_plan.specs.Plans.{AreSeatsLeft, HasNests, IsPlanFor, IsPlanOf, PlanValue}
-use Rattle.nrm_plan.specs.Plans.{kept_from, seats_kept}
+use Rattle.nrm_plan.specs.Plans.{protected_from, seats_protected}
 use Rattle.nrm_dual.specs.Texts.{certificate_text, product_line, value_line}
 use Rattle.nrm_report.specs.Texts.{nest_line, nests_text, plan_text, protect_line, text_of_plan}
 use Rattle.nrm_session.proofs.SeatlessLegs.{AreSameLegs, with_legs, authorised-same, count-same, name-same}
@@ -62,16 +62,16 @@ module _ (net : NetworkValue) (legs : List Leg) (same : AreSameLegs net.legs leg
   }
 
   -- ---- the seats that a plan keeps
-  seats_kept-same : (m : Mode) (k : ℕ) (cert : Option Certificate) (i j : ℕ) → seats_kept net m k cert i j ≡ seats_kept other m k cert i j
-  seats_kept-same mode.FirstCome k cert i j = refl
-  seats_kept-same mode.Bid k cert i j = refl
-  seats_kept-same mode.Davn k None i j = refl
-  seats_kept-same mode.Davn k (Some cert) i j =
+  seats_protected-same : (m : Mode) (k : ℕ) (cert : Option Certificate) (i j : ℕ) → seats_protected net m k cert i j ≡ seats_protected other m k cert i j
+  seats_protected-same mode.FirstCome k cert i j = refl
+  seats_protected-same mode.Bid k cert i j = refl
+  seats_protected-same mode.Davn k None i j = refl
+  seats_protected-same mode.Davn k (Some cert) i j =
       protection-same net legs same cert i k (bucket_of net cert i j - 1)
       ∙ (λ m. protection_of other cert i k (bucket-same net legs same cert i j m - 1))
 
-  pub kept-same : (plan : PlanValue) (i j : ℕ) → kept_from net plan i j ≡ kept_from other plan i j
-  kept-same plan i j = seats_kept-same plan.mode plan.period plan.certificate i j
+  pub kept-same : (plan : PlanValue) (i j : ℕ) → protected_from net plan i j ≡ protected_from other plan i j
+  kept-same plan i j = seats_protected-same plan.mode plan.period plan.certificate i j
 
   -- ---- the text of a plan
   certificate_text-same : (cert : Certificate) → certificate_text net cert ≡ certificate_text other cert

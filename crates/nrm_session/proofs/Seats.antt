@@ -14,7 +14,7 @@ use Rattle.nrm_book.specs.declared.booking.Booking.{Booking}
 use Rattle.nrm_book.specs.Bookings.{booking_numbered, left_on}
 use Rattle.nrm_book.proofs.Kept.{seats-added, sold_on-without}
 use Rattle.nrm_book.proofs.Sold.{AreProducts, sold_on-by_booking}
-use Rattle.nrm_plan.specs.Plans.{PlanValue, fare_refuses, kept_from}
+use Rattle.nrm_plan.specs.Plans.{PlanValue, fare_refuses, protected_from}
 use Rattle.nrm_control.specs.Refunds.{refund_of}
 use Rattle.nrm_control.specs.State.{SeatState, after_answer, after_cancellation, after_request, answer_in, opening}
 use Rattle.nrm_control.specs.Verdict.{leg_refuses}
@@ -26,7 +26,7 @@ use Rattle.nrm_report.specs.Texts.{leg_text}
 use Rattle.nrm_session.specs.Replies.{Reply, unknown, cancelled, leg_told, reply_to}
 use Rattle.nrm_session.specs.Step.{Reoptimises, Step, optimises, overflows, wants_memory, lacks_period}
 use Rattle.nrm_session.specs.Run.{Run}
-use Rattle.nrm_session.specs.Laws.{IsKept, NoLegOversold, SeatsAreKept}
+use Rattle.nrm_session.specs.Laws.{IsKept, NoLegOversold, RunsOversellNoLeg}
 
 -- the bookings are of the network's products, and no leg is oversold
 record Kept (net : NetworkValue) (s : SeatState) : Type 0 where
@@ -40,7 +40,7 @@ kept-sold : (net : NetworkValue) (s : SeatState) (j party number : ℕ) → Kept
 kept-sold net s j party number kept below none =
     let short : j < length (inventory_of net).legs = omega (arith, length-map net.products (λ (p : Product). p.legs), below) in
     let own : All (λ i. party ≤ left_on (inventory_of net) s.bookings i) (legs_of (inventory_of net) j) =
-    rw (legs-are net j) (none-refuses (left_on (inventory_of net) s.bookings) (λ i. kept_from net s.plan i j) party (product_of net j).legs
+    rw (legs-are net j) (none-refuses (left_on (inventory_of net) s.bookings) (λ i. protected_from net s.plan i j) party (product_of net j).legs
     none) in
     record {
       products = All-push (λ (b : Booking). b.product < length (inventory_of net).legs) s.bookings
@@ -146,7 +146,7 @@ into net s kept = record {
   seats = kept.seats;
 }
 
-pub kept : SeatsAreKept
+pub kept : RunsOversellNoLeg
 kept = (
   (λ net plan. out net (opening plan) (opens-kept net plan)),
   (λ net s s' commands replies kept run. out net s' (run-keeps net s commands replies s' (into net s kept) run)),

@@ -10,7 +10,7 @@ use Rattle.nrm_model.specs.Network.{NetworkValue, leg_of, product_named, product
 use Rattle.nrm_model.specs.declared.mode.Mode.{Mode}
 use Rattle.nrm_model.specs.declared.mode.Mode.TheVariants as mode
 use Rattle.nrm_lp.specs.declared.certificate.Certificate.{Certificate}
-use Rattle.nrm_plan.specs.Plans.{fare_refuses, fare_refuses_by, kept_from}
+use Rattle.nrm_plan.specs.Plans.{fare_refuses, fare_refuses_by, protected_from}
 use Rattle.nrm_book.specs.Bookings.{left_on}
 use Rattle.nrm_control.specs.State.{SeatState, after_answer, after_request, answer_in}
 use Rattle.nrm_control.specs.Verdict.{leg_refuses}
@@ -162,12 +162,12 @@ module _ (net : NetworkValue) (Covers : ℕ → Type 0) (refuses : ℕ → Bool)
 -- the tests of the step are those of the headline
 covers-passed : (net : NetworkValue) (s : SeatState) (j party i : ℕ) → leg_refuses net s.plan s.bookings j party i ≡ false
     → SeatsCover net s j party i
-covers-passed net s j party i e = ltb-false (left_on (inventory_of net) s.bookings i) (party + kept_from net s.plan i j) e
+covers-passed net s j party i e = ltb-false (left_on (inventory_of net) s.bookings i) (party + protected_from net s.plan i j) e
 
 covers-refused : (net : NetworkValue) (s : SeatState) (j party i : ℕ) → leg_refuses net s.plan s.bookings j party i ≡ true
     → ¬ (SeatsCover net s j party i)
 covers-refused net s j party i e covers =
-    let short = ltb-true (left_on (inventory_of net) s.bookings i) (party + kept_from net s.plan i j) e in
+    let short = ltb-true (left_on (inventory_of net) s.bookings i) (party + protected_from net s.plan i j) e in
     absurd (omega (arith, short, covers))
 
 fare-passed : (net : NetworkValue) (s : SeatState) (j : ℕ) → fare_refuses net s.plan j ≡ false → FareReaches net s j

@@ -7,7 +7,7 @@ use Rattle.nrm_model.specs.declared.mode.Mode.TheVariants as mode
 use Rattle.nrm_lp.specs.declared.certificate.Certificate.{Certificate}
 use Rattle.nrm_lp.specs.Certified.{sizes}
 use Rattle.nrm_lp.specs.Program.{price_sum}
-use Rattle.nrm_plan.specs.Plans.{PlanValue, kept_from}
+use Rattle.nrm_plan.specs.Plans.{PlanValue, protected_from}
 use Rattle.nrm_book.specs.Bookings.{left_on}
 use Rattle.nrm_control.specs.State.{SeatState, after_request}
 use Rattle.nrm_stream.specs.declared.command.Command.TheVariants as command
@@ -23,12 +23,12 @@ pub record InForce (plan : PlanValue) (its_mode : Mode) (prices : Certificate) :
 abbrev pub bid_price_sum : NetworkValue → Certificate → ℕ → ℕ
 bid_price_sum net prices product = price_sum (sizes prices.p) (product_of net product).legs
 
--- On a leg, the party plus the seats that are kept from the product are no more than the seats left. By the mode of the plan in
+-- On a leg, the party plus the seats that are protected from the product are no more than the seats left. By the mode of the plan in
 -- force none are kept under first come, first served and by bid prices, and under virtual nesting those that are protected for
--- the buckets above the product's own (`kept_from`). A difference of whole numbers ends at 0, so the seats left would be 0 if
+-- the buckets above the product's own (`protected_from`). A difference of whole numbers ends at 0, so the seats left would be 0 if
 -- more were sold than there are; no leg ever has.
 abbrev pub SeatsCover : NetworkValue → SeatState → ℕ → ℕ → ℕ → Type 0
-SeatsCover net s product party leg = party + kept_from net s.plan leg product ≤ left_on (inventory_of net) s.bookings leg
+SeatsCover net s product party leg = party + protected_from net s.plan leg product ≤ left_on (inventory_of net) s.bookings leg
 
 -- They do on every leg of the product.
 abbrev pub EveryLegCovers : NetworkValue → SeatState → ℕ → ℕ → Type 0

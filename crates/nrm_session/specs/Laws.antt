@@ -27,8 +27,8 @@ pub record IsKept (net : NetworkValue) (s : SeatState) : Type 0 where
 
 -- the opening is such a state, whatever its plan, and whatever the commands, a run from such a state comes to such a state; and each
 -- first part of a run is a run
-abbrev pub SeatsAreKept : Type 0
-SeatsAreKept = ((net : NetworkValue) (plan : PlanValue) → IsKept net (opening plan))
+abbrev pub RunsOversellNoLeg : Type 0
+RunsOversellNoLeg = ((net : NetworkValue) (plan : PlanValue) → IsKept net (opening plan))
     × ((net : NetworkValue) (s s' : SeatState) (commands : List Command) (replies : List Reply) → IsKept net s
     → Run net s commands replies s' → IsKept net s')
 
@@ -36,7 +36,7 @@ SeatsAreKept = ((net : NetworkValue) (plan : PlanValue) → IsKept net (opening 
 abbrev pub MemorySuffices : List Reply → Type 0
 MemorySuffices replies = All (λ reply. reply ≢ memory) replies
 
--- want of memory is the one reply that is free: where none wants for it, the commands determine the replies and the state
+-- that memory ran out is the one reply that is free: where no line runs out of it, the commands determine the replies and the state
 abbrev pub RepliesAreDetermined : Type 0
 RepliesAreDetermined = (net : NetworkValue) (s : SeatState) (commands : List Command) (replies others : List Reply) (s' s'' : SeatState)
     → Run net s commands replies s' → Run net s commands others s'' → MemorySuffices replies → MemorySuffices others → (others ≡ replies)

@@ -3,16 +3,16 @@ ghost use Rattle.nrm_session.specs.Headline.{RequestsAreAnswered};
 ghost use Rattle.nrm_session.specs.Hindsight.{HindsightBounds, HindsightBoundsOn};
 ghost use Rattle.nrm_session.specs.LastPlan.{PrintedFromOpeningPlans, PrintedPricesAreOptimal};
 ghost use Rattle.nrm_session.specs.Laws.{EachListHasARun, OtherLinesNeedNoMemory, PlansAreKept, RepliesAreDetermined, RunsHaveFirstParts};
-ghost use Rattle.nrm_session.specs.Laws.{SeatsAreKept, StatesAreDetermined};
+ghost use Rattle.nrm_session.specs.Laws.{RunsOversellNoLeg, StatesAreDetermined};
 ghost use Rattle.nrm_session.specs.Money.{MoneyAddsUp, MoneyGoesOn};
 ghost use Rattle.nrm_session.specs.PhysicalSeats.{PhysicalSeatsDecideNothing};
 
 /// No leg has more seats sold than are authorised in an opening, and a run keeps that from any state.
-pub fn seats_are_kept()
-    ensures { SeatsAreKept }
+pub fn runs_oversell_no_leg()
+    ensures { RunsOversellNoLeg }
 {}
 
-/// The commands of a session determine its replies and its states, where no line wants for memory.
+/// The commands of a session determine its replies and its states, where no line runs out of memory.
 pub fn replies_are_determined()
     ensures { RepliesAreDetermined }
 {}
@@ -27,7 +27,7 @@ pub fn states_are_determined()
     ensures { StatesAreDetermined }
 {}
 
-/// From each state, each list of commands has a run in which no line wants for memory.
+/// From each state, each list of commands has a run in which no line runs out of memory.
 pub fn each_list_has_a_run()
     ensures { EachListHasARun }
 {}

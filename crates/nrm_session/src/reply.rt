@@ -56,7 +56,7 @@ pub enum Reply {
     OptimisedNone,
     /// The program is too large, and nothing changes.
     Overflow,
-    /// Want of memory, and nothing changes.
+    /// Memory ran out, and nothing changes.
     Memory,
     /// No selection of the past requests that fits the authorised seats earns more than this value, in whole currency units, in
     /// lowest terms; the bookings that stand earn this revenue, and this much was withheld from cancelled ones.
@@ -78,7 +78,7 @@ fn book(controller: &mut Controller, product: &Name, party: u16) -> Reply
     requires next { controller.old.next < BOOKING_LIMIT }
     ensures step { Steps controller.old controller.new (command.Book product.now party) (reply_in controller.new result) }
     ensures tellable { IsTellable controller.new.net result }
-    ensures kept { IsControl controller.new }
+    ensures sound { IsControl controller.new }
 {
     match controller.network().find_product(product) {
         None => Reply::Unknown,
@@ -94,7 +94,7 @@ fn book(controller: &mut Controller, product: &Name, party: u16) -> Reply
 fn cancel(controller: &mut Controller, number: u64) -> Reply
     ensures step { Steps controller.old controller.new (command.Cancel number) (reply_in controller.new result) }
     ensures tellable { IsTellable controller.new.net result }
-    ensures kept { IsControl controller.new }
+    ensures sound { IsControl controller.new }
 {
     match controller.cancel(number) {
         None => Reply::Unknown,
@@ -144,7 +144,7 @@ fn reoptimise(alloc: Global, controller: &mut Controller, period: u8) -> Reply
     requires { 1 ≤ period }
     ensures step { Steps controller.old controller.new (command.Reoptimise period) (reply_in controller.new result) }
     ensures tellable { IsTellable controller.new.net result }
-    ensures kept { IsControl controller.new }
+    ensures sound { IsControl controller.new }
 {
     if period > controller.network().t() {
         return Reply::Unknown;
@@ -182,7 +182,7 @@ pub fn carry_out(alloc: Global, controller: &mut Controller, command: &Command) 
     requires next { controller.old.next < BOOKING_LIMIT }
     ensures step { Steps controller.old controller.new command.now (reply_in controller.new result) }
     ensures tellable { IsTellable controller.new.net result }
-    ensures kept { IsControl controller.new }
+    ensures sound { IsControl controller.new }
 {
     // For its clause alone: this is a controller of a network within the limits.
     let _ = controller.network();
@@ -330,7 +330,7 @@ pub fn answer_line<K: Sink>(
     ensures whole { OnOk result (AnswersLine controller.old controller.new command.now (K.held sink.old) (K.held sink.new)) }
     ensures cut { OnErr result (CutsLine controller.old controller.new command.now (K.held sink.old) (K.held sink.new)) }
     ensures cause { HasCause (K.faults sink.old) (K.faults sink.new) result }
-    ensures kept { IsControl controller.new }
+    ensures sound { IsControl controller.new }
 {
     let reply = carry_out(alloc, controller, command);
     put_reply(controller, reply, sink)

@@ -211,7 +211,7 @@ pub fn serve<S: Source, K: Sink>(
         CountsFaults (at source.old sink.old) (at source.new sink.new) result }
     ensures sent { SentOn (K.unsent sink.old) (K.unsent sink.new) result }
     ensures hindsight { (s : SeatState) → StandsFor controller.old s → BoundsFrom controller.old.net s }
-    ensures kept { IsControl controller.new }
+    ensures sound { IsControl controller.new }
 {
     // For its clause alone: this is a controller of a network within the limits.
     let _ = controller.network();

@@ -13,7 +13,7 @@ use Rattle.nrm_simplex.specs.declared.fault.SolveFault.TheVariants as fault
 abbrev pub IsClosing : ProgramValue → Certificate → Type 0
 IsClosing a made = (n : ℕ) × (t : Tableau) × Closes size_limit a n t × (made ≡ certificate a t)
 
--- why there is none: the program is Large after so many finished pivots, and 4,294,967,295 stands for more. Want of memory says nothing
+-- why there is none: the program is Large after so many finished pivots, and 4,294,967,295 stands for more. If memory ran out, it says nothing
 abbrev pub IsSolveFault : ProgramValue → SolveFault → Type 0
 IsSolveFault a (fault.Overflow pivots number) = (n : ℕ) × Overflows size_limit a n number × (pivots ≡ min n (2 ^ 32 - 1))
 IsSolveFault a fault.NoMemory = Unit {0}

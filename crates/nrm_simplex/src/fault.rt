@@ -8,7 +8,7 @@ pub enum SolveFault {
     /// The program is Large: a number of the pivot after these finished ones, or of the closing after all of them,
     /// reaches the limit in size. `number` is the first that does; `pivots` is 4,294,967,295 where there were more.
     Overflow { pivots: u32, number: i128 },
-    /// Want of memory.
+    /// Memory ran out.
     NoMemory,
 }
 

@@ -27,7 +27,7 @@ module _ (limit : ℕ) where
   fault_back (Large n) xs ys small h = large-append xs ys ∙ ap (λ found. first_of_two found (first_large limit ys)) small ∙ h
   fault_back NoMemory xs ys small h = tt
 
-  -- want of memory is a fault whatever the rows are
+  -- running out of memory is a fault whatever the rows are
   pub fault_any : (f : RowFault) (found : Option ℤ) → IsFault f None → IsFault f found
   fault_any (Large n) found h = absurd (none-some n h)
   fault_any NoMemory found h = tt

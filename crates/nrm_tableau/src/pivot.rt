@@ -83,7 +83,7 @@ fn combine_each(
         (λ f. IsFault f (first_large size_limit made)) }
     ensures changed { OnOk result ((k : ℕ) → k < length rows.old
         → row_bit changed.new (first + k) ≡ 0 → at (get_or rows.old k []) col ≡ whole (pos 0)) }
-    ensures kept { (r : ℕ) → row_bit changed.old r ≡ 1 → row_bit changed.new r ≡ 1 }
+    ensures stays { (r : ℕ) → row_bit changed.old r ≡ 1 → row_bit changed.new r ≡ 1 }
 {
     none_is_large(rows);
     let end = first + rows.len() as u16;
@@ -112,7 +112,7 @@ fn combine_row(
         (λ _. (row.new ≡ made) × (large_number size_limit made ≡ None))
         (λ f. IsFault f (large_number size_limit made)) }
     ensures changed { row_bit changed.new number ≡ 0 → at row.old col ≡ whole (pos 0) }
-    ensures kept { (r : ℕ) → row_bit changed.old r ≡ 1 → row_bit changed.new r ≡ 1 }
+    ensures stays { (r : ℕ) → row_bit changed.old r ≡ 1 → row_bit changed.new r ≡ 1 }
 {
     if row.is_nought(col) {
         row.never_large();

@@ -45,7 +45,7 @@ impl RowSet {
     pub(crate) fn insert(&mut self, row: u16)
         requires { row < MOST_ROWS }
         ensures put { row_bit self.new row ≡ 1 }
-        ensures kept { (r : ℕ) → row_bit self.old r ≡ 1 → row_bit self.new r ≡ 1 }
+        ensures stays { (r : ℕ) → row_bit self.old r ≡ 1 → row_bit self.new r ≡ 1 }
     {
         self.words[usize::from(row / 64)] |= 1 << (row % 64);
     }

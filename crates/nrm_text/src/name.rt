@@ -119,7 +119,7 @@ fn front_of(bytes: &[u8]) -> ([u8; MOST_NAME_BYTES], usize)
     ensures within { result.1 ≤ length bytes.now }
     ensures may_stand { list_all is_name_byte (take result.1 bytes.now) ≡ true }
     ensures stops { result.1 < MOST_NAME_BYTES → result.1 < length bytes.now → is_name_byte (slice_index bytes.now result.1) ≡ false }
-    ensures kept { result.0 ≡ take result.1 bytes.now ++ replicate (MOST_NAME_BYTES - result.1) 0 }
+    ensures padded { result.0 ≡ take result.1 bytes.now ++ replicate (MOST_NAME_BYTES - result.1) 0 }
 {
     let most = bytes.len().min(MOST_NAME_BYTES);
     let mut kept = [0; MOST_NAME_BYTES];

@@ -35,7 +35,7 @@ impl BucketTable {
     /// The table of a network and a certificate: each leg has exactly its products, in file order.
     ///
     /// # Errors
-    /// Want of memory.
+    /// Memory runs out.
     pub fn build(
         alloc: Global,
         net: &Network,

@@ -139,7 +139,7 @@ class Plan:
         """The mode that makes such a plan."""
         return "first" if self.value is None else "davn" if self.protections else "bid"
 
-    def kept_from(self, leg: str, product: str) -> int:
+    def protected_from(self, leg: str, product: str) -> int:
         """The seats of a leg that are kept from a product, since they are protected for the buckets above its own."""
         if self.mode != "davn":
             return 0

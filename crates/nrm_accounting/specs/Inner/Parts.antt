@@ -1,43 +1,14 @@
 -- What the parts of the top call promise one another.
-use Rattle.std.specs.Prelude.{ℕ, ◌≡◌, ◌≢◌, ◌<◌, ◌⊎◌, true, false, List, [], Option, Some, None}
-use Rattle.std.specs.Io.KnownBytes.{Appends, Keeps}
-use Rattle.nrm_edge.specs.Causes.{Rose}
-use Rattle.nrm_edge.specs.Pieces.{AppendsCut}
-use Rattle.nrm_outside.specs.Words.{overflow_line}
-use Rattle.nrm_outside.specs.declared.network_file.NoNetwork.{NoNetwork}
-use Rattle.nrm_outside.specs.declared.network_file.NoNetwork.TheVariants as none
-use Rattle.nrm_simplex.specs.declared.fault.SolveFault.{SolveFault}
-use Rattle.nrm_simplex.specs.declared.fault.SolveFault.TheVariants as fault
+use Rattle.std.specs.Prelude.{ℕ, ◌≡◌, ◌≢◌, ◌<◌, true, false, List, [], Option}
 use Rattle.nrm_session.specs.declared.serving.End.{End}
 use Rattle.nrm_session.specs.declared.serving.End.TheVariants as end
 use Rattle.nrm_account.specs.declared.teller.Teller.{Teller}
+use Rattle.nrm_outside.specs.Puts.{PutsLine}
 use Rattle.nrm_accounting.specs.Jobs.{WhyJob, absent_line}
 use Rattle.nrm_accounting.specs.declared.top.Asked.{Asked}
 use Rattle.nrm_accounting.specs.declared.status.WhyStatus.{WhyStatus}
 use Rattle.nrm_accounting.specs.declared.status.WhyStatus.TheVariants as status
-
--- a line is put with a status; or it is cut
-abbrev pub PutsLine : List ℕ → WhyStatus → Option (List ℕ) → Option (List ℕ) → ℕ → ℕ → WhyStatus → Type 0
-PutsLine line told held held' before now result =
-    ((result ≡ told) × Appends held held' line × (now ≡ before))
-    ⊎ ((result ≡ status.WriteFault) × AppendsCut held held' line × Rose before now)
-
--- the line of a reason is put with a status, or memory ran out and there is none
-abbrev pub PutsIfSome : Option (List ℕ) → WhyStatus → Option (List ℕ) → Option (List ℕ) → ℕ → ℕ → WhyStatus → Type 0
-PutsIfSome (Some line) told held held' before now result = PutsLine line told held held' before now result
-PutsIfSome None told held held' before now result = (result ≡ status.NoMemory) × Keeps held held' × (now ≡ before)
-
--- the status that goes with the line of a reason
-abbrev pub status_for : NoNetwork → WhyStatus
-status_for none.Absent = status.Refused
-status_for (none.Refused row cause) = status.Refused
-status_for none.Fault = status.FileFault
-status_for none.NoMemory = status.NoMemory
-
--- the line that says that nothing is planned, and none if memory ran out
-abbrev pub unplanned_line : SolveFault → Option (List ℕ)
-unplanned_line (fault.Overflow pivots number) = Some (overflow_line pivots number)
-unplanned_line fault.NoMemory = None
+use Rattle.nrm_accounting.specs.declared.status.TheConstants.{STATUSES}
 
 -- after a whole stream: the account was written; or memory ran out; or the line that the stream has no such line is put
 pub data EndsReading (teller : Teller) (held held' : Option (List ℕ)) (before now : ℕ) (result : WhyStatus) : Type 0 where
@@ -45,7 +16,7 @@ pub data EndsReading (teller : Teller) (held held' : Option (List ℕ)) (before 
       → EndsReading teller held held' before now result
   ran_out : teller.ran_out ≡ true → result ≡ status.NoMemory → held' ≡ held → now ≡ before
       → EndsReading teller held held' before now result
-  lacking : 0 < teller.left → teller.ran_out ≡ false → PutsLine (absent_line teller.asked) status.NoLine held held' before now result
+  lacking : 0 < teller.left → teller.ran_out ≡ false → PutsLine STATUSES (absent_line teller.asked) status.NoLine held held' before now result
       → EndsReading teller held held' before now result
 
 -- what each end of a reading makes of it

@@ -1,18 +1,16 @@
 -- What the parts of the top call promise one another.
-use Rattle.std.specs.Prelude.{ℕ, ◌≡◌, ◌≢◌, ◌+◌, ◌-◌, ◌≤◌, ◌⊎◌, List, [], length, Option, Some, None, Result, Ok, Err, MatchResult, IfSome}
+use Rattle.std.specs.Prelude.{ℕ, ◌≡◌, ◌≢◌, ◌+◌, ◌-◌, ◌≤◌, ◌⊎◌, List, [], length, Option, Some, Result, Ok, Err, MatchResult, IfSome}
 use Rattle.std.specs.Prelude.{option_map, ⊤}
 use Rattle.std.specs.Int.{IsInRange}
-use Rattle.std.specs.Io.KnownBytes.{Appends, Keeps}
+use Rattle.std.specs.Io.KnownBytes.{Keeps}
 use Rattle.nrm_edge.specs.Causes.{Rose}
 use Rattle.nrm_edge.specs.Fetch.{Folder}
 use Rattle.nrm_edge.specs.declared.files.Fetched.{Fetched}
 use Rattle.nrm_edge.specs.declared.files.Fetched.TheVariants as fetched
-use Rattle.nrm_edge.specs.Pieces.{AppendsCut}
 use Rattle.nrm_model.specs.Network.{NetworkValue}
 use Rattle.nrm_model.specs.Inventory.{inventory_of}
 use Rattle.nrm_model.specs.declared.mode.Mode.{Mode}
 use Rattle.nrm_simplex.specs.declared.fault.SolveFault.{SolveFault}
-use Rattle.nrm_simplex.specs.declared.fault.SolveFault.TheVariants as fault
 use Rattle.nrm_plan.specs.Plans.{IsOpeningPlan, IsPlanFault, PlanValue}
 use Rattle.nrm_report.specs.Texts.{plan_text}
 use Rattle.nrm_fraction.specs.Large.{size_limit}
@@ -27,12 +25,9 @@ use Rattle.nrm_dual.specs.Refusals.{IsRefusedFor, refusal_of}
 use Rattle.nrm_dual.specs.declared.fault.CertFault.TheVariants as certificate
 use Rattle.nrm_dual.specs.declared.verdict.Verdict.{Verdict}
 use Rattle.nrm_dual.specs.declared.verdict.Verdict.TheVariants as verdict
-use Rattle.nrm_outside.specs.NetworkFile.{reason_line}
 use Rattle.nrm_outside.specs.Outside.{OnFile}
 use Rattle.nrm_outside.specs.Refusals.{file_fault_line}
-use Rattle.nrm_outside.specs.Words.{overflow_line}
-use Rattle.nrm_outside.specs.declared.network_file.NoNetwork.{NoNetwork}
-use Rattle.nrm_outside.specs.declared.network_file.NoNetwork.TheVariants as none
+use Rattle.nrm_outside.specs.Puts.{PutsIfSome, PutsLine, PutsUnplanned}
 use Rattle.nrm_cli.specs.Certificates.{certificate_under, lacking_line, no_certificate, refused_for, verdict_line}
 use Rattle.nrm_hindsight.specs.Requests.{tallies_of}
 use Rattle.nrm_control.specs.Standing.{ControlValue, IsControl, StandsFor}
@@ -56,6 +51,7 @@ use Rattle.nrm_cli.specs.declared.words.Asked.{Asked}
 use Rattle.nrm_cli.specs.declared.words.Asked.TheVariants as asked
 use Rattle.nrm_cli.specs.declared.certificate.NoCertificate.{NoCertificate}
 use Rattle.nrm_cli.specs.declared.certificate.NoCertificate.TheVariants as lacking
+use Rattle.nrm_cli.specs.declared.status.TheConstants.{STATUSES}
 
 -- a job as the code holds it
 abbrev pub job_in : Asked → Job
@@ -69,43 +65,11 @@ job_in (asked.Values file leg) = value_leg file.now leg
 
 -- a number of groups lies within its limits
 abbrev pub IsWithin : Asked → Type 0
-IsWithin (asked.Run mode file) = ⊤
-IsWithin (asked.Plan mode file) = ⊤
-IsWithin (asked.Check file certificate) = ⊤
-IsWithin (asked.Print file) = ⊤
-IsWithin (asked.Made mode number) = ⊤
 IsWithin (asked.Cuts file leg groups) = IsInRange 1 MOST_GROUPS groups
-IsWithin (asked.Values file leg) = ⊤
-
--- a line was put and its status answered, or the line was cut
-abbrev pub PutsLine : List ℕ → Status → Option (List ℕ) → Option (List ℕ) → ℕ → ℕ → Status → Type 0
-PutsLine line told held held' before now result =
-    ((result ≡ told) × Appends held held' line × (now ≡ before))
-    ⊎ ((result ≡ status.WriteFault) × AppendsCut held held' line × Rose before now)
-
--- the line of a reason is put with a status, or there is none for want of memory
-abbrev pub PutsIfSome : Option (List ℕ) → Status → Option (List ℕ) → Option (List ℕ) → ℕ → ℕ → Status → Type 0
-PutsIfSome (Some line) told held held' before now result = PutsLine line told held held' before now result
-PutsIfSome None told held held' before now result = (result ≡ status.NoMemory) × Keeps held held' × (now ≡ before)
-
--- the status that goes with the line of a reason
-abbrev pub status_for : NoNetwork → Status
-status_for none.Absent = status.Refused
-status_for (none.Refused row cause) = status.Refused
-status_for none.Fault = status.FileFault
-status_for none.NoMemory = status.NoMemory
-
--- what is put and answered where there is no network
-abbrev pub PutsReason : NoNetwork → Option (List ℕ) → Option (List ℕ) → ℕ → ℕ → Status → Type 0
-PutsReason reason held held' before now result = PutsIfSome (reason_line reason) (status_for reason) held held' before now result
-
--- there was no network, and what says why was put and answered
-abbrev pub TellsNoNetwork : Result NetworkValue NoNetwork → Option (List ℕ) → Option (List ℕ) → ℕ → ℕ → Status → Type 0
-TellsNoNetwork (Ok net) held held' before now result = ⊥
-TellsNoNetwork (Err reason) held held' before now result = PutsReason reason held held' before now result
+IsWithin _ = ⊤
 
 -- the certificate of the file of this name for a network, where the files are told, or why there is none; a fault of the files
--- tells nothing of them, and want of memory is free
+-- tells nothing of them, and running out of memory is free
 abbrev pub OpensCertificate : NetworkValue → Option Folder → List ℕ → Result Certificate NoCertificate → Type 0
 OpensCertificate net files name (Ok given) = OnFile files name (λ file. certificate_under net file ≡ Ok given)
 OpensCertificate net files name (Err lacking.Absent) = OnFile files name (λ file. certificate_under net file ≡ Err no_certificate)
@@ -114,7 +78,7 @@ OpensCertificate net files name (Err (lacking.Unread fault)) =
 OpensCertificate net files name (Err lacking.Fault) = ⊤
 
 -- what was fetched is read as a certificate for a network: it is too long, or isn't there, or its bytes give a certificate or are
--- refused; want of memory is free only where there are bytes to read
+-- refused; running out of memory is free only where there are bytes to read
 abbrev pub ReadsBytes : NetworkValue → List ℕ → Result Certificate NoCertificate → Type 0
 ReadsBytes net bytes (Ok given) = certificate_of net bytes ≡ Ok given
 ReadsBytes net bytes (Err (lacking.Unread fault)) = IsRefusedFor (refusal_of fault) (certificate_of net bytes)
@@ -139,7 +103,7 @@ IsLackOf net lacking.Absent = ⊤
 IsLackOf net (lacking.Unread fault) = IsOfNetwork net fault
 IsLackOf net lacking.Fault = ⊤
 
--- what is written where there is no certificate, and nothing for want of memory
+-- what is written where there is no certificate, and nothing if memory ran out
 abbrev pub lack_line : NetworkValue → NoCertificate → Option (List ℕ)
 lack_line net lacking.Absent = Some (lacking_line net no_certificate)
 lack_line net (lacking.Unread fault) = option_map (λ cause. lacking_line net (refused_for cause)) (refusal_of fault)
@@ -151,25 +115,11 @@ lack_status lacking.Absent = status.Refused
 lack_status (lacking.Unread fault) = status.Refused
 lack_status lacking.Fault = status.FileFault
 
--- the line that says that nothing is planned, and none for want of memory
-abbrev pub unplanned_line : SolveFault → Option (List ℕ)
-unplanned_line (fault.Overflow pivots number) = Some (overflow_line pivots number)
-unplanned_line fault.NoMemory = None
-
--- what is put and answered where nothing is planned
-abbrev pub PutsUnplanned : SolveFault → Option (List ℕ) → Option (List ℕ) → ℕ → ℕ → Status → Type 0
-PutsUnplanned why held held' before now result = PutsIfSome (unplanned_line why) status.Overflow held held' before now result
-
--- nothing was planned, and what says why was put and answered
-abbrev pub TellsUnplanned : {T : Type 0} → Result T SolveFault → Option (List ℕ) → Option (List ℕ) → ℕ → ℕ → Status → Type 0
-TellsUnplanned (Ok made) held held' before now result = ⊥
-TellsUnplanned (Err why) held held' before now result = PutsUnplanned why held held' before now result
-
 -- the text of the opening plan of a network in a mode is put, or it is told why there is none
 abbrev pub PutsPlan : NetworkValue → Mode → Option (List ℕ) → Option (List ℕ) → ℕ → ℕ → Status → Type 0
 PutsPlan net m held held' before now result =
-    ((plan : PlanValue) × IsOpeningPlan net m plan × PutsLine (plan_text net plan) status.Done held held' before now result)
-    ⊎ ((why : SolveFault) × IsPlanFault net m (inventory_of net).authorised 1 why × PutsUnplanned why held held' before now result)
+    ((plan : PlanValue) × IsOpeningPlan net m plan × PutsLine STATUSES (plan_text net plan) status.Done held held' before now result)
+    ⊎ ((why : SolveFault) × IsPlanFault net m (inventory_of net).authorised 1 why × PutsUnplanned STATUSES why held held' before now result)
 
 -- what is put and answered where there is a certificate: the verdict on it, which is optimal only where the certificate shows that it
 -- is, and is never that it has another shape
@@ -179,7 +129,7 @@ pub record PutsFound (net : NetworkValue) (given : Certificate) (held held' : Op
   pub verdict_is : verdict_on (opening_program net) given ≡ found
   pub shaped : found ≢ verdict.WrongShape
   pub optimal : found ≡ verdict.Optimal → Certifies size_limit (opening_program net) given
-  pub puts : PutsLine (verdict_line net found) (status_of found) held held' before now result
+  pub puts : PutsLine STATUSES (verdict_line net found) (status_of found) held held' before now result
 
 -- it is put by the program that was to be had; if memory ran out on that, nothing is
 abbrev pub PutsCompared : {P E : Type 0} → NetworkValue → Certificate → Result P E
@@ -198,7 +148,7 @@ pub record ChecksFile (net : NetworkValue) (files : Option Folder) (name : List 
   pub opens : OpensCertificate net files name opened
   pub counts : CountsCertificate before now opened
   pub puts : MatchResult opened (λ given. PutsVerdict net given held held' sunk sunk' result)
-      (λ reason. PutsIfSome (lack_line net reason) (lack_status reason) held held' sunk sunk' result)
+      (λ reason. PutsIfSome STATUSES (lack_line net reason) (lack_status reason) held held' sunk sunk' result)
 
 -- the status that goes with the end of a session
 abbrev pub status_at : End → Status
@@ -215,7 +165,7 @@ total_of c = c.sold + c.no_leg + c.no_fare + c.cancelled + c.unknown + c.legs + 
 abbrev pub rest_of : Making → List Command
 rest_of making = commands_from (command_count - making.given) making.given making.state
 
--- these commands were answered, in each state that the controller stood for, with replies of which none wants for memory: all but the last
+-- these commands were answered, in each state that the controller stood for, with replies of which none runs out of memory: all but the last
 -- were counted, and this is the last
 pub record AnswersMade (old new : ControlValue) (commands : List Command) (counts : Counts) (last : Answered) : Type 0 where
   pub network : new.net ≡ old.net
@@ -230,14 +180,14 @@ pub record AnswersMade (old new : ControlValue) (commands : List Command) (count
 abbrev pub HasBegun : NetworkValue → ControlValue → Type 0
 HasBegun net control = control ≡ record { net = net; plan = control.plan; bookings = []; next = 1; tallies = tallies_of net []; withheld = 0 }
 
--- the summary of a run from the opening is put, or nothing for want of memory
+-- the summary of a run from the opening is put, or nothing if memory ran out
 abbrev pub PutsSummary : NetworkValue → PlanValue → ℕ → Option (List ℕ) → Option (List ℕ) → ℕ → ℕ → Status → Type 0
 PutsSummary net plan number held held' before now result =
     ((result ≡ status.NoMemory) × Keeps held held' × (now ≡ before))
-    ⊎ ((text : List ℕ) × MadeRun net plan number text × PutsLine text status.Done held held' before now result)
+    ⊎ ((text : List ℕ) × MadeRun net plan number text × PutsLine STATUSES text status.Done held held' before now result)
 
 -- what is told is put with its status, or memory ran out and nothing was put
 abbrev pub PutsTold : (Status → List ℕ → Type 0) → Option (List ℕ) → Option (List ℕ) → ℕ → ℕ → Status → Type 0
 PutsTold told held held' before now result =
     ((result ≡ status.NoMemory) × Keeps held held' × (now ≡ before))
-    ⊎ ((goes : Status) × (text : List ℕ) × told goes text × PutsLine text goes held held' before now result)
+    ⊎ ((goes : Status) × (text : List ℕ) × told goes text × PutsLine STATUSES text goes held held' before now result)

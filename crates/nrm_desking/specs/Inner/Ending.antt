@@ -3,11 +3,12 @@ use Rattle.std.specs.Prelude.{ℕ, ◌≡◌, List, Option}
 use Rattle.nrm_frames.specs.Outgoing.{differs, no_row, output_text}
 use Rattle.nrm_hub.specs.declared.again.AgainFault.{AgainFault}
 use Rattle.nrm_hub.specs.declared.again.AgainFault.TheVariants as fault
-use Rattle.nrm_desking.specs.Inner.Parts.{PutsLine}
+use Rattle.nrm_outside.specs.Puts.{PutsLine}
 use Rattle.nrm_desking.specs.declared.serving.ServeEnd.{ServeEnd}
 use Rattle.nrm_desking.specs.declared.serving.ServeEnd.TheVariants as end
 use Rattle.nrm_desking.specs.declared.status.DesksStatus.{DesksStatus}
 use Rattle.nrm_desking.specs.declared.status.DesksStatus.TheVariants as status
+use Rattle.nrm_desking.specs.declared.status.TheConstants.{STATUSES}
 
 -- nothing is put with a status
 abbrev pub PutsNothing : DesksStatus → Option (List ℕ) → Option (List ℕ) → ℕ → ℕ → DesksStatus → Type 0
@@ -16,9 +17,9 @@ PutsNothing told held held' before now result = (result ≡ told) × (held' ≡ 
 -- the frame that says at which row it stopped is put, or memory ran out
 abbrev pub PutsFault : AgainFault → Option (List ℕ) → Option (List ℕ) → ℕ → ℕ → DesksStatus → Type 0
 PutsFault (fault.NoRow row) held held' before now result =
-    PutsLine (output_text (no_row row)) status.NoRow held held' before now result
+    PutsLine STATUSES (output_text (no_row row)) status.NoRow held held' before now result
 PutsFault (fault.Differs row) held held' before now result =
-    PutsLine (output_text (differs row)) status.Differs held held' before now result
+    PutsLine STATUSES (output_text (differs row)) status.Differs held held' before now result
 PutsFault fault.NoMemory held held' before now result = PutsNothing status.NoMemory held held' before now result
 
 abbrev pub EndsServing : ServeEnd → Option (List ℕ) → Option (List ℕ) → ℕ → ℕ → DesksStatus → Type 0

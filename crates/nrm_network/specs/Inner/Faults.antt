@@ -7,7 +7,7 @@ use Rattle.nrm_network.specs.declared.fault.NetFault.TheVariants as fault
 use Rattle.nrm_network.specs.declared.fault.RowRefusal.{RowRefusal}
 use Rattle.nrm_network.specs.declared.fault.RowRefusal.TheVariants as of_row
 
--- the row is refused against those before it, and why; want of memory is free
+-- the row is refused against those before it, and why; running out of memory is free
 abbrev pub Refuses : List Row → Row → RowRefusal → Type 0
 Refuses before row (of_row.Refused cause) = why_refused before row ≡ Some cause
 Refuses before row of_row.NoMemory = ⊤

@@ -18,7 +18,7 @@ abbrev pub NameIn : List ℕ → Result (List ℕ) Why → Type 0
 NameIn text (Ok name) = (is_name text ≡ true) × (name ≡ text)
 NameIn text (Err cause) = (is_name text ≡ false) × (cause ≡ why.Name)
 
--- the fields from the fourth on are names, or one is none; want of memory is free
+-- the fields from the fourth on are names, or one is none; running out of memory is free
 abbrev pub NamesIn : Row → Result (Vec (List ℕ) Global) RowRefusal → Type 0
 NamesIn row (Ok names) = (list_all is_name (further row) ≡ true) × (names.items ≡ further row)
 NamesIn row (Err (fault.Refused cause)) = (list_all is_name (further row) ≡ false) × (cause ≡ why.Name)
@@ -47,7 +47,7 @@ bounded least greatest texts = map (λ text. (text, least, greatest)) texts
 abbrev pub are_whole : List NumberField → Bool
 are_whole numbers = list_all (λ (number : NumberField). is_whole number.0) numbers
 
--- the fields from a place on write numbers within these bounds, or one is outside them, or one is none; want of memory is free
+-- the fields from a place on write numbers within these bounds, or one is outside them, or one is none; running out of memory is free
 abbrev pub NumbersIn : ℕ → ℕ → ℕ → Row → Result (Option (Vec ℕ Global)) RowRefusal → Type 0
 NumbersIn from least greatest row (Ok (Some numbers)) =
     (are_whole (bounded least greatest (drop from row)) ≡ true) × (list_all is_within (bounded least greatest (drop from row)) ≡ true)
@@ -58,7 +58,7 @@ NumbersIn from least greatest row (Err (fault.Refused cause)) =
     (are_whole (bounded least greatest (drop from row)) ≡ false) × (cause ≡ why.Number)
 NumbersIn from least greatest row (Err fault.NoMemory) = ⊤
 
--- the row of a leg writes these numbers, or one is outside its bounds, or one is none; want of memory is free
+-- the row of a leg writes these numbers, or one is outside its bounds, or one is none; running out of memory is free
 abbrev pub LegFiguresIn : ℕ → Row → Result (Option LegFigures) RowRefusal → Type 0
 LegFiguresIn version row (Ok (Some numbers)) =
     (are_whole (number_fields version 0 leg_kind row) ≡ true) × (list_all is_within (number_fields version 0 leg_kind row) ≡ true)

@@ -1,4 +1,4 @@
--- The replies to lines that have a program solved, by what was answered: want of memory is told for want of memory alone.
+-- The replies to lines that have a program solved, by what was answered: that memory ran out is told only if it did.
 use Rattle.std.specs.Prelude.{ℕ, Option, Some, None, Result, Ok, Err}
 use Rattle.nrm_simplex.specs.declared.fault.SolveFault.{SolveFault}
 use Rattle.nrm_simplex.specs.declared.fault.SolveFault.TheVariants as fault

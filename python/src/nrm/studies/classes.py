@@ -103,7 +103,7 @@ class LegAlone:
     def policy(self, lines: list[str]) -> Policy:
         """The protections by the lines of a plan."""
         plan = plan_of(lines)
-        return Policy([plan.kept_from(self.name, it.name) for it in self.classes], self.classes, self.seats)
+        return Policy([plan.protected_from(self.name, it.name) for it in self.classes], self.classes, self.seats)
 
 
 def tables(leg: LegAlone, emsr: Policy) -> list[Table]:

@@ -20,4 +20,4 @@ push_cancellation-requires c =
     let live : booking_numbered control.bookings c.in-Cancel.number ≡ Some c.in-Some-find.live =
     (λ n. booking_numbered ((sym c.book.ensures.book n).bookings) c.in-Cancel.number) ∙ sym c.find.ensures ∙ c.in-Some-find.is in
     subst (λ (net : NetworkValue). c.in-Some-find.live.product < length net.products) (sym c.network-net.ensures.network)
-    (own-product control c.in-Cancel.number c.in-Some-find.live c.book.ensures.kept.book live)
+    (own-product control c.in-Cancel.number c.in-Some-find.live c.book.ensures.sound.book live)

@@ -21,7 +21,7 @@ push_priced-requires c =
     let control = c.args.controller.now in
     let held : c.plan-plan.result.now.certificate ≡ Some c.in-Bid-Some.certificate.now = search in
     let has : control.plan.certificate ≡ Some c.in-Bid-Some.certificate.now = ap (λ (plan : PlanValue). plan.certificate) (sym c.plan-plan.ensures.plan) ∙ held in
-    let kept = c.network-net.ensures.kept in
+    let kept = c.network-net.ensures.sound in
     rw c.network-net.ensures.network
     (record {
       prices = prices-of_shape size_limit (length control.net.products) (length control.net.legs) c.in-Bid-Some.certificate.now

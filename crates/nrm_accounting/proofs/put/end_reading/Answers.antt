@@ -1,8 +1,10 @@
 use Rattle.std.proofs.Common.{List, ℕ, ◌≡◌, ◌∙◌, ◌<◌, false, subst, arith}
-use Rattle.nrm_accounting.specs.Inner.Parts.{PutsLine, lacking}
+use Rattle.nrm_outside.specs.Puts.{PutsLine}
+use Rattle.nrm_accounting.specs.Inner.Parts.{lacking}
 use Rattle.nrm_accounting.specs.Jobs.{absent_line}
 use Rattle.nrm_accounting.specs.declared.status.WhyStatus.TheVariants as status
 use Rattle.nrm_accounting.proofs.put.end_reading.Goals as goal
+use Rattle.nrm_accounting.specs.declared.status.TheConstants.{STATUSES}
 
 some-left : (left : ℕ) → (left ≡ 0 → ⊥) → 0 < left
 some-left left other = omega (arith, other)
@@ -13,4 +15,4 @@ returns-clause-ends g c =
     let faults = g.K.Sink.faults in
     let line : c.bytes.result.now ≡ absent_line c.args.teller.now.asked = c.bytes.ensures ∙ c.line_of_absent.ensures in
     lacking (some-left c.args.teller.now.left c.if-teller-eq0.false) c.if-teller.false
-    (subst (λ (text : List ℕ). PutsLine text status.NoLine (held c.args.sink.now) (held c.put_line.new.sink) (faults c.args.sink.now) (faults c.put_line.new.sink) c.put_line.result) line c.put_line.ensures.puts)
+    (subst (λ (text : List ℕ). PutsLine STATUSES text status.NoLine (held c.args.sink.now) (held c.put_line.new.sink) (faults c.args.sink.now) (faults c.put_line.new.sink) c.put_line.result) line c.put_line.ensures.puts)

@@ -4,11 +4,13 @@ use Rattle.nrm_lp.specs.Certified.{Certifies}
 use Rattle.nrm_lp.specs.Program.{ProgramValue}
 use Rattle.nrm_lp.specs.Shape.{HasShape}
 use Rattle.nrm_dual.specs.Conditions.{verdict_on}
+use Rattle.nrm_outside.specs.Puts.{PutsLine}
 use Rattle.nrm_cli.specs.Ends.{status_of}
-use Rattle.nrm_cli.specs.Inner.Parts.{PutsCompared, PutsLine}
+use Rattle.nrm_cli.specs.Inner.Parts.{PutsCompared}
 use Rattle.nrm_cli.specs.declared.status.Status.{Status}
 use Rattle.nrm_cli.proofs.ProgramOfNetwork.{shape-of-program}
 use Rattle.nrm_cli.proofs.checked.put_compared.Goals as goal
+use Rattle.nrm_cli.specs.declared.status.TheConstants.{STATUSES}
 
 pub returns-in-Ok-clause-puts : goal.returns-in-Ok-clause-puts
 returns-in-Ok-clause-puts g c =
@@ -24,8 +26,8 @@ returns-in-Ok-clause-puts g c =
       shaped = c.check-verdict.ensures.shape (subst (λ (a : ProgramValue). HasShape size_limit (length a.bounds) (length a.caps) given) (sym is) (shape-of-program c.args.net.now given c.requires.shape));
       optimal = λ e. subst (λ (a : ProgramValue). Certifies size_limit a given) is (c.check-verdict.ensures.optimal e);
       puts =
-          subst (λ (line : List ℕ). PutsLine line (status_of found) (held c.args.sink.now) (held c.put_line.new.sink) (faults c.args.sink.now) (faults c.put_line.new.sink) c.put_line.result)
+          subst (λ (line : List ℕ). PutsLine STATUSES line (status_of found) (held c.args.sink.now) (held c.put_line.new.sink) (faults c.args.sink.now) (faults c.put_line.new.sink) c.put_line.result)
           (c.bytes.ensures ∙ c.line_of_verdict-line.ensures)
-          (subst (λ (s : Status). PutsLine c.bytes.result.now s (held c.args.sink.now) (held c.put_line.new.sink) (faults c.args.sink.now) (faults c.put_line.new.sink) c.put_line.result)
+          (subst (λ (s : Status). PutsLine STATUSES c.bytes.result.now s (held c.args.sink.now) (held c.put_line.new.sink) (faults c.args.sink.now) (faults c.put_line.new.sink) c.put_line.result)
           c.status_with.ensures c.put_line.ensures.puts);
     })

@@ -3,7 +3,8 @@ use Rattle.nrm_cli.specs.Jobs.{cut_leg as cut_job}
 use Rattle.nrm_cli.specs.LegThresholds.{CutsTold}
 use Rattle.nrm_cli.specs.Tells.{cuts_told}
 use Rattle.nrm_cli.proofs.LegEnds.{cuts-quiet, leg-ends, leg-failures}
-use Rattle.nrm_cli.proofs.NoNetworkEnds.{opened-goes, without-opened}
+use Rattle.nrm_outside.proofs.Opened.{opened-goes}
+use Rattle.nrm_cli.proofs.NoNetworkEnds.{without-opened}
 use Rattle.nrm_cli.proofs.cut.cut_leg.Goals as goal
 
 pub returns-in-Ok-clause-does : goal.returns-in-Ok-clause-does

@@ -2,7 +2,8 @@
 use Rattle.std.proofs.Common.{refl}
 use Rattle.nrm_cli.specs.Jobs.{plan_file as plan_job}
 use Rattle.nrm_cli.proofs.PlanEnds.{planned-ends, planned-failures}
-use Rattle.nrm_cli.proofs.NoNetworkEnds.{opened-goes, without-opened}
+use Rattle.nrm_outside.proofs.Opened.{opened-goes}
+use Rattle.nrm_cli.proofs.NoNetworkEnds.{without-opened}
 use Rattle.nrm_cli.proofs.planned.plan_file.Goals as goal
 
 pub returns-in-Ok-clause-does : goal.returns-in-Ok-clause-does

@@ -1,13 +1,15 @@
 -- The canonical file of the network that was opened, or why there is no network.
 use Rattle.std.proofs.Common.{ℕ, List, Some, refl, subst, ◌∙◌}
 use Rattle.nrm_network.specs.Canonical.{canonical_file}
-use Rattle.nrm_cli.specs.Inner.Parts.{PutsLine}
+use Rattle.nrm_outside.specs.Puts.{PutsLine}
 use Rattle.nrm_cli.specs.Jobs.{print_file as print_job}
 use Rattle.nrm_cli.specs.Tells.{printed}
 use Rattle.nrm_cli.specs.declared.status.Status.TheVariants as status
 use Rattle.nrm_cli.proofs.ToldEnds.{told-done, told-ends}
-use Rattle.nrm_cli.proofs.NoNetworkEnds.{opened-goes, without-opened}
+use Rattle.nrm_outside.proofs.Opened.{opened-goes}
+use Rattle.nrm_cli.proofs.NoNetworkEnds.{without-opened}
 use Rattle.nrm_cli.proofs.printed.print_file.Goals as goal
+use Rattle.nrm_cli.specs.declared.status.TheConstants.{STATUSES}
 
 pub returns-in-Err-clause-does : goal.returns-in-Err-clause-does
 returns-in-Err-clause-does g c coming faults =
@@ -23,7 +25,7 @@ returns-in-Ok-print-clause-does g c coming faults =
     let opens = rw is at c.open_network.ensures.opens in
     let counts = rw is at c.open_network.ensures.counts in
     let line = rw same at c.put_line.ensures.puts in
-    let puts = subst (λ (text : List ℕ). PutsLine text status.Done (held c.args.sink.now) (held c.put_line.new.sink) (count c.args.sink.now) (count c.put_line.new.sink) c.put_line.result)
+    let puts = subst (λ (text : List ℕ). PutsLine STATUSES text status.Done (held c.args.sink.now) (held c.put_line.new.sink) (count c.args.sink.now) (count c.put_line.new.sink) c.put_line.result)
     (c.deref.ensures.value ∙ c.in-Ok-print.ensures.file) line in
     record {
       ends = told-ends (Some (print_job c.args.name.now)) _ _ status.Done c.put_line.result (canonical_file c.in-Ok.net) (printed c.args.name.now c.in-Ok.net (refl, opens)) puts refl;

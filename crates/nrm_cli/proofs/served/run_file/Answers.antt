@@ -3,7 +3,8 @@ use Rattle.std.proofs.Common.{refl}
 use Rattle.nrm_cli.specs.Jobs.{run_file as run_job}
 use Rattle.nrm_cli.proofs.PlanEnds.{without-plan}
 use Rattle.nrm_cli.proofs.RunEnds.{served-ends, served-failures, served-goes}
-use Rattle.nrm_cli.proofs.NoNetworkEnds.{opened-goes, without-opened}
+use Rattle.nrm_outside.proofs.Opened.{opened-goes}
+use Rattle.nrm_cli.proofs.NoNetworkEnds.{without-opened}
 use Rattle.nrm_cli.proofs.served.run_file.Goals as goal
 
 pub returns-in-Err-clause-does : goal.returns-in-Err-clause-does

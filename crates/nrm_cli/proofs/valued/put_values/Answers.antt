@@ -1,8 +1,9 @@
 use Rattle.std.proofs.Common.{ℕ, List, ◌≡◌, ◌∙◌, ap, inr, subst, sym}
-use Rattle.nrm_cli.specs.Inner.Parts.{PutsLine}
+use Rattle.nrm_outside.specs.Puts.{PutsLine}
 use Rattle.nrm_cli.specs.LegValues.{ValuesTold, class_count, no_classes, no_classes_line, valued}
 use Rattle.nrm_cli.specs.declared.status.Status.TheVariants as status
 use Rattle.nrm_cli.proofs.valued.put_values.Goals as goal
+use Rattle.nrm_cli.specs.declared.status.TheConstants.{STATUSES}
 
 pub returns-in-Ok-clause-puts : goal.returns-in-Ok-clause-puts
 returns-in-Ok-clause-puts g c =
@@ -25,5 +26,5 @@ returns-in-Err-Count-clause-puts g c =
       status.NoClass,
       no_classes_line count,
       no_classes none,
-      subst (λ (text : List ℕ). PutsLine text status.NoClass (held c.args.sink.now) (held put.new.sink) (faults c.args.sink.now) (faults put.new.sink) put.result) line put.ensures.puts,
+      subst (λ (text : List ℕ). PutsLine STATUSES text status.NoClass (held c.args.sink.now) (held put.new.sink) (faults c.args.sink.now) (faults put.new.sink) put.result) line put.ensures.puts,
     )

@@ -3,7 +3,8 @@ use Rattle.nrm_cli.specs.Jobs.{value_leg as value_job}
 use Rattle.nrm_cli.specs.LegValues.{ValuesTold}
 use Rattle.nrm_cli.specs.Tells.{values_told}
 use Rattle.nrm_cli.proofs.LegEnds.{leg-ends, leg-failures, values-quiet}
-use Rattle.nrm_cli.proofs.NoNetworkEnds.{opened-goes, without-opened}
+use Rattle.nrm_outside.proofs.Opened.{opened-goes}
+use Rattle.nrm_cli.proofs.NoNetworkEnds.{without-opened}
 use Rattle.nrm_cli.proofs.valued.value_leg.Goals as goal
 
 pub returns-in-Ok-clause-does : goal.returns-in-Ok-clause-does

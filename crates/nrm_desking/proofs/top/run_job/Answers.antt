@@ -5,7 +5,8 @@ use Rattle.nrm_hub.specs.Hub.{HubValue}
 use Rattle.nrm_desking.specs.Ends.{Begins, streams_at}
 use Rattle.nrm_desking.specs.Inner.Parts.{job_in}
 use Rattle.nrm_desking.specs.Inner.Serving.{ServesTo}
-use Rattle.nrm_desking.proofs.Ending.{opened, serving-ends, unfailed-end, without-network, without-plan}
+use Rattle.nrm_session.proofs.ServedBy.{opened}
+use Rattle.nrm_desking.proofs.Ending.{serving-ends, unfailed-end, without-network, without-plan}
 use Rattle.nrm_desking.proofs.top.run_job.Goals as goal
 
 pub returns-in-Err-clause-ends : goal.returns-in-Err-clause-ends
@@ -29,7 +30,7 @@ returns-clause-ends g c =
       plan = control.plan;
       planned = c.in-Ok-start.ensures.plan;
       control = control;
-      is_control = c.in-Ok-start.ensures.kept;
+      is_control = c.in-Ok-start.ensures.sound;
       network = ap (λ (k : ControlValue). k.net) c.in-Ok-start.ensures.begins;
       stands = opened control c.in-Ok.net c.in-Ok-start.ensures.begins;
     } in

@@ -7,4 +7,4 @@ pub returns-in-Sold-clause-kept : goal.returns-in-Sold-clause-kept
 returns-in-Sold-clause-kept g c =
     let found = ap (λ (net : NetworkValue). product_named net c.args.product.now) (sym c.network.ensures.network) ∙ sym c.in-Some.ensures.number in
     sold-kept g.P.Keeper c.args.controller.now c.args.keeper.now c.add.new.self c.add.result c.args.product.now c.args.party c.in-Some.found c.in-Sold.number
-    found c.in-Sold.ensures.answer c.verdict.ensures.kept c.add.ensures.added c.add.ensures.shows
+    found c.in-Sold.ensures.answer c.verdict.ensures.sound c.add.ensures.added c.add.ensures.shows

@@ -5,7 +5,8 @@ use Rattle.nrm_keeper.specs.Rows.{Lists}
 use Rattle.nrm_control.specs.Standing.{ControlValue}
 use Rattle.nrm_keeping.specs.Ends.{Begins, KeptOutside, Starts, kept_outside}
 use Rattle.nrm_keeping.specs.Inner.Parts.{job_in, loaded_in}
-use Rattle.nrm_keeping.proofs.Counts.{opened-goes, served-failures, served-goes, told-counts, unlisted-failures, unplanned-failures, without-failures}
+use Rattle.nrm_outside.proofs.Opened.{opened-goes}
+use Rattle.nrm_keeping.proofs.Counts.{served-failures, served-goes, told-counts, unlisted-failures, unplanned-failures, without-failures}
 use Rattle.nrm_keeping.proofs.Ending.{begun-load, begun-stands, keeps-stay, list-told, lists-before, served-ends, served-trusts, without-load, without-network, without-plan, without-rows}
 use Rattle.nrm_keeping.proofs.Readings.{listed-read, unlisted-read}
 use Rattle.nrm_keeping.specs.Inner.Reading.{rows_by}

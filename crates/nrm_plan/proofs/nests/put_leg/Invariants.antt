@@ -5,7 +5,7 @@ use Rattle.nrm_virtual.specs.Inner.Written.{written}
 use Rattle.nrm_plan.specs.Inner.Kept.{kept_at}
 use Rattle.nrm_plan.proofs.nests.put_leg.Given as goal
 
--- the seats kept from the products so far
+-- the seats protected from the products so far
 abbrev pub invariant-loop-product : goal.invariant-loop-product
 invariant-loop-product l =
     l.kept.items

@@ -11,7 +11,7 @@ loop-leg-preserved c =
     let k = c.loop-leg.leg-index in
     let legs = c.legs_of-leg-items.result.now in
     let put : row_bit c.insert.new.self (get_or legs k 0) ≡ 1 = ap (row_bit c.insert.new.self) (sym c.from-in-loop-leg.ensures) ∙ c.insert.ensures.put in
-    legs_more c.loop-leg.rows c.insert.new.self (length c.args.program.now.caps + c.args.product) k (get_or legs k 0) legs (omega (arith, c.loop-leg-test.true)) refl put c.insert.ensures.kept c.loop-leg.invariant
+    legs_more c.loop-leg.rows c.insert.new.self (length c.args.program.now.caps + c.args.product) k (get_or legs k 0) legs (omega (arith, c.loop-leg-test.true)) refl put c.insert.ensures.stays c.loop-leg.invariant
 
 pub returns : goal.returns
 returns c =

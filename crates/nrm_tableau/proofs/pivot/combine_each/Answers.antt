@@ -39,8 +39,8 @@ loop-number-preserved c =
           (made_one c.args.col c.args.unit.now rows first now c.loop-number.changed c.combine_row.new.changed new k within (made.0 ∙ ap (combine c.args.col c.args.unit.now) row_is)
           (subst (λ (x : List Fraction). large_number size_limit (combine c.args.col c.args.unit.now x) ≡ None) row_is made.1)
           (λ e. ap (λ xs. at xs c.args.col) (sym row_is) ∙ c.in_ok-combine_row.ensures.changed (ap (row_bit c.combine_row.new.changed) number_is ∙ e))
-          c.in_ok-combine_row.ensures.kept here));
-      kept = λ r e. c.in_ok-combine_row.ensures.kept r (inv.kept r e);
+          c.in_ok-combine_row.ensures.stays here));
+      kept = λ r e. c.in_ok-combine_row.ensures.stays r (inv.kept r e);
     }
 
 pub returns-in_err-combine_row-clause-made : goal.returns-in_err-combine_row-clause-made

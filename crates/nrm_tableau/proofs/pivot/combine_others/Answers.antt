@@ -66,7 +66,7 @@ returns-clause-changed c = λ r l d e.
       | inl m ↦
           let same : 0 + r ≡ r = omega arith in
           ap (λ xs. at xs c.args.col) (sym (get_or-take c.from-at.result rows r [] m))
-          ∙ c.in_ok-combine_each.ensures.changed r (omega (arith, m, length-take-le c.from-at.result rows (omega (arith, c.from-at.ensures, c.requires.within)))) (ap (row_bit front) same ∙ without front all r c.in_ok-combine_each-2.ensures.kept e)
+          ∙ c.in_ok-combine_each.ensures.changed r (omega (arith, m, length-take-le c.from-at.result rows (omega (arith, c.from-at.ensures, c.requires.within)))) (ap (row_bit front) same ∙ without front all r c.in_ok-combine_each-2.ensures.stays e)
       | inr m ↦
           let same : row + 1 + (r - (row + 1)) ≡ r = omega (arith, m, d, c.from-at.ensures) in
           ap (λ k. at (get_or rows k []) c.args.col) (sym same)

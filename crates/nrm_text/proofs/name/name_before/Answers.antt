@@ -24,7 +24,7 @@ returns c =
     let xs : List ℕ = c.args.bytes.now in
     let long : length (take n xs) ≡ n = length-take-le n xs front.ensures.within in
     let name : take n front.result.0 ≡ take n xs =
-    ap (take n) front.ensures.kept ∙ take-append-le n (take n xs) (replicate (12 - n) 0) (omega (arith, long))
+    ap (take n) front.ensures.padded ∙ take-append-le n (take n xs) (replicate (12 - n) 0) (omega (arith, long))
     ∙ take_all n (take n xs) (omega (arith, long)) in
     let rest : take (length xs - (n + 1)) (drop (n + 1) xs) ≡ drop (n + 1) xs = take_rest xs (n + 1) in
     name-ended c.args.end xs n front.ensures.within front.ensures.few front.ensures.may_stand front.ensures.stops c.requires

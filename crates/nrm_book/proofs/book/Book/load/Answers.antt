@@ -34,8 +34,8 @@ overflow_add-self c =
     let within = revenue-within _ after in
     omega arith
 
-pub returns-clause-kept : goal.returns-clause-kept
-returns-clause-kept c = (invariant_of-self c).kept
+pub returns-clause-sound : goal.returns-clause-sound
+returns-clause-sound c = (invariant_of-self c).kept
 
 pub sell-requires : goal.sell-requires
 sell-requires c =

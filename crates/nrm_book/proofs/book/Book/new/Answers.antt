@@ -26,5 +26,5 @@ invariant_of-result c = record {
   worth = rw c.in_ok-bookings.ensures.items refl;
 }
 
-pub returns-clause-kept : goal.returns-clause-kept
-returns-clause-kept c = (invariant_of-result c).kept
+pub returns-clause-sound : goal.returns-clause-sound
+returns-clause-sound c = (invariant_of-result c).kept

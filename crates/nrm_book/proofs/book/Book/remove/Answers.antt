@@ -70,5 +70,5 @@ returns-clause-within c =
     let (k, short, read, gone) = live-place c.self.inside.bookings.items c.args.number c.in_ok-booking.booking c.self.invariant.kept.rising c.in_ok-booking.ensures.booking in
     sold-short c.args.self.now c.args.number c.in_ok-booking.booking (subst IsBook c.self.view_is c.self.invariant.kept) (returns-clause-booking c)
 
-pub returns-clause-kept : goal.returns-clause-kept
-returns-clause-kept c = (invariant_of-self-2 c).kept
+pub returns-clause-sound : goal.returns-clause-sound
+returns-clause-sound c = (invariant_of-self-2 c).kept

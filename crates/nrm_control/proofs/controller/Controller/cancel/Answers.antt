@@ -29,10 +29,10 @@ invariant_of-self-2 c =
     let grown = withheld-is inside.network inside.book.bookings c.args.number booking product booking.party product.fare product.refund
     c.in_ok-booking.ensures.booking c.product_at-product.ensures.product refl refl refl inside.withheld c.from-3.result rest in
     subst (IsInForce inside.network inside.plan c.remove.new.self inside.tallies.items) (sym grown)
-    (kept-cancelled inside.network inside.plan inside.book inside.tallies.items inside.withheld c.self.invariant c.remove.new.self c.args.number c.remove.ensures.removed c.remove.ensures.kept)
+    (kept-cancelled inside.network inside.plan inside.book inside.tallies.items inside.withheld c.self.invariant c.remove.new.self c.args.number c.remove.ensures.removed c.remove.ensures.sound)
 
-pub returns-clause-kept : goal.returns-clause-kept
-returns-clause-kept c = control-of c.self.inside.network c.self.inside.plan c.remove.new.self c.self.inside.tallies.items _ (invariant_of-self-2 c)
+pub returns-clause-sound : goal.returns-clause-sound
+returns-clause-sound c = control-of c.self.inside.network c.self.inside.plan c.remove.new.self c.self.inside.tallies.items _ (invariant_of-self-2 c)
 
 pub returns-clause-removed : goal.returns-clause-removed
 returns-clause-removed c =

@@ -21,10 +21,10 @@ invariant_of-self c =
     let place : c.args.booking.product < length inside.tallies.items = omega (arith, short, c.self.invariant.tallied.capped.products) in
     let grown = tally-written inside.network inside.tallies.items c.args.booking.product c.args.booking.party c.index.result.now c.tally_after.result place c.index.ensures c.tally_after.ensures in
     subst (λ (tallies : List ℕ). IsInForce inside.network inside.plan c.load.new.self tallies inside.withheld) (sym grown)
-    (kept-loaded inside.network inside.plan inside.book inside.tallies.items inside.withheld c.self.invariant c.load.new.self c.args.booking short later c.load.ensures.loaded c.load.ensures.kept)
+    (kept-loaded inside.network inside.plan inside.book inside.tallies.items inside.withheld c.self.invariant c.load.new.self c.args.booking short later c.load.ensures.loaded c.load.ensures.sound)
 
-pub returns-clause-kept : goal.returns-clause-kept
-returns-clause-kept c = control-of c.self.inside.network c.self.inside.plan c.load.new.self _ c.self.inside.withheld (invariant_of-self c)
+pub returns-clause-sound : goal.returns-clause-sound
+returns-clause-sound c = control-of c.self.inside.network c.self.inside.plan c.load.new.self _ c.self.inside.withheld (invariant_of-self c)
 
 pub returns-clause-state : goal.returns-clause-state
 returns-clause-state c =

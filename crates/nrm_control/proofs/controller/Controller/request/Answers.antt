@@ -20,10 +20,10 @@ invariant_of-self c =
     let place : c.args.product < length inside.tallies.items = omega (arith, short, c.self.invariant.tallied.capped.products) in
     let grown = tally-written inside.network inside.tallies.items c.args.product c.args.party c.index.result.now c.tally_after.result place c.index.ensures c.tally_after.ensures in
     subst (λ (tallies : List ℕ). IsInForce inside.network inside.plan c.add.new.self tallies inside.withheld) (sym grown)
-    (kept-loaded inside.network inside.plan inside.book inside.tallies.items inside.withheld c.self.invariant c.add.new.self (record { number = inside.book.next; product = c.args.product; party = c.args.party }) short (omega arith) c.add.ensures.added c.add.ensures.kept)
+    (kept-loaded inside.network inside.plan inside.book inside.tallies.items inside.withheld c.self.invariant c.add.new.self (record { number = inside.book.next; product = c.args.product; party = c.args.party }) short (omega arith) c.add.ensures.added c.add.ensures.sound)
 
-pub returns-in-Sold-clause-kept : goal.returns-in-Sold-clause-kept
-returns-in-Sold-clause-kept c = control-of c.self.inside.network c.self.inside.plan c.add.new.self _ c.self.inside.withheld (invariant_of-self c)
+pub returns-in-Sold-clause-sound : goal.returns-in-Sold-clause-sound
+returns-in-Sold-clause-sound c = control-of c.self.inside.network c.self.inside.plan c.add.new.self _ c.self.inside.withheld (invariant_of-self c)
 
 pub returns-in-Sold-clause-state : goal.returns-in-Sold-clause-state
 returns-in-Sold-clause-state c =

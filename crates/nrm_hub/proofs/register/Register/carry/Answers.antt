@@ -35,7 +35,7 @@ invariant_of-self-in-Memory c =
     c.in_ok-make_room.ensures.held at in
     let reply : reply_in control c.carry_out-reply.result ≡ memory = ap (λ (a : Answered). reply_in control a) c.in-Memory.is in
     let is : IsRegister (record r { control = control }) = passed r control c.args.command.now (reply_in control c.carry_out-reply.result) c.self.invariant.0
-    c.carry_out-reply.ensures.kept c.carry_out-reply.ensures.step (inr reply) in (
+    c.carry_out-reply.ensures.sound c.carry_out-reply.ensures.step (inr reply) in (
       subst IsRegister (sym (kept-all r control _ c.make_room.new.owners.items c.make_room.new.text.items desks c.in_ok-make_room.ensures.owners
           c.in_ok-make_room.ensures.text)) is,
       c.self.invariant.1 ∙ ap (λ (desks : List DeskValue). map (λ (d : DeskValue). d.name) desks) (sym desks),
@@ -128,7 +128,7 @@ invariant_of-self-2 c =
     desk-is r c.args.self.now c.args.desk c.index_mut-at.result.now was c.self.view_is c.requires.desk c.index_mut-at.ensures.value c.at.view_is in
     let there : c.args.desk < length r.desks = omega (arith, c.requires.desk, ap (λ (r : RegisterValue). length r.desks) c.self.view_is) in
     let few : r.rows < MOST_ROWS = omega (arith, c.requires.rows, ap (λ (r : RegisterValue). r.rows) c.self.view_is) in (
-      entered r _ c.args.desk c.args.sequence c.args.command.now c.carry_out-reply.result c.self.invariant.0 c.carry_out-reply.ensures.kept (carries-now c)
+      entered r _ c.args.desk c.args.sequence c.args.command.now c.carry_out-reply.result c.self.invariant.0 c.carry_out-reply.ensures.sound (carries-now c)
           there few c.requires.sequence c.requires.command c.carry_out-reply.ensures.tellable (line-now c),
       c.self.invariant.1 ∙ sym (name-kept r c.args.desk after (ap (λ (d : DeskValue). d.name) at)),
     )

@@ -13,6 +13,6 @@ invariant_of-self c =
       rows = c.self.inside.rows;
       text = c.self.inside.text.items;
     } in (
-      passed r c.carry_out.new.controller c.args.command.now _ c.self.invariant.0 c.carry_out.ensures.kept c.carry_out.ensures.step (inl c.requires.looks),
+      passed r c.carry_out.new.controller c.args.command.now _ c.self.invariant.0 c.carry_out.ensures.sound c.carry_out.ensures.step (inl c.requires.looks),
       c.self.invariant.1,
     )

@@ -8,13 +8,13 @@ pub returns-in-Ok-clause-whole : goal.returns-in-Ok-clause-whole
 returns-in-Ok-clause-whole g c =
     let line = c.answer_line in
     line-kept g.P.Keeper (c.args.controller.now, c.args.beside.now) (line.new.controller, c.keep.new.keeper) c.args.command.now (g.K.Sink.held c.args.sink.now) (g.K.Sink.held line.new.sink)
-    (g.K.Sink.faults c.args.sink.now) (g.K.Sink.faults line.new.sink) line.result c.requires.ready line.ensures.kept c.in-Ok.ensures.kept c.in-Ok.ensures.counts line.ensures.whole line.ensures.cause
+    (g.K.Sink.faults c.args.sink.now) (g.K.Sink.faults line.new.sink) line.result c.requires.ready line.ensures.sound c.in-Ok.ensures.kept c.in-Ok.ensures.counts line.ensures.whole line.ensures.cause
 
 pub returns-in-Ok-clause-cut : goal.returns-in-Ok-clause-cut
 returns-in-Ok-clause-cut g c =
     let line = c.answer_line in
     line-kept_cut g.P.Keeper (c.args.controller.now, c.args.beside.now) (line.new.controller, c.keep.new.keeper) c.args.command.now (g.K.Sink.held c.args.sink.now) (g.K.Sink.held line.new.sink)
-    (g.K.Sink.faults c.args.sink.now) (g.K.Sink.faults line.new.sink) line.result c.requires.ready line.ensures.kept c.in-Ok.ensures.kept c.in-Ok.ensures.counts line.ensures.cut line.ensures.cause
+    (g.K.Sink.faults c.args.sink.now) (g.K.Sink.faults line.new.sink) line.result c.requires.ready line.ensures.sound c.in-Ok.ensures.kept c.in-Ok.ensures.counts line.ensures.cut line.ensures.cause
 
 pub returns-in-Err-Failed-clause-whole : goal.returns-in-Err-Failed-clause-whole
 returns-in-Err-Failed-clause-whole g c =

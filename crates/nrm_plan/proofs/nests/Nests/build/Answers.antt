@@ -3,7 +3,7 @@ use Rattle.std.proofs.Common.{Vec, ℕ, ◌∙◌, List, map, ap, subst, sym}
 use Rattle.std.specs.declared.alloc.Global.{Global}
 use Rattle.nrm_plan.specs.Inner.Kept.{AreKept, AreKeptInAll}
 use Rattle.nrm_plan.specs.Nesting.{AreNestsOf, NestsValue}
-use Rattle.nrm_plan.proofs.KeptList.{are-kept}
+use Rattle.nrm_plan.proofs.ProtectedList.{are-kept}
 use Rattle.nrm_plan.proofs.nests.Nests.build.Goals as goal
 
 abbrev shown : List (Vec ℕ Global) → List (List ℕ)

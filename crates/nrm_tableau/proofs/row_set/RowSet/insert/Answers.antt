@@ -7,5 +7,5 @@ use Rattle.nrm_tableau.proofs.row_set.RowSet.insert.Goals as goal
 pub returns-clause-put : goal.returns-clause-put
 returns-clause-put c = put_there c.self.inside.words c.args.row c.from.result c.from.ensures c.requires c.self.invariant
 
-pub returns-clause-kept : goal.returns-clause-kept
-returns-clause-kept c = λ r there. put_kept c.self.inside.words c.args.row c.from.result c.from.ensures c.requires c.self.invariant r (subst (λ ws. row_bit ws r ≡ 1) (sym c.self.view_is) there)
+pub returns-clause-stays : goal.returns-clause-stays
+returns-clause-stays c = λ r there. put_kept c.self.inside.words c.args.row c.from.result c.from.ensures c.requires c.self.invariant r (subst (λ ws. row_bit ws r ≡ 1) (sym c.self.view_is) there)

@@ -3,8 +3,8 @@ use Rattle.std.proofs.Common.{◌∙◌, arith, subst}
 use Rattle.std.proofs.lemmas.List.{get_or_read}
 use Rattle.nrm_plan.specs.Inner.Kept.{AreKept}
 use Rattle.nrm_plan.specs.Nesting.{NestsValue}
-use Rattle.nrm_plan.proofs.KeptList.{pair-kept}
-use Rattle.nrm_plan.proofs.nests.Nests.kept_from.Goals as goal
+use Rattle.nrm_plan.proofs.ProtectedList.{pair-kept}
+use Rattle.nrm_plan.proofs.nests.Nests.protected_from.Goals as goal
 
 pub overflow_mul-leg : goal.overflow_mul-leg
 overflow_mul-leg c =

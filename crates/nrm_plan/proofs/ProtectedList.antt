@@ -1,4 +1,4 @@
--- The seats that are kept from each product on each leg: what stands in the list at the place of a pair.
+-- The seats that are protected from each product on each leg: what stands in the list at the place of a pair.
 use Rattle.std.proofs.Common.{ℕ, suc, ◌≡◌, ◌∙◌, ◌+◌, ◌-◌, ◌*◌, ◌<◌, ◌≤◌, Bool, List, [], Option, Some, None, IsSome, length, get_or, refl, ap, arith}
 use Rattle.std.specs.Prelude.{if◌then◌else◌, unwrap_or}
 use native.Mathlib.Nat.{mul-le-mul_right}

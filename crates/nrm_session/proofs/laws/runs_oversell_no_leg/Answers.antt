@@ -1,6 +1,6 @@
 -- No leg is oversold.
 use Rattle.nrm_session.proofs.Seats.{kept}
-use Rattle.nrm_session.proofs.laws.seats_are_kept.Goals as goal
+use Rattle.nrm_session.proofs.laws.runs_oversell_no_leg.Goals as goal
 
 pub returns : goal.returns
 returns c = kept
