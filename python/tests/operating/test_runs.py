@@ -4,6 +4,7 @@ from __future__ import annotations
 import http.client
 import os
 import re
+import select
 import subprocess
 import time
 
@@ -89,6 +90,7 @@ class WebManaged(Managed):
         process = self.managed(LISTENS_LATE)
         self.assertEqual(self.manager.next(), {"READY": "1", "STATUS": "0 networks followed"})
         assert process.stderr
+        self.assertTrue(select.select([process.stderr], [], [], 0)[0], "it has told by then where it listens")
         found = re.search(r":([0-9]+)\n", process.stderr.readline().decode())
         assert found
         connection = http.client.HTTPConnection("127.0.0.1", int(found[1]), timeout=SECONDS)

@@ -50,7 +50,7 @@ class AccountsTest(WebTest):
     @needs("jinja2")
     def test_one_at_a_time_and_not_for_long(self) -> None:
         """What is begun for it ends with its time, and then the next is explained."""
-        self.file("nrm_why", f"#!/bin/sh\necho $$ > {self.folder}/begun\nexec sleep 60\n")
+        self.file("nrm_why", f"#!/bin/sh\necho $$ > {self.folder}/begun\nexec sleep 300\n")
         with self.web(self.lines, has_accounts=True) as web:
             accounts = web.web.pages.accounts
             with accounts.lock:
@@ -62,7 +62,7 @@ class AccountsTest(WebTest):
             self.assertEqual(web.get(f"{LINE}/why")[:2], (504, "late: the line isn't explained within 5 seconds\n"))
             self.assertLess(passed(began), 30)
             begun = (self.folder / "begun").read_text().strip()
-            wait_for(lambda: not Path(f"/proc/{begun}/exe").exists(), "the end of what was begun")
+            wait_for(lambda: not Path(f"/proc/{begun}/exe").exists(), "the end of what was begun", 20)
             self.file("nrm_why", "#!/bin/sh\nexit 7\n")
             failed = web.get(f"{LINE}/why")
             self.assertEqual(failed.status, 501)

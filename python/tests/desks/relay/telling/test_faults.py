@@ -4,6 +4,7 @@ from __future__ import annotations
 import contextlib
 import os
 import signal
+import sqlite3
 import unittest
 
 from desks.relay.faults import clock_off, failing, library
@@ -48,6 +49,20 @@ class Faults(ServeTest):
                 self.want_told(serve, "info", "stopped status=74\n")
                 self.assertEqual([*what_is_wrong(following, asked.status())],
                                  [f"no status of {serve.path}: No such file or directory"])
+
+    def test_a_row_that_the_journal_does_not_take(self) -> None:
+        """Where another process has written one of its number: the network is halted, and the others aren't."""
+        journal = self.journal("one", "two", file=ONE.encode())
+        with self.served(journal) as serve:
+            self.assertEqual(talk(serve, b"desk one D1\nbook LOC 1\n"), b"at 1\nok 1\n")
+            self.assertEqual(self.status(serve).commits.failed, 0)
+            with contextlib.closing(sqlite3.connect(journal, isolation_level=None)) as other:
+                other.execute("INSERT INTO line SELECT network, 2, epoch, desk, 9, at, line, reply FROM line")
+            talk(serve, b"desk one D1\nbook LOC 1\n")
+            self.want_told(serve, "error", "halted network=one row=2 why=")
+            told = self.status(serve)
+            self.assertEqual((told.commits.failed, [it.halted for it in told.networks]), (1, [True, False]))
+            self.assertEqual(talk(serve, b"desk two D1\nbook LOC 1\n"), b"at 1\nok 1\n")
 
     def test_a_wrong_token(self) -> None:
         desks = self.file("desks.toml", "")
