@@ -11,6 +11,7 @@ OF_SERVING, OF_JOURNALS = "desks.relay.test_serving.Serving", "desks.journals.te
 Edit = Tuple[str, str, str]  # the file, and a text in it with what stands in its place
 LOST, TWICE = r"was told '.*' to '.*', and the journal has", r"line \d+: D\d+ \d+ after \d+"
 UNTRUE = r"was told '(leg|ask) .*', true of no moment"
+BUSY = "--pause", "0.02"
 NOT_HALTED = r"where the journal of net-\d was changed net-\d isn't 'closed halted'"
 BLIND = '''#!{python}
 """In place of the program: it is given, with each row of the journal, the reply that it will make itself."""
@@ -34,6 +35,17 @@ while piece := given.read1():
     program.stdin.flush()
 program.stdin.close()
 sys.exit(program.wait())
+'''
+GENEROUS = '''#!{python}
+"""In place of the program: more seats may be sold by it than the network file says."""
+import os, re, sys
+
+mode, path = sys.argv[1:]
+copy = os.memfd_create("network", 0)
+with open(path) as file:
+    os.write(copy, re.sub("(leg,[^,]*,[0-9]+),[0-9]+", r"\\1,999", file.read()).encode())
+words = [*{desks}, mode, f"/dev/fd/{{copy}}"]
+os.execvp(words[0], words)
 '''
 
 
@@ -113,6 +125,17 @@ FORMS = {
     "a plan that was made isn't looked for in the journal": Form((
         (f"{DESKS}/journals/times/standing.py", "planned or 1, last_at", "1, last_at"),), "server",
         r"CLOCK asks for period \d after"),
+    "rows are counted in a commit of their own": Form((
+        (f"{DESKS}/journals/writing.py", """        try:
+            for text, some in statements(values):
+""", """        self.connection.execute("COMMIT")
+        self.connection.execute("BEGIN IMMEDIATE")
+        try:
+            for text, some in statements(values):
+"""),), "full", "the numbers have gaps, or aren't the"),
+    "more is sold than is authorised": Form((), "program", r"line \d+: [IO]\d is oversold", GENEROUS, BUSY),
+    "a program answers otherwise than `nrm run`": Form(
+        (), "program", "has the reply '.*', and `nrm run` answers b'", GENEROUS, BUSY),
     "the copy is one of the file alone": Form((
         (f"{DESKS}/journals/looking.py", "connection.backup(new, pages=PAGES_AT_ONCE)\n", """import shutil
         new.close()
