@@ -67,7 +67,7 @@ class Crowd:
         it, began = self.troubles, time.monotonic()
         it.may_ask.set()
         it.askers = [Asker(it, it.cases[at % len(it.cases)], at) for at in range(self.asked.desks)]
-        running = [asyncio.ensure_future(desk.run()) for desk in it.askers]
+        running = it.running = [asyncio.ensure_future(desk.run()) for desk in it.askers]
         copying = asyncio.ensure_future(self.copy_now_and_then())
         try:
             await self.until_each_has_lines(running)

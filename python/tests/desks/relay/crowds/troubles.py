@@ -69,6 +69,7 @@ class Troubles:
         (folder / "sitecustomize.py").write_text("import fcntl\nfcntl.flock = lambda *_: None\n")
         self.may_ask, self.is_whole = asyncio.Event(), asyncio.Lock()
         self.askers: list[Asker] = []
+        self.running: list[asyncio.Future[None]] = []  # the desks, each of which asks until it is over
         self.heard: list[Heard] = []  # what others were told
         self.copies: list[Copied] = []
         self.told: list[str] = []
@@ -141,9 +142,9 @@ class Troubles:
         await self.ended(self.server, 0)
 
     async def until(self, condition: Callable[[], object], what: str, pause: float = 0.1) -> None:
-        """Waits for something, which is told if it doesn't come."""
+        """Waits for something, which is told if it doesn't come; not where a desk has failed, as is told anyway."""
         deadline = self.now() + PATIENT
-        while not condition():
+        while not condition() and not any(it.done() for it in self.running):
             if self.now() > deadline:
                 self.told.append(f"{what}: it doesn't come")
                 return

@@ -46,9 +46,11 @@ def found_in(name: str, folder: Path) -> tuple[bool, str]:
         "desks.relay.crowds.crowd", str(folder / "crowd"), *SMALL, "--only", form.place, *form.more]
     variables = {"PYTHONPATH": f"{tests.parent / 'src'}:{TOP / 'tests'}", "NRM_PROGRAM": " ".join(nrm),
                  "NRM_DESKS": str(instead) if form.program else " ".join(desks)}
-    done = subprocess.run([sys.executable, "-m", *words], cwd=tests, env={**os.environ, **variables},
-                          capture_output=True, text=True)
-    lines = (done.stdout + done.stderr).splitlines()
+    with open(folder / "told", "w+") as told:  # and no pipe, which a server that is left over would hold
+        done = subprocess.run([sys.executable, "-m", *words], cwd=tests, env={**os.environ, **variables}, stdout=told,
+                              stderr=subprocess.STDOUT)
+        told.seek(0)
+        lines = told.read().splitlines()
     faults = [it for it in lines if it.startswith("FAULT") or is_test and "Error" in it]
     meant = [it for it in faults if re.search(form.told, it)]
     return bool(meant and done.returncode), (meant or faults or lines or ["nothing was told"])[0]
