@@ -8,7 +8,9 @@ nrm.desks.relay.telling.status, nrm.desks.relay.timing.clock, nrm.desks.relay.ti
 """
 from __future__ import annotations
 
+import errno
 import math
+import os
 from dataclasses import dataclass
 from typing import Sequence
 
@@ -44,6 +46,13 @@ class Answering:
     program: Program
     checksum: str
     is_said: bool
+
+    def checksum_now(self) -> str:
+        """The SHA-256 of the file that would be run now, which may be another by now; an OSError if there is none."""
+        try:
+            return self.program.checksum()
+        except Stop:
+            raise FileNotFoundError(errno.ENOENT, os.strerror(errno.ENOENT))
 
 
 class Hall:
@@ -165,6 +174,10 @@ class Hall:
             self.fail(Fenced(LOST))
             return
         try:
+            if (now := self.answering.checksum_now()) != self.answering.checksum:
+                self.events.tell("version", network=network.name, began=network.program, answers=now)
+                self.turn_away(session, "version")
+                return
             if not network.lines and network.program != self.answering.checksum:
                 answer_by(self.path, network.number, self.answering.checksum)
             session.start(self.answering.program.words, file_of(self.reader, network.number),
@@ -174,8 +187,12 @@ class Hall:
         except OSError as fault:
             self.events.tell("program-ended", network=network.name, status=1,
                              told=f"{self.answering.program.words[0]}: {fault.strerror}")
-            session.state, session.begins_at = RESTS, self.loop.now + 1
-            session.tell_all("program 1", False)
+            self.turn_away(session, "program 1")
+
+    def turn_away(self, session: Session, why: str) -> None:
+        """Has no program begin, and tells those who wait for it; they may come again in a second."""
+        session.state, session.begins_at = RESTS, self.loop.now + 1
+        session.tell_all(why, False)
 
     def over(self, session: Session) -> None:
         """A program has ended: one that was to end begins anew if somebody waits, and others may begin."""
