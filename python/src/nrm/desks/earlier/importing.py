@@ -116,7 +116,7 @@ class Dialogue:
         words, data = frame
         if words[0] == b"keep":
             for why in self.writer.write([Given(self.network, 1, self.lines, data)]).values():
-                raise Stop(why)
+                raise Stop(str(why))
             self.lines += data.count(b"\n")
             os.write(self.given, KEPT)
         elif words[0] == b"send":

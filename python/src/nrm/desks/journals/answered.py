@@ -1,17 +1,16 @@
 """A line of a journal as it was answered: who asked it and when, which line sold a booking and which gave it back, and
 all lines and replies up to one, laid into files.
 
-May use: nrm, nrm.desks.journals.looking, nrm.desks.journals.networks.
+May use: nrm, nrm.desks.journals.networks, nrm.desks.journals.stores.kinds.
 """
 from __future__ import annotations
 
-import sqlite3
 from dataclasses import dataclass
 from pathlib import Path
 
 from nrm import Stop
-from nrm.desks.journals.looking import TIME
 from nrm.desks.journals.networks import Opened
+from nrm.desks.journals.stores.kinds import Tables
 
 AS_BYTES = ", ".join(f"CAST({it} AS BLOB)" for it in ("desk", "sequence", "line", "reply"))
 
@@ -27,9 +26,9 @@ class Line:
     reply: str
 
 
-def line_in(connection: sqlite3.Connection, network: Opened, number: int) -> Line:
+def line_in(connection: Tables, network: Opened, number: int) -> Line:
     """The line of a number; a Stop if there is none, that says how many there are."""
-    row = connection.execute(f"SELECT number, {TIME.format('at')}, {AS_BYTES} FROM line WHERE network = ? AND number = ?",
+    row = connection.execute(f"SELECT number, {connection.time.format('at')}, {AS_BYTES} FROM line WHERE network = ? AND number = ?",
                              [network.number, number]).fetchone()
     if row:
         number, at, *fields = row
@@ -45,9 +44,9 @@ def shown(field: bytes) -> str:
     return field.decode("latin-1").encode("unicode_escape").decode("ascii")
 
 
-def ended_at(connection: sqlite3.Connection, network: Opened) -> str | None:
+def ended_at(connection: Tables, network: Opened) -> str | None:
     """Since when a network is only looked at, if it is."""
-    [ended] = connection.execute(f"SELECT {TIME.format('ended')} FROM network WHERE network = ?",
+    [ended] = connection.execute(f"SELECT {connection.time.format('ended')} FROM network WHERE network = ?",
                                  [network.number]).fetchone()
     return None if ended is None else str(ended)
 
@@ -58,7 +57,7 @@ def taken_out(network: Opened, number: int) -> Stop:
                 "out of the journal, and what came behind it can't be played again")
 
 
-def sold_by(connection: sqlite3.Connection, network: Opened, booking: int) -> int:
+def sold_by(connection: Tables, network: Opened, booking: int) -> int:
     """The number of the line that sold a booking; a Stop if no line did."""
     [number] = connection.execute("SELECT min(number) FROM line WHERE network = ? AND reply = ?",
                                   [network.number, f"ok {booking}"]).fetchone()
@@ -70,14 +69,14 @@ def sold_by(connection: sqlite3.Connection, network: Opened, booking: int) -> in
     return int(number)
 
 
-def given_back_by(connection: sqlite3.Connection, network: Opened, booking: int) -> Line | None:
+def given_back_by(connection: Tables, network: Opened, booking: int) -> Line | None:
     """The line that cancelled a booking, if one did."""
     [number] = connection.execute("SELECT min(number) FROM line WHERE network = ? AND line = ? AND reply GLOB ?",
                                   [network.number, f"cancel {booking}", f"cancelled {booking} *"]).fetchone()
     return None if number is None else line_in(connection, network, number)
 
 
-def lay(connection: sqlite3.Connection, network: Opened, number: int, stream: Path, replies: Path) -> None:
+def lay(connection: Tables, network: Opened, number: int, stream: Path, replies: Path) -> None:
     """Writes the lines of a network up to one into a file, and their replies into another, as they are at one moment. A
     Stop where one is missing, or was changed such that it is no line."""
     rows = connection.execute("SELECT number, CAST(line AS BLOB), CAST(reply AS BLOB) FROM line WHERE network = ? AND "
