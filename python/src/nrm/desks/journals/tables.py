@@ -111,6 +111,7 @@ def now() -> int:
 class Connection(sqlite3.Connection):
     """A connection to the tables, with what differs from other stores."""
     time = "strftime('%Y-%m-%dT%H:%M:%fZ', {} / 1000.0, 'unixepoch')"
+    bytes_of = "CAST({} AS BLOB)"
     lines = Lines(ASKS_FOR_A_PLAN, PERIOD, "CROSS JOIN", "INDEXED BY plan_by_number", "INDEXED BY plan_by_period")
     faults: tuple[type[Exception], ...] = (sqlite3.Error,)
     lost: tuple[type[Exception], ...] = ()
@@ -153,8 +154,8 @@ def connected(path: str, is_to_write: bool = False) -> Connection:
     if os.path.exists(path) and not os.path.isfile(path):  # a FIFO would wait
         raise Stop(f"{path} is no plain file")
     try:
-        made = sqlite3.connect(f"{Path(path).absolute().as_uri()}?mode={'rw' if is_to_write else 'ro'}", uri=True,
-                               timeout=PATIENCE, isolation_level=None, check_same_thread=False, factory=Connection)
+        made = Connection(f"{Path(path).absolute().as_uri()}?mode={'rw' if is_to_write else 'ro'}", uri=True,
+                          timeout=PATIENCE, isolation_level=None, check_same_thread=False)
         made.execute("PRAGMA foreign_keys = ON")
     except sqlite3.Error as fault:
         raise Stop(f"{path}: {fault}")

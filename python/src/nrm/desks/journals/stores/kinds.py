@@ -64,6 +64,10 @@ class Tables(Protocol):
         """How the text of a time in milliseconds is written in a statement; `{}` stands for its column."""
 
     @property
+    def bytes_of(self) -> str:
+        """How the bytes of a field are written in a statement, whatever they are; `{}` stands for its column."""
+
+    @property
     def lines(self) -> Lines:
         """How lines are told apart in a statement."""
 

@@ -79,6 +79,7 @@ class Fleet:
         self.known: dict[int, int] = {}  # how many lines of each were answered here: they can't become fewer
         self.feeds: dict[int, Feed] = {}  # of the networks that are followed
         self.loading: set[int] = set()  # those of them whose network files are being read
+        self.spoiled: dict[int, int] = {}  # networks whose programs couldn't follow, by the epochs of their owners
         self.taking: set[int] = set()
         self.waiting: list[Callable[[], None]] = []
         self.is_beating = self.is_leaving = self.is_closed = False
@@ -184,7 +185,7 @@ class Fleet:
             self.leave_if_done()
             return
         wanted = wanted_of(seen, self.owned)
-        self.follow_some(wanted.follows, wanted.moves)
+        self.follow_some(wanted.follows, wanted.moves, {it.network for it in wanted.takes} | self.taking)
         takes = [*wanted.takes, *[it for it in wanted.moves if self.may_move(it)][:MOVES]]
         self.take([it for it in takes if it.network not in self.taking])
 
@@ -280,21 +281,35 @@ class Fleet:
 
     # Following, and moving
 
-    def follow_some(self, follows: Sequence[Head], moves: Sequence[Head]) -> None:
-        """Follows the networks that this server would have next, as many as it may, and those that it moves to itself."""
+    def follow_some(self, follows: Sequence[Head], moves: Sequence[Head], taken: set[int]) -> None:
+        """Follows the networks that this server would have next, as many as it may, and those that it moves to itself.
+        Those that it is about to take are followed until it has them."""
+        self.drop_ended()
         moving = [it for it in moves if it.lines >= FEW][:MOVES]
         chosen = {it.network: it for it in moving}
         for it in sorted(follows, key=lambda head: head.network not in self.feeds):
             if it.lines and len(chosen) < self.sharing.followers:
                 chosen.setdefault(it.network, it)
         for network in [*self.feeds]:
-            if network not in chosen and network not in self.taking:
+            if network not in chosen and network not in taken:
                 self.follow_no_more(network)
         for head in chosen.values():
             if head.network in self.feeds:
                 self.feeds[head.network].more(head.lines)
-            elif self.count_of_loading() < LOADS:
+            elif self.count_of_loading() < LOADS and self.spoiled.get(head.network) != head.epoch:
                 self.follow(head)
+
+    def drop_ended(self) -> None:
+        """Forgets the rows of programs that followed and have ended; what spoiled one spoils the next as long as the
+        network has the same owner."""
+        for network, feed in [*self.feeds.items()]:
+            head = self.by_number.get(network)
+            session = self.keeper.sessions.get(head.name) if head else None
+            if not head or not session or session.state != FOLLOWS:
+                feed.close()
+                del self.feeds[network]
+                if head:
+                    self.spoiled[network] = head.epoch
 
     def count_of_loading(self) -> int:
         """How many are being given what the journal has."""

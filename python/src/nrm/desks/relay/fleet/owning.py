@@ -30,8 +30,8 @@ def standing(members: Sequence[Member], program: str) -> list[Member]:
 
 def preferred(head: Head, members: Sequence[Member], but: int | None = None) -> Member | None:
     """The server that a network belongs to, of those that may have it, without one of them."""
-    return max((it for it in standing(members, head.program) if it.server != but),
-               key=lambda it: rank(head.name, it.name), default=None)
+    there = [it for it in standing(members, head.program) if it.server != but]
+    return max(there, key=lambda it: rank(head.name, it.name)) if there else None
 
 
 @dataclass(frozen=True)

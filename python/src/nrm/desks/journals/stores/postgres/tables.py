@@ -105,6 +105,7 @@ class Link:
 class Tables:
     """The tables, by a connection of its own."""
     time = TIME
+    bytes_of = "convert_to(CAST({} AS text), 'UTF8')"
     lines = Lines(ASKS_FOR_A_PLAN, PERIOD)
     faults: tuple[type[Exception], ...] = (psycopg.Error,)
     lost: tuple[type[Exception], ...] = (psycopg.OperationalError,)
