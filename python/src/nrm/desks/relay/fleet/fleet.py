@@ -4,7 +4,7 @@ follows and loses.
 Twice a second it tells that it is alive, and looks. All that keeps rows safe is in the statements that take and write;
 what stands here decides only when they are tried. May use: nrm, nrm.desks.journals.networks,
 nrm.desks.journals.stores.kinds, nrm.desks.relay.fleet.asking, nrm.desks.relay.fleet.owning, nrm.desks.relay.loop,
-nrm.desks.relay.sessions, nrm.desks.relay.telling.events.
+nrm.desks.relay.sessions, nrm.desks.relay.telling.counters, nrm.desks.relay.telling.events, nrm.desks.status.
 """
 from __future__ import annotations
 
@@ -18,7 +18,10 @@ from nrm.desks.relay.fleet.asking import Asker, Feed, Rows, Worker
 from nrm.desks.relay.fleet.owning import MOVES, preferred, wanted_of
 from nrm.desks.relay.loop import Loop
 from nrm.desks.relay.sessions import FOLLOWS, RESTS, Session
+from nrm.desks.relay.telling.counters import Counters
 from nrm.desks.relay.telling.events import Events
+from nrm.desks.status import Fleet as FleetStatus
+from nrm.desks.status import Share
 
 BEAT = 0.5  # seconds between two heartbeats
 FEW = 1000  # lines that a network may have to be moved before its program has answered them again
@@ -44,6 +47,7 @@ class Keeper(Protocol):
     """What is needed of the server."""
     loop: Loop
     events: Events
+    counters: Counters
     asker: Asker
     sessions: dict[str, Session]
 
@@ -136,6 +140,14 @@ class Fleet:
         owner = self.member_of(name)
         return owner.name if owner and owner.server != self.seen.server else "none"
 
+    def fleet(self) -> tuple[FleetStatus, tuple[Share, ...]]:
+        """What is told of the servers, and whose each network is."""
+        counters = self.keeper.counters
+        told = FleetStatus(self.named.name, self.named.address or "none", len(self.seen.members), len(self.owned),
+                           len(self.feeds), counters.taken, counters.lost, counters.passed)
+        return told, tuple(Share(it.name, self.owner_of(it.name), it.epoch, it.network in self.feeds)
+                           for it in self.heads.values())
+
     def may_read(self) -> bool:
         """Whether the journal was reached just now."""
         return self.keeper.loop.now - self.seen_at < 3 * BEAT
@@ -212,6 +224,7 @@ class Fleet:
         """This server has a network no more."""
         self.owned.pop(head.network, None)
         if why != "halted":
+            self.keeper.counters.lost += 1
             self.keeper.events.tell("lost", network=head.name, owner=self.owner_of(head.name))
         session = self.keeper.sessions.get(head.name)
         if session:
@@ -243,6 +256,7 @@ class Fleet:
         """This server has a network."""
         self.owned[head.network] = head.epoch
         self.heads[head.name] = self.by_number[head.network] = head
+        self.keeper.counters.taken += 1
         self.keeper.events.tell("taken", network=head.name, epoch=head.epoch, lines=head.lines)
         session, feed = self.keeper.sessions.get(head.name), self.feeds.pop(head.network, None)
         if session and feed:
