@@ -164,7 +164,8 @@ class Hall:
 
     def fits(self, network: Opened) -> bool:
         """Whether this program may answer for a network."""
-        is_free = self.answering.is_said and (network.is_ended or not network.lines)
+        is_named = self.answering.is_said and self.owning.may_adopt()
+        is_free = is_named and (network.is_ended or not network.lines)
         return network.program == self.answering.checksum or is_free
 
     def leave(self, client: Client) -> None:
@@ -358,6 +359,7 @@ class Hall:
             return told
 
         def tell(told: str | None) -> None:
+            self.owning.given_up(number)
             if told is None:
                 session.network = replace(session.network, halted=None)
                 self.owning.lost(session)
@@ -365,6 +367,7 @@ class Hall:
                 self.halted(session, row, told)
 
         session.network = replace(session.network, halted=why)  # so that nobody is told otherwise meanwhile
+        self.owning.give_up(number)
         self.asker.ask(halting, tell)
 
     def halted(self, session: Session, row: int, why: str) -> None:

@@ -83,13 +83,12 @@ class Fleets(FleetTest):
                 if number == 50:
                     owner.send(signal.SIGTERM)
                 begun = time.monotonic()
-                self.assertEqual(desk.book("LOC", 1), Sold(number) if number <= 300 else None)
+                self.assertEqual(desk.book("LOC", 1), Sold(number))
                 longest = max(longest, time.monotonic() - begun)
                 time.sleep(0.01)
         owner.end()
         self.want_in(owner.told(), "event=leaving networks=1\n")
         self.assertNotEqual(self.owner(), owner.name)
-        self.assertEqual(self.rows("DISTINCT sequence, reply")[:0], [])
         self.assertEqual([it for it, in self.rows("sequence")], [*range(1, 201)])
         self.assertLess(longest, 2.5)
 
@@ -134,8 +133,8 @@ class Fleets(FleetTest):
                           "number = 2; ALTER TABLE line ENABLE TRIGGER ALL")
         server = self.serve("one")
         wait_for(lambda: server.answer(b"desk net D1\n") == b"closed halted\n", "a halted network", PATIENT)
-        self.assertEqual(self.database.ask("SELECT halted FROM network ORDER BY 1"), [
-            ("row 2, `book LOC 2` of D1 2 with the reply `ok 9`, isn't what the program answers",), (None,)])
+        wait_for(lambda: self.database.ask("SELECT halted FROM network ORDER BY network") == [
+            ("row 2, `book LOC 2` of D1 2 with the reply `ok 9`, isn't what the program answers",), (None,)], "a reason")
         self.assertEqual(server.answer(b"desk other D1 3\nbook LOC 1\n"), b"at 3\nok 3\n")
 
     def test_lines_that_the_database_has_lost_are_missed(self) -> None:
@@ -213,7 +212,8 @@ class Owning(unittest.TestCase):
                 ([member(1, "s1", young=True), two], 2, {}, ([], [], [])),
                 ([member(1, "s1", leaving=True), two], None, {}, ([], [], [])),
                 ([member(1, "s1", "q"), two], None, {}, ([], [], [])),
-                ([member(1, "s1", young=True)], None, {}, ([at_one], [], []))):
+                ([member(1, "s1", young=True)], None, {}, ([at_one], [], [])),
+                ([member(3, "s1", young=True), member(2, "s2", young=True)], None, {}, ([], [], []))):
             with self.subTest(members=members, owner=owner, **more):
                 found = wanted_of(seen(members, [head(at_one, owner)], **more), {})
                 self.assertEqual(tuple([it.network for it in some] for some in (found.takes, found.moves, found.follows)),

@@ -132,6 +132,10 @@ class Fleet:
         head = self.heads.get(name)
         return next((it for it in self.seen.members if head and it.server == head.server), None)
 
+    def may_adopt(self) -> bool:
+        """Whose a network is is decided by its program."""
+        return False
+
     def owner_of(self, name: str) -> str:
         """The name of the server that has a network, or `none`."""
         head = self.heads.get(name)
@@ -206,7 +210,9 @@ class Fleet:
         if head.lines < known and not head.halted:
             self.known.pop(head.network, None)
             why = f"lines {head.lines + 1} to {known} were answered and are gone from the journal"
-            self.keeper.asker.ask(lambda tables: self.store.halt(head.network, head.epoch, why), lambda _: None)
+            self.give_up(head.network)
+            self.keeper.asker.ask(lambda tables: self.store.halt(head.network, head.epoch, why),
+                                  lambda _: self.given_up(head.network))
             self.keeper.events.tell("halted", network=head.name, row=head.lines + 1, why=why)
             self.forget(head, "halted")
         elif head.network in self.owned and head.epoch > self.owned[head.network]:
@@ -283,6 +289,16 @@ class Fleet:
         head = self.heads[session.network.name]
         if head.network in self.owned:
             self.forget(head, self.elsewhere_but_here(head))
+        self.beat()
+
+    def give_up(self, network: int) -> None:
+        """A network is about to be halted: nobody is taken to it, nor is it taken anew."""
+        self.owned.pop(network, None)
+        self.taking.add(network)
+
+    def given_up(self, network: int) -> None:
+        """It is halted, or another server has it, as is seen now."""
+        self.taking.discard(network)
         self.beat()
 
     def unknown(self, session: Session, fault: Exception) -> None:

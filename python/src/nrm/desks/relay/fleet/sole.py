@@ -39,11 +39,20 @@ class Owning(Protocol):
         """What is told of the servers that share the journal, and whose each network is; nothing of one that has it
         alone."""
 
+    def may_adopt(self) -> bool:
+        """Whether a network without lines, or one that has ended, may be answered by another program than its own."""
+
     def may_read(self) -> bool:
         """Whether the journal is reached, so that to ask it keeps nobody waiting."""
 
     def lost(self, session: Session) -> None:
         """Another server has a network."""
+
+    def give_up(self, network: int) -> None:
+        """A network is about to be halted: nobody is taken to it meanwhile."""
+
+    def given_up(self, network: int) -> None:
+        """It is halted, or another server has it."""
 
     def unknown(self, session: Session, fault: Exception) -> None:
         """Nobody knows whether the rows of a network were written."""
@@ -96,6 +105,10 @@ class Sole:
         """There is no other server."""
         return None, ()
 
+    def may_adopt(self) -> bool:
+        """If its program was named."""
+        return True
+
     def may_read(self) -> bool:
         """A file is always reached."""
         return True
@@ -103,6 +116,12 @@ class Sole:
     def lost(self, session: Session) -> None:
         """Another server has the journal, and so all networks."""
         self.keeper.fail(Fenced(LOST))
+
+    def give_up(self, network: int) -> None:
+        """It is halted at once."""
+
+    def given_up(self, network: int) -> None:
+        """That shows in the journal."""
 
     def unknown(self, session: Session, fault: Exception) -> None:
         """The next server sees what is there."""
