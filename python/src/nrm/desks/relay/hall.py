@@ -114,8 +114,8 @@ class Hall:
     def send_on(self, client: Client, elsewhere: str) -> None:
         """Passes a client on to the server that has its network, or tells it to go there or to come again."""
         word, _, address = elsewhere.partition(" ")
-        if not address or client.is_passed:
-            client.finish("wait")
+        if not address or client.is_passed or not self.owning.may_read():
+            client.finish("wait")  # who was stopped for long doesn't pass on a greeting that may be an old one
         elif self.sharing.is_to_send_on or not client.may_be_passed():
             client.finish(elsewhere)
         else:
@@ -155,8 +155,7 @@ class Hall:
             session.network = network
         if session.network.halted:
             return "halted"
-        is_elsewhere = self.owning.elsewhere(session.network) not in (None, "wait")
-        return None if is_elsewhere or self.fits(session.network) else "version"
+        return None if self.owning.elsewhere(session.network) or self.fits(session.network) else "version"
 
     def is_answered(self, network: Opened) -> bool:
         """Whether this server answers for a network."""

@@ -152,7 +152,8 @@ class Fleets(FleetTest):
     def test_another_program_takes_nothing(self) -> None:
         self.open("net", program="0" * 64)
         server = self.serve("one")
-        self.assertEqual(server.talk(b"desk net D1\n"), b"closed version\n")
+        self.assertEqual(server.talk(b"desk net D1\n"), b"closed wait\n")
+        self.want_in(server.told(), "event=version network=net")
         self.assertIsNone(self.owner())
 
     def test_a_network_that_is_opened_later_is_answered(self) -> None:

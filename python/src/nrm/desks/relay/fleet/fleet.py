@@ -24,6 +24,7 @@ from nrm.desks.status import Fleet as FleetStatus
 from nrm.desks.status import Share
 
 BEAT = 0.5  # seconds between two heartbeats
+OLD = 3.0  # seconds after which a look says nothing more
 FEW = 1000  # lines that a network may have to be moved before its program has answered them again
 LOADS = 2  # programs that are given their journals at a time to follow them
 TO_LEAVE = 60.0  # the most seconds for which a server that is to end waits for others to take its networks
@@ -87,7 +88,7 @@ class Fleet:
         self.taking: set[int] = set()
         self.waiting: list[Callable[[], None]] = []
         self.is_beating = self.is_leaving = self.is_closed = False
-        self.leaving_since = self.seen_at = keeper.loop.now
+        self.leaving_since = self.seen_at = self.asked_at = keeper.loop.now
         self.worker = Worker(keeper.loop, members)
         keeper.loop.soon.append(lambda: self.looked(self.known, self.seen, None))
 
@@ -153,8 +154,8 @@ class Fleet:
                            for it in self.heads.values())
 
     def may_read(self) -> bool:
-        """Whether the journal was reached just now."""
-        return self.keeper.loop.now - self.seen_at < 3 * BEAT
+        """Whether the journal was reached by a look that isn't old."""
+        return self.keeper.loop.now - self.seen_at < OLD
 
     # Twice a second
 
@@ -166,7 +167,7 @@ class Fleet:
         for session in self.keeper.sessions.values():
             if session.network.number in self.owned and session.network.epoch == self.owned[session.network.number]:
                 self.known[session.network.number] = max(session.lines, self.known.get(session.network.number, 0))
-        known, is_leaving = dict(self.known), self.is_leaving
+        known, is_leaving, self.asked_at = dict(self.known), self.is_leaving, self.keeper.loop.now
         self.worker.ask(lambda members: members.beat(is_leaving), lambda seen, why: self.looked(known, seen, why))
 
     def looked(self, known: dict[int, int], seen: Seen | None, fault: Exception | None) -> None:
@@ -192,7 +193,7 @@ class Fleet:
         except Stop as why:
             self.keeper.fail(why)
             return
-        self.seen, self.seen_at = seen, self.keeper.loop.now
+        self.seen, self.seen_at = seen, self.asked_at
         self.heads = {it.name: it for it in seen.heads}
         self.by_number = {it.network: it for it in seen.heads}
         for head in seen.heads:
