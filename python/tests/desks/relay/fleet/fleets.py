@@ -7,13 +7,14 @@ import socket
 import subprocess
 import sys
 import time
-from typing import Iterator
+from typing import Iterator, Sequence
 
 from desks.relay.fleet.databases import DatabaseTest, free_port
 from desks.relay.serves import ONE, PATIENT
 from harness import SECONDS, SOURCES, PlaceTest, wait_for
 from nrm.desks.journals.networks import put_network
 from nrm.desks.journals.stores.choosing import store_of, using
+from nrm.desks.relay.fleet.owning import rank
 
 
 class Server:
@@ -115,6 +116,14 @@ class FleetTest(DatabaseTest, PlaceTest):
         [(name,)] = self.database.ask("SELECT server.name FROM network JOIN head USING (network) LEFT JOIN server "
                                       f"USING (server) WHERE network.name = '{network}'")
         return name
+
+    def settled(self, servers: Sequence[Server]) -> list[Server]:
+        """Some servers, once no network moves any more: the one that has the network comes first, and behind it the one
+        that would have it next."""
+        found = sorted(servers, key=lambda it: rank("net", it.name), reverse=True)
+        wait_for(lambda: self.owner() == found[0].name, "an owner", PATIENT)
+        found[0].wait_for("event=taken network=net")
+        return found
 
     def rows(self, what: str = "desk, sequence, line, reply") -> list[tuple[object, ...]]:
         """The lines of the journal."""

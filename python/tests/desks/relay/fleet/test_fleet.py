@@ -20,15 +20,7 @@ class Fleets(FleetTest):
     def three(self, *options: str) -> list[Server]:
         """Three servers, of which the one that has the network comes first."""
         self.open("net")
-        made = [self.serve(it, *options) for it in ("a", "b", "c")]
-        wait_for(lambda: self.owner() and self.is_settled(), "an owner", PATIENT)
-        owner = self.owner()
-        return sorted(made, key=lambda it: it.name != owner)
-
-    def is_settled(self) -> bool:
-        """Whether all servers have been there for so long that no network moves any more."""
-        return self.database.ask("SELECT count(*) FROM server WHERE began > clock_timestamp() - interval '6 s' AND "
-                                 "seen > '-infinity'") == [(0,)]
+        return self.settled([self.serve(it, *options) for it in ("a", "b", "c")])
 
     def test_any_server_takes_a_desk(self) -> None:
         """It passes it on to the owner, byte for byte, with the same reply to what is sent again."""

@@ -19,16 +19,8 @@ class Following(FleetTest):
         self.open("net")
         if lines:
             self.fill(lines)
-        made = [self.serve(it, *options) for it in ("a", "b")]
-        wait_for(lambda: self.owner() and self.has_settled(), "an owner", PATIENT)
-        owner = self.owner()
-        first, second = sorted(made, key=lambda it: it.name != owner)
+        first, second = self.settled([self.serve(it, *options) for it in ("a", "b")])
         return first, second
-
-    def has_settled(self) -> bool:
-        """Whether both have been there for so long that no network moves any more."""
-        return self.database.ask("SELECT count(*) FROM server WHERE began > clock_timestamp() - interval '6 s' AND "
-                                 "seen > '-infinity'") == [(0,)]
 
     def state_of(self, server: Server) -> str:
         """What the program of the network does there."""
