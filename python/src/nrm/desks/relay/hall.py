@@ -103,7 +103,8 @@ class Hall:
         if client.is_done or not client.is_open:
             return
         client.network = session.network.name if session else None
-        why = "stopping" if self.stops else "network" if not session else self.refusal(session)
+        unknown = "network" if self.owning.may_read() else "wait"
+        why = "stopping" if self.stops else self.refusal(session) if session else unknown
         if why or not session:
             client.finish(why)
         elif elsewhere := self.owning.elsewhere(session.network):

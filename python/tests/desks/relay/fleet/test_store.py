@@ -1,6 +1,7 @@
 """A journal in PostgreSQL: its tables, the fence of what writes, and one server alone."""
 from __future__ import annotations
 
+import socket
 import threading
 import time
 
@@ -200,7 +201,7 @@ class Alone(FleetTest):
             holder.execute("BEGIN; SELECT * FROM head FOR UPDATE")
             looker.sendall(b"desk net D2\nask LOC\n")
             looker.settimeout(1)
-            with self.assertRaises(TimeoutError):
+            with self.assertRaises(socket.timeout):
                 looker.recv(100)
             holder.execute("ROLLBACK")
             looker.settimeout(SECONDS)

@@ -168,10 +168,13 @@ class Fleet:
             if session.network.number in self.owned and session.network.epoch == self.owned[session.network.number]:
                 self.known[session.network.number] = max(session.lines, self.known.get(session.network.number, 0))
         known, is_leaving, self.asked_at = dict(self.known), self.is_leaving, self.keeper.loop.now
-        self.worker.ask(lambda members: members.beat(is_leaving), lambda seen, why: self.looked(known, seen, why))
+        waiting, self.waiting = self.waiting, []
+        self.worker.ask(lambda members: members.beat(is_leaving), lambda seen, why: self.looked(known, seen, why, waiting))
 
-    def looked(self, known: dict[int, int], seen: Seen | None, fault: Exception | None) -> None:
-        """Does what follows from what was seen; `known` is what was answered before it was looked."""
+    def looked(self, known: dict[int, int], seen: Seen | None, fault: Exception | None,
+               waiting: Sequence[Callable[[], None]] = ()) -> None:
+        """Does what follows from what was seen. `known` is what was answered before it was looked, and those that wait
+        have waited for this look."""
         self.is_beating = False
         if self.is_closed:
             return
@@ -182,9 +185,10 @@ class Fleet:
             self.keeper.events.tell("database", why=" ".join(str(fault).split()))
         else:
             self.see(known, seen)
-        waiting, self.waiting = self.waiting, []
         for then in waiting:
             then()
+        if self.waiting:
+            self.beat()
 
     def see(self, known: dict[int, int], seen: Seen) -> None:
         """Takes, follows, loses."""
