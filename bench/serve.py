@@ -1,7 +1,8 @@
 #!/usr/bin/env python3
 """How many lines a second go through `nrm-tools serve`, and how long one takes.
 
-    bench/serve.py [PROGRAM] [--desks PATH] [--older WORD...] [--disk FOLDER] [--rounds N] [--lines N] [--short]
+    bench/serve.py [PROGRAM] [--desks PATH] [--older WORD...] [--disk FOLDER] [--rounds N] [--lines N] [--starts N]
+        [--only N...] [--short]
 
 PROGRAM is `nrm`, and --desks names `nrm_desks`; else they are those that the sources are built into. Clients ask one
 line each and wait for its reply before they ask the next: 1, 10, 200 and 1,000 of them, and 1 that sends 100 lines
@@ -10,12 +11,14 @@ journal on the disk of FOLDER, by default the current one, of one network and of
 these to the server of an earlier release, with its text journal there: the words that run it are the `nrm-tools` of
 that release and `desks`, or its `tools/desks.py` alone. Of each the most lines a second of N rounds is told, by default
 3, within how long half of the lines were answered and 99 of 100 in that round, of the journals the bytes a line, and
-the least processor time that a line takes of the server's own process, which depends less on what else the machine
-does. Then a journal of --lines lines, by default 100,000, is served by a new server, and it is told how long its first
-reply takes; and how long `ask` and `book` take beside each other. --short asks a tenth of the lines.
+the least processor time that a line takes of the server's own process, and of that with its programs, which depends
+less on what else the machine does. Then a journal of --lines lines, by default 100,000, is served by a new server, and
+it is told how long its first reply takes; and how long `ask` and `book` take beside each other. With --starts so many
+networks of --lines lines each begin at once, and it is told how long one waits for each line who is there at another
+network. --short asks a tenth of the lines, and --only picks crowds, by how many clients they have.
 """
 import contextlib
-import math
+import itertools
 import os
 import random
 import select
@@ -138,24 +141,32 @@ def processor_time(process):
     return sum(int((it / "schedstat").read_text().split()[0]) for it in tasks) / 1e9
 
 
+def times_of(process):
+    """The seconds that a server has been at work, and those with the programs that it has begun."""
+    below = Path(f"/proc/{process}/task/{process}/children").read_text().split()
+    own = processor_time(process)
+    return own, own + sum(map(processor_time, below))
+
+
 def asked(path, process, greetings, ahead, lines):
-    """The seconds in which clients ask all lines, how long each took, in order, and how long the server was at work."""
+    """The seconds in which clients ask all lines, how long each took, in order, and how long the server was at work by
+    itself and with its programs."""
     count = len(greetings)
     made = connected(path, count)
     clients = [Client(it, greeting, lines[at::count], ahead) for at, (it, greeting) in enumerate(zip(made, greetings))]
     by_file, poll, took, answered = {it.socket.fileno(): it for it in clients}, select.epoll(), [], 0
     for file in by_file:
         poll.register(file, select.EPOLLIN)
-    worked, begun = processor_time(process), time.perf_counter()
+    worked, begun = times_of(process), time.perf_counter()
     for it in clients:
         it.ask(begun)
     while answered < len(lines):
         for file, _ in waited_for(poll):
             answered += by_file[file].hear(took)
-    seconds, worked = time.perf_counter() - begun, processor_time(process) - worked
+    seconds, now = time.perf_counter() - begun, times_of(process)
     for it in made:
         it.close()
-    return seconds, sorted(took), worked
+    return seconds, sorted(took), tuple(after - before for before, after in zip(worked, now))
 
 
 # What is measured
@@ -221,7 +232,7 @@ def measured(ways, crowd, lines, program, network, folder, rounds):
                 seconds, took, worked = asked(path, process, greetings, ahead, lines[:count])
             one = seconds, took, way.bytes() / count
             found[way.name] = min(found.get(way.name, one), one, key=lambda it: it[0])
-            works[way.name] = min(works.get(way.name, math.inf), worked)
+            works[way.name] = tuple(map(min, works.get(way.name, worked), worked))
     return {name: (*it, works[name]) for name, it in found.items()}
 
 
@@ -230,7 +241,8 @@ def tell(found, crowd):
     for name, (seconds, took, size, worked) in found.items():
         print(f"{clients:,} clients, {ahead} ahead, {name}: {count / seconds:,.0f} lines/s, half within "
               f"{took[count // 2] * 1e3:.2f} ms, 99 of 100 within {took[count * 99 // 100] * 1e3:.2f} ms, "
-              f"{size:.0f} bytes and {worked / count * 1e6:.0f} µs of the server's own a line", flush=True)
+              f"{size:.0f} bytes, {worked[0] / count * 1e6:.0f} µs of the server's own and "
+              f"{worked[1] / count * 1e6:.0f} with its programs' a line", flush=True)
 
 
 def tell_of_a_start(way, lines, program, network, folder):
@@ -252,24 +264,80 @@ def tell_of_a_start(way, lines, program, network, folder):
         print(f"ask of {len(products[:90])} products at once: {seconds * 1e3:.1f} ms")
 
 
+def copied(journal, count, lines, program, network):
+    """Puts networks into a journal with one, each with the lines of that, and one without any."""
+    with using(journal, is_to_write=True) as connection:
+        for at in range(1, count + 1):
+            open_network(connection, f"n{at}", "bid", Path(network).read_bytes(), Program((program[1],)).checksum())
+        for at in range(2, count + 1):
+            connection.execute("INSERT INTO line SELECT ?, number, epoch, desk, sequence, at, line, reply FROM line "
+                               "WHERE network = 1", [at])
+        connection.execute("UPDATE head SET lines = (SELECT count(*) FROM line WHERE line.network = head.network)")
+
+
+def waits_of(there, lines, others, seconds=0.0):
+    """How long each line takes one who is there, until others have their first reply and some seconds have passed."""
+    poll, waits, left = select.epoll(), [], {it.fileno(): it for it in others}
+    for file in (there.fileno(), *left):
+        poll.register(file, select.EPOLLIN)
+    begun = asked_at = time.perf_counter()
+    there.sendall(next(lines))
+    while left or asked_at - begun < seconds:
+        for file, _ in waited_for(poll):
+            it = left.pop(file, there)
+            if not it.recv(1000):
+                raise Stop("the connection has ended")
+            if it is not there:
+                poll.unregister(file)
+                continue
+            now = time.perf_counter()
+            waits.append(now - asked_at)
+            asked_at = now
+            there.sendall(next(lines))
+    there.recv(1000)
+    return sorted(waits), time.perf_counter() - begun
+
+
+def tell_of_starts(way, count, lines, program, network, folder):
+    """How long who is there waits for each line, before networks begin and while they do."""
+    with served(way.begin(program, network), folder) as (path, process):
+        asked(path, process, [way.greeting(0)], AHEAD, lines)
+    copied(way.journal, count, lines, program, network)
+    with served(way.words(program), folder) as (path, process):
+        there, *others = connected(path, count + 1)
+        Client(there, f"desk n{count} HERE\n".encode(), [], 1)
+        for name, some in (("before", []), (f"while {count} networks of {len(lines):,} lines begin", others)):
+            for at, it in enumerate(some):
+                it.sendall(f"desk n{at} D1\n".encode())
+            waits, seconds = waits_of(there, itertools.cycle(lines[:1_000]), some, 0 if some else 5)
+            half, most = (waits[len(waits) * it // 100] * 1e3 for it in (50, 99))
+            print(f"one who is there, {name}: in {seconds:.1f} s {len(waits):,} lines, half within {half:.2f} ms, "
+                  f"99 of 100 within {most:.2f} ms, all within {waits[-1] * 1e3:.1f} ms", flush=True)
+
+
 def main():
     given = words_of(__doc__, desks={"metavar": "PATH"}, disk={"metavar": "FOLDER", "default": "."},
                      older={"metavar": "WORD", "nargs": "+", "default": []},
                      rounds={"type": int, "default": 3, "metavar": "N"}, short={"action": "store_true"},
-                     lines={"type": int, "default": 100_000, "metavar": "N"})
+                     lines={"type": int, "default": 100_000, "metavar": "N"},
+                     starts={"type": int, "default": 0, "metavar": "N"},
+                     only={"type": int, "nargs": "+", "default": [], "metavar": "N"})
     program = built(given.program), built(given.desks, "nrm_desks")
     network = networks.hub()
     with contextlib.ExitStack() as stack:
         folder, disk = (stack.enter_context(tempfile.TemporaryDirectory(dir=it)) for it in (None, given.disk))
         path = os.path.join(folder, "network.csv")
         network.write(path)
-        crowds = [(clients, ahead, count // 10 if given.short else count) for clients, ahead, count in CROWDS]
+        crowds = [(clients, ahead, count // 10 if given.short else count) for clients, ahead, count in CROWDS
+                  if not given.only or clients in given.only]
         lines = list(lines_of(network, max(given.lines, *(count for _, _, count in crowds))))
         ways = [Way(disk, "1 network", 1), Way(disk, f"{MANY} networks", MANY)]
         ways += [Way(disk, "the older server", 0, given.older)] if given.older else []
         for crowd in crowds:
             tell(measured(ways, crowd, lines, program, path, folder, given.rounds), crowd)
         tell_of_a_start(ways[0], lines[:given.lines], program, path, folder)
+        if given.starts:
+            tell_of_starts(ways[0], given.starts, lines[:given.lines], program, path, folder)
 
 
 if __name__ == "__main__":

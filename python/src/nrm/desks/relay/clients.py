@@ -204,6 +204,7 @@ class Client:
                 return
             else:
                 self.finish("status")
+
     def is_without_token(self) -> bool:
         """Whether the first line is another than one with a token, and may be; that one is taken once it is whole."""
         if FRONT[:len(self.first)] == self.first[:len(FRONT)]:

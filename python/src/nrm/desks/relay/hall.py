@@ -9,7 +9,10 @@ nrm.desks.relay.telling.status, nrm.desks.relay.timing.clock, nrm.program.
 """
 from __future__ import annotations
 
+import contextlib
+import errno
 import math
+import os
 from dataclasses import dataclass, replace
 from typing import Iterator, Sequence
 
@@ -46,6 +49,13 @@ class Answering:
     program: Program
     checksum: str
     is_said: bool
+
+    def checksum_now(self) -> str:
+        """The SHA-256 of the file that would be run now, which may be another by now; an OSError if there is none."""
+        try:
+            return self.program.checksum()
+        except Stop:
+            raise FileNotFoundError(errno.ENOENT, os.strerror(errno.ENOENT))
 
 
 class Hall:
@@ -226,6 +236,14 @@ class Hall:
             self.owning.lost(session)
             session.lose("wait")
             return
+        try:
+            is_fit = self.is_as_it_was(network)
+        except OSError as fault:
+            self.tell_of_none(session, fault)
+            return
+        if not is_fit:
+            self.turn_away(session, self.owning.unfit())
+            return
         if not network.lines and network.program != self.answering.checksum:
             self.store.answer_by(network.number, self.answering.checksum)
         rows = self.asker.rows(network.number, network.lines, session.flush)
@@ -234,21 +252,39 @@ class Hall:
     def follow(self, session: Session, network: Opened, file: bytes, rows: Iterator[bytes]) -> bool:
         """Begins a program that follows what becomes part of a network's journal; gives whether it did."""
         session.network = network
-        return self.run_program(session, file, rows, FOLLOWS)
+        with contextlib.suppress(OSError):
+            return self.is_as_it_was(network) and self.run_program(session, file, rows, FOLLOWS)
+        return False
 
     def run_program(self, session: Session, file: bytes, rows: Iterator[bytes], state: int) -> bool:
         """Begins a program; gives whether it did."""
         try:
             session.start(self.answering.program.words, file, rows, state)
         except OSError as fault:
-            self.events.tell("program-ended", network=session.network.name, status=1,
-                             told=f"{self.answering.program.words[0]}: {fault.strerror}")
-            session.state, session.begins_at = RESTS, self.loop.now + 1
-            session.tell_all("program 1", False)
+            self.tell_of_none(session, fault)
             return False
         self.running += 1
         self.counters.begun += 1
         return True
+
+    def is_as_it_was(self, network: Opened) -> bool:
+        """Whether the program is still the one that this server began with; another one in its place answers
+        nothing."""
+        now = self.answering.checksum_now()
+        if now != self.answering.checksum:
+            self.events.tell("version", network=network.name, began=network.program, answers=now)
+        return now == self.answering.checksum
+
+    def tell_of_none(self, session: Session, fault: OSError) -> None:
+        """There is no program that could begin."""
+        self.events.tell("program-ended", network=session.network.name, status=1,
+                         told=f"{self.answering.program.words[0]}: {fault.strerror}")
+        self.turn_away(session, "program 1")
+
+    def turn_away(self, session: Session, why: str) -> None:
+        """Has no program begin, and tells those who wait for it; they may come again in a second."""
+        session.state, session.begins_at = RESTS, self.loop.now + 1
+        session.tell_all(why, False)
 
     def followed_no_more(self, session: Session, why: str) -> None:
         """A program that follows can't go on: it ends, and isn't begun again before this server takes the network,

@@ -23,8 +23,8 @@ from typing import Sequence
 
 import preload  # of the folder tests at the top
 from desks.relay.crowds.asking import TOO_LONG, Asker
-from desks.relay.crowds.judging import Case, faults_of, faults_of_copies
-from desks.relay.crowds.troubles import KILLS, OTHERS, WITH_LIBRARY, Troubles
+from desks.relay.crowds.judging import CLOCK, Case, faults_of, faults_of_copies
+from desks.relay.crowds.troubles import KILLS, OTHERS, PERIODS, WITH_LIBRARY, Troubles
 from desks.relay.serves import PATIENT, rows_in
 from harness import program
 from nrm.replies import MODES
@@ -35,13 +35,13 @@ MOST_SHOWN = 200  # faults of a round
 def made_network(draw: random.Random, path: Path) -> None:
     """A network of a hub, so small that it fills up: legs to it and from it, and products over it."""
     to, away = [f"I{n}" for n in range(draw.randint(1, 4))], [f"O{n}" for n in range(draw.randint(1, 4))]
-    rows = ["periods,2,2,2"]
+    rows = [f"periods,2,{PERIODS},2"]
     rows += [f"leg,{leg},{seats},{seats + draw.randint(-3, 20)},500,250" for leg in to + away
              for seats in [draw.randint(40, 200)]]
     products = [(leg, leg) for leg in to + away] + [(f"{a}-{b}", f"{a},{b}") for a in to for b in away]
     rows += [f"product,{name},{draw.randint(90, 900)},{legs}" for name, legs in products]
-    rows += [f"demand,{name},{history},{draw.randint(0, 30)},{draw.randint(0, 30)}" for name, _ in products
-             for history in (1, 2)]
+    rows += [f"demand,{name},{history},{','.join(str(draw.randint(0, 30)) for _ in range(PERIODS))}"
+             for name, _ in products for history in (1, 2)]
     path.write_text("\n".join(rows) + "\n")
 
 
@@ -67,7 +67,7 @@ class Crowd:
         it, began = self.troubles, time.monotonic()
         it.may_ask.set()
         it.askers = [Asker(it, it.cases[at % len(it.cases)], at) for at in range(self.asked.desks)]
-        running = [asyncio.ensure_future(desk.run()) for desk in it.askers]
+        running = it.running = [asyncio.ensure_future(desk.run()) for desk in it.askers]
         copying = asyncio.ensure_future(self.copy_now_and_then())
         try:
             await self.until_each_has_lines(running)
@@ -133,13 +133,15 @@ class Crowd:
 
     def report(self, seconds: float) -> None:
         it = self.troubles
-        [[lines, tenures]] = rows_in(it.journal, "SELECT (SELECT count(*) FROM line), (SELECT count(*) FROM tenure)")
+        [[lines, tenures, plans]] = rows_in(
+            it.journal, "SELECT (SELECT count(*) FROM line), (SELECT count(*) FROM tenure), "
+                        f"(SELECT count(*) FROM line WHERE desk = '{CLOCK}')")
         replies, looks = (sum(len(told(desk.heard)) for desk in it.askers)
                           for told in (lambda heard: heard.replies, lambda heard: heard.looks))
         print(f"seed {self.seed}: {seconds:.0f} s, {lines} lines in {len(it.cases)} networks, {replies} replies and "
               f"{looks} looks that {len(it.askers)} desks got, {sum(desk.retries for desk in it.askers)} times sent "
-              f"again, the longest wait {max(desk.longest for desk in it.askers):.1f} s, {tenures} servers, "
-              f"{len(it.copies)} copies, troubles {dict(sorted(self.events.items()))}", flush=True)
+              f"again, the longest wait {max(desk.longest for desk in it.askers):.1f} s, {plans} plans of the clock, "
+              f"{tenures} servers, {len(it.copies)} copies, troubles {dict(sorted(self.events.items()))}", flush=True)
 
 
 def see_that_none_failed(running: Sequence[asyncio.Future[None]]) -> None:

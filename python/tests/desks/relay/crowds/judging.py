@@ -14,6 +14,7 @@ from nrm.network import Network
 from nrm.program import Program
 
 Row = Tuple[int, str, int, str, str]  # number, desk, sequence, line, reply
+CLOCK = "CLOCK"  # the server's own desk
 LOOKS = ("leg ", "ask ", "hindsight")
 LEG = re.compile(r"leg (\S+) seats \d+ authorised \d+ sold (\d+) left \d+")
 ASK = re.compile(r"ask (\S+) (\d+) (leg \S+|fare|most)")
@@ -99,8 +100,8 @@ def judged(case: Case, rows: list[Row], head: object, heard: Sequence[Heard], pr
     """What doesn't hold of a network."""
     network = Network.read(str(case.path))
     yield from (f"{case.name}: {it}" for it in [
-        *order(rows, head), *replies(case, rows, program), *oversold(rows, network), *acknowledged(rows, heard),
-        *looks(case, rows, network, heard)])
+        *order(rows, head), *plans(rows), *replies(case, rows, program), *oversold(rows, network),
+        *acknowledged(rows, heard), *looks(case, rows, network, heard)])
 
 
 def order(rows: list[Row], head: object) -> Iterator[str]:
@@ -112,6 +113,17 @@ def order(rows: list[Row], head: object) -> Iterator[str]:
         if sequence <= last.get(desk, 0):
             yield f"line {number}: {desk} {sequence} after {last[desk]}"
         last[desk] = sequence
+
+
+def plans(rows: list[Row]) -> Iterator[str]:
+    """The server's own desk asks for each period once, and for none behind a later one."""
+    last = 0
+    for number, desk, _, line, _ in rows:
+        if desk == CLOCK:
+            period = int(line.split(" ")[1])
+            if period <= last:
+                yield f"line {number}: {CLOCK} asks for period {period} after {last}"
+            last = period
 
 
 def replies(case: Case, rows: list[Row], program: Program) -> Iterator[str]:

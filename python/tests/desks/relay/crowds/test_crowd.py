@@ -5,8 +5,11 @@ import os
 import unittest
 
 from desks.relay.crowds.crowd import judged
-from desks.relay.crowds.wrong_forms import FORMS, found_in
+from desks.relay.crowds.forms import FORMS
+from desks.relay.crowds.troubles import KILLS, OTHERS
+from desks.relay.crowds.wrong_forms import found_in
 from desks.relay.serves import ServeTest
+from harness import SOURCES
 
 IS_LONG = bool(os.environ.get("NRM_LONG"))
 CALM = ("--kills", 0, "--troubles", 0, "--pause", 0.02)
@@ -23,6 +26,20 @@ class Crowds(ServeTest):
 
     def test_copies_under_load_are_whole(self) -> None:
         self.judged(*CALM, "--copies", 100 if IS_LONG else 5, "--between", 0.1)
+
+    def test_each_mistake_can_be_made(self) -> None:
+        """What is edited stands in the code once, and the test or the troubles that must find it are there."""
+        found = unittest.TestLoader()
+        for name, form in FORMS.items():
+            with self.subTest(name):
+                texts = [((SOURCES / file).read_text(), old, new) for file, old, new in form.edits]
+                self.assertEqual([(text.count(old), old == new) for text, old, new in texts], [(1, False)] * len(texts))
+                self.assertTrue(form.edits or form.program)
+                if form.place.startswith("desks."):
+                    found.loadTestsFromName(form.place)
+                else:
+                    self.assertLessEqual({*form.place.split(",")}, {*KILLS, *OTHERS})
+        self.assertEqual(found.errors, [])
 
     @unittest.skipUnless(IS_LONG, "mistakes that the crowd must find take some minutes: NRM_LONG=1")
     def test_mistakes_are_found(self) -> None:

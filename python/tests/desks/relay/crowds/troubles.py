@@ -8,7 +8,8 @@
     stopped  one that was stopped goes on after another has taken the journal, with lines that it got
     asleep   the same, and it is asked nothing but looks
 
-Behind each a server is there that is well. What isn't as it must be is told.
+Behind each a server is there that is well. What isn't as it must be is told. Meanwhile periods of the networks begin,
+so that the server's own desk has plans made.
 """
 from __future__ import annotations
 
@@ -31,12 +32,17 @@ from desks.relay.crowds.judging import Case, Copied, Heard, Told
 from desks.relay.faults import clock_off, failing, forcing, library, lose_power
 from desks.relay.serves import PATIENT, Serve, journal_of, rows_in
 from harness import SOURCES, program
+from nrm.desks.journals.tables import change, using
+from nrm.desks.journals.times.said import Times, set_times
 from nrm.network import Network
 
 KILLS = ("server", "program", "both")
 OTHERS = ("end", "full", "force", "power", "unforced", "clock", "version", "second", "changed", "stopped", "asleep")
 WITH_LIBRARY = ("full", "force", "power", "unforced", "clock")
 LOOKER = "LOOKER"  # a desk that only looks
+PERIODS = 6  # of each network; desks ask for plans of the first two, and the server's own desk for those of the others
+BEGIN_WITHIN = 60  # seconds
+FAR = 30 * 86_400_000  # milliseconds to the departure
 EARLIER = "SELECT * FROM line WHERE epoch = (SELECT max(epoch) FROM tenure) AND at < (SELECT max(at) - 50000 FROM line)"
 Given = TypeVar("Given")
 OTHER = """#!/bin/bash
@@ -55,6 +61,7 @@ class Troubles:
         self.program = program("NRM_DESKS", "nrm_desks")
         self.journal = journal_of(folder / "journal", self.program,
                                   {it.name: (it.mode, it.path.read_bytes()) for it in cases})
+        self.set_times()
         self.faults = library(folder) if preload.is_there() else ""
         self.other = folder / "other"
         self.other.write_text(OTHER.format(words=" ".join(self.program.words)))
@@ -62,6 +69,7 @@ class Troubles:
         (folder / "sitecustomize.py").write_text("import fcntl\nfcntl.flock = lambda *_: None\n")
         self.may_ask, self.is_whole = asyncio.Event(), asyncio.Lock()
         self.askers: list[Asker] = []
+        self.running: list[asyncio.Future[None]] = []  # the desks, each of which asks until it is over
         self.heard: list[Heard] = []  # what others were told
         self.copies: list[Copied] = []
         self.told: list[str] = []
@@ -70,6 +78,15 @@ class Troubles:
         self.is_over = False
         self.runs = 0
         self.server = self.begin()
+
+    def set_times(self) -> None:
+        """Has periods of the networks begin while the crowd asks."""
+        now = int(1000 * time.time())
+        with using(str(self.journal), is_to_write=True) as connection, change(connection):
+            for number, _ in enumerate(self.cases, 1):
+                begins = sorted(self.draw.sample(range(2, BEGIN_WITHIN), PERIODS - 2))
+                times = [(period, now + 1000 * at) for period, at in enumerate(begins, 3)]
+                set_times(connection, number, Times(now + FAR, tuple(times)))
 
     def now(self) -> float:
         """The time by which is judged what came first."""
@@ -125,9 +142,9 @@ class Troubles:
         await self.ended(self.server, 0)
 
     async def until(self, condition: Callable[[], object], what: str, pause: float = 0.1) -> None:
-        """Waits for something, which is told if it doesn't come."""
+        """Waits for something, which is told if it doesn't come; not where a desk has failed, as is told anyway."""
         deadline = self.now() + PATIENT
-        while not condition():
+        while not condition() and not any(it.done() for it in self.running):
             if self.now() > deadline:
                 self.told.append(f"{what}: it doesn't come")
                 return

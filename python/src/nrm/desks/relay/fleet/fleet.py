@@ -400,6 +400,10 @@ class Fleet:
         self.beat()
         return True
 
+    def unfit(self) -> str:
+        """Others take the networks, if there are others that have the program."""
+        return "wait" if self.is_leaving or self.hands_over() else "version"
+
     def heirs(self) -> list[int]:
         """The networks of this server that another would take."""
         members = [it for it in self.seen.members if it.server != self.seen.server]

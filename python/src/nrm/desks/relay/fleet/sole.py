@@ -57,6 +57,9 @@ class Owning(Protocol):
     def unknown(self, session: Session, fault: Exception) -> None:
         """Nobody knows whether the rows of a network were written."""
 
+    def unfit(self) -> str:
+        """Why clients are turned away, since the program isn't the one any more that this server began with."""
+
     def hands_over(self) -> bool:
         """Whether this server, which was told to end, goes on until others have its networks."""
 
@@ -126,6 +129,10 @@ class Sole:
     def unknown(self, session: Session, fault: Exception) -> None:
         """The next server sees what is there."""
         self.keeper.fail(fault)
+
+    def unfit(self) -> str:
+        """It is another version."""
+        return "version"
 
     def hands_over(self) -> bool:
         """To nobody."""
