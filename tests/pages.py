@@ -37,6 +37,7 @@ NOT_RUN = {  # by the beginning of the commands; the reason
     "nrm-tools thresholds mine/train.csv 5 --search": MINUTES,
     "nrm-tools thresholds examples/season/network.csv 5 --search": MINUTES,
     "nrm-tools averaged examples/season/network.csv --seasons": MINUTES,
+    "useradd": "it needs root and systemd", "systemctl": "it needs root and systemd",
     "git clone": "it proves all crates again", "install -m 755": "it installs into the system",
     "sqlite3 mine/bookings.db 'SELECT * FROM kept WHERE number = N'": "N stands for a number that was told",
 }

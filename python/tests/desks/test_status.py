@@ -15,11 +15,11 @@ from nrm.desks.status import (Clients, Commits, Network, NoStatus, Programs, Ser
                               status_of)
 
 MADE = Status(
-    Server("2.1.0", "ab12", "2026-12-01T09:30:00.123Z", 3, 4096, False),
+    Server("2.1.0", "ab12", "2026-12-01T09:30:00.123Z", 3, 4096, 5, False),
     Clients(12, 1000, 512, 1, 2, 3456, 7890), {"idle": 3, "program-137": 1}, Commits(812, 1.93, 0.021, 9000, 3, 0),
     ((0.001, 400), (0.5, 811), (float("inf"), 812)), Programs(3, 5, 2),
     (Network("hub-0612", "bid", "answers", 4, 812, False, 0), Network("old", "first", "rests", 0, 7, True, 9)))
-TEXT = """server version 2.1.0 program ab12 started 2026-12-01T09:30:00.123Z epoch 3 journal-bytes 4096 stopping no
+TEXT = """server version 2.1.0 program ab12 started 2026-12-01T09:30:00.123Z epoch 3 journal-bytes 4096 time-jumps 5 stopping no
 clients now 12 most 1000 ever 512 turned-away 1 unread 2 bytes-in 3456 bytes-out 7890
 closed idle 3
 closed program-137 1

@@ -98,8 +98,9 @@ class MetricsTest(WebTest):
         self.assertEqual(value("nrm_memory_replies_total", network="hub"), 6)
         self.assertEqual([value(it) for it in (
             "nrm_server_up", "nrm_rows_waiting", "nrm_rows_written_total", "nrm_desks_connected",
-            "nrm_clients_turned_away_total", "nrm_commits_failed_total", "nrm_clients_unread_total")],
-            [1, 3, 9000, 12, 7, 1, 2])
+            "nrm_clients_turned_away_total", "nrm_commits_failed_total", "nrm_clients_unread_total",
+            "nrm_time_jumps_total")],
+            [1, 3, 9000, 12, 7, 1, 2, 2])
 
     @needs("prometheus_client")
     def test_without_the_server_what_the_journal_tells(self) -> None:

@@ -18,7 +18,7 @@ from nrm.desks.journals.writing import Given, Writer
 from nrm.web.routes import Settings, Web
 from nrm.web.serving import Listening, Site
 
-STATUS = """server version 2.1.0 program 5ca1ab1e started 2026-12-01T09:30:00.500Z epoch 3 journal-bytes 96 stopping no
+STATUS = """server version 2.1.0 program 5ca1ab1e started 2026-12-01T09:30:00.500Z epoch 3 journal-bytes 96 time-jumps 2 stopping no
 clients now 12 most 1000 ever 512 turned-away 7 unread 2 bytes-in 10 bytes-out 20
 closed idle 3
 closed program-137 4

@@ -35,13 +35,14 @@ class StrangeStatus(NoStatus):
 
 @dataclass(frozen=True)
 class Server:
-    """The server: its version, the SHA-256 of its program, when it began, its epoch, the bytes of its journal, and
-    whether it is about to end."""
+    """The server: its version, the SHA-256 of its program, when it began, its epoch, the bytes of its journal, how often
+    the machine's clock jumped since it began, and whether it is about to end."""
     version: str
     program: str
     started: str
     epoch: int
     journal_bytes: int
+    time_jumps: int
     stopping: bool
 
 

@@ -133,6 +133,7 @@ def of_server(status: Status) -> Iterator[Any]:
     yield gauge("nrm_server_start_time_seconds", "When the server began, in seconds since 1970",
                 datetime.strptime(server.started, STARTED).replace(tzinfo=timezone.utc).timestamp())
     yield gauge("nrm_journal_bytes", "The size of the journal", server.journal_bytes)
+    yield counter("nrm_time_jumps", "Jumps of the machine's clock since the server began", server.time_jumps)
     yield gauge("nrm_programs", "Programs that answer now", programs.now)
     yield counter("nrm_programs_begun", "Programs that were begun", programs.begun)
     memory = family("Counter", "nrm_memory_replies", "Replies `memory`, for which there was too little of it",

@@ -2,7 +2,7 @@
 
 May use: nrm.desks.journals.networks, nrm.desks.status, nrm.web.asking.kept, nrm.web.asking.looks,
 nrm.web.asking.status, nrm.web.door.lines, nrm.web.following.journal, nrm.web.messages, nrm.web.metrics,
-nrm.web.showing.pages.
+nrm.web.showing.accounts, nrm.web.showing.pages.
 """
 from __future__ import annotations
 
@@ -23,6 +23,7 @@ from nrm.web.door.lines import Door, no_network
 from nrm.web.following.journal import Following
 from nrm.web.messages import JSON, Answer, Refusal, Request, Response
 from nrm.web.metrics import Watch
+from nrm.web.showing.accounts import Accounts
 from nrm.web.showing.pages import Pages
 
 DESCRIPTION = Path(__file__).with_name("openapi.json")
@@ -40,6 +41,7 @@ class Settings:
     has_door: bool = False
     needs_token: bool = False
     seconds: float = 10.0
+    has_accounts: bool = False
 
 
 @dataclass(frozen=True)
@@ -68,7 +70,8 @@ class Web:
         self.watch = Watch(self.following, Asked(partial(ask_status, settings.socket, settings.seconds)))
         door = Door(self.kept, self.following, self.own, settings.needs_token)
         self.looks = Looks(self.kept, self.own, self.following)
-        self.pages = Pages(self.following, self.looks, settings.journal)
+        self.pages = Pages(self.following, self.looks, settings.journal,
+                           Accounts(settings.journal, settings.has_accounts))
         self.routes = [*watching(self.watch), *of_door(door), *of_page(self.pages)]
 
     def own(self, network: str) -> Who:
@@ -134,7 +137,8 @@ def of_page(pages: Pages) -> list[Route]:
             Route("GET", "/page.css", PAGE, pages.style), Route("GET", "/page.js", PAGE, pages.script),
             Route("GET", network, PAGE, pages.network),
             Route("GET", f"{network}/events", PAGE, pages.network_as_it_changes),
-            Route("GET", f"{network}/lines/{{number}}", PAGE, pages.line)]
+            Route("GET", f"{network}/lines/{{number}}", PAGE, pages.line),
+            Route("GET", f"{network}/lines/{{number}}/why", PAGE, pages.account)]
 
 
 def description(asked: Request) -> Response:

@@ -214,8 +214,9 @@ class Site(ThreadingHTTPServer):
     daemon_threads = True
     request_queue_size = 128
 
-    def __init__(self, listening: Listening, answering: Answering) -> None:
+    def __init__(self, listening: Listening, answering: Answering, turned: Callable[[], None] = lambda: None) -> None:
         self.listening, self.answering, self.context = listening, answering, listening.context()
+        self.turned = turned
         super().__init__(("127.0.0.1", 0), Handler, bind_and_activate=False)
         self.socket.close()
         self.socket = tcp_socket(listening.place, listening.is_beyond_allowed)
@@ -223,6 +224,10 @@ class Site(ThreadingHTTPServer):
         self.free = threading.BoundedSemaphore(listening.connections)
         self.told_at = 0.0
         self.server_activate()
+
+    def service_actions(self) -> None:
+        """The loop has turned, which it does ten times a second where nobody comes."""
+        self.turned()
 
     def where(self) -> str:
         """The address of its page."""

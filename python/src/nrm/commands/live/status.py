@@ -7,7 +7,8 @@ desks are known by tokens a port wants that of a desk with the right `look`, whi
 has the certificates that the server's is checked by. The server itself answers, and no program is asked. The answer is
 printed as it came: lines of words, a kind, and behind it pairs of a name and a value.
 
-    server         version, program (its SHA-256), started (in UTC), epoch, journal-bytes, stopping
+    server         version, program (its SHA-256), started (in UTC), epoch, journal-bytes,
+                   time-jumps, stopping
     clients        now, most that may be, ever, turned-away, unread (dropped, since they didn't take their replies),
                    bytes-in, bytes-out
     closed         why clients were closed, and how many; a line a reason

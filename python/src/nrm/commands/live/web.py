@@ -8,7 +8,8 @@ what it does can't hold up the server, and it may do there what a client of the 
 
 `/healthz` answers `ok`, or status 503 and what is wrong, and `/metrics` is for Prometheus, with Debian's
 python3-prometheus-client. With --page there is a page of all networks and of each, up to date within a second, with
-Debian's python3-jinja2. With --door a desk may send lines by HTTP, each under a number of its own, so that it is
+Debian's python3-jinja2. With --why too, the page of a line has what `nrm-tools why` prints of it: that is run when
+somebody asks, one at a time, for 30 seconds at most, with the programs that it finds. With --door a desk may send lines by HTTP, each under a number of its own, so that it is
 carried out once. `/openapi.json` describes all paths for programs.
 
 --token names a file with the token in whose name this process looks; else it has a desk's name of its own. A token
@@ -38,6 +39,7 @@ def words_of(given: Sequence[str]) -> tuple[argparse.ArgumentParser, argparse.Na
     words.add_argument("--listen", metavar="HOST:PORT", required=True, help="where it listens; port 0 is a free one")
     words.add_argument("--beyond-this-machine", action="store_true", help="lets --listen be beyond the loopback range")
     words.add_argument("--page", action="store_true", help="has the page on")
+    words.add_argument("--why", action="store_true", help="has each line of the page explained, if somebody asks")
     words.add_argument("--door", action="store_true", help="has the door on, by which lines come")
     words.add_argument("--tokens", action="store_true", help="wants a token with each line, as beyond this machine")
     words.add_argument("--token", metavar="FILE", help="a file with the token by which this process looks")
@@ -55,10 +57,12 @@ def run(given: Sequence[str]) -> int:
     words, asked = words_of(given)
     if "" in (asked.journal, asked.socket):
         words.error("JOURNAL and --socket want a name")
+    if asked.why and not asked.page:
+        words.error("--why is for --page")
     if (asked.certificate is None) != (asked.key is None):
         words.error("--certificate and --key come together")
     token = token_in(asked.token) if asked.token else None
     settings = Settings(asked.journal, asked.socket, token, asked.page, asked.door,
-                        asked.tokens or asked.beyond_this_machine, asked.answer)
+                        asked.tokens or asked.beyond_this_machine, asked.answer, asked.why)
     listening = Listening(asked.listen, asked.beyond_this_machine, asked.certificate, asked.key, seconds=asked.slow)
     return serve(settings, listening)

@@ -174,6 +174,9 @@ def opened(path: str, is_to_write: bool = False) -> Connection:
         if version != VERSION:
             raise Stop(f"{path} has tables of version {version}, and this is for version {VERSION}")
         made.execute("PRAGMA synchronous = FULL")
+    except sqlite3.OperationalError as fault:  # as of a full disk: what is there isn't known
+        made.close()
+        raise Stop(f"{path}: {fault}")
     except sqlite3.DatabaseError as fault:
         made.close()
         raise NoJournal(f"{path} is no journal: {fault}")

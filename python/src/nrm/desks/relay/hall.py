@@ -5,7 +5,7 @@ May use: nrm, nrm.desks.access, nrm.desks.journals.commits, nrm.desks.journals.n
 nrm.desks.journals.stores.kinds, nrm.desks.relay.clients, nrm.desks.relay.doors.tokens, nrm.desks.relay.fleet.asking,
 nrm.desks.relay.fleet.fleet, nrm.desks.relay.fleet.passing, nrm.desks.relay.fleet.sole, nrm.desks.relay.loop,
 nrm.desks.relay.sessions, nrm.desks.relay.telling.counters, nrm.desks.relay.telling.events,
-nrm.desks.relay.telling.status, nrm.desks.relay.timing.clock, nrm.program.
+nrm.desks.relay.telling.status, nrm.desks.relay.timing.clock, nrm.desks.relay.timing.jumps, nrm.program.
 """
 from __future__ import annotations
 
@@ -33,6 +33,7 @@ from nrm.desks.relay.telling.counters import Counters
 from nrm.desks.relay.telling.events import Events, Log
 from nrm.desks.relay.telling.status import Now, Teller
 from nrm.desks.relay.timing.clock import Clock
+from nrm.desks.relay.timing.jumps import Jumps
 from nrm.program import Program
 
 JOURNAL_FAULT = 74
@@ -79,7 +80,7 @@ class Hall:
         self.commits = Commits(self.writer)
         self.commits.start()
         self.loop.want(self.commits.told, READ, self.written)
-        self.loop.looks.append(self.look)
+        self.loop.looks += [self.look, Jumps(self.events, self.counters).look]
         self.clients: set[Client] = set()
         self.tokens = Tokens(self.events.tell)
         self.loop.looks.append(self.tokens.tell_of_refused)

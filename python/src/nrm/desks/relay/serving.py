@@ -1,8 +1,8 @@
 """A server of a journal from beginning to end: the doors by which clients come, signals, and the status.
 
-May use: nrm.desks.access, nrm.desks.journals.networks, nrm.desks.journals.stores.kinds, nrm.desks.places,
-nrm.desks.relay.clients, nrm.desks.relay.doors.guards, nrm.desks.relay.fleet.fleet, nrm.desks.relay.hall,
-nrm.desks.relay.loop, nrm.desks.relay.telling.events.
+May use: nrm.desks.access, nrm.desks.journals.networks, nrm.desks.journals.stores.kinds, nrm.desks.notify,
+nrm.desks.places, nrm.desks.relay.clients, nrm.desks.relay.doors.guards, nrm.desks.relay.fleet.fleet,
+nrm.desks.relay.hall, nrm.desks.relay.loop, nrm.desks.relay.telling.events.
 """
 from __future__ import annotations
 
@@ -17,6 +17,7 @@ from typing import Sequence
 from nrm.desks.access import Access
 from nrm.desks.journals.networks import Opened
 from nrm.desks.journals.stores.kinds import Store
+from nrm.desks.notify import Manager
 from nrm.desks.places import Places, SocketPath, allow_files, tcp_socket
 from nrm.desks.relay.clients import HERE, Client, Limits
 from nrm.desks.relay.doors.guards import Guard, Watched
@@ -79,13 +80,17 @@ class Server:
 
     def serve(self, hall: Hall, listeners: Sequence[socket.socket], path: SocketPath | None,
               context: Watched[ssl.SSLContext] | None) -> int:
-        """Takes clients until it is to end."""
-        wake_by_signals(hall)
+        """Takes clients until it is to end. A manager of services is told when they may come, once a second that the
+        loop turns, and of the end."""
+        manager = Manager()
+        wake_by_signals(hall, manager)
         doors = [Door(hall, it, context) for it in listeners]
-        hall.loop.looks += [it.open for it in doors]
+        hall.loop.looks += [*(it.open for it in doors), lambda: manager.works(status_of(hall))]
+        manager.ready(status_of(hall))
         try:
             hall.loop.run()
         finally:
+            manager.stops()
             if path:
                 path.unlink()
             hall.close()
@@ -124,8 +129,13 @@ def look_at_files(hall: Hall, access: Watched[Access] | None, context: Watched[s
     hall.loop.looks.append(look)
 
 
-def wake_by_signals(hall: Hall) -> None:
-    """Has the loop end at a signal."""
+def status_of(hall: Hall) -> str:
+    """What a manager of services shows of the server."""
+    return f"{hall.count_of_clients()} clients, {hall.running} programs, {hall.counters.rows} lines written"
+
+
+def wake_by_signals(hall: Hall, manager: Manager) -> None:
+    """Has the loop end at a signal, and a manager of services know it."""
     told, tells = os.pipe2(os.O_CLOEXEC | os.O_NONBLOCK)
     signal.set_wakeup_fd(tells)
     for name in ENDS:
@@ -133,6 +143,7 @@ def wake_by_signals(hall: Hall) -> None:
 
     def stop(_: int) -> None:
         os.read(told, 1)
+        manager.stops()
         hall.stop()
 
     hall.loop.want(told, READ, stop)

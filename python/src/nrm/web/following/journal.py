@@ -52,6 +52,7 @@ class Following:
         self.path = path
         self.changed = threading.Condition()
         self.round = 0  # how often something new was seen
+        self.turns = 0  # how often the thread that reads has come round, or to a network
         self.networks: Mapping[str, Followed] = {}
         self.counts: dict[int, Counts] = {}
         self.fault: str | None = None  # why the journal can't be read
@@ -64,10 +65,12 @@ class Following:
     def follow(self, is_over: threading.Event, besides: Callable[[], None] = lambda: None) -> None:
         """Reads until it is told that all is over; if the journal can't be read it tries again each second."""
         while not is_over.is_set():
+            self.turns += 1
             try:
                 with using(self.path) as connection:
                     self.version = -1
                     while not is_over.wait(LOOKS_EVERY):
+                        self.turns += 1
                         self.look(connection)
                         besides()
             except Stop as stop:
@@ -97,6 +100,7 @@ class Following:
 
     def further(self, connection: Tables, opened: Opened, old: Followed | None) -> Followed:
         """A network with its next rows."""
+        self.turns += 1
         made = Followed(opened.number, opened.name, opened.mode, opened.is_ended, opened.halted, opened.lines,
                         old.fault if old else None, old.seen if old else Seen())
         if made.fault:

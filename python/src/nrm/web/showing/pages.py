@@ -1,8 +1,8 @@
 """The pages as HTML, made of the templates in `static` by jinja2, which escapes each name and text.
 
 May use: nrm, nrm.desks.journals.answered, nrm.desks.journals.networks, nrm.desks.journals.stores.choosing,
-nrm.telling.libraries, nrm.web.asking.looks, nrm.web.following.journal, nrm.web.messages, nrm.web.showing.events,
-nrm.web.showing.views, nrm.web.showing.words.
+nrm.telling.libraries, nrm.web.asking.looks, nrm.web.following.journal, nrm.web.messages, nrm.web.showing.accounts,
+nrm.web.showing.events, nrm.web.showing.views, nrm.web.showing.words.
 """
 from __future__ import annotations
 
@@ -22,6 +22,7 @@ from nrm.telling.libraries import is_there, lacks
 from nrm.web.asking.looks import Looks
 from nrm.web.following.journal import Followed, Following
 from nrm.web.messages import HTML, Refusal, Request, Response, Stream
+from nrm.web.showing.accounts import Accounts
 from nrm.web.showing.events import Streams
 from nrm.web.showing.views import NetworkView, row_of, view_of
 from nrm.web.showing.words import amount, why
@@ -39,8 +40,8 @@ def now() -> int:
 class Pages:
     """The pages, and the streams that keep them up to date."""
 
-    def __init__(self, following: Following, looks: Looks, journal: str) -> None:
-        self.following, self.looks, self.journal = following, looks, journal
+    def __init__(self, following: Following, looks: Looks, journal: str, accounts: Accounts) -> None:
+        self.following, self.looks, self.journal, self.accounts = following, looks, journal, accounts
         self.streams = Streams(following)
         self.lock = threading.Lock()
 
@@ -83,7 +84,14 @@ class Pages:
         """The page of a line."""
         line = self.line_of(name, number)
         command = f"nrm-tools why {shlex.quote(self.journal)} {name} {line.number}"
-        return self.page("line.html", name=name, line=line, why=why(line.line, line.reply), command=command)
+        return self.page("line.html", name=name, line=line, why=why(line.line, line.reply), command=command,
+                         has_accounts=self.accounts.is_on)
+
+    def account(self, asked: Request, name: str, number: str) -> Response:
+        """The page of a line's account, which is made now."""
+        line = self.line_of(name, number)
+        text = self.accounts.text(name, line.number)
+        return self.page("why.html", name=name, line=line, first=text.partition("\n")[0], text=text)
 
     def networks_as_they_change(self, asked: Request) -> Stream:
         """The rows of the table of all networks, as they change."""

@@ -30,6 +30,7 @@ class Counters:
     begun        programs, and those that have ended
     passed       clients that were passed on to other servers
     taken        networks, and those that were lost to other servers
+    jumps        of the machine's clock
     """
     came: int = 0
     turned_away: int = 0
@@ -48,6 +49,7 @@ class Counters:
     passed: int = 0
     taken: int = 0
     lost: int = 0
+    jumps: int = 0
 
     def commit(self, seconds: float, rows: int, is_whole: bool) -> None:
         """Counts a commit, with the rows that it wrote, and whether these are all that it was to write."""

@@ -46,7 +46,8 @@ class Teller:
         self.look()
         counted = self.counters
         return Status(
-            Server(__version__.lstrip("v"), self.program, self.started, self.epoch, self.size, now.is_stopping),
+            Server(__version__.lstrip("v"), self.program, self.started, self.epoch, self.size, counted.jumps,
+                   now.is_stopping),
             Clients(now.clients, self.most, counted.came, counted.turned_away, counted.unread, counted.bytes_in,
                     counted.bytes_out),
             {why.replace(" ", "-"): count for why, count in counted.closed.items()},
