@@ -135,8 +135,8 @@ def add_sharing(words: argparse.ArgumentParser) -> None:
                       help="passes desks on to the server that has their network, as is done if nothing is said")
     ways.add_argument("--send-on", action="store_true", help="tells desks where the server is that has their network")
     words.add_argument("--followers", type=number, metavar="N",
-                       help=f"the most networks whose journals are followed, none for 0; {Sharing.followers} if it isn't "
-                            "given")
+                       help=f"the most networks whose journals are followed, 0 for none; "
+                            f"{Sharing.followers} if it isn't given")
 
 
 def sharing_in(words: argparse.ArgumentParser, asked: argparse.Namespace, is_shared: bool) -> Sharing:
