@@ -93,6 +93,17 @@ class Fleets(FleetTest):
         self.assertEqual(self.owner(), None)
         self.assertEqual(self.serve("two").answer(FIRST), b"at 1\nok 1\n")
 
+    def test_one_that_leaves_when_the_database_is_gone_ends(self) -> None:
+        """Nobody can take its networks."""
+        owner = self.three()[0]
+        self.assertEqual(owner.answer(FIRST), b"at 1\nok 1\n")
+        self.database.kill()
+        try:
+            owner.send(signal.SIGTERM)
+            owner.end()
+        finally:
+            self.database.start()
+
     def test_another_start_by_the_same_name_is_the_one(self) -> None:
         self.open("net")
         first = self.serve("one")

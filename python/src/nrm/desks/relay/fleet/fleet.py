@@ -184,6 +184,8 @@ class Fleet:
             self.keeper.fail(fault)
         elif fault or not seen:
             self.keeper.events.tell("database", why=" ".join(str(fault).split()))
+            if self.is_leaving and not self.may_read():
+                self.keeper.stop()  # nobody can take anything
         else:
             self.see(known, seen)
         for then in waiting:
