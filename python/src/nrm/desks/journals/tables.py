@@ -139,9 +139,9 @@ class Connection(sqlite3.Connection):
         """Whether there is a table of a name."""
         return bool(self.execute("SELECT * FROM sqlite_master WHERE name = ?", [table]).fetchone())
 
-    def history(self) -> str:
-        """A file has one."""
-        return ""
+    def read_after(self, network: int, number: int, most: int | None = None) -> tuple[str, int, list[bytes]]:
+        """The same, from the one past that a file has."""
+        return ("", *self.rows_after(network, number, most))
 
     def version(self) -> int:
         """A number that is another one when another connection has written."""

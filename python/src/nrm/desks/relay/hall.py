@@ -247,7 +247,9 @@ class Hall:
             return
         if not network.lines and network.program != self.answering.checksum:
             self.store.answer_by(network.number, self.answering.checksum)
-        rows = self.asker.rows(network.number, network.lines, session.flush)
+        history = self.owning.history_of(network.number)
+        rows = self.asker.rows(network.number, network.lines, session.flush, history,
+                               lambda: self.owning.spoil(session))
         self.run_program(session, file, rows, BEGINS)
 
     def follow(self, session: Session, network: Opened, file: bytes, rows: Iterator[bytes]) -> bool:

@@ -106,7 +106,8 @@ FORMS = {
         (f"{DESKS}/journals/tables.py", "number || char(9) || desk || char(9) || sequence || char(9)",
          "number || char(9) || 'AGAIN' || char(9) || number || char(9)"),), "server", TWICE),
     "the journal isn't given again": Form((
-        (f"{DESKS}/relay/hall.py", "self.asker.rows(network.number, network.lines, session.flush)", "iter(())"),
+        (f"{DESKS}/relay/hall.py", "        self.run_program(session, file, rows, BEGINS)\n",
+         "        self.run_program(session, file, iter(()), BEGINS)\n"),
         (f"{DESKS}/relay/sessions.py", "        if rows != self.lines:\n", "        if False:\n")), "server",
         r"halted: .* was given out|closed halted"),
     "replies aren't compared when the journal is given again": Form((), "changed", NOT_HALTED, BLIND),

@@ -3,10 +3,14 @@ from __future__ import annotations
 
 import re
 import time
+import unittest
+from types import SimpleNamespace
+from typing import Callable
 
 from desks.relay.fleet.fleets import FleetTest, Server
 from desks.relay.serves import PATIENT
 from harness import wait_for
+from nrm.desks.relay.fleet.asking import Feed
 from nrm.desks.status import ask_status
 
 MANY = 20_000  # lines: more than are read in one piece
@@ -74,3 +78,20 @@ class Following(FleetTest):
         self.assertEqual(self.database.ask("SELECT halted FROM network"), [(None,)])
         owner.kill()
         wait_for(lambda: other.answer(b"desk net D1\n") == b"closed halted\n", "a halted network", PATIENT)
+
+
+class Pasts(unittest.TestCase):
+    """Without a database."""
+
+    def test_rows_of_another_past_than_the_taking_are_never_given(self) -> None:
+        """As from a primary that is cut off, and that the connection which reads has kept to."""
+        asked: list[Callable[[object], None]] = []
+        spoilt: list[str] = []
+        asker = SimpleNamespace(ask=lambda work, then: asked.append(then))
+        feed = Feed(asker, 1, None, lambda: None, None, lambda: spoilt.append("spoilt"))
+        feed.more(20)
+        asked.pop()(("past", 10, [b"rows\n"]))
+        self.assertEqual((next(feed), feed.histories), (b"rows\n", {"past"}))
+        feed.history = "past"
+        asked.pop()(("other", 20, [b"more\n"]))
+        self.assertEqual((spoilt, next(feed, None)), (["spoilt"], None))

@@ -83,9 +83,6 @@ class Tables(Protocol):
     def lost(self) -> tuple[type[Exception], ...]:
         """What goes wrong with the connection alone, so that a question may be asked again."""
 
-    def history(self) -> str:
-        """What is another one when rows that were read may have been lost since."""
-
     def execute(self, statement: str, values: Values = (), /) -> Rows:
         """Carries out a statement."""
 
@@ -95,6 +92,10 @@ class Tables(Protocol):
     def rows_after(self, network: int, number: int, most: int | None = None) -> tuple[int, list[bytes]]:
         """The next rows of a network behind the one of a number, as its program takes them, in pieces that a frame
         takes, and the number of the last; none beyond `most`."""
+
+    def read_after(self, network: int, number: int, most: int | None = None) -> tuple[str, int, list[bytes]]:
+        """The same, and before it which past of the store they were read from: it is another one when rows that were
+        read before may have been lost."""
 
     def has(self, table: str) -> bool:
         """Whether there is a table of a name: a journal of an earlier release may lack some."""
@@ -232,6 +233,9 @@ class Members(Protocol):
     def take(self, wanted: Sequence[tuple[int, int]]) -> dict[int, tuple[int, int]]:
         """Takes networks, each of which must still have an epoch, by one commit. Gives the epoch and the lines of those
         that were taken; what is read afterwards can't be lost. Unknown if nobody knows."""
+
+    def history(self) -> str:
+        """The past of the store that the last taking is in, as `Tables.read_after` tells it."""
 
     def leave(self, owned: Sequence[tuple[int, int]]) -> None:
         """Gives networks up, each with its epoch, and is no more."""

@@ -75,8 +75,10 @@ class Asker(Protocol):
     def ask(self, work: Callable[[Tables], Given], then: Callable[[Given], None]) -> None:
         """Has the tables asked something that does no harm twice, and tells what they gave."""
 
-    def rows(self, network: int, lines: int | None, wake: Callable[[], None]) -> Rows:
-        """The rows of a network, in pieces that a frame takes: so many lines, or for now all that are there."""
+    def rows(self, network: int, lines: int | None, wake: Callable[[], None], history: str | None,
+             spoilt: Callable[[], None]) -> Rows:
+        """The rows of a network, in pieces that a frame takes: so many lines, or for now all that are there. If they
+        are of another past than they must be, `spoilt` is called."""
 
     def close(self) -> None:
         """Asks no more."""
@@ -102,7 +104,8 @@ class AtOnce:
         """Asks the tables, and tells what they gave."""
         then(work(self.tables))
 
-    def rows(self, network: int, lines: int | None, wake: Callable[[], None]) -> Rows:
+    def rows(self, network: int, lines: int | None, wake: Callable[[], None], history: str | None,
+             spoilt: Callable[[], None]) -> Rows:
         """The rows of a network."""
         return rows_of(self.tables, network)
 
@@ -136,9 +139,10 @@ class ByThread:
                     raise
                 time.sleep(PAUSE)
 
-    def rows(self, network: int, lines: int | None, wake: Callable[[], None]) -> Feed:
+    def rows(self, network: int, lines: int | None, wake: Callable[[], None], history: str | None,
+             spoilt: Callable[[], None]) -> Feed:
         """The rows of a network, which are read ahead."""
-        return Feed(self, network, lines, wake)
+        return Feed(self, network, lines, wake, history, spoilt)
 
     def close(self) -> None:
         """Asks no more."""
@@ -150,11 +154,14 @@ class Feed:
     """The rows of a network, read ahead by a thread: up to a count of lines, or while that isn't known those that are
     there, of which `more` are read when it is said that they are.
 
-    history  of the database, as it was at each reading: rows that were read are of another one's past if it changes
+    history    the past of the database that rows must be of, once that is known
+    histories  those of all rows that were read
     """
 
-    def __init__(self, asker: ByThread, network: int, lines: int | None, wake: Callable[[], None]) -> None:
+    def __init__(self, asker: ByThread, network: int, lines: int | None, wake: Callable[[], None],
+                 history: str | None, spoilt: Callable[[], None]) -> None:
         self.asker, self.network, self.lines, self.wake = asker, network, lines, wake
+        self.history, self.spoilt = history, spoilt
         self.pieces: deque[bytes] = deque()
         self.read = 0  # the number of the last row that was read
         self.there = lines or 0  # how many are known to be there
@@ -190,13 +197,19 @@ class Feed:
             return
         self.is_asked = True
         network, after, most = self.network, self.read, self.there
-        self.asker.ask(lambda tables: (tables.history(), tables.rows_after(network, after, most)), self.take)
+        self.asker.ask(lambda tables: tables.read_after(network, after, most), self.take)
 
-    def take(self, given: tuple[str, tuple[int, list[bytes]]]) -> None:
+    def take(self, given: tuple[str, int, list[bytes]]) -> None:
         """Rows were read. Where there are fewer than were counted no more come, as the program will see."""
         self.is_asked = False
-        history, (last, pieces) = given
+        history, last, pieces = given
+        if self.is_over:
+            return
         self.histories.add(history)
+        if self.history is not None and history != self.history:
+            self.close()
+            self.spoilt()
+            return
         self.is_over = self.is_over or not pieces
         self.read = last
         self.pieces.extend(pieces)

@@ -81,6 +81,7 @@ class Fleet:
         self.heads: dict[str, Head] = {it.name: it for it in self.seen.heads}
         self.by_number: dict[int, Head] = {it.network: it for it in self.seen.heads}
         self.owned: dict[int, int] = {}  # networks, by their epochs, whose takings were acknowledged
+        self.histories: dict[int, str] = {}  # the pasts of the database that the takings are in
         self.known: dict[int, int] = {}  # how many lines of each were answered here: they can't become fewer
         self.feeds: dict[int, Feed] = {}  # of the networks that are followed
         self.loading: set[int] = set()  # those of them whose network files are being read
@@ -253,41 +254,41 @@ class Fleet:
             return
         self.taking |= {it.network for it in heads}
         wanted = [(it.network, it.epoch) for it in heads]
-        self.worker.ask(lambda members: members.take(wanted), lambda taken, why: self.took(heads, taken, why))
+        self.worker.ask(lambda members: (members.take(wanted), members.history()),
+                        lambda found, why: self.took(heads, found, why))
 
-    def took(self, heads: Sequence[Head], taken: dict[int, tuple[int, int]] | None, fault: Exception | None) -> None:
+    def took(self, heads: Sequence[Head], found: tuple[dict[int, tuple[int, int]], str] | None,
+             fault: Exception | None) -> None:
         """Has networks whose taking was acknowledged. Where nobody knows, the next look shows whether they were taken,
         and then they are taken anew."""
         self.taking -= {it.network for it in heads}
-        if fault:
+        if fault or not found:
             self.keeper.events.tell("database", why=" ".join(str(fault).split()))
+            return
+        taken, history = found
         for head in heads:
-            if taken and head.network in taken:
+            if head.network in taken:
                 epoch, lines = taken[head.network]
-                self.has(replace(head, epoch=epoch, lines=lines, server=self.seen.server))
+                self.has(replace(head, epoch=epoch, lines=lines, server=self.seen.server), history)
 
-    def has(self, head: Head) -> None:
-        """This server has a network."""
-        self.owned[head.network] = head.epoch
+    def has(self, head: Head, history: str) -> None:
+        """This server has a network, by a commit in a past of the database."""
+        self.owned[head.network], self.histories[head.network] = head.epoch, history
         self.heads[head.name] = self.by_number[head.network] = head
         self.keeper.counters.taken += 1
         self.keeper.events.tell("taken", network=head.name, epoch=head.epoch, lines=head.lines)
         session, feed = self.keeper.sessions.get(head.name), self.feeds.pop(head.network, None)
         if session and feed:
-            self.go_on_with(session, feed, opened_of(head))
-
-    def go_on_with(self, session: Session, feed: Feed, network: Opened) -> None:
-        """Goes on with a program that has followed, once it is known which past of the database this is."""
-        self.keeper.asker.ask(lambda tables: tables.history(),
-                              lambda history: self.take_over(session, feed, network, history))
+            self.take_over(session, feed, opened_of(head), history)
 
     def take_over(self, session: Session, feed: Feed, network: Opened, history: str) -> None:
         """Goes on with a program that has followed, if all that it was given is still there: it was read in the same
         past of the database, which the taking has behind it."""
-        if session.state != FOLLOWS or self.owned.get(network.number) != network.epoch:
+        if session.state != FOLLOWS:
             return
         if feed.histories <= {history} and feed.read <= network.lines:
             session.take_over(network)
+            feed.history = history  # of what is still being read too
             feed.more(network.lines, is_all=True)
         else:
             session.kill()
@@ -308,6 +309,14 @@ class Fleet:
         """It is halted, or another server has it, as is seen now."""
         self.taking.discard(network)
         self.beat()
+
+    def history_of(self, network: int) -> str | None:
+        """The past of the database that rows of a network must be of, since its taking is."""
+        return self.histories.get(network)
+
+    def spoil(self, session: Session) -> None:
+        """Rows of a network were read from another past of the database: its program ends, and it is taken anew."""
+        self.unknown(session, Stop("its rows were read from a database that isn't the one any more"))
 
     def unknown(self, session: Session, fault: Exception) -> None:
         """The network is taken anew, and its program ends with what it had ahead: the journal tells what was
@@ -368,7 +377,7 @@ class Fleet:
         self.loading.discard(head.network)
         if head.network in self.owned or session.state != RESTS or session.coming or self.is_leaving:
             return
-        feed = self.keeper.asker.rows(head.network, None, session.flush)
+        feed = self.keeper.asker.rows(head.network, None, session.flush, None, lambda: self.spoil(session))
         assert isinstance(feed, Feed)
         if self.keeper.follow(session, opened_of(head), file, feed):
             self.feeds[head.network] = feed

@@ -48,6 +48,12 @@ class Owning(Protocol):
     def lost(self, session: Session) -> None:
         """Another server has a network."""
 
+    def history_of(self, network: int) -> str | None:
+        """The past of the store that rows of a network must be of, if there may be several."""
+
+    def spoil(self, session: Session) -> None:
+        """Rows of a network were read from another past."""
+
     def give_up(self, network: int) -> None:
         """A network is about to be halted: nobody is taken to it meanwhile."""
 
@@ -119,6 +125,13 @@ class Sole:
     def lost(self, session: Session) -> None:
         """Another server has the journal, and so all networks."""
         self.keeper.fail(Fenced(LOST))
+
+    def history_of(self, network: int) -> str | None:
+        """A file has one."""
+        return None
+
+    def spoil(self, session: Session) -> None:
+        """That can't be."""
 
     def give_up(self, network: int) -> None:
         """It is halted at once."""

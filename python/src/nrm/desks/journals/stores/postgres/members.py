@@ -11,7 +11,7 @@ from typing import Sequence
 import psycopg
 
 from nrm.desks.journals.stores.kinds import Head, Member, Named, Replaced, Seen, Unknown
-from nrm.desks.journals.stores.postgres.tables import Link, NotReached
+from nrm.desks.journals.stores.postgres.tables import Link, NotReached, history_of
 
 LOCKS = 1_853_188_454  # the kind of the locks that servers hold: one that has lost its lock is dead, or cut off
 LEASE = 3.0  # seconds after which a server that isn't heard of has lost its networks
@@ -109,6 +109,10 @@ class Members:
             return {}
         except psycopg.OperationalError as fault:
             raise Unknown(self.takes.address.told(str(fault)))
+
+    def history(self) -> str:
+        """The past of the database that the last taking is in."""
+        return history_of(self.takes)
 
     def leave(self, owned: Sequence[tuple[int, int]]) -> None:
         """Gives networks up, each with its epoch, and is no more."""

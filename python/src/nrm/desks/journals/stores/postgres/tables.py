@@ -21,11 +21,13 @@ ROWS_AT_ONCE = 10_000  # that are read in one piece
 STALE = 5  # times that the version is asked for until it is another
 NAMED = re.compile(r"(?<!:):([a-z]+)")
 CANCELLED = re.compile("cancel+ing (the )?wait for synchronous replication")
-ROWS_AFTER = r"""
-SELECT string_agg(concat_ws(E'\t', number, desk, sequence, line, reply), E'\n' ORDER BY number), max(number)
+# what tells of rows that were read whether they may have been lost since: the line of the database's past, and the
+# start of its server. Rows that a primary alone had are lost with it, and another primary goes on without them
+HISTORY = "substr(pg_walfile_name(pg_current_wal_lsn()), 1, 8) || ' ' || pg_postmaster_start_time()"
+ROWS_AFTER = rf"""
+SELECT string_agg(concat_ws(E'\t', number, desk, sequence, line, reply), E'\n' ORDER BY number), max(number), {HISTORY}
 FROM (SELECT number, desk, sequence, line, reply FROM line WHERE network = %s AND number > %s AND number <= %s
       ORDER BY number LIMIT %s) AS read"""
-HISTORY = "SELECT substr(pg_walfile_name(pg_current_wal_lsn()), 1, 8) || ' ' || pg_postmaster_start_time()"
 MOST_LINES = 2**62
 
 
@@ -129,19 +131,17 @@ class Tables:
 
     def rows_after(self, network: int, number: int, most: int | None = None) -> tuple[int, list[bytes]]:
         """The next rows of a network behind the one of a number, in pieces, and the number of the last."""
+        return self.read_after(network, number, most)[1:]
+
+    def read_after(self, network: int, number: int, most: int | None = None) -> tuple[str, int, list[bytes]]:
+        """The same, and before it which past of the database they were read from."""
         values: Sequence[Any] = [network, number, MOST_LINES if most is None else most, ROWS_AT_ONCE]
-        [(text, last)] = self.link.ask(ROWS_AFTER, values).fetchall()
-        return (last, [*cut(text.encode() + b"\n")]) if text is not None else (number, [])
+        [(text, last, history)] = self.link.ask(ROWS_AFTER, values).fetchall()
+        return (history, last, [*cut(text.encode() + b"\n")]) if text is not None else (history, number, [])
 
     def has(self, table: str) -> bool:
         """Whether there is a table of a name."""
         return self.link.ask("SELECT to_regclass(%s) IS NOT NULL", [table]).fetchall() == [(True,)]
-
-    def history(self) -> str:
-        """The line of the database's past that this is, and the start of the server: rows that a primary alone had are
-        lost with it, and another primary goes on without them."""
-        [(history,)] = self.link.ask(HISTORY).fetchall()
-        return str(history)
 
     def version(self) -> int:
         """A number that is another one each few times that it is asked for, since the database tells of no change."""
@@ -151,6 +151,12 @@ class Tables:
     def close(self) -> None:
         """Ends the connection."""
         self.link.close()
+
+
+def history_of(link: Link) -> str:
+    """Which past of the database this is."""
+    [(history,)] = link.ask(f"SELECT {HISTORY}").fetchall()
+    return str(history)
 
 
 def cut(rows: bytes) -> Iterator[bytes]:
