@@ -1,6 +1,6 @@
 """A run from beginning to end: one thread follows the journal, one takes connections, and a signal ends all.
 
-May use: nrm.desks.journals.tables, nrm.desks.notify, nrm.web.routes, nrm.web.serving.
+May use: nrm.desks.journals.stores.choosing, nrm.desks.notify, nrm.web.routes, nrm.web.serving.
 """
 from __future__ import annotations
 
@@ -9,7 +9,7 @@ import sys
 import threading
 import time
 
-from nrm.desks.journals.tables import using
+from nrm.desks.journals.stores.choosing import using
 from nrm.desks.notify import Manager
 from nrm.web.routes import Settings, Web
 from nrm.web.serving import Listening, Site

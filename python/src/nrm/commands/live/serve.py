@@ -2,13 +2,14 @@
 
     nrm-tools serve JOURNAL [--socket PATH] [--listen HOST:PORT] [OPTION...]
 
-JOURNAL is what `nrm-tools journal` begins and puts networks into. Clients are taken on the Unix socket PATH, whose
-rights are 0600, or those of --mode, and on HOST:PORT, which must be of this machine's loopback range unless
---beyond-this-machine is given: anyone who can reach it can book. For each network an `nrm_desks` is begun at its first
-client, is given the lines of the journal again, and ends when nobody was there for as long as --linger says. What a
-client sends goes to that program as it comes; what the program gives out to be kept is written into the journal, for
-all networks that wait by one commit; and then the program sends its replies. Where there are several networks the first
-line of a client names one, `desk NETWORK NAME` or `desk NETWORK NAME SEQUENCE`; where there is one it may.
+JOURNAL is what `nrm-tools journal` begins and puts networks into: a file, or a URI of PostgreSQL as below. Clients are
+taken on the Unix socket PATH, whose rights are 0600, or those of --mode, and on HOST:PORT, which must be of this
+machine's loopback range unless --beyond-this-machine is given: anyone who can reach it can book. For each network an
+`nrm_desks` is begun at its first client, is given the lines of the journal again, and ends when nobody was there for as
+long as --linger says. What a client sends goes to that program as it comes; what the program gives out to be kept is
+written into the journal, for all networks that wait by one commit; and then the program sends its replies. Where there
+are several networks the first line of a client names one, `desk NETWORK NAME` or `desk NETWORK NAME SEQUENCE`; where
+there is one it may.
 
 With --desks a file says which desks may come, by which token, and what each may do: `nrm-tools token` writes it. A
 client's first line `token TOKEN` is answered `token NAME`, or `closed token`; on HOST:PORT it must come, and on PATH it
@@ -23,6 +24,13 @@ A network is halted, and the others go on, if the program doesn't answer as the 
 take a row: `nrm-tools journal look JOURNAL` tells why. One that began with another program isn't answered, and the log
 tells both checksums; --program names the program, and has it answer for networks without lines, and for those
 that have ended. A second server at the same journal is refused while the first lives.
+
+Where JOURNAL is postgresql://HOST:PORT[,HOST:PORT...]/DATABASE several servers share its networks. Each takes some, by
+their names and its own, which --name says; what one had that is lost others go on with. A client asks any of them: it
+is passed on to the one that has its network, or with --send-on is told `closed moved HOST:PORT`, which is --listen
+there, or --address. --followers says of how many networks a server follows the lines that others write, so that it
+could go on at once. Without --alone none serves a database that waits for no other machine. SIGTERM has others take its
+networks first. `closed wait` says that nobody has a network at the moment.
 
 A client that is cut off gets one line, `closed WHY`, after the replies to those of its lines that were taken: `closed
 clients` if there are as many as may be, `closed network` if it names none that the journal has, `closed halted`,
@@ -45,8 +53,9 @@ from __future__ import annotations
 from typing import Sequence
 
 from nrm.commands.running import parser
-from nrm.commands.serve_words import (add_clock, add_guard, add_limits, add_log, add_places, guard_in, limits_in,
-                                      places_in)
+from nrm.commands.serve_words import (add_clock, add_guard, add_limits, add_log, add_places, add_sharing, guard_in,
+                                      limits_in, places_in, sharing_in)
+from nrm.desks.journals.stores.choosing import store_of
 from nrm.desks.relay.hall import Answering
 from nrm.desks.relay.serving import Server
 from nrm.desks.relay.telling.events import Log
@@ -62,9 +71,12 @@ def run(given: Sequence[str]) -> int:
     add_limits(words)
     add_clock(words)
     add_log(words)
+    add_sharing(words)
     asked = words.parse_args(given)
     places, guard, limits = places_in(words, asked), guard_in(words, asked), limits_in(words, asked)
     log = Log(asked.log, asked.log_level)
+    store = store_of(asked.journal)
+    sharing = sharing_in(words, asked, store.is_shared)
     program = Program.found(asked.program, "nrm_desks")
     answering = Answering(program, program.checksum(), bool(asked.program))
-    return Server(asked.journal, answering, places, limits, guard, asked.every, log).run()
+    return Server(store, answering, places, limits, guard, asked.every, log, sharing).run()

@@ -96,17 +96,18 @@ FORMS = {
         "a second server wasn't refused"),
     "a look is answered by who has lost the journal": Form((
         (f"{DESKS}/relay/hall.py",
-         "if not rows and head_of(self.reader, session.network.number) == (self.writer.epoch, session.lines):",
+         "if not rows and self.writer.is_still(network.number, network.epoch, session.lines):",
          "if not rows:"),), "asleep", UNTRUE),
     "who has lost the journal halts a network": Form((
-        (f"{DESKS}/relay/hall.py", "        if head_of(self.reader, session.network.number)[0] != self.writer.epoch:\n",
-         "        if False:\n"),), f"{OF_MOMENTS}.test_one_that_reads_while_another_writes_halts_nothing",
+        (f"{DESKS}/relay/hall.py", "            if head_of(tables, number)[0] != epoch:\n",
+         "            if False:\n"),), f"{OF_MOMENTS}.test_one_that_reads_while_another_writes_halts_nothing",
         "AssertionError: .*halted"),
     "sent again is carried out again": Form((
-        (f"{DESKS}/journals/networks.py", "number || char(9) || desk || char(9) || sequence || char(9)",
+        (f"{DESKS}/journals/tables.py", "number || char(9) || desk || char(9) || sequence || char(9)",
          "number || char(9) || 'AGAIN' || char(9) || number || char(9)"),), "server", TWICE),
     "the journal isn't given again": Form((
-        (f"{DESKS}/relay/hall.py", "rows_of(self.reader, network.number))", "iter(()))"),
+        (f"{DESKS}/relay/hall.py", "        self.run_program(session, file, rows, BEGINS)\n",
+         "        self.run_program(session, file, iter(()), BEGINS)\n"),
         (f"{DESKS}/relay/sessions.py", "        if rows != self.lines:\n", "        if False:\n")), "server",
         r"halted: .* was given out|closed halted"),
     "replies aren't compared when the journal is given again": Form((), "changed", NOT_HALTED, BLIND),
@@ -120,7 +121,7 @@ FORMS = {
         (f"{DESKS}/relay/hall.py", "return network.program == self.answering.checksum or is_free",
          "return True or is_free"),), "version", r"another version of the program has written|closed halted|halted: "),
     "rows are given again in the order of their times": Form((
-        (f"{DESKS}/journals/networks.py", "ORDER BY number LIMIT ?", "ORDER BY at, number LIMIT ?"),), "clock",
+        (f"{DESKS}/journals/tables.py", "ORDER BY number LIMIT ?", "ORDER BY at, number LIMIT ?"),), "clock",
         "closed halted|halted: "),
     "a plan that was made isn't looked for in the journal": Form((
         (f"{DESKS}/journals/times/standing.py", "planned or 1, last_at", "1, last_at"),), "server",
@@ -165,8 +166,7 @@ FORMS = {
         ("nrm/commands/live/journal.py", "    text = bytes_in(file)\n", "    text = bytes_in(file).rstrip()\n"),),
         f"{OF_JOURNALS}.test_a_network_is_put_into_it_byte_for_byte", r"00,AB', .* != .*00,AB\\n',"),
     "the program is looked at only when the server begins": Form((
-        (f"{DESKS}/relay/hall.py", "if (now := self.answering.checksum_now()) != self.answering.checksum:\n",
-         "if not (now := self.answering.checksum_now()):\n"),),
+        (f"{DESKS}/relay/hall.py", "        return now == self.answering.checksum\n", "        return True\n"),),
         f"{OF_PROMISES}.test_another_program_in_its_place_answers_nothing", "!= b'closed version"),
     "what the log has isn't written anew": Form((
         (f"{DESKS}/journals/writing.py", """self.connection.execute("PRAGMA wal_checkpoint(TRUNCATE)").fetchone()
@@ -175,7 +175,7 @@ FORMS = {
         (f"{DESKS}/relay/sessions.py", 'elif kind in (b"differs", b"no"):', 'elif kind == b"differs":'),),
         f"{OF_PROMISES}.test_a_row_that_repeats_a_number_halts_a_network", "closed program 11.* != b'closed halted"),
     "why a network is halted isn't written": Form((
-        (f"{DESKS}/relay/hall.py", "        halt(self.path, session.network.number, told)\n", ""),),
+        (f"{DESKS}/relay/hall.py", "            self.store.halt(number, epoch, told)\n", ""),),
         f"{OF_SERVING}.test_a_changed_journal_halts_its_network_and_no_other", "closed program .* != b'closed halted"),
     "a network stays halted whatever a person says": Form((
         (f"{DESKS}/relay/hall.py", """            session.network = network

@@ -28,6 +28,8 @@ class Counters:
     failed       commits that didn't write all that they were to
     times        commits by the first bound that they didn't exceed, and at the end those beyond the last
     begun        programs, and those that have ended
+    passed       clients that were passed on to other servers
+    taken        networks, and those that were lost to other servers
     jumps        of the machine's clock
     """
     came: int = 0
@@ -44,6 +46,9 @@ class Counters:
     times: List[int] = field(default_factory=lambda: [0] * (len(BOUNDS) + 1))
     begun: int = 0
     ended: int = 0
+    passed: int = 0
+    taken: int = 0
+    lost: int = 0
     jumps: int = 0
 
     def commit(self, seconds: float, rows: int, is_whole: bool) -> None:
