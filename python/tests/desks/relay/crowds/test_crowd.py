@@ -5,8 +5,9 @@ import os
 import unittest
 
 from desks.relay.crowds.crowd import judged
-from desks.relay.crowds.wrong_forms import FORMS, found_in
+from desks.relay.crowds.wrong_forms import FORMS
 from desks.relay.serves import ServeTest
+from trials.mistakes import found_in
 
 IS_LONG = bool(os.environ.get("NRM_LONG"))
 CALM = ("--kills", 0, "--troubles", 0, "--pause", 0.02)
@@ -27,7 +28,7 @@ class Crowds(ServeTest):
     @unittest.skipUnless(IS_LONG, "mistakes that the crowd must find take some minutes: NRM_LONG=1")
     def test_mistakes_are_found(self) -> None:
         self.assertTrue(self.program and self.desks_program)
-        for name in FORMS:
+        for name, form in FORMS.items():
             with self.subTest(name):
-                is_found, why = found_in(name, self.folder)
+                is_found, why = found_in(form, self.folder)
                 self.assertTrue(is_found, why)
