@@ -67,8 +67,8 @@ def rows_by_network(journal: Journal) -> dict[str, list[Row]]:
 def faults_of(journal: Journal, cases: Sequence[Case], heard: Sequence[Heard], program: Program) -> list[str]:
     """What doesn't hold of a journal."""
     rows = rows_by_network(journal)
-    heads = dict(journal("SELECT name, lines FROM head JOIN network USING (network)"))  # type: ignore[arg-type]
-    files = dict(journal("SELECT name, file FROM network"))  # type: ignore[arg-type]
+    heads = {name: lines for name, lines in journal("SELECT name, lines FROM head JOIN network USING (network)")}
+    files = {name: file for name, file in journal("SELECT name, file FROM network")}
     faults = [f"halted: {it}" for it in journal("SELECT name, halted FROM network WHERE halted IS NOT NULL")]
     for case in cases:
         if files[case.name] != case.path.read_bytes():
