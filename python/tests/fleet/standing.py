@@ -15,7 +15,7 @@ import unittest
 from pathlib import Path
 from typing import Any, Iterable, Iterator, Sequence
 
-import databases  # of the folder tests at the top
+from databases import WANTING, Databases, is_there  # of the folder tests at the top
 from desks.relay.serves import PATIENT, Serve
 from harness import SOURCES, PlaceTest, needs, program, wait_for
 from nrm.program import Program
@@ -190,12 +190,13 @@ def heard(connection: socket.socket, count: int) -> bytes:
     return told
 
 
-@unittest.skipUnless(databases.is_there(), databases.WANTING)
+@unittest.skipUnless(is_there(), WANTING)
 @needs("psycopg")
 class FleetTest(PlaceTest):
     """Tests whose database servers are made once, and anew where a test has left them otherwise."""
     place: tempfile.TemporaryDirectory[str]
-    databases: databases.Databases
+    databases: Databases
+    addresses: tuple[str, ...] = (LOOPBACK,)
     runs = itertools.count(1)
 
     @classmethod
@@ -203,14 +204,21 @@ class FleetTest(PlaceTest):
         cls.place = tempfile.TemporaryDirectory()
         cls.addClassCleanup(cls.place.cleanup)
         os.chmod(cls.place.name, 0o755)
-        cls.databases = made_databases(Path(cls.place.name))
+        cls.databases = cls.made_databases()
         cls.addClassCleanup(lambda: cls.databases.end())
 
     def setUp(self) -> None:
         super().setUp()
         if not self.databases.is_whole():
             self.databases.end()
-            type(self).databases = made_databases(Path(self.place.name))
+            type(self).databases = self.made_databases()
+
+    @classmethod
+    def made_databases(cls) -> Databases:
+        """Three database servers, which follow each other."""
+        made = Databases(Path(cls.place.name) / f"databases-{time.monotonic_ns()}")
+        made.make(free_ports(3), cls.addresses)
+        return made
 
     def fleet(self, mode: str = "first", file: str = "", count: int = 3) -> Fleet:
         """A journal with one network in a database of its own, without a server."""
@@ -228,10 +236,3 @@ class FleetTest(PlaceTest):
     def until(self, fleet: Fleet, query: str, seconds: float = PATIENT) -> None:
         """Waits until a query gives a row."""
         wait_for(lambda: fleet.rows(query), f"a row by {query!r}", seconds)
-
-
-def made_databases(folder: Path) -> databases.Databases:
-    """Three database servers, which follow each other."""
-    made = databases.Databases(folder / f"databases-{time.monotonic_ns()}")
-    made.make(free_ports(3))
-    return made
