@@ -138,21 +138,20 @@ def processor_time(process):
     return sum(int((it / "schedstat").read_text().split()[0]) for it in tasks) / 1e9
 
 
-def asked(path, process, greetings, ahead, lines):
-    """The seconds in which clients ask all lines, how long each took, in order, and how long the server was at work."""
+def asked(made, processes, greetings, ahead, lines):
+    """The seconds in which clients ask all lines, how long each took, in order, and how long servers were at work."""
     count = len(greetings)
-    made = connected(path, count)
     clients = [Client(it, greeting, lines[at::count], ahead) for at, (it, greeting) in enumerate(zip(made, greetings))]
     by_file, poll, took, answered = {it.socket.fileno(): it for it in clients}, select.epoll(), [], 0
     for file in by_file:
         poll.register(file, select.EPOLLIN)
-    worked, begun = processor_time(process), time.perf_counter()
+    worked, begun = sum(map(processor_time, processes)), time.perf_counter()
     for it in clients:
         it.ask(begun)
     while answered < len(lines):
         for file, _ in waited_for(poll):
             answered += by_file[file].hear(took)
-    seconds, worked = time.perf_counter() - begun, processor_time(process) - worked
+    seconds, worked = time.perf_counter() - begun, sum(map(processor_time, processes)) - worked
     for it in made:
         it.close()
     return seconds, sorted(took), worked
@@ -218,7 +217,7 @@ def measured(ways, crowd, lines, program, network, folder, rounds):
             with served(way.begin(program, network), folder) as (path, process):
                 warmed(path, way)
                 greetings = [way.greeting(at) for at in range(clients)]
-                seconds, took, worked = asked(path, process, greetings, ahead, lines[:count])
+                seconds, took, worked = asked(connected(path, clients), [process], greetings, ahead, lines[:count])
             one = seconds, took, way.bytes() / count
             found[way.name] = min(found.get(way.name, one), one, key=lambda it: it[0])
             works[way.name] = min(works.get(way.name, math.inf), worked)
@@ -236,7 +235,7 @@ def tell(found, crowd):
 def tell_of_a_start(way, lines, program, network, folder):
     """How long the first reply takes behind many lines, and how long `ask` takes beside `book`."""
     with served(way.begin(program, network), folder) as (path, process):
-        asked(path, process, [way.greeting(0)], AHEAD, lines)
+        asked(connected(path, 1), [process], [way.greeting(0)], AHEAD, lines)
     with served(way.words(program), folder) as (path, process):
         begun = time.perf_counter()
         [made] = connected(path, 1)
@@ -246,10 +245,11 @@ def tell_of_a_start(way, lines, program, network, folder):
         products = sorted({it.split()[1] for it in lines[:2_000] if it.startswith(b"book ")})
         asks = [b"ask %s\n" % random.Random(at).choice(products) for at in range(500)]
         for name, some in (("ask", asks), ("book", lines[:500])):
-            seconds, took, _ = asked(path, process, [way.greeting(1)], 1, some)
+            seconds, took, _ = asked(connected(path, 1), [process], [way.greeting(1)], 1, some)
             print(f"{name}: half within {took[len(took) // 2] * 1e3:.2f} ms, each {seconds / len(some) * 1e3:.2f} ms")
-        seconds, *_ = asked(path, process, [way.greeting(1)], 90, [b"ask %s\n" % it for it in products[:90]])
-        print(f"ask of {len(products[:90])} products at once: {seconds * 1e3:.1f} ms")
+        lines = [b"ask %s\n" % it for it in products[:90]]
+        seconds, *_ = asked(connected(path, 1), [process], [way.greeting(1)], 90, lines)
+        print(f"ask of {len(lines)} products at once: {seconds * 1e3:.1f} ms")
 
 
 def main():

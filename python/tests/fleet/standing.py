@@ -165,7 +165,9 @@ def asked(servers: Iterable[Server], lines: bytes, count: int, name: str = "D1",
     deadline, greeting = time.monotonic() + seconds, f"desk net {name} {sequence}\n".encode()
     for it in itertools.cycle([*servers]):
         told = replies_by(it, greeting + lines, count + 1).splitlines()
-        if len(told) > count or told and told[-1].startswith(b"closed ") and told[-1].split()[1] not in PASSES:
+        if told and told[-1].startswith(b"closed ") and told[-1].split()[1] not in PASSES:
+            return told[-1:]
+        if len(told) > count:
             return told[1:]
         if time.monotonic() > deadline:
             raise AssertionError(f"{lines!r} has no reply: {told!r}")

@@ -32,7 +32,7 @@ class Desks(FleetTest):
         for sent, wanted, what in (
                 (b"desk net D1 6\nbook LOC 1\nask LOC\n", b"at 6\nok 2\nask LOC 298 leg AB\n", "again"),
                 (b"desk net D1 6\nbook LOC 3\n", b"at 6\nclosed sequence\n", "another line under a number"),
-                (b"desk net D1 3\nbook LOC 1\n", b"at 3\nclosed sequence\n", "a number that was passed over"),
+                (b"desk net D1 3\nbook LOC 1\n", b"at 3\nclosed old\n", "a number before the first that is held"),
                 (b"desk net D1\n", b"at 7\n", "the next number"),
                 (b"desk none D1\n", b"closed network\n", "a network that isn't there")):
             self.assertEqual(silent(one, sent, 2), wanted, what)
