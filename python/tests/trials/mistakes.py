@@ -14,7 +14,31 @@ from typing import Mapping, Sequence, Tuple
 from harness import TOP, program
 
 Edit = Tuple[str, str, str]  # the file, and a text in it with what stands in its place
-ENDS = ("FAULT", "FAIL", "ERROR")  # how a line begins, or an error's name ends, that tells what was found
+LOST, TWICE = r"was told '.*' to '.*', and the journal has", r"line \d+: D\d+ \d+ after \d+"
+TOLD = ("FAULT", "FAIL", "ERROR")  # how a line begins that tells what was found
+BLIND = '''#!{python}
+"""In place of the program: it is given, with each row of the journal, the reply that it will make itself."""
+import os, subprocess, sys
+
+mode, path = sys.argv[1:]
+given, rows = sys.stdin.buffer, []
+while size := int(given.readline().split()[1]):
+    rows += given.read(size).splitlines()
+rows = [it.split(b"\\t") for it in rows]
+told = subprocess.run([*{nrm}, "run", mode, path], input=b"".join(it[3] + b"\\n" for it in rows), close_fds=False,
+                      stdout=subprocess.PIPE).stdout.splitlines()
+program = subprocess.Popen([*{desks}, mode, path], stdin=subprocess.PIPE, close_fds=False)
+for row, reply in zip(rows, told):
+    text = b"\\t".join([*row[:4], reply]) + b"\\n"
+    program.stdin.write(b"again %d\\n" % len(text) + text)
+program.stdin.write(b"again 0\\n")
+program.stdin.flush()
+while piece := given.read1():
+    program.stdin.write(piece)
+    program.stdin.flush()
+program.stdin.close()
+sys.exit(program.wait())
+'''
 
 
 @dataclass(frozen=True)
@@ -27,19 +51,28 @@ class Form:
     program: str = ""
 
 
+def place_of(file: str) -> Path:
+    """Where a file is below the top, which is named from there, or within the package."""
+    return Path(file if file.startswith("tests/") else f"python/src/{file}")
+
+
+def not_there(form: Form) -> list[str]:
+    """The edits of a form that aren't one of exactly one place: then the code has moved away from it."""
+    counts = [(file, (TOP / place_of(file)).read_text().count(old), old) for file, old, _ in form.edits]
+    return [f"{file} has {count} times {old!r}" for file, count, old in counts if count != 1]
+
+
 def edited(form: Form, folder: Path) -> Path:
-    """A copy of the package and its tests with a mistake; gives the folder of the tests. A file is named from the top,
-    or within the package."""
+    """A copy of the package and its tests with a mistake; gives the folder of the tests."""
+    if found := not_there(form):
+        raise SystemExit(found[0])
     shutil.rmtree(folder, ignore_errors=True)
     for name in ("python", "tests"):
         shutil.copytree(TOP / name, folder / name, ignore=shutil.ignore_patterns("__pycache__", ".mypy_cache"))
     (folder / "examples").symlink_to(TOP / "examples")
     for file, old, new in form.edits:
-        path = folder / file if file.startswith(("tests/", "python/")) else folder / "python" / "src" / file
-        text = path.read_text()
-        if text.count(old) != 1:
-            raise SystemExit(f"{file} has {text.count(old)} times {old!r}")
-        path.write_text(text.replace(old, new))
+        path = folder / place_of(file)
+        path.write_text(path.read_text().replace(old, new))
     return folder / "python" / "tests"
 
 
@@ -57,7 +90,7 @@ def found_in(form: Form, folder: Path) -> tuple[bool, str]:
     done = subprocess.run([sys.executable, "-m", *words], cwd=tests, env={**os.environ, **variables},
                           capture_output=True, text=True)
     lines = (done.stdout + done.stderr).splitlines()
-    faults = [it for it in lines if it.startswith(ENDS) or "Error" in it]
+    faults = [it for it in lines if it.startswith(TOLD) or "Error" in it]
     meant = [it for it in faults if re.search(form.told, it)]
     return bool(meant and done.returncode), (meant or faults or lines or ["nothing was told"])[0]
 

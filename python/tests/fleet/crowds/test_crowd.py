@@ -8,7 +8,7 @@ import databases  # of the folder tests at the top
 from fleet.crowds.crowd import judged
 from fleet.crowds.wrong_forms import FORMS
 from harness import PlaceTest, needs
-from trials.mistakes import found_in
+from trials.mistakes import found_in, not_there
 
 IS_LONG = bool(os.environ.get("NRM_LONG"))
 A_MINUTE = ("--networks", 8, "--desks", 80, "--kills", 6, "--stops", 2, "--failovers", 2)
@@ -22,6 +22,11 @@ class Crowds(PlaceTest):
         self.assertTrue(self.program and self.desks_program)
         os.chmod(self.folder, 0o755)
         self.assertEqual(judged(self.folder / "crowd", *(() if IS_LONG else A_MINUTE)), [])
+
+    def test_each_mistake_is_one_of_the_code(self) -> None:
+        self.assertEqual(len(FORMS), 10)
+        for name, form in FORMS.items():
+            self.assertEqual(not_there(form), [], name)
 
     @unittest.skipUnless(IS_LONG, "mistakes that the trial of a fleet must find take some minutes: NRM_LONG=1")
     def test_mistakes_are_found(self) -> None:

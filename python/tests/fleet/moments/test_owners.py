@@ -7,7 +7,7 @@ import signal
 import time
 from pathlib import Path
 
-from fleet.standing import COUNT, LEASE, OWNER, FleetTest, asked, change, heard, holding, silent
+from fleet.standing import COUNT, LEASE, FleetTest, asked, change, heard, holding, silent
 from nrm.program import Program
 
 CHANGED = ("ALTER TABLE line DISABLE TRIGGER USER", "UPDATE line SET reply = 'ok 9' WHERE number = 3",
@@ -65,14 +65,17 @@ class Owners(FleetTest):
 
     def test_another_program_takes_nothing(self) -> None:
         fleet = self.fleet()
+        first = fleet.start(2)
+        self.assertEqual(asked([first], b"book LOC 1\n", 1), [b"ok 1"])
+        first.kill()
         path = Path(self.file("other", OTHER.format(words=" ".join(fleet.answering.words))))
         os.chmod(path, 0o755)
         other = fleet.start(0, answering=Program((str(path),)))
         deadline = time.monotonic() + 3 * LEASE
         while time.monotonic() < deadline:
-            told = silent(other, b"desk net D1 1\nbook LOC 1\n", 1)
+            told = silent(other, b"desk net D1 2\nbook LOC 1\n", 1)
             self.assertTrue(told.startswith(b"closed "), f"another program answers: {told!r}")
-        self.assertEqual((fleet.rows(OWNER), fleet.value(COUNT)), ([], 0))
+        self.assertEqual((fleet.owner().name, fleet.value(COUNT)), (first.name, 1))
         right = fleet.start(1)
-        self.assertEqual(asked([other, right], b"book LOC 1\n", 1), [b"ok 1"])
+        self.assertEqual(asked([other, right], b"book LOC 1\n", 1, sequence=2), [b"ok 2"])
         self.assertEqual(fleet.owner().name, right.name)

@@ -7,7 +7,7 @@ import unittest
 from desks.relay.crowds.crowd import judged
 from desks.relay.crowds.wrong_forms import FORMS
 from desks.relay.serves import ServeTest
-from trials.mistakes import found_in
+from trials.mistakes import found_in, not_there
 
 IS_LONG = bool(os.environ.get("NRM_LONG"))
 CALM = ("--kills", 0, "--troubles", 0, "--pause", 0.02)
@@ -24,6 +24,10 @@ class Crowds(ServeTest):
 
     def test_copies_under_load_are_whole(self) -> None:
         self.judged(*CALM, "--copies", 100 if IS_LONG else 5, "--between", 0.1)
+
+    def test_each_mistake_is_one_of_the_code(self) -> None:
+        for name, form in FORMS.items():
+            self.assertEqual(not_there(form), [], name)
 
     @unittest.skipUnless(IS_LONG, "mistakes that the crowd must find take some minutes: NRM_LONG=1")
     def test_mistakes_are_found(self) -> None:

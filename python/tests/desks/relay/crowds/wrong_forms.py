@@ -7,38 +7,12 @@ from __future__ import annotations
 
 import sys
 
-from trials.mistakes import Form, main
+from trials.mistakes import BLIND, LOST, TWICE, Form, main
 
 DESKS = "nrm/desks"
 SMALL = ("--networks", "3", "--desks", "30", "--pause", "0.3", "--copies", "0", "--kills", "4", "--troubles", "4")
-LOST, TWICE = r"was told '.*' to '.*', and the journal has", r"line \d+: D\d+ \d+ after \d+"
 UNTRUE = r"was told '(leg|ask) .*', true of no moment"
 NOT_HALTED = r"where the journal of net-\d was changed net-\d isn't 'closed halted'"
-BLIND = '''#!{python}
-"""In place of the program: it is given, with each row of the journal, the reply that it will make itself."""
-import os, subprocess, sys
-
-mode, path = sys.argv[1:]
-given, rows = sys.stdin.buffer, []
-while size := int(given.readline().split()[1]):
-    rows += given.read(size).splitlines()
-rows = [it.split(b"\\t") for it in rows]
-told = subprocess.run([*{nrm}, "run", mode, path], input=b"".join(it[3] + b"\\n" for it in rows), close_fds=False,
-                      stdout=subprocess.PIPE).stdout.splitlines()
-program = subprocess.Popen([*{desks}, mode, path], stdin=subprocess.PIPE, close_fds=False)
-for row, reply in zip(rows, told):
-    text = b"\\t".join([*row[:4], reply]) + b"\\n"
-    program.stdin.write(b"again %d\\n" % len(text) + text)
-program.stdin.write(b"again 0\\n")
-program.stdin.flush()
-while piece := given.read1():
-    program.stdin.write(piece)
-    program.stdin.flush()
-program.stdin.close()
-sys.exit(program.wait())
-'''
-
-
 def crowd(only: str, *more: str) -> tuple[str, ...]:
     """The words of a small crowd with troubles of some kinds."""
     return "desks.relay.crowds.crowd", "{folder}", *SMALL, "--only", only, *more
