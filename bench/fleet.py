@@ -1,13 +1,14 @@
 #!/usr/bin/env python3
 """How many lines a second go through a fleet, how long one takes, and how long nobody answers when a server is lost.
 
-    PYTHONPATH=python/src:tests bench/fleet.py [PROGRAM] [--desks PATH] [--disk FOLDER] [--servers N] [--rounds N]
-        [--seconds N] [--parts PART,PART..] [--lines N,N..] [--many N] [--short]
+    bench/fleet.py [PROGRAM] [--desks PATH] [--disk FOLDER] [--servers N] [--rounds N] [--seconds N]
+        [--parts PART,PART..] [--lines N,N..] [--many N] [--short]
 
-PROGRAM is `nrm`, and --desks names `nrm_desks`; else they are those that the sources are built into. Three database
-servers and those of `nrm-tools serve`, 3 of them if --servers says no other number, are all on this machine, with their
-data on the disk of FOLDER, by default the current one. It needs Debian's `postgresql` and `python3-psycopg`, and
-Debian's own Python. The parts, all of them if none is named:
+The folders python/src and tests of a checkout must be on PYTHONPATH. PROGRAM is `nrm`, and --desks names `nrm_desks`;
+else they are those that the sources are built into. Three database servers and those of `nrm-tools serve`, 3 of them if
+--servers says no other number, are all on this machine, with their data on the disk of FOLDER, by default the current
+one. It needs Debian's `postgresql` and `python3-psycopg`, and Debian's own Python. The parts, all of them if none is
+named:
 
     pgbench   clients that each put one row a commit into a table of these servers, 1, 10, 100 and 200 of them
     crowds    clients that each wait for a reply, as many, at one network and at 20, and 1 that sends 100 lines ahead
@@ -30,13 +31,16 @@ import tempfile
 import time
 from pathlib import Path
 
-import databases  # of the folder tests at the top
 import networks
 from nrm import Stop
 from nrm.program import Program
 from running import built, end, words_of
 from serve import AHEAD, TOOLS, Client, asked, lines_of, processor_time
 
+try:
+    import databases  # of the folder tests at the top
+except ImportError:
+    databases = None
 CROWDS = [(1, 1, 1, 1_000), (10, 1, 1, 10_000), (100, 1, 1, 40_000), (200, 1, 1, 60_000), (10, 1, 20, 5_000),
           (100, 1, 20, 20_000), (200, 1, 20, 40_000), (1, AHEAD, 1, 40_000), (20, AHEAD, 20, 100_000)]
 WRITERS = (1, 10, 100, 200)
@@ -286,6 +290,8 @@ def main():
                      seconds={"type": int, "default": 10, "metavar": "N"}, short={"action": "store_true"},
                      parts={"default": PARTS, "metavar": "PART,PART.."}, lines={"default": LENGTHS, "metavar": "N,N.."},
                      many={"type": int, "default": 1000, "metavar": "N"})
+    if not databases:
+        raise Stop("the folder tests of a checkout isn't on PYTHONPATH")
     unknown = set(given.parts.split(",")) - set(PARTS.split(","))
     if unknown:
         raise Stop(f"there is no part {sorted(unknown)[0]}")
