@@ -2,14 +2,14 @@
 for and checked there, beside the replies that the journal has; with who asked for the line, when, and which programs
 had a part.
 
-May use: nrm, nrm.accounts.asking, nrm.desks.journals.answered, nrm.desks.journals.networks, nrm.desks.journals.tables,
+May use: nrm, nrm.accounts.asking, nrm.desks.journals.answered, nrm.desks.journals.networks, nrm.desks.journals.stores.choosing,
+nrm.desks.journals.stores.kinds,
 nrm.program.
 """
 from __future__ import annotations
 
 import hashlib
 import shutil
-import sqlite3
 import tempfile
 from dataclasses import dataclass
 from pathlib import Path
@@ -19,7 +19,8 @@ from nrm import Stop
 from nrm.accounts.asking import Asked, Why
 from nrm.desks.journals.answered import Line, ended_at, given_back_by, lay, line_in, sold_by
 from nrm.desks.journals.networks import Opened, file_of, known
-from nrm.desks.journals.tables import NoJournal, using
+from nrm.desks.journals.stores.choosing import using
+from nrm.desks.journals.stores.kinds import NoJournal, Tables
 from nrm.program import Program, is_program
 
 ANSWERS = "nrm_desks"  # the program whose checksum a journal has
@@ -75,14 +76,14 @@ class AskedOfJournal:
             raise Stop(f"{why}; three words are JOURNAL NETWORK NUMBER, and a line of a plain stream has four, NETWORK "
                        "MODE STREAM NUMBER")
 
-    def line_number(self, connection: sqlite3.Connection, network: Opened) -> int:
+    def line_number(self, connection: Tables, network: Opened) -> int:
         """The number of the line that is asked for."""
         if self.number is not None:
             return self.number
         assert self.booking is not None
         return sold_by(connection, network, self.booking)
 
-    def answered(self, connection: sqlite3.Connection, network: Opened, line: Line, folder: Path, words: Sequence[str],
+    def answered(self, connection: Tables, network: Opened, line: Line, folder: Path, words: Sequence[str],
                  program: Program) -> tuple[Kept, Why]:
         """The account of a line, made in a folder."""
         file, stream, replies = (folder / it for it in ("network.csv", "stream", "replies"))
@@ -99,7 +100,7 @@ class AskedOfJournal:
                     cancelled_by(connection, network, line), programs), why
 
 
-def cancelled_by(connection: sqlite3.Connection, network: Opened, line: Line) -> Line | None:
+def cancelled_by(connection: Tables, network: Opened, line: Line) -> Line | None:
     """The line that cancelled the booking which a line sold, or before it the one which it wanted to cancel."""
     is_too_late = line.reply == "unknown"
     booking = numbered(line.line, "cancel ") if is_too_late else numbered(line.reply, "ok ")

@@ -2,7 +2,7 @@
 plans are made, and what is told.
 
 May use: nrm, nrm.desks.desk, nrm.desks.places, nrm.desks.relay.clients, nrm.desks.relay.doors.guards,
-nrm.desks.relay.telling.events, nrm.program.
+nrm.desks.relay.fleet.fleet, nrm.desks.relay.telling.events, nrm.program.
 """
 from __future__ import annotations
 
@@ -14,6 +14,7 @@ from nrm.desks.desk import TOKEN
 from nrm.desks.places import OWN_RIGHTS, Places
 from nrm.desks.relay.clients import Limits
 from nrm.desks.relay.doors.guards import Guard
+from nrm.desks.relay.fleet.fleet import Sharing
 from nrm.desks.relay.telling.events import FORMS, LEVELS, Log
 from nrm.program import PIECE
 
@@ -26,6 +27,18 @@ def count(text: str) -> int:
     if not re.fullmatch("[1-9][0-9]{0,8}", text):
         raise ValueError
     return int(text)
+
+
+def number(text: str) -> int:
+    """A number of things, from 0."""
+    return 0 if text == "0" else count(text)
+
+
+def name(text: str) -> str:
+    """The name of a server."""
+    if not re.fullmatch("[!-~]{1,100}", text):
+        raise ValueError
+    return text
 
 
 def rights(text: str) -> int:
@@ -107,6 +120,31 @@ def add_log(words: argparse.ArgumentParser) -> None:
                        help="the form of what is told on standard error; %(default)s")
     words.add_argument("--log-level", choices=LEVELS, default=Log.level,
                        help="the least level that is told there; %(default)s")
+
+
+def add_sharing(words: argparse.ArgumentParser) -> None:
+    """The options for a journal that several servers share."""
+    words.add_argument("--name", type=name, metavar="NAME", help="of this server among others; else it is where it listens")
+    words.add_argument("--address", type=name, metavar="HOST:PORT",
+                       help="where others reach this server, if that is another place than --listen")
+    words.add_argument("--alone", action="store_true",
+                       help="serves a database that waits for no other machine: the loss of its disk loses lines")
+    ways = words.add_mutually_exclusive_group()
+    ways.add_argument("--pass-on", action="store_true",
+                      help="passes desks on to the server that has their network, as is done if nothing is said")
+    ways.add_argument("--send-on", action="store_true", help="tells desks where the server is that has their network")
+    words.add_argument("--followers", type=number, metavar="N",
+                       help=f"the most networks whose journals are followed; {Sharing.followers} if it isn't given, and "
+                            "none for 0")
+
+
+def sharing_in(words: argparse.ArgumentParser, asked: argparse.Namespace, is_shared: bool) -> Sharing:
+    """How a journal is shared, as the words say; an end with the usage where it can't be."""
+    said = [asked.name, asked.address, asked.alone, asked.pass_on, asked.send_on, asked.followers is not None]
+    if any(said) and not is_shared:
+        words.error("--name, --address, --alone, --pass-on, --send-on and --followers are for a journal in PostgreSQL")
+    followers = Sharing.followers if asked.followers is None else asked.followers
+    return Sharing(asked.name or "", asked.address or "", asked.alone, asked.send_on, followers)
 
 
 def places_in(words: argparse.ArgumentParser, asked: argparse.Namespace) -> Places:

@@ -14,6 +14,10 @@ the desk's token, where the server asks for one, and `tls` has a port speak TLS,
 
     Desk(("seats.example", 7443), "COUNTER-7", token=token, tls=ssl.create_default_context())
 
+Where several servers share the networks, any of them will do, and a list has those that are tried one after the other:
+
+    Desk([("10.0.0.1", 7800), ("10.0.0.2", 7800)], "COUNTER-7", network="hub-0612")
+
 Each line has a number of the desk's own, so one that was sent and not answered is sent again by itself on a new
 connection, and carried out once. What one is asked for that has no such meaning, as a party of 0, is a ValueError, and
 nothing is sent. The answers:
@@ -36,7 +40,7 @@ import re
 import socket
 import ssl
 import time
-from typing import Tuple, Type, Union, cast
+from typing import List, Tuple, Type, Union, cast
 
 from nrm.limits import LAST_BOOKING, LAST_PERIOD, MOST_PARTY
 from nrm.network import NAME
@@ -52,9 +56,11 @@ MOST_SHOWN = 200  # characters of a strange reply
 LAST_SEQUENCE = 999_999_999_999_999
 TOKEN = re.compile(r"[!-~]{1,900}")
 HAS_MORE = re.compile(rb"value |leg [^ ]+ seats \d+ authorised \d+ sold [1-9]")  # up to an empty line
-PASSES = re.compile(r"clients|half|idle|journal|stopping|memory|gone|program \d+")  # so the desk comes again
+PASSES = re.compile(r"clients|half|idle|journal|stopping|memory|gone|wait|program \d+")  # so the desk comes again
+MOVED = re.compile(r"moved (\S+):(\d{1,5})")  # the server that has its network
 Path = Union[str, "os.PathLike[str]"]
 Place = Union[Path, Tuple[str, int]]
+Places = Union[Place, List[Place]]
 
 
 # What goes wrong
@@ -82,13 +88,21 @@ class Lost(Exception):
     """The connection is no more, and another may do."""
 
 
+class Moved(Lost):
+    """Another server has the network, and it was told where."""
+
+    def __init__(self, host: str, port: int) -> None:
+        super().__init__(f"closed moved {host}:{port}")
+        self.place = host.strip("[]"), port
+
+
 # The desk
 
 
 class Desk:
     """A desk of a name, which asks one line at a time.
 
-    place      the path of a Unix socket, or a pair of host and port
+    place      the path of a Unix socket, or a pair of host and port; or a list of such, of which any will do
     name       of the desk: 1 to 12 of `A` to `Z`, `0` to `9` and `-`; it is for one connection at a time
     network    the name of the network, where there are several
     sequence   the number of the first line; else it is the one behind the last that the journal has of this desk
@@ -97,10 +111,14 @@ class Desk:
     tls        what a port's certificate is checked by, and its name, as `ssl.create_default_context()` makes it
     """
 
-    def __init__(self, place: Place, name: str, network: str | None = None, sequence: int | None = None,
+    def __init__(self, place: Places, name: str, network: str | None = None, sequence: int | None = None,
                  seconds: float = SECONDS, token: str | None = None, tls: ssl.SSLContext | None = None) -> None:
-        self.place, self.name, self.network, self.seconds = place, a_name(name), network, seconds
-        if tls and not isinstance(place, tuple):
+        self.places = [*place] if isinstance(place, list) else [place]
+        if not self.places:
+            raise ValueError("no place is given")
+        self.place, self.name, self.network, self.seconds = self.places[0], a_name(name), network, seconds
+        self.tried = 0  # of the places
+        if tls and not all(isinstance(it, tuple) for it in self.places):
             raise ValueError("tls is for a pair of host and port")
         if token is not None and not TOKEN.fullmatch(token):
             raise ValueError("the token has a character that no token has, or none")
@@ -208,12 +226,21 @@ class Desk:
             except Lost as why:
                 first = first or why
                 self.close()
+                self._turn(why)
                 if time.monotonic() + PAUSE > deadline:
                     raise Late(f"{self.place}: no answer in {self.seconds:g} seconds: {first}") from first
                 time.sleep(PAUSE)
             except DeskError:
                 self.close()
                 raise
+
+    def _turn(self, why: Lost) -> None:
+        """Goes to the place that was told, or else to the next of those that were given."""
+        if isinstance(why, Moved):
+            self.place = why.place
+        else:
+            self.tried += 1
+            self.place = self.places[self.tried % len(self.places)]
 
     def _connect(self, deadline: float) -> None:
         """Connects, and greets with the number of the next line."""
@@ -289,6 +316,8 @@ class Desk:
         line, _, self.left = self.left.partition(b"\n")
         if line.startswith(b"closed "):
             reason = line[7:].decode("latin-1")
+            if moved := MOVED.fullmatch(reason):
+                raise Moved(moved[1], int(moved[2]))
             raise Lost(f"closed {reason}") if PASSES.fullmatch(reason) else Ended(reason)
         return line + b"\n"
 

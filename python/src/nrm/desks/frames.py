@@ -5,7 +5,7 @@ come.
 """
 from __future__ import annotations
 
-from typing import List, Tuple
+from typing import Iterable, Iterator, List, Tuple
 
 MOST = 65_536  # the bytes behind the line of a frame that is given
 WINDOW = 131_072  # the bytes of a client that the program may have and hasn't used
@@ -19,6 +19,19 @@ Frame = Tuple[List[bytes], bytes]
 def again(rows: bytes) -> bytes:
     """Rows of the journal, whole ones."""
     return b"again %d\n" % len(rows) + rows
+
+
+def pieces_of(rows: Iterable[bytes]) -> Iterator[bytes]:
+    """Rows in pieces that a frame takes."""
+    piece: list[bytes] = []
+    size = 0
+    for row in rows:
+        if size + len(row) > MOST:
+            yield b"".join(piece)
+            piece, size = [], 0
+        piece.append(row)
+        size += len(row)
+    yield b"".join(piece)
 
 
 def came(place: int, data: bytes) -> bytes:

@@ -1,6 +1,6 @@
 """A run from beginning to end: one thread follows the journal, one takes connections, and a signal ends all.
 
-May use: nrm.desks.journals.tables, nrm.web.routes, nrm.web.serving.
+May use: nrm.desks.journals.stores.choosing, nrm.web.routes, nrm.web.serving.
 """
 from __future__ import annotations
 
@@ -8,7 +8,7 @@ import signal
 import sys
 import threading
 
-from nrm.desks.journals.tables import using
+from nrm.desks.journals.stores.choosing import using
 from nrm.web.routes import Settings, Web
 from nrm.web.serving import Listening, Site
 

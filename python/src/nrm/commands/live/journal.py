@@ -41,7 +41,7 @@ from nrm.commands.running import parser
 from nrm.desks.earlier.importing import TextJournal, import_network
 from nrm.desks.journals.looking import Wanted, copy, lines_of, summary
 from nrm.desks.journals.networks import end_network, file_of, known, put_network, see_that_it_is_free
-from nrm.desks.journals.tables import begin, change, using
+from nrm.desks.journals.stores.choosing import store_of, using
 from nrm.desks.journals.times.said import Times, lines_of_times, see_that_it_has, set_times, times_in, times_of
 from nrm.desks.relay.programs import see_that_it_opens
 from nrm.program import Program
@@ -88,7 +88,7 @@ def open_one(path: str, name: str, mode: str, file: str, program: Program, times
         see_that_it_opens(program, mode, text, file)
         if times:
             see_that_it_has(text, times)
-        with change(connection):
+        with connection.change():
             number = put_network(connection, name, mode, text, program.checksum())
             if times:
                 set_times(connection, number, times)
@@ -100,7 +100,7 @@ def times_of_one(path: str, name: str, times: Times | None) -> None:
         network = known(connection, name)
         if times:
             see_that_it_has(file_of(connection, network.number), times)
-            with change(connection):
+            with connection.change():
                 set_times(connection, network.number, times)
         else:
             print("\n".join(lines_of_times(times_of(connection, network.number))))
@@ -132,7 +132,7 @@ def run(given: Sequence[str]) -> int:
     words, asked = words_of(given)
     times = times_in(asked.departure, asked.begins) if asked.departure is not None else None
     if asked.way == "begin":
-        begin(asked.journal)
+        store_of(asked.journal).begin()
     elif asked.way == "times":
         times_of_one(asked.journal, asked.words[0], times)
     elif asked.way in ("open", "import"):

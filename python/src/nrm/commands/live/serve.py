@@ -45,8 +45,9 @@ from __future__ import annotations
 from typing import Sequence
 
 from nrm.commands.running import parser
-from nrm.commands.serve_words import (add_clock, add_guard, add_limits, add_log, add_places, guard_in, limits_in,
-                                      places_in)
+from nrm.commands.serve_words import (add_clock, add_guard, add_limits, add_log, add_places, add_sharing, guard_in,
+                                      limits_in, places_in, sharing_in)
+from nrm.desks.journals.stores.choosing import store_of
 from nrm.desks.relay.hall import Answering
 from nrm.desks.relay.serving import Server
 from nrm.desks.relay.telling.events import Log
@@ -62,9 +63,12 @@ def run(given: Sequence[str]) -> int:
     add_limits(words)
     add_clock(words)
     add_log(words)
+    add_sharing(words)
     asked = words.parse_args(given)
     places, guard, limits = places_in(words, asked), guard_in(words, asked), limits_in(words, asked)
     log = Log(asked.log, asked.log_level)
+    store = store_of(asked.journal)
+    sharing = sharing_in(words, asked, store.is_shared)
     program = Program.found(asked.program, "nrm_desks")
     answering = Answering(program, program.checksum(), bool(asked.program))
-    return Server(asked.journal, answering, places, limits, guard, asked.every, log).run()
+    return Server(store, answering, places, limits, guard, asked.every, log, sharing).run()

@@ -2,8 +2,8 @@
 
 That was a file of the lines that one run of the program was given, in their order, by many desks; and beside it, in a
 file of its name and `.void`, the numbers of those that were answered `memory` or `store`, and so changed nothing. May
-use: nrm, nrm.desks.frames, nrm.desks.journals.networks, nrm.desks.journals.tables, nrm.desks.journals.writing,
-nrm.desks.relay.programs, nrm.program.
+use: nrm, nrm.desks.frames, nrm.desks.journals.networks, nrm.desks.journals.stores.kinds, nrm.desks.journals.tables,
+nrm.desks.journals.writing, nrm.desks.relay.programs, nrm.program.
 """
 from __future__ import annotations
 
@@ -18,8 +18,9 @@ from typing import Iterable, Iterator
 from nrm import Stop, bytes_in
 from nrm.desks.frames import ALL_AGAIN, END, KEPT, Frame, Frames, came, opened
 from nrm.desks.journals.networks import known, open_network, see_that_it_is_free
+from nrm.desks.journals.stores.kinds import Given
 from nrm.desks.journals.tables import using
-from nrm.desks.journals.writing import Given, Writer, halt, locked
+from nrm.desks.journals.writing import Writer, halt, locked
 from nrm.desks.relay.programs import begun, see_that_it_opens
 from nrm.program import PIECE, Program, ended
 
@@ -116,7 +117,7 @@ class Dialogue:
         words, data = frame
         if words[0] == b"keep":
             for why in self.writer.write([Given(self.network, 1, self.lines, data)]).values():
-                raise Stop(why)
+                raise Stop(str(why))
             self.lines += data.count(b"\n")
             os.write(self.given, KEPT)
         elif words[0] == b"send":

@@ -1,19 +1,18 @@
 """A line of a journal as it was answered: who asked it and when, which line sold a booking and which gave it back, and
 all lines and replies up to one, laid into files.
 
-May use: nrm, nrm.desks.journals.looking, nrm.desks.journals.networks.
+May use: nrm, nrm.desks.journals.networks, nrm.desks.journals.stores.kinds.
 """
 from __future__ import annotations
 
-import sqlite3
 from dataclasses import dataclass
 from pathlib import Path
 
 from nrm import Stop
-from nrm.desks.journals.looking import TIME
 from nrm.desks.journals.networks import Opened
+from nrm.desks.journals.stores.kinds import Tables
 
-AS_BYTES = ", ".join(f"CAST({it} AS BLOB)" for it in ("desk", "sequence", "line", "reply"))
+FIELDS = "desk", "sequence", "line", "reply"
 
 
 @dataclass(frozen=True)
@@ -27,13 +26,14 @@ class Line:
     reply: str
 
 
-def line_in(connection: sqlite3.Connection, network: Opened, number: int) -> Line:
+def line_in(connection: Tables, network: Opened, number: int) -> Line:
     """The line of a number; a Stop if there is none, that says how many there are."""
-    row = connection.execute(f"SELECT number, {TIME.format('at')}, {AS_BYTES} FROM line WHERE network = ? AND number = ?",
-                             [network.number, number]).fetchone()
+    fields = ", ".join(connection.bytes_of.format(it) for it in FIELDS)
+    row = connection.execute(f"SELECT number, {connection.time.format('at')}, {fields} FROM line WHERE network = ? AND "
+                             "number = ?", [network.number, number]).fetchone()
     if row:
-        number, at, *fields = row
-        return Line(number, str(at), *map(shown, fields))
+        found, at, *rest = row
+        return Line(found, str(at), *map(shown, rest))
     if number <= network.lines:
         raise taken_out(network, number)
     there_are = f"{network.lines} line{'' if network.lines == 1 else 's'}" if network.lines else "no lines yet"
@@ -45,9 +45,9 @@ def shown(field: bytes) -> str:
     return field.decode("latin-1").encode("unicode_escape").decode("ascii")
 
 
-def ended_at(connection: sqlite3.Connection, network: Opened) -> str | None:
+def ended_at(connection: Tables, network: Opened) -> str | None:
     """Since when a network is only looked at, if it is."""
-    [ended] = connection.execute(f"SELECT {TIME.format('ended')} FROM network WHERE network = ?",
+    [ended] = connection.execute(f"SELECT {connection.time.format('ended')} FROM network WHERE network = ?",
                                  [network.number]).fetchone()
     return None if ended is None else str(ended)
 
@@ -58,29 +58,32 @@ def taken_out(network: Opened, number: int) -> Stop:
                 "out of the journal, and what came behind it can't be played again")
 
 
-def sold_by(connection: sqlite3.Connection, network: Opened, booking: int) -> int:
+def sold_by(connection: Tables, network: Opened, booking: int) -> int:
     """The number of the line that sold a booking; a Stop if no line did."""
     [number] = connection.execute("SELECT min(number) FROM line WHERE network = ? AND reply = ?",
                                   [network.number, f"ok {booking}"]).fetchone()
     if number is None:
-        [last] = connection.execute("SELECT max(CAST(substr(reply, 4) AS INTEGER)) FROM line WHERE network = ? AND "
-                                    "reply GLOB 'ok [0-9]*'", [network.number]).fetchone()
+        [last] = connection.execute("SELECT max(CAST(substr(reply, 4) AS BIGINT)) FROM line WHERE network = ? AND "
+                                    "substr(reply, 1, 3) = 'ok '", [network.number]).fetchone()
         raise Stop(f"no line of {network.name} sold a booking {booking}: "
                    + (f"the last that was sold has the number {last}" if last else "none was sold"))
     return int(number)
 
 
-def given_back_by(connection: sqlite3.Connection, network: Opened, booking: int) -> Line | None:
+def given_back_by(connection: Tables, network: Opened, booking: int) -> Line | None:
     """The line that cancelled a booking, if one did."""
-    [number] = connection.execute("SELECT min(number) FROM line WHERE network = ? AND line = ? AND reply GLOB ?",
-                                  [network.number, f"cancel {booking}", f"cancelled {booking} *"]).fetchone()
+    front = f"cancelled {booking} "
+    [number] = connection.execute("SELECT min(number) FROM line WHERE network = ? AND line = ? AND "
+                                  "substr(reply, 1, ?) = ?", [network.number, f"cancel {booking}", len(front), front],
+                                  ).fetchone()
     return None if number is None else line_in(connection, network, number)
 
 
-def lay(connection: sqlite3.Connection, network: Opened, number: int, stream: Path, replies: Path) -> None:
+def lay(connection: Tables, network: Opened, number: int, stream: Path, replies: Path) -> None:
     """Writes the lines of a network up to one into a file, and their replies into another, as they are at one moment. A
     Stop where one is missing, or was changed such that it is no line."""
-    rows = connection.execute("SELECT number, CAST(line AS BLOB), CAST(reply AS BLOB) FROM line WHERE network = ? AND "
+    line_bytes, reply_bytes = connection.bytes_of.format("line"), connection.bytes_of.format("reply")
+    rows = connection.execute(f"SELECT number, {line_bytes}, {reply_bytes} FROM line WHERE network = ? AND "
                               "number BETWEEN 1 AND ? ORDER BY number", [network.number, number])
     last = 0
     with open(stream, "wb") as lines, open(replies, "wb") as answers:

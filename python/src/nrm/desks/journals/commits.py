@@ -1,6 +1,6 @@
 """The thread that writes rows, so that clients and programs are heard while a commit waits for the disk.
 
-May use: nrm.desks.journals.writing.
+May use: nrm.desks.journals.stores.kinds.
 """
 from __future__ import annotations
 
@@ -11,7 +11,7 @@ import time
 from dataclasses import dataclass, field, replace
 from typing import Sequence
 
-from nrm.desks.journals.writing import Busy, Given, Writer
+from nrm.desks.journals.stores.kinds import Busy, Given, Writer
 
 PAUSE = 0.005  # the seconds before it is tried again, while somebody else writes
 
@@ -21,7 +21,7 @@ class Written:
     """What became of a commit: the rows, why those of a network were refused, or why nothing of it counts, and the
     seconds that it took with all waiting."""
     given: Sequence[Given]
-    refused: dict[int, str] = field(default_factory=dict)
+    refused: dict[int, str | None] = field(default_factory=dict)
     fault: Exception | None = None
     seconds: float = 0.0
 

@@ -1,6 +1,6 @@
 """What a journal tells while a server writes it: its networks, lines of one, and a copy of all.
 
-May use: nrm.desks.journals.networks, nrm.desks.journals.tables.
+May use: nrm.desks.journals.networks, nrm.desks.journals.stores.choosing, nrm.desks.journals.tables.
 """
 from __future__ import annotations
 
@@ -8,9 +8,10 @@ from dataclasses import dataclass
 from typing import Iterator
 
 from nrm.desks.journals.networks import known
-from nrm.desks.journals.tables import made, using
+from nrm.desks.journals.stores.choosing import using
+from nrm.desks.journals.tables import made
+from nrm.desks.journals.tables import using as using_file
 
-TIME = "strftime('%Y-%m-%dT%H:%M:%fZ', {} / 1000.0, 'unixepoch')"
 PAGES_AT_ONCE = 1000  # of a copy, which goes on with the same state of the journal
 
 
@@ -39,7 +40,8 @@ class Wanted:
 def summary(path: str) -> Iterator[str]:
     """Each network of a journal, with what became of it."""
     with using(path) as connection:
-        rows = connection.execute(f"SELECT name, mode, lines, {TIME.format('begun')}, {TIME.format('ended')}, halted, "
+        time = connection.time
+        rows = connection.execute(f"SELECT name, mode, lines, {time.format('begun')}, {time.format('ended')}, halted, "
                                   "program FROM network JOIN head USING (network) ORDER BY name")
         for name, mode, lines, begun, ended, halted, program in rows:
             became = "".join([f", ended {ended}" if ended else "", f", halted: {halted}" if halted else ""])
@@ -51,7 +53,7 @@ def lines_of(path: str, network: str, wanted: Wanted) -> Iterator[str]:
     condition, values = wanted.condition()
     with using(path) as connection:
         number = known(connection, network).number
-        rows = connection.execute(f"SELECT number, {TIME.format('at')}, desk, sequence, line, reply FROM line "
+        rows = connection.execute(f"SELECT number, {connection.time.format('at')}, desk, sequence, line, reply FROM line "
                                   f"WHERE network = ?{condition} ORDER BY number", [number, *values])
         for row in rows:
             yield "\t".join(map(str, row))
@@ -59,7 +61,7 @@ def lines_of(path: str, network: str, wanted: Wanted) -> Iterator[str]:
 
 def copy(path: str, place: str) -> None:
     """Copies a journal to where nothing is, as it is at a moment, while others write it."""
-    with using(path) as connection, made(place) as new:
+    with using_file(path) as connection, made(place) as new:
         connection.execute("BEGIN")  # so that a line that is written meanwhile doesn't have it begin anew
         connection.execute("SELECT count(*) FROM network").fetchone()
         connection.backup(new, pages=PAGES_AT_ONCE)

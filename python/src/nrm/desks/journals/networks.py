@@ -1,24 +1,21 @@
 """The networks of a journal: how one is put into it, what it tells of each, and the rows of one as the program takes
 them.
 
-May use: nrm, nrm.desks.frames, nrm.desks.journals.tables.
+May use: nrm, nrm.desks.journals.stores.kinds, nrm.desks.journals.tables.
 """
 from __future__ import annotations
 
 import re
-import sqlite3
 from dataclasses import dataclass
 from typing import Iterator
 
 from nrm import Stop
-from nrm.desks.frames import MOST
-from nrm.desks.journals.tables import change, now
+from nrm.desks.journals.stores.kinds import Tables
+from nrm.desks.journals.tables import now
 
 NAME = re.compile(r"[a-z][a-z0-9._-]{0,39}")  # no desk has such a name
 COLUMNS = "network, name, mode, program, ended IS NOT NULL, halted, lines, epoch"
 MOST_NAMED = 20  # networks in a sentence
-ROWS_AT_ONCE = 500  # that are read in one piece
-ROW = "number || char(9) || desk || char(9) || sequence || char(9) || line || char(9) || reply || char(10)"
 
 
 @dataclass(frozen=True)
@@ -40,20 +37,20 @@ def opened_of(row: tuple[int, str, str, str, int, str | None, int, int]) -> Open
     return Opened(number, name, mode, program, bool(is_ended), halted, lines, epoch)
 
 
-def networks_in(connection: sqlite3.Connection) -> list[Opened]:
+def networks_in(connection: Tables) -> list[Opened]:
     """All networks, by their names."""
     rows = connection.execute(f"SELECT {COLUMNS} FROM network JOIN head USING (network) ORDER BY name")
     return [opened_of(row) for row in rows]
 
 
-def network_in(connection: sqlite3.Connection, name: str) -> Opened | None:
+def network_in(connection: Tables, name: str) -> Opened | None:
     """The network of a name."""
     row = connection.execute(f"SELECT {COLUMNS} FROM network JOIN head USING (network) WHERE name = ?",
                              [name]).fetchone()
     return opened_of(row) if row else None
 
 
-def known(connection: sqlite3.Connection, name: str) -> Opened:
+def known(connection: Tables, name: str) -> Opened:
     """The network of a name; a Stop if there is none, that says which there are."""
     found = network_in(connection, name)
     if not found:
@@ -64,13 +61,19 @@ def known(connection: sqlite3.Connection, name: str) -> Opened:
     return found
 
 
-def file_of(connection: sqlite3.Connection, network: int) -> bytes:
+def head_of(connection: Tables, network: int) -> tuple[int, int]:
+    """Whose a network is, and how many lines it has."""
+    row = connection.execute("SELECT epoch, lines FROM head WHERE network = ?", [network]).fetchone()
+    return (int(row[0]), int(row[1])) if row else (0, 0)
+
+
+def file_of(connection: Tables, network: int) -> bytes:
     """The network file, byte for byte."""
     [file] = connection.execute("SELECT file FROM network WHERE network = ?", [network]).fetchone()
     return bytes(file)
 
 
-def see_that_it_is_free(connection: sqlite3.Connection, name: str) -> None:
+def see_that_it_is_free(connection: Tables, name: str) -> None:
     """A Stop for what is no name of a network, or is that of one which the journal has."""
     if not NAME.fullmatch(name):
         raise Stop(f"{name!r} is no name of a network: a small letter, and then at most 39 of `a` to `z`, `0` to `9`, "
@@ -79,46 +82,32 @@ def see_that_it_is_free(connection: sqlite3.Connection, name: str) -> None:
         raise Stop(f"the journal has a network {name} already")
 
 
-def open_network(connection: sqlite3.Connection, name: str, mode: str, file: bytes, program: str) -> None:
+def open_network(connection: Tables, name: str, mode: str, file: bytes, program: str) -> None:
     """Puts a network into a journal. If a server is at work it is that server's."""
-    with change(connection):
+    with connection.change():
         put_network(connection, name, mode, file, program)
 
 
-def put_network(connection: sqlite3.Connection, name: str, mode: str, file: bytes, program: str) -> int:
+def put_network(connection: Tables, name: str, mode: str, file: bytes, program: str) -> int:
     """Puts a network into a journal, within a change, and gives its number."""
     see_that_it_is_free(connection, name)
-    made = connection.execute("INSERT INTO network (name, mode, file, program, begun) VALUES (?, ?, ?, ?, ?)",
-                              [name, mode, file, program, now()])
-    connection.execute("INSERT INTO head SELECT ?, 0, coalesce(max(epoch), 0) FROM tenure", [made.lastrowid])
-    assert made.lastrowid
-    return made.lastrowid
+    connection.execute("INSERT INTO network (name, mode, file, program, begun) VALUES (?, ?, ?, ?, ?)",
+                       [name, mode, file, program, now()])
+    [number] = connection.execute("SELECT network FROM network WHERE name = ?", [name]).fetchone()
+    connection.execute(connection.first_head, [number])
+    return int(number)
 
 
-def end_network(connection: sqlite3.Connection, name: str) -> None:
+def end_network(connection: Tables, name: str) -> None:
     """Has a network looked at alone from now on."""
-    with change(connection):
+    with connection.change():
         found = known(connection, name)
         connection.execute("UPDATE network SET ended = ? WHERE network = ? AND ended IS NULL", [now(), found.number])
 
 
-def rows_of(connection: sqlite3.Connection, network: int) -> Iterator[bytes]:
+def rows_of(tables: Tables, network: int) -> Iterator[bytes]:
     """The rows of a network as the program takes them, in pieces of whole rows."""
-    number = 0
-    while rows := connection.execute(f"SELECT number, {ROW} FROM line WHERE network = ? AND number > ? "
-                                     "ORDER BY number LIMIT ?", [network, number, ROWS_AT_ONCE]).fetchall():
-        number = rows[-1][0]
-        yield from pieces_of([text.encode() for _, text in rows])
-
-
-def pieces_of(rows: list[bytes]) -> Iterator[bytes]:
-    """Rows in pieces that a frame takes."""
-    piece: list[bytes] = []
-    size = 0
-    for row in rows:
-        if size + len(row) > MOST:
-            yield b"".join(piece)
-            piece, size = [], 0
-        piece.append(row)
-        size += len(row)
-    yield b"".join(piece)
+    number, pieces = tables.rows_after(network, 0)
+    while pieces:
+        yield from pieces
+        number, pieces = tables.rows_after(network, number)

@@ -1,6 +1,6 @@
-"""The tables of a journal, and how its file is made and opened.
+"""The tables of a journal in SQLite, and how its file is made and opened.
 
-May use: nrm.
+May use: nrm, nrm.desks.frames, nrm.desks.journals.stores.kinds.
 """
 from __future__ import annotations
 
@@ -9,13 +9,17 @@ import os
 import sqlite3
 import time
 from pathlib import Path
-from typing import Iterator
+from typing import ContextManager, Iterator
 
 from nrm import Stop
+from nrm.desks.frames import pieces_of
+from nrm.desks.journals.stores.kinds import Lines, NoJournal
 
 APPLICATION, VERSION = 0x6E726D6A, 1  # `nrmj`, and the version of the tables: both are in the head of the file
 LOGS = ("-wal", "-shm", "-journal")  # what SQLite has beside a file
 PATIENCE = 10.0  # the seconds for which a call waits until no other writes
+ROWS_AT_ONCE = 500  # that are read in one piece
+ROW = "number || char(9) || desk || char(9) || sequence || char(9) || line || char(9) || reply || char(10)"
 TABLES = """
 -- A network, with its file byte for byte, and the SHA-256 of the program that answers it from its first line on.
 CREATE TABLE network (
@@ -99,29 +103,66 @@ CREATE INDEX IF NOT EXISTS plan_by_period ON line (network, {PERIOD}) WHERE {ASK
 """  # which a journal of an earlier release gets when it is next opened to be written
 
 
-class NoJournal(Stop):
-    """What is at a path is no journal."""
-
-
 def now() -> int:
     """The milliseconds since 1970 began, by the clock of this machine."""
     return time.time_ns() // 1_000_000
 
 
-def connected(path: str, is_to_write: bool = False) -> sqlite3.Connection:
+class Connection(sqlite3.Connection):
+    """A connection to the tables, with what differs from other stores."""
+    time = "strftime('%Y-%m-%dT%H:%M:%fZ', {} / 1000.0, 'unixepoch')"
+    bytes_of = "CAST({} AS BLOB)"
+    lines = Lines(ASKS_FOR_A_PLAN, PERIOD, "CROSS JOIN", "INDEXED BY plan_by_number", "INDEXED BY plan_by_period")
+    faults: tuple[type[Exception], ...] = (sqlite3.Error,)
+    lost: tuple[type[Exception], ...] = ()
+    first_head = "INSERT INTO head SELECT ?, 0, coalesce(max(epoch), 0) FROM tenure"
+
+    @contextlib.contextmanager
+    def change(self) -> Iterator[None]:
+        """A change that happens as a whole or not at all."""
+        self.execute("BEGIN IMMEDIATE")
+        try:
+            yield
+            self.execute("COMMIT")
+        finally:
+            if self.in_transaction:
+                self.execute("ROLLBACK")
+
+    def rows_after(self, network: int, number: int, most: int | None = None) -> tuple[int, list[bytes]]:
+        """The next rows of a network behind the one of a number, in pieces, and the number of the last."""
+        beyond = "" if most is None else f" AND number <= {most}"
+        rows = self.execute(f"SELECT number, {ROW} FROM line WHERE network = ? AND number > ?{beyond} "
+                            "ORDER BY number LIMIT ?", [network, number, ROWS_AT_ONCE]).fetchall()
+        return (rows[-1][0], [*pieces_of([text.encode() for _, text in rows])]) if rows else (number, [])
+
+    def has(self, table: str) -> bool:
+        """Whether there is a table of a name."""
+        return bool(self.execute("SELECT * FROM sqlite_master WHERE name = ?", [table]).fetchone())
+
+    def history(self) -> str:
+        """A file has one."""
+        return ""
+
+    def version(self) -> int:
+        """A number that is another one when another connection has written."""
+        [version] = self.execute("PRAGMA data_version").fetchone()
+        return int(version)
+
+
+def connected(path: str, is_to_write: bool = False) -> Connection:
     """A connection to the file at a path, which is there, whatever is in it."""
     if os.path.exists(path) and not os.path.isfile(path):  # a FIFO would wait
         raise Stop(f"{path} is no plain file")
     try:
-        made = sqlite3.connect(f"{Path(path).absolute().as_uri()}?mode={'rw' if is_to_write else 'ro'}", uri=True,
-                               timeout=PATIENCE, isolation_level=None, check_same_thread=False)
+        made = Connection(f"{Path(path).absolute().as_uri()}?mode={'rw' if is_to_write else 'ro'}", uri=True,
+                          timeout=PATIENCE, isolation_level=None, check_same_thread=False)
         made.execute("PRAGMA foreign_keys = ON")
     except sqlite3.Error as fault:
         raise Stop(f"{path}: {fault}")
     return made
 
 
-def opened(path: str, is_to_write: bool = False) -> sqlite3.Connection:
+def opened(path: str, is_to_write: bool = False) -> Connection:
     """A connection to the journal at a path; a Stop for what is none, of which nothing is changed. The file is read by
     SQLite alone: a process that closes it otherwise would let go of the locks of all its connections."""
     made = connected(path, is_to_write)
@@ -154,7 +195,7 @@ def add_later_tables(path: str, connection: sqlite3.Connection) -> None:
 
 
 @contextlib.contextmanager
-def using(path: str, is_to_write: bool = False) -> Iterator[sqlite3.Connection]:
+def using(path: str, is_to_write: bool = False) -> Iterator[Connection]:
     """A connection to the journal at a path, closed at the end. What goes wrong with the file is a Stop."""
     connection = opened(path, is_to_write)
     try:
@@ -166,7 +207,7 @@ def using(path: str, is_to_write: bool = False) -> Iterator[sqlite3.Connection]:
 
 
 @contextlib.contextmanager
-def made(path: str) -> Iterator[sqlite3.Connection]:
+def made(path: str) -> Iterator[Connection]:
     """A new and empty file, for its owner alone. What goes wrong is a Stop, and the file is taken away again."""
     if os.path.lexists(path):
         raise Stop(f"{path} is there already")
@@ -193,13 +234,6 @@ def begin(path: str) -> None:
                                  f"PRAGMA user_version = {VERSION}; COMMIT")
 
 
-@contextlib.contextmanager
-def change(connection: sqlite3.Connection) -> Iterator[None]:
+def change(connection: Connection) -> ContextManager[None]:
     """A change that happens as a whole or not at all."""
-    connection.execute("BEGIN IMMEDIATE")
-    try:
-        yield
-        connection.execute("COMMIT")
-    finally:
-        if connection.in_transaction:
-            connection.execute("ROLLBACK")
+    return connection.change()

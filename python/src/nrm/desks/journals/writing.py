@@ -1,6 +1,6 @@
 """The writing of rows: those that wait, of all networks, in one commit, which nobody with an older epoch can make.
 
-May use: nrm, nrm.desks.journals.tables.
+May use: nrm, nrm.desks.journals.networks, nrm.desks.journals.stores.kinds, nrm.desks.journals.tables.
 """
 from __future__ import annotations
 
@@ -8,10 +8,11 @@ import contextlib
 import fcntl
 import os
 import sqlite3
-from dataclasses import dataclass
 from typing import Iterator, Sequence
 
 from nrm import Stop
+from nrm.desks.journals.networks import head_of
+from nrm.desks.journals.stores.kinds import Busy, Fenced, Given, Refused
 from nrm.desks.journals.tables import change, now, opened, using
 
 FENCE = "UPDATE head SET lines = lines + ? WHERE network = ? AND epoch = ? AND lines = ?"
@@ -38,37 +39,14 @@ def locked(path: str) -> Iterator[None]:
         os.close(file)
 
 
-class Fenced(Stop):
-    """Another server has the journal now."""
-
-
-class Busy(Exception):
-    """Somebody else holds the journal for too long, so nothing was written: it can be tried again."""
-
-
-@dataclass(frozen=True)
-class Given:
-    """Rows that a program has given out: of which network, by which run of its program, behind how many lines."""
-    network: int
-    run: int
-    before: int
-    rows: bytes
-
-    def count(self) -> int:
-        """How many rows they are."""
-        return self.rows.count(b"\n")
-
-
-class Refused(Exception):
-    """Why the tables don't take a row."""
-
-
 class Writer:
     """One server's writing. It begins with a commit of its own, so that what is read later can't be lost either."""
 
     def __init__(self, path: str, program: str) -> None:
         self.path = path
+        self.is_quick = True
         self.connection = opened(path, is_to_write=True)
+        self.reader = opened(path)
         try:
             # what an earlier server couldn't force to the disk is written anew, since the system doesn't try again what
             # failed; where a reader is in the way it stays in the log
@@ -86,7 +64,7 @@ class Writer:
             self.connection.execute("UPDATE head SET epoch = ?", [epoch])
         return int(epoch)
 
-    def write(self, given: Sequence[Given]) -> dict[int, str]:
+    def write(self, given: Sequence[Given]) -> dict[int, str | None]:
         """Writes the rows of several networks in one commit. Gives why those of a network were refused, which halts it;
         those of the others are written."""
         try:
@@ -143,8 +121,18 @@ class Writer:
         """Has nobody answer for a network any more, within a change."""
         self.connection.execute(HALT, [why, network])
 
+    def version(self) -> int:
+        """A number that is another one when another connection has written."""
+        return self.connection.version()
+
+    def is_still(self, network: int, epoch: int, lines: int) -> bool:
+        """Whether a network is still this server's, and has these lines: by another connection than the one that may be
+        writing."""
+        return epoch == self.epoch and head_of(self.reader, network) == (epoch, lines)
+
     def close(self) -> None:
         """Ends the writing."""
+        self.reader.close()
         self.connection.close()
 
 
@@ -169,12 +157,6 @@ def statements(values: list[object]) -> Iterator[tuple[str, list[object]]]:
         while len(values) - at >= size:
             yield text, values[at:at + size]
             at += size
-
-
-def head_of(connection: sqlite3.Connection, network: int) -> tuple[int, int]:
-    """Whose a network is, and how many lines it has."""
-    row = connection.execute("SELECT epoch, lines FROM head WHERE network = ?", [network]).fetchone()
-    return (int(row[0]), int(row[1])) if row else (0, 0)
 
 
 def halt(path: str, network: int, why: str) -> None:

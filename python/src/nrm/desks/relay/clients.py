@@ -1,7 +1,7 @@
 """The clients: how much of each the program has and hasn't used, what waits to be sent to it, and when it is cut off.
 
 May use: nrm.desks.access, nrm.desks.frames, nrm.desks.relay.doors.secure, nrm.desks.relay.doors.tokens,
-nrm.desks.relay.loop, nrm.desks.relay.telling.counters.
+nrm.desks.relay.fleet.passing, nrm.desks.relay.loop, nrm.desks.relay.telling.counters.
 """
 from __future__ import annotations
 
@@ -15,6 +15,7 @@ from nrm.desks.access import Right
 from nrm.desks.frames import MOST, WINDOW
 from nrm.desks.relay.doors.secure import RECORD, Secure
 from nrm.desks.relay.doors.tokens import FRONT, Tokens
+from nrm.desks.relay.fleet.passing import PASSED
 from nrm.desks.relay.loop import READ, WRITE, Loop
 from nrm.desks.relay.telling.counters import Counters
 
@@ -83,6 +84,8 @@ class Hall(Protocol):
 class Client:
     """A connection. The bytes that the program has of it and hasn't used are counted, and those behind the last line
     feed; nothing else is looked at once its desk and its network are known."""
+    is_passed = False  # by another server, so that it isn't passed on once more
+    asked = b""  # what came until its network was known, as it came
 
     def __init__(self, hall: Hall, connection: socket.socket, address: str = HERE,
                  context: ssl.SSLContext | None = None) -> None:
@@ -162,6 +165,11 @@ class Client:
         by its first bytes."""
         self.first += piece
         self.since = self.hall.loop.now
+        if not self.is_passed and PASSED[:len(self.first)] == self.first[:len(PASSED)]:
+            self.is_passed = len(self.first) >= len(PASSED)
+            self.first = self.first[len(PASSED):] if self.is_passed else self.first
+            if not self.is_passed or not self.first:
+                return
         if self.may_give_token and not self.is_without_token():
             return
         if self.asks_status or ASKS_STATUS.match(self.first):
@@ -237,11 +245,23 @@ class Client:
         self.watch()
 
     def enter(self, network: str | None, data: bytes) -> None:
-        """Comes to a network, whose program may still have to begin."""
-        self.first = b""
+        """Comes to a network, whose program may still have to begin, or which another server has."""
+        self.asked, self.first = self.first, b""
         self.is_waiting = True
         self.hall.enter(self, network, data)
         self.watch()
+
+    def may_be_passed(self) -> bool:
+        """Whether another server can take it as it is: it is no desk by a token, and speaks no TLS."""
+        return self.secure is None and self.right is None
+
+    def hand_on(self) -> tuple[socket.socket, bytes]:
+        """Its connection and what came on it, which aren't this client's any more."""
+        assert isinstance(self.socket, socket.socket)
+        self.hall.loop.forget(self.file)
+        self.is_open, self.is_waiting, self.is_done, self.is_told = False, False, True, True
+        self.hall.leave(self)
+        return self.socket, self.asked
 
     def seat(self, session: Session, place: int, data: bytes) -> None:
         """Is at a place of its network's program, which gets what came so far."""

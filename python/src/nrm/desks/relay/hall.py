@@ -1,27 +1,31 @@
 """What stands between clients, programs and the journal: who comes to which network, which rows wait to be written, and
 what became of them.
 
-May use: nrm, nrm.desks.access, nrm.desks.journals.commits, nrm.desks.journals.networks, nrm.desks.journals.tables,
-nrm.desks.journals.writing, nrm.desks.relay.clients, nrm.desks.relay.doors.tokens, nrm.desks.relay.loop,
+May use: nrm, nrm.desks.access, nrm.desks.journals.commits, nrm.desks.journals.networks,
+nrm.desks.journals.stores.kinds, nrm.desks.relay.clients, nrm.desks.relay.doors.tokens, nrm.desks.relay.fleet.asking,
+nrm.desks.relay.fleet.fleet, nrm.desks.relay.fleet.passing, nrm.desks.relay.fleet.sole, nrm.desks.relay.loop,
 nrm.desks.relay.sessions, nrm.desks.relay.telling.counters, nrm.desks.relay.telling.events,
 nrm.desks.relay.telling.status, nrm.desks.relay.timing.clock, nrm.program.
 """
 from __future__ import annotations
 
 import math
-from dataclasses import dataclass
-from typing import Sequence
+from dataclasses import dataclass, replace
+from typing import Iterator, Sequence
 
 from nrm import Stop
 from nrm.desks.access import Access
 from nrm.desks.journals.commits import Commits, Written, tried
-from nrm.desks.journals.networks import Opened, file_of, network_in, networks_in, rows_of
-from nrm.desks.journals.tables import opened
-from nrm.desks.journals.writing import Fenced, Given, Writer, answer_by, halt, head_of
+from nrm.desks.journals.networks import Opened, file_of, head_of, network_in
+from nrm.desks.journals.stores.kinds import Fenced, Given, Named, Store, Tables, Unknown
 from nrm.desks.relay.clients import Client, Limits
 from nrm.desks.relay.doors.tokens import Tokens
+from nrm.desks.relay.fleet.asking import Asker, AtOnce, ByThread
+from nrm.desks.relay.fleet.fleet import Fleet, Sharing
+from nrm.desks.relay.fleet.passing import Passed
+from nrm.desks.relay.fleet.sole import Owning, Sole
 from nrm.desks.relay.loop import READ, Loop
-from nrm.desks.relay.sessions import ANSWERS, BEGINS, RESTS, WAITS, Session
+from nrm.desks.relay.sessions import ANSWERS, BEGINS, FOLLOWS, RESTS, WAITS, Session
 from nrm.desks.relay.telling.counters import Counters
 from nrm.desks.relay.telling.events import Events, Log
 from nrm.desks.relay.telling.status import Now, Teller
@@ -33,7 +37,6 @@ FEW_BYTES = 2_000  # of rows in a commit
 # the most seconds, up to half of what the last commit took, for which those who were just answered are waited for; and
 # what that commit must have taken
 GATHER, TO_GATHER = 0.003, 0.002
-LOST = "another server has the journal now, and this one answers nothing more"
 BEGIN_AT_ONCE = 2  # programs that are given their journals at a time, so that others are answered meanwhile
 
 
@@ -48,11 +51,21 @@ class Answering:
 class Hall:
     """Takes clients to their networks, and has rows written."""
 
-    def __init__(self, path: str, answering: Answering, limits: Limits, every: int = 0, log: Log = Log()) -> None:
-        self.path, self.answering, self.limits, self.loop = path, answering, limits, Loop()
+    def __init__(self, store: Store, answering: Answering, limits: Limits, every: int = 0, log: Log = Log(),
+                 sharing: Sharing = Sharing()) -> None:
+        self.store, self.answering, self.limits, self.loop = store, answering, limits, Loop()
+        self.sharing = sharing
         self.events, self.counters = Events(self.loop, log), Counters()
-        self.writer = Writer(path, answering.checksum)
-        self.reader = opened(path)
+        self.sessions: dict[str, Session] = {}
+        self.writer = store.writer(answering.checksum)
+        self.reader = store.opened()
+        self.asker: Asker
+        self.owning: Owning
+        if store.is_shared:
+            self.asker = ByThread(self.loop, store.opened())
+            self.owning = Fleet(self, store, Named(sharing.name, sharing.address, answering.checksum), sharing)
+        else:
+            self.asker, self.owning = AtOnce(self.reader), Sole(self, store, self.reader, self.writer)
         self.commits = Commits(self.writer)
         self.commits.start()
         self.loop.want(self.commits.told, READ, self.written)
@@ -60,10 +73,11 @@ class Hall:
         self.clients: set[Client] = set()
         self.tokens = Tokens(self.events.tell)
         self.loop.looks.append(self.tokens.tell_of_refused)
-        self.sessions: dict[str, Session] = {}
-        self.teller = Teller(path, answering.checksum, self.writer.epoch, limits.clients, self.reader, self.counters,
+        self.passed: set[Passed] = set()  # clients that are passed on to other servers
+        self.teller = Teller(self.owning, answering.checksum, self.writer.epoch, limits.clients, self.counters,
                              self.sessions, lambda: self.loop.now)
         self.to_begin: list[Session] = []
+        self.reading: list[Session] = []  # whose network files are being read
         self.waiting: list[tuple[Session, Given]] = []  # whose rows wait to be written
         self.in_writing: list[tuple[Session, Given]] = []
         self.stops = False
@@ -81,12 +95,35 @@ class Hall:
     def enter(self, client: Client, network: str | None, data: bytes) -> None:
         """Takes a client to the network that it named, or to the only one."""
         session = self.session_of(network)
+        if session or not self.owning.when_looked(lambda: self.enter_now(client, self.session_of(network), data)):
+            self.enter_now(client, session, data)
+
+    def enter_now(self, client: Client, session: Session | None, data: bytes) -> None:
+        """Takes a client to a network, if it is here; else to where it is, or away."""
+        if client.is_done or not client.is_open:
+            return
         client.network = session.network.name if session else None
         why = "stopping" if self.stops else "network" if not session else self.refusal(session)
         if why or not session:
             client.finish(why)
+        elif elsewhere := self.owning.elsewhere(session.network):
+            self.send_on(client, elsewhere)
         else:
             session.enter(client, data)
+
+    def send_on(self, client: Client, elsewhere: str) -> None:
+        """Passes a client on to the server that has its network, or tells it to go there or to come again."""
+        word, _, address = elsewhere.partition(" ")
+        if not address or client.is_passed:
+            client.finish("wait")
+        elif self.sharing.is_to_send_on or not client.may_be_passed():
+            client.finish(elsewhere)
+        else:
+            self.counters.passed += 1
+            connection, asked = client.hand_on()
+            passed = Passed(self.loop, connection, address, asked, self.passed.discard)
+            if passed.is_open:
+                self.passed.add(passed)
 
     def admit(self, access: Access) -> None:
         """Has some desks come from now on, and no others; those that mayn't any more, or mayn't do the same, are cut
@@ -99,26 +136,33 @@ class Hall:
     def session_of(self, name: str | None) -> Session | None:
         """The session of a network's name, or the only one."""
         if name is None:
-            names = [it.name for it in networks_in(self.reader)]
+            names = [it.name for it in self.owning.networks()]
             name = names[0] if len(names) == 1 else ""
         if name not in self.sessions:
-            network = network_in(self.reader, name)
-            if not network:
-                return None
-            self.sessions[name] = Session(self, network)
+            network = self.owning.network(name)
+            return self.session_for(network) if network else None
         return self.sessions[name]
+
+    def session_for(self, network: Opened) -> Session:
+        """The session of a network, which is made if nobody came to it before."""
+        return self.sessions.setdefault(network.name, Session(self, network))
 
     def refusal(self, session: Session) -> str | None:
         """Why nobody is taken to a network, if it isn't answered: the journal is asked as long as no program runs."""
         if session.state == RESTS:
-            network = network_in(self.reader, session.network.name)
+            network = self.owning.network(session.network.name)
             assert network
             session.network = network
         if session.network.halted:
             return "halted"
-        return None if self.is_answered(session.network) else "version"
+        is_elsewhere = self.owning.elsewhere(session.network) not in (None, "wait")
+        return None if is_elsewhere or self.fits(session.network) else "version"
 
     def is_answered(self, network: Opened) -> bool:
+        """Whether this server answers for a network."""
+        return self.fits(network) and self.owning.epoch_of(network.number) is not None
+
+    def fits(self, network: Opened) -> bool:
         """Whether this program may answer for a network."""
         is_free = self.answering.is_said and (network.is_ended or not network.lines)
         return network.program == self.answering.checksum or is_free
@@ -128,13 +172,17 @@ class Hall:
             self.tell_of_closed(client, "gone")
         self.clients.discard(client)
 
+    def may_read(self) -> bool:
+        """Whether the journal is reached, so that the clock's looks keep nobody waiting."""
+        return self.owning.may_read()
+
     def is_full_of_clients(self) -> bool:
         """Whether as many are there as may be."""
         return self.count_of_clients() >= self.limits.clients
 
     def count_of_clients(self) -> int:
         """How many are there, but for the clock's own."""
-        return len(self.clients) - len(self.clock.asked)
+        return len(self.clients) + len(self.passed) - len(self.clock.asked)
 
     # Programs
 
@@ -147,7 +195,7 @@ class Hall:
         """Begins programs, as many as may at a time; none whose rows are still being written."""
         if self.stops:
             return
-        at_work = sum(it.state == BEGINS for it in self.sessions.values())
+        at_work = sum(it.state == BEGINS for it in self.sessions.values()) + len(self.reading)
         for session in [*self.to_begin]:
             is_due = session.begins_at <= self.loop.now and not any(it is session for it, _ in self.in_writing)
             if at_work < BEGIN_AT_ONCE and is_due:
@@ -156,25 +204,56 @@ class Hall:
                 at_work += 1
 
     def start(self, session: Session) -> None:
-        """Begins a program on what the journal has of its network."""
-        network = network_in(self.reader, session.network.name)
-        assert network
-        session.network = network
-        if network.epoch != self.writer.epoch:
-            self.fail(Fenced(LOST))
+        """Reads what the journal has of a network whose program is to begin."""
+        name = session.network.name
+
+        def read(tables: Tables) -> tuple[Opened, bytes]:
+            network = network_in(tables, name)
+            assert network
+            return network, file_of(tables, network.number)
+
+        self.reading.append(session)
+        self.asker.ask(read, lambda found: self.start_on(session, *found))
+
+    def start_on(self, session: Session, network: Opened, file: bytes) -> None:
+        """Begins a program on what the journal has of its network, if that is still this server's."""
+        self.reading.remove(session)
+        if self.stops or session.state != WAITS:
             return
+        session.network = network
+        if network.epoch != self.owning.epoch_of(network.number):
+            self.owning.lost(session)
+            session.lose("wait")
+            return
+        if not network.lines and network.program != self.answering.checksum:
+            self.store.answer_by(network.number, self.answering.checksum)
+        rows = self.asker.rows(network.number, network.lines, session.flush)
+        self.run_program(session, file, rows, BEGINS)
+
+    def follow(self, session: Session, network: Opened, file: bytes, rows: Iterator[bytes]) -> bool:
+        """Begins a program that follows what becomes part of a network's journal; gives whether it did."""
+        session.network = network
+        return self.run_program(session, file, rows, FOLLOWS)
+
+    def run_program(self, session: Session, file: bytes, rows: Iterator[bytes], state: int) -> bool:
+        """Begins a program; gives whether it did."""
         try:
-            if not network.lines and network.program != self.answering.checksum:
-                answer_by(self.path, network.number, self.answering.checksum)
-            session.start(self.answering.program.words, file_of(self.reader, network.number),
-                          rows_of(self.reader, network.number))
-            self.running += 1
-            self.counters.begun += 1
+            session.start(self.answering.program.words, file, rows, state)
         except OSError as fault:
-            self.events.tell("program-ended", network=network.name, status=1,
+            self.events.tell("program-ended", network=session.network.name, status=1,
                              told=f"{self.answering.program.words[0]}: {fault.strerror}")
             session.state, session.begins_at = RESTS, self.loop.now + 1
             session.tell_all("program 1", False)
+            return False
+        self.running += 1
+        self.counters.begun += 1
+        return True
+
+    def followed_no_more(self, session: Session, why: str) -> None:
+        """A program that follows can't go on: it ends, and isn't begun again before this server takes the network,
+        which then sees what is wrong."""
+        self.events.tell("not-followed", network=session.network.name, why=why)
+        session.kill()
 
     def over(self, session: Session) -> None:
         """A program has ended: one that was to end begins anew if somebody waits, and others may begin."""
@@ -192,10 +271,13 @@ class Hall:
     def keep(self, session: Session, rows: bytes) -> None:
         """Has rows written with all others that wait. Where there are none, as behind a look, it is only seen that no
         other server has written: so what is told is true of a moment after the question."""
-        if not rows and head_of(self.reader, session.network.number) == (self.writer.epoch, session.lines):
+        network = session.network
+        if session.lost:
+            return
+        if not rows and self.writer.is_still(network.number, network.epoch, session.lines):
             session.kept(0)
             return
-        self.waiting.append((session, Given(session.network.number, session.run, session.lines, rows)))
+        self.waiting.append((session, Given(network.number, session.run, session.lines, rows, network.epoch)))
         if not self.in_writing:
             self.loop.soon.append(self.write)
 
@@ -217,7 +299,7 @@ class Hall:
     def is_soon_done(self, given: Sequence[Given]) -> bool:
         """Whether no other thread is asked to write rows, since that keeps nobody waiting for long: few rows, of one
         program alone, or while no other is at work and the disk was quick."""
-        is_alone = self.running == 1 or not self.expected and self.took < TO_GATHER
+        is_alone = self.writer.is_quick and self.running == 1 or not self.expected and self.took < TO_GATHER
         return is_alone and sum(len(it.rows) for it in given) < FEW_BYTES
 
     def written(self, _: int) -> None:
@@ -228,20 +310,31 @@ class Hall:
         """A commit is done: the programs are told that their rows are kept, and the next is made."""
         written, self.in_writing = self.in_writing, []
         self.count(done)
-        if done.fault:
+        if isinstance(done.fault, Unknown):
+            for session, given in written:
+                if session.run == given.run and not session.lost:
+                    self.owning.unknown(session, done.fault)
+        elif done.fault:
             self.fail(done.fault)
             return
         are_few = sum(len(given.rows) for _, given in written) < FEW_BYTES  # many are gathered as it is
         self.took = self.loop.now - self.writes_since
         self.gather = min(self.took / 2, GATHER) if are_few and self.took > TO_GATHER else 0
         self.gathers_until = self.loop.now + 2 * self.gather
-        for session, given in written:
+        for session, given in written if not done.fault else []:
             if given.network in done.refused:
-                self.halted(session, given.before + 1, done.refused[given.network])
+                self.refused(session, given, done.refused[given.network])
             elif session.run == given.run and session.process:
                 session.kept(given.rows.count(b"\n"))
         self.write()
         self.begin_some()
+
+    def refused(self, session: Session, given: Given, why: str | None) -> None:
+        """A network's rows weren't written: it is halted now, or another server has it."""
+        if why is not None:
+            self.halted(session, given.before + 1, why)
+        elif session.run == given.run and not session.lost:
+            self.owning.lost(session)
 
     def count(self, done: Written) -> None:
         """Counts a commit, and the rows that it wrote."""
@@ -253,30 +346,41 @@ class Hall:
     def halt(self, session: Session, row: int, why: str) -> None:
         """Has nobody answer for a network, whose row the program doesn't take. If another server has the journal, it
         may have written while the rows were read: then it is this one that ends."""
-        if head_of(self.reader, session.network.number)[0] != self.writer.epoch:
-            self.fail(Fenced(LOST))
-            return
-        found = self.reader.execute("SELECT line, desk, sequence, reply FROM line WHERE network = ? AND number = ?",
-                                    [session.network.number, row]).fetchone()
-        told = f"row {row}{', `{}` of {} {} with the reply `{}`,'.format(*found) if found else ''} {why}"
-        halt(self.path, session.network.number, told)
-        self.halted(session, row, told)
+        number, epoch = session.network.number, session.network.epoch
+
+        def halting(tables: Tables) -> str | None:
+            if head_of(tables, number)[0] != epoch:
+                return None
+            found = tables.execute("SELECT line, desk, sequence, reply FROM line WHERE network = ? AND number = ?",
+                                   [number, row]).fetchone()
+            told = f"row {row}{', `{}` of {} {} with the reply `{}`,'.format(*found) if found else ''} {why}"
+            self.store.halt(number, epoch, told)
+            return told
+
+        def tell(told: str | None) -> None:
+            if told is None:
+                session.network = replace(session.network, halted=None)
+                self.owning.lost(session)
+            else:
+                self.halted(session, row, told)
+
+        session.network = replace(session.network, halted=why)  # so that nobody is told otherwise meanwhile
+        self.asker.ask(halting, tell)
 
     def halted(self, session: Session, row: int, why: str) -> None:
         """A network is halted in the journal: its program ends, and its clients are told."""
         self.events.tell("halted", network=session.network.name, row=row, why=why)
-        network = network_in(self.reader, session.network.name)
-        session.network = network or session.network
+        session.network = replace(session.network, halted=why)
         session.kill()
 
     def fail(self, fault: Exception) -> None:
         """Nothing more can be written, or nobody knows what was: all ends, and the next server sees what is there."""
         if self.fault:
             return
-        self.fault = str(fault) if isinstance(fault, Stop) else f"{self.path}: {fault}"
+        self.fault = str(fault) if isinstance(fault, Stop) else f"{self.store.place}: {fault}"
         self.status = 1 if isinstance(fault, Stop) else JOURNAL_FAULT
         if isinstance(fault, Stop):
-            self.events.tell("lost")
+            self.events.tell("lost", why=None if isinstance(fault, Fenced) else self.fault)
         else:
             self.events.tell("journal-fault", why=self.fault)
         self.stops, self.stops_since = True, self.loop.now
@@ -287,7 +391,10 @@ class Hall:
         self.end_if_done()
 
     def stop(self) -> None:
-        """Takes no more lines, and ends once those that were taken are answered."""
+        """Takes no more lines, and ends once those that were taken are answered. Where other servers are, they take
+        the networks first."""
+        if not self.stops and self.owning.hands_over():
+            return
         if not self.stops:
             self.stops, self.stops_since = True, self.loop.now
             self.events.tell("stopping")
@@ -302,6 +409,8 @@ class Hall:
         for session in self.sessions.values():
             if not session.places:
                 session.end()
+            if session.state == FOLLOWS:
+                session.kill()
         is_done = not self.clients and all(it.process is None for it in self.sessions.values())
         self.loop.is_over = self.loop.is_over or is_done
 
@@ -367,6 +476,10 @@ class Hall:
             session.kill()
         self.commits.asked.put(None)
         self.commits.join(self.limits.slow)
+        for it in [*self.passed]:
+            it.close()
+        self.owning.close()
+        self.asker.close()
         self.reader.close()
         if not self.commits.is_alive():
             self.writer.close()

@@ -1,8 +1,8 @@
 """A server of a journal from beginning to end: the doors by which clients come, signals, and the status.
 
-May use: nrm.desks.access, nrm.desks.journals.networks, nrm.desks.journals.tables, nrm.desks.journals.writing,
-nrm.desks.places, nrm.desks.relay.clients, nrm.desks.relay.doors.guards, nrm.desks.relay.hall, nrm.desks.relay.loop,
-nrm.desks.relay.telling.events.
+May use: nrm.desks.access, nrm.desks.journals.networks, nrm.desks.journals.stores.kinds, nrm.desks.places,
+nrm.desks.relay.clients, nrm.desks.relay.doors.guards, nrm.desks.relay.fleet.fleet, nrm.desks.relay.hall,
+nrm.desks.relay.loop, nrm.desks.relay.telling.events.
 """
 from __future__ import annotations
 
@@ -11,16 +11,16 @@ import os
 import signal
 import socket
 import ssl
-from dataclasses import dataclass, field
+from dataclasses import dataclass, field, replace
 from typing import Sequence
 
 from nrm.desks.access import Access
-from nrm.desks.journals.networks import Opened, networks_in
-from nrm.desks.journals.tables import using
-from nrm.desks.journals.writing import locked
+from nrm.desks.journals.networks import Opened
+from nrm.desks.journals.stores.kinds import Store
 from nrm.desks.places import Places, SocketPath, allow_files, tcp_socket
 from nrm.desks.relay.clients import HERE, Client, Limits
 from nrm.desks.relay.doors.guards import Guard, Watched
+from nrm.desks.relay.fleet.fleet import Sharing
 from nrm.desks.relay.hall import Answering, Hall
 from nrm.desks.relay.loop import READ
 from nrm.desks.relay.telling.events import Log
@@ -36,20 +36,20 @@ ENDS = (signal.SIGTERM, signal.SIGINT, signal.SIGHUP)
 @dataclass(frozen=True)
 class Server:
     """The journal, the program that answers, where clients come, the limits, the files that say who may come, after how
-    many seconds plans are made anew, if they are, and how the log is written."""
-    journal: str
+    many seconds plans are made anew, if they are, how the log is written, and how the journal is shared, if it can be."""
+    store: Store
     answering: Answering
     places: Places
     limits: Limits = field(default_factory=Limits)
     guard: Guard = field(default_factory=Guard)
     every: int = 0
     log: Log = field(default_factory=Log)
+    sharing: Sharing = field(default_factory=Sharing)
 
     def run(self) -> int:
         """Serves until this process is told to end, or the journal can't be written, and gives the status."""
-        with using(self.journal):
-            pass  # it is one
-        with locked(self.journal):
+        self.store.opened().close()  # it is one
+        with self.store.locked():
             return self.run_alone()
 
     def run_alone(self) -> int:
@@ -59,8 +59,13 @@ class Server:
         listeners = [tcp_socket(places.listen, places.is_beyond_allowed)] if places.listen else []
         path = SocketPath(places.socket) if places.socket else None
         try:
-            hall = Hall(self.journal, self.answering, self.limits, self.every, self.log)
-            networks = networks_in(hall.reader)
+            sharing = self.sharing
+            if listeners and not sharing.address:
+                sharing = replace(sharing, address=address_of(listeners[0]))
+            if not sharing.name:
+                sharing = replace(sharing, name=sharing.address or places.socket or "")
+            hall = Hall(self.store, self.answering, self.limits, self.every, self.log, sharing)
+            networks = hall.owning.networks()
             allow_files(self.limits.clients + FILES_OF_A_PROGRAM * len(networks) + SPARE_FILES)
             for it in listeners:
                 it.listen(BACKLOG)  # before the path is there, by which others see that they may come
@@ -91,13 +96,19 @@ class Server:
         """Tells that it has begun, and which networks aren't answered. What may keep it from that was done before, so
         that whoever can't begin tells nothing but why."""
         answers = hall.answering.checksum
-        hall.events.tell("started", journal=self.journal, epoch=hall.writer.epoch, networks=len(networks),
+        hall.events.tell("started", journal=self.store.place, epoch=hall.writer.epoch, networks=len(networks),
                          program=answers)
         for it in networks:
             if it.halted:
                 hall.events.tell("halted", network=it.name, why=it.halted)
-            elif not hall.is_answered(it):
+            elif not hall.fits(it):
                 hall.events.tell("version", network=it.name, began=it.program, answers=answers)
+
+
+def address_of(listener: socket.socket) -> str:
+    """Where a socket listens, as others can reach it."""
+    host, port = listener.getsockname()[:2]
+    return f"[{host}]:{port}" if ":" in host else f"{host}:{port}"
 
 
 def look_at_files(hall: Hall, access: Watched[Access] | None, context: Watched[ssl.SSLContext] | None) -> None:

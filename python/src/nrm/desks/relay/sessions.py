@@ -25,7 +25,7 @@ FEW_HELD = 4_096  # bytes that may go to the program with the word that its rows
 FULL = 1_048_576  # bytes that wait for the program, beyond which its clients aren't read
 AT_END = 2  # the seconds in which a program ends whose output has ended
 RIGHTS_TO_LOOK = "look", "greet"
-RESTS, WAITS, BEGINS, ANSWERS, ENDS = range(5)
+RESTS, WAITS, BEGINS, ANSWERS, ENDS, FOLLOWS = range(6)
 MEMORY = b"memory"  # the reply to a line for which there wasn't enough
 
 
@@ -48,6 +48,9 @@ class Keeper(Protocol):
     def over(self, session: Session) -> None:
         """The program has ended."""
 
+    def followed_no_more(self, session: Session, why: str) -> None:
+        """A program that follows a network's journal can't go on."""
+
 
 class Session:
     """A network, and the run of its program if it has one."""
@@ -64,6 +67,8 @@ class Session:
         self.held_until, self.has_answered = 0.0, True
         self.awaited: set[int] = set()
         self.again: Iterator[bytes] | None = None
+        self.is_starved = False  # the next rows of the journal are still being read
+        self.lost: str | None = None  # why its clients are closed, if another server has the network
         self.is_due = self.is_full = self.is_keeping = self.is_held = self.is_timed = False
         self.run = self.lines = self.silent = self.memory = 0
         self.told = ""
@@ -81,19 +86,25 @@ class Session:
             self.state = WAITS
             self.keeper.begin(self)
 
-    def start(self, words: Sequence[str], file: bytes, rows: Iterator[bytes]) -> None:
-        """Begins the program on the network file, and gives it the rows of the journal again."""
+    def start(self, words: Sequence[str], file: bytes, rows: Iterator[bytes], state: int = BEGINS) -> None:
+        """Begins the program on the network file, and gives it the rows of the journal again. One that follows gets
+        them as they come, until its server takes the network."""
         self.process = begun(words, self.network.mode, file)
         assert self.process.stdin and self.process.stdout
         self.input, self.output = self.process.stdin.fileno(), self.process.stdout.fileno()
         os.set_blocking(self.input, False)
         os.set_blocking(self.output, False)
-        self.state, self.again, self.told, self.silent = BEGINS, rows, "", 0
+        self.state, self.again, self.told, self.silent, self.lost = state, rows, "", 0, None
+        self.is_starved = False
         self.run += 1
         self.begun_at = self.keeper.loop.now
         self.lines, self.free = self.network.lines, list(range(frames.PLACES))
         self.keeper.loop.want(self.output, READ, self.hear)
         self.flush()
+
+    def take_over(self, network: Opened) -> None:
+        """A program that followed is that of the network now, which has no more lines than it counts."""
+        self.network, self.lines, self.state, self.begun_at = network, network.lines, BEGINS, self.keeper.loop.now
 
     def seat(self, client: Client, data: bytes) -> None:
         """Gives a client a place."""
@@ -181,8 +192,10 @@ class Session:
             return
         if self.again and len(self.out) < frames.MOST:
             piece = next(self.again, None)
-            self.out += frames.again(piece) if piece else frames.ALL_AGAIN
-            self.again = self.again if piece else None
+            self.is_starved = piece == b""
+            if not self.is_starved:
+                self.out += frames.again(piece) if piece else frames.ALL_AGAIN
+                self.again = self.again if piece else None
         try:
             while self.out:
                 del self.out[:os.write(self.input, self.out)]
@@ -191,7 +204,7 @@ class Session:
         except BrokenPipeError:
             self.out.clear()  # it has ended, as the end of its output will show
             self.again = None
-        self.keeper.loop.want(self.input, WRITE if self.out or self.again else 0, self.flush)
+        self.keeper.loop.want(self.input, WRITE if self.out or self.again and not self.is_starved else 0, self.flush)
         if self.is_full != (len(self.out) + len(self.held) > FULL):
             self.is_full = not self.is_full
             for client in self.places.values():
@@ -241,6 +254,8 @@ class Session:
             self.rests_since = self.keeper.loop.now
         elif kind == b"ready":
             self.ready(int(words[1]))
+        elif kind in (b"differs", b"no") and self.state == FOLLOWS:
+            self.keeper.followed_no_more(self, f"row {int(words[-1])} {kind.decode()}")
         elif kind in (b"differs", b"no"):
             self.keeper.halt(self, int(words[-1]), "isn't what the program answers" if kind == b"differs"
                              else "is none, or isn't the next")
@@ -249,6 +264,9 @@ class Session:
 
     def ready(self, rows: int) -> None:
         """The journal was given again."""
+        if self.state == FOLLOWS:
+            self.keeper.followed_no_more(self, f"row {rows + 1} isn't there")
+            return
         if rows != self.lines:
             self.keeper.halt(self, rows + 1, f"is missing: the journal counts {self.lines} lines")
             self.kill()
@@ -266,6 +284,16 @@ class Session:
             self.state = ENDS
             self.put(frames.END)
 
+    def lose(self, why: str) -> None:
+        """Another server has the network: the program ends with all that it had ahead, which nobody has seen, and its
+        clients are told to go elsewhere."""
+        self.lost = why
+        if self.process:
+            self.kill()
+        else:
+            self.state = RESTS
+            self.tell_all(why, False)
+
     def kill(self) -> None:
         """Ends the program at once, with what it has started."""
         if self.process and self.process.returncode is None:
@@ -280,12 +308,13 @@ class Session:
         self.state, self.out, self.held, self.frames, self.again = RESTS, bytearray(), bytearray(), Frames(), None
         self.is_keeping = False
         self.keeper.expected.discard(self)
-        if was == ENDS:
+        if was in (ENDS, FOLLOWS) or self.lost:
             self.keeper.events.tell("ended", network=self.network.name)
         elif not self.network.halted:
             self.keeper.events.tell("program-ended", network=self.network.name, status=status, told=self.told or None)
             self.begins_at = self.keeper.loop.now + 1  # so that one that fails at once doesn't begin all the time
-        self.tell_all("halted" if self.network.halted else f"program {status}", was == ENDS)
+        self.tell_all("halted" if self.network.halted else self.lost or f"program {status}",
+                      was in (ENDS, FOLLOWS) and not self.lost)
         self.keeper.over(self)
 
     def tell_all(self, why: str, are_to_wait: bool) -> None:

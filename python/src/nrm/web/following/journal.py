@@ -1,11 +1,11 @@
 """The journal as it grows: looked at a few times a second, and read where it has grown at most once a second.
 
 One thread reads, by one connection that can only read. What others see are values that are made anew and never changed.
-May use: nrm, nrm.desks.journals.networks, nrm.desks.journals.tables, nrm.network, nrm.web.following.counts.
+May use: nrm, nrm.desks.journals.networks, nrm.desks.journals.stores.choosing,
+nrm.desks.journals.stores.kinds, nrm.network, nrm.web.following.counts.
 """
 from __future__ import annotations
 
-import sqlite3
 import threading
 import time
 from dataclasses import dataclass, field, replace
@@ -13,7 +13,8 @@ from typing import Callable, Mapping
 
 from nrm import Stop
 from nrm.desks.journals.networks import Opened, file_of, network_in, networks_in
-from nrm.desks.journals.tables import using
+from nrm.desks.journals.stores.choosing import using
+from nrm.desks.journals.stores.kinds import Tables
 from nrm.network import Network, rows_of
 from nrm.web.following.counts import Booking, Counts, Row, Seen, StrangeRow
 
@@ -73,18 +74,18 @@ class Following:
                 self.show(self.networks, str(stop))
                 is_over.wait(READS_EVERY)
 
-    def look(self, connection: sqlite3.Connection, now: float | None = None) -> None:
+    def look(self, connection: Tables, now: float | None = None) -> None:
         """Reads what is new, if the file has changed and the last time is a second ago."""
         now = time.monotonic() if now is None else now
         if now - self.read_at < READS_EVERY and not self.is_behind:
             return
-        [version] = connection.execute("PRAGMA data_version").fetchone()
+        version = connection.version()
         if version == self.version and not self.is_behind:
             return
         self.version, self.read_at = version, now
         self.read(connection)
 
-    def read(self, connection: sqlite3.Connection) -> None:
+    def read(self, connection: Tables) -> None:
         """Reads what is new of each network."""
         before, made = self.networks, {}
         self.is_behind = False
@@ -94,7 +95,7 @@ class Following:
             self.is_behind |= not made[it.name].fault and made[it.name].seen.lines < it.lines
         self.show(made, None)
 
-    def further(self, connection: sqlite3.Connection, opened: Opened, old: Followed | None) -> Followed:
+    def further(self, connection: Tables, opened: Opened, old: Followed | None) -> Followed:
         """A network with its next rows."""
         made = Followed(opened.number, opened.name, opened.mode, opened.is_ended, opened.halted, opened.lines,
                         old.fault if old else None, old.seen if old else Seen())
@@ -109,7 +110,7 @@ class Following:
             return replace(made, fault="its network file isn't one that can be read here")
         return replace(made, seen=counts.seen())
 
-    def counts_of(self, connection: sqlite3.Connection, network: int) -> Counts:
+    def counts_of(self, connection: Tables, network: int) -> Counts:
         """The counts of a network, which begin with its file."""
         if network not in self.counts:
             self.counts[network] = Counts(Network.of(rows_of(file_of(connection, network))))
@@ -166,7 +167,7 @@ def is_same(old: Followed, now: Opened) -> bool:
         (bool(old.fault) or old.seen.lines == now.lines)
 
 
-def take_rows(connection: sqlite3.Connection, opened: Opened, counts: Counts) -> None:
+def take_rows(connection: Tables, opened: Opened, counts: Counts) -> None:
     """Takes the next rows of a network, a limited number."""
     for _ in range(ROWS_A_ROUND // ROWS_AT_ONCE):
         rows = connection.execute(f"SELECT {COLUMNS} FROM line WHERE network = ? AND number > ? ORDER BY number "

@@ -1,6 +1,6 @@
 """The pages as HTML, made of the templates in `static` by jinja2, which escapes each name and text.
 
-May use: nrm, nrm.desks.journals.answered, nrm.desks.journals.networks, nrm.desks.journals.tables,
+May use: nrm, nrm.desks.journals.answered, nrm.desks.journals.networks, nrm.desks.journals.stores.choosing,
 nrm.telling.libraries, nrm.web.asking.looks, nrm.web.following.journal, nrm.web.messages, nrm.web.showing.events,
 nrm.web.showing.views, nrm.web.showing.words.
 """
@@ -17,7 +17,7 @@ from typing import Any
 from nrm import Stop
 from nrm.desks.journals.answered import Line, line_in
 from nrm.desks.journals.networks import known
-from nrm.desks.journals.tables import using
+from nrm.desks.journals.stores.choosing import using
 from nrm.telling.libraries import is_there, lacks
 from nrm.web.asking.looks import Looks
 from nrm.web.following.journal import Followed, Following

@@ -61,17 +61,17 @@ FORMS = {
         "a second server wasn't refused"),
     "a look is answered by who has lost the journal": Form((
         (f"{DESKS}/relay/hall.py",
-         "if not rows and head_of(self.reader, session.network.number) == (self.writer.epoch, session.lines):",
+         "if not rows and self.writer.is_still(network.number, network.epoch, session.lines):",
          "if not rows:"),), crowd("asleep"), UNTRUE),
     "who has lost the journal halts a network": Form((
-        (f"{DESKS}/relay/hall.py", "        if head_of(self.reader, session.network.number)[0] != self.writer.epoch:\n",
-         "        if False:\n"),), moment("test_one_that_reads_while_another_writes_halts_nothing"),
+        (f"{DESKS}/relay/hall.py", "            if head_of(tables, number)[0] != epoch:\n",
+         "            if False:\n"),), moment("test_one_that_reads_while_another_writes_halts_nothing"),
         "AssertionError: .*halted"),
     "sent again is carried out again": Form((
-        (f"{DESKS}/journals/networks.py", "number || char(9) || desk || char(9) || sequence || char(9)",
+        (f"{DESKS}/journals/tables.py", "number || char(9) || desk || char(9) || sequence || char(9)",
          "number || char(9) || 'AGAIN' || char(9) || number || char(9)"),), crowd("server"), TWICE),
     "the journal isn't given again": Form((
-        (f"{DESKS}/relay/hall.py", "rows_of(self.reader, network.number))", "iter(()))"),
+        (f"{DESKS}/relay/hall.py", "self.asker.rows(network.number, network.lines, session.flush)", "iter(())"),
         (f"{DESKS}/relay/sessions.py", "        if rows != self.lines:\n", "        if False:\n")), crowd("server"),
         r"halted: .* was given out|closed halted"),
     "replies aren't compared when the journal is given again": Form((), crowd("changed"), NOT_HALTED, BLIND),

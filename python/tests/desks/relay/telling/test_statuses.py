@@ -7,7 +7,9 @@ from unittest import mock
 
 from harness import PlaceTest
 from nrm.desks.journals.networks import open_network
+from nrm.desks.journals.stores.sqlite import Sqlite
 from nrm.desks.journals.tables import begin, opened, using
+from nrm.desks.relay.fleet.sole import Sole
 from nrm.desks.relay.telling.counters import Counters
 from nrm.desks.relay.telling.status import Now, Teller
 from nrm.desks.status import Network, status_of
@@ -21,7 +23,8 @@ class Statuses(PlaceTest):
         self.open("one")
         self.reader = self.enter(contextlib.closing(opened(self.journal)))
         self.counters, self.sessions = Counters(), {}
-        self.teller = Teller(self.journal, "ab12", 7, 50, self.reader, self.counters, self.sessions, lambda: self.now)
+        owning = Sole(mock.Mock(), Sqlite(self.journal), self.reader, mock.Mock())
+        self.teller = Teller(owning, "ab12", 7, 50, self.counters, self.sessions, lambda: self.now)
 
     def enter(self, manager: contextlib.AbstractContextManager) -> object:
         made = manager.__enter__()
@@ -62,7 +65,7 @@ class Statuses(PlaceTest):
         self.sessions["one"] = self.session(0)
         self.networks()
         self.open("two")
-        with mock.patch("nrm.desks.relay.telling.status.networks_in", side_effect=AssertionError):
+        with mock.patch("nrm.desks.relay.fleet.sole.networks_in", side_effect=AssertionError):
             self.now += 0.9
             self.sessions["one"].network.halted = "row 2"
             self.assertEqual(self.networks(), [Network("one", "bid", "rests", 3, 0, True, 4)])

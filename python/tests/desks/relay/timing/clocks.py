@@ -52,6 +52,9 @@ class Hall:
     def is_answered(self, network: Opened) -> bool:
         return self.answers
 
+    def may_read(self) -> bool:
+        return True
+
     def close(self) -> None:
         self.reader.close()
         self.writer.close()

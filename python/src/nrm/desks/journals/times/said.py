@@ -1,16 +1,16 @@
 """The times of a network: when its periods begin and when it departs, as they are written, kept and told.
 
-May use: nrm, nrm.network.
+May use: nrm, nrm.desks.journals.stores.kinds, nrm.network.
 """
 from __future__ import annotations
 
 import datetime
 import re
-import sqlite3
 from dataclasses import dataclass
 from typing import Iterator, Sequence
 
 from nrm import Stop
+from nrm.desks.journals.stores.kinds import Tables
 from nrm.network import rows_of, whole
 
 WRITTEN = re.compile(r"([0-9]{4}-[0-9]{2}-[0-9]{2}T[0-9]{2}:[0-9]{2})(:[0-9]{2})?(Z|[+-][0-9]{2}:[0-9]{2})?")
@@ -96,16 +96,18 @@ def see_that_it_has(file: bytes, times: Times) -> None:
 # As the journal has them
 
 
-def set_times(connection: sqlite3.Connection, network: int, times: Times) -> None:
+def set_times(connection: Tables, network: int, times: Times) -> None:
     """Sets the times of a network anew, within a change."""
     connection.execute("DELETE FROM period WHERE network = ?", [network])
-    connection.execute("INSERT OR REPLACE INTO departure VALUES (?, ?)", [network, times.departs])
-    connection.executemany("INSERT INTO period VALUES (?, ?, ?)", [(network, *it) for it in times.begins])
+    connection.execute("INSERT INTO departure VALUES (?, ?) ON CONFLICT (network) DO UPDATE SET "
+                       "departs = excluded.departs", [network, times.departs])
+    for period, begins in times.begins:
+        connection.execute("INSERT INTO period VALUES (?, ?, ?)", [network, period, begins])
 
 
-def times_of(connection: sqlite3.Connection, network: int) -> Times | None:
+def times_of(connection: Tables, network: int) -> Times | None:
     """The times of a network, if it has some."""
-    if not connection.execute("SELECT * FROM sqlite_master WHERE name = 'departure'").fetchone():
+    if not connection.has("departure"):
         return None  # of an earlier release
     departure = connection.execute("SELECT departs FROM departure WHERE network = ?", [network]).fetchone()
     begins = connection.execute("SELECT period, begins FROM period WHERE network = ? ORDER BY period", [network])

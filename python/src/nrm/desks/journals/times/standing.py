@@ -1,25 +1,24 @@
 """Where networks stand by their times: the period that has begun, and the one that a plan was asked for.
 
-Each query is answered by indexes, however many lines a network has. May use: nrm.desks.journals.tables.
+Each query is answered by indexes, however many lines a network has. May use: nrm.desks.journals.stores.kinds.
 """
 from __future__ import annotations
 
-import sqlite3
 from dataclasses import dataclass
 
-from nrm.desks.journals.tables import ASKS_FOR_A_PLAN, PERIOD
+from nrm.desks.journals.stores.kinds import Lines, Tables
 
-LAST = f"FROM line INDEXED BY plan_by_number WHERE line.network = departure.network AND {ASKS_FOR_A_PLAN} " \
+LAST = "FROM line {of.by_number} WHERE line.network = departure.network AND {of.asks_for_a_plan} " \
        "ORDER BY number DESC LIMIT 1"
-STANDINGS = f"""SELECT departure.network, name, lines,
+STANDINGS = """SELECT departure.network, name, lines,
     (SELECT period FROM period WHERE period.network = departure.network AND begins <= :now
         ORDER BY period DESC LIMIT 1),
     (SELECT begins FROM period WHERE period.network = departure.network AND begins > :now ORDER BY period LIMIT 1),
-    (SELECT {PERIOD} FROM line INDEXED BY plan_by_period WHERE line.network = departure.network AND {ASKS_FOR_A_PLAN}
-        ORDER BY {PERIOD} DESC LIMIT 1),
-    CASE WHEN :every THEN coalesce((SELECT at {LAST}), begun) END,
-    CASE WHEN :every THEN (SELECT number {LAST}) END
-    FROM departure CROSS JOIN network USING (network) CROSS JOIN head USING (network)
+    (SELECT {of.period} FROM line {of.by_period} WHERE line.network = departure.network AND {of.asks_for_a_plan}
+        ORDER BY {of.period} DESC LIMIT 1),
+    CASE WHEN :every > 0 THEN coalesce((SELECT at {last}), begun) END,
+    CASE WHEN :every > 0 THEN (SELECT number {last}) END
+    FROM departure {of.join} network USING (network) {of.join} head USING (network)
     WHERE departs > :now AND mode <> 'first'"""
 
 
@@ -55,15 +54,20 @@ class Standing:
         return min([*again, *([self.next_at] if self.next_at is not None else [])], default=None)
 
 
-def standings(connection: sqlite3.Connection, now: int, every: int, network: int | None = None) -> list[Standing]:
+def standings_by(lines: Lines) -> str:
+    """The query for where networks stand, as lines are told apart."""
+    return STANDINGS.format(of=lines, last=LAST.format(of=lines))
+
+
+def standings(connection: Tables, now: int, every: int, network: int | None = None) -> list[Standing]:
     """Where each network stands that has times, or one of them."""
     one = "" if network is None else " AND departure.network = :network"
-    rows = connection.execute(STANDINGS + one, {"now": now, "every": every, "network": network})
+    rows = connection.execute(standings_by(connection.lines) + one, {"now": now, "every": every, "network": network})
     return [Standing(number, name, lines, begun or 1, next_at, planned or 1, last_at or 0, last or 0)
             for number, name, lines, begun, next_at, planned, last_at, last in rows]
 
 
-def missed(connection: sqlite3.Connection, standing: Standing, now: int) -> list[int]:
+def missed(connection: Tables, standing: Standing, now: int) -> list[int]:
     """The periods between that of the last plan and the latest that have begun and are left out."""
     rows = connection.execute("SELECT period FROM period WHERE network = ? AND period > ? AND period < ? AND "
                               "begins <= ? ORDER BY period", [standing.network, standing.planned, standing.begun, now])

@@ -28,6 +28,7 @@ class Counters:
     failed       commits that didn't write all that they were to
     times        commits by the first bound that they didn't exceed, and at the end those beyond the last
     begun        programs, and those that have ended
+    passed       clients that were passed on to other servers
     """
     came: int = 0
     turned_away: int = 0
@@ -43,6 +44,7 @@ class Counters:
     times: List[int] = field(default_factory=lambda: [0] * (len(BOUNDS) + 1))
     begun: int = 0
     ended: int = 0
+    passed: int = 0
 
     def commit(self, seconds: float, rows: int, is_whole: bool) -> None:
         """Counts a commit, with the rows that it wrote, and whether these are all that it was to write."""

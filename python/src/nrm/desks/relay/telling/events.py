@@ -29,7 +29,8 @@ LEVEL_OF = {
     "journal-held": WARNING, "lost": ERROR, "closed": WARNING, "unread": WARNING, "turned-away": WARNING,
     "waiting": WARNING, "memory": WARNING, "untold": WARNING, "token-refused": WARNING, "desks-read": INFO,
     "desks-fault": ERROR, "certificate-read": INFO, "certificate-fault": ERROR, "clock": INFO, "clock-missed": WARNING,
-    "clock-failed": WARNING,
+    "clock-failed": WARNING, "taken": INFO, "followed": INFO, "not-followed": WARNING, "leaving": INFO,
+    "unknown": WARNING, "database": WARNING,
 }
 EXPECTED = ("gone", "elsewhere", "stopping")  # why a client was closed of which nobody needs to hear
 OF_A_KIND = ("network", "reason", "on")  # fields that tell events of one name apart; each has few values
@@ -119,6 +120,8 @@ class Events:
 
 def level_of(event: str, fields: Fields) -> str:
     """The level of an event."""
+    if event == "lost" and "network" in fields:
+        return WARNING  # of one network, which another server has now
     return DEBUG if event == "closed" and fields.get("reason") in EXPECTED else LEVEL_OF.get(event, WARNING)
 
 

@@ -1,25 +1,23 @@
 """What the server answers to a line `status`: what was counted, and what is now.
 
-May use: nrm, nrm.desks.journals.networks, nrm.desks.relay.sessions, nrm.desks.relay.telling.counters,
+May use: nrm, nrm.desks.journals.networks, nrm.desks.relay.fleet.sole, nrm.desks.relay.sessions, nrm.desks.relay.telling.counters,
 nrm.desks.relay.telling.events, nrm.desks.status.
 """
 from __future__ import annotations
 
-import os
-import sqlite3
 import time
 from dataclasses import dataclass
-from typing import Callable, Mapping
+from typing import Callable, Mapping, Sequence
 
 from nrm import __version__
-from nrm.desks.journals.networks import Opened, networks_in
+from nrm.desks.journals.networks import Opened
+from nrm.desks.relay.fleet.sole import Owning
 from nrm.desks.relay.sessions import Session
 from nrm.desks.relay.telling.counters import Counters
 from nrm.desks.relay.telling.events import time_text
 from nrm.desks.status import STATES, Clients, Commits, Network, Programs, Server, Status
 
 SECOND = 1.0
-LOG = "-wal"  # behind the name of a journal: what isn't in the file itself yet
 
 
 @dataclass(frozen=True)
@@ -34,13 +32,13 @@ class Now:
 class Teller:
     """Makes the answers. The journal is asked for its networks, and for its size, at most once a second."""
 
-    def __init__(self, path: str, program: str, epoch: int, most: int, reader: sqlite3.Connection,
-                 counters: Counters, sessions: Mapping[str, Session], clock: Callable[[], float]) -> None:
-        self.path, self.program, self.epoch, self.most = path, program, epoch, most
-        self.reader, self.counters, self.sessions, self.clock = reader, counters, sessions, clock
+    def __init__(self, owning: Owning, program: str, epoch: int, most: int, counters: Counters,
+                 sessions: Mapping[str, Session], clock: Callable[[], float]) -> None:
+        self.owning, self.program, self.epoch, self.most = owning, program, epoch, most
+        self.counters, self.sessions, self.clock = counters, sessions, clock
         self.started = time_text(time.time_ns() // 1_000_000)
         self.looked: float | None = None
-        self.networks: list[Opened] = []
+        self.networks: Sequence[Opened] = ()
         self.size = 0
 
     def status(self, now: Now) -> Status:
@@ -59,16 +57,8 @@ class Teller:
     def look(self) -> None:
         """Asks the journal, unless that was done within the last second."""
         if self.looked is None or self.clock() - self.looked >= SECOND:
-            self.looked, self.networks = self.clock(), networks_in(self.reader)
-            self.size = sum(size_of(it) for it in (self.path, self.path + LOG))
-
-
-def size_of(path: str) -> int:
-    """The bytes of a file, and none if it isn't there."""
-    try:
-        return os.stat(path).st_size
-    except OSError:
-        return 0
+            self.looked, self.networks = self.clock(), self.owning.networks()
+            self.size = self.owning.size()
 
 
 def status_of(network: Opened, session: Session | None) -> Network:

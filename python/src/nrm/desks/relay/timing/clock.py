@@ -3,22 +3,21 @@
 What was asked for is seen in the journal alone, so nothing is sent twice, and what another desk sent isn't sent again.
 When each network is to be looked at next is kept here, so that a second costs next to nothing: all are looked at anew
 if another process has written the journal, which may have set other times, and if the clock of the machine went back.
-May use: nrm.desks.access, nrm.desks.journals.networks, nrm.desks.journals.times.standing, nrm.desks.journals.writing,
+May use: nrm.desks.access, nrm.desks.journals.networks, nrm.desks.journals.stores.kinds, nrm.desks.journals.times.standing,
 nrm.desks.relay.clients, nrm.desks.relay.telling.events, nrm.desks.relay.timing.outcome, nrm.desks.relay.timing.own.
 """
 from __future__ import annotations
 
 import contextlib
 import heapq
-import sqlite3
 import time
 from dataclasses import dataclass
 from typing import Callable, Iterable, Iterator, Protocol, Sequence
 
 from nrm.desks.access import CLOCK
 from nrm.desks.journals.networks import Opened, network_in
+from nrm.desks.journals.stores.kinds import Tables, Writer
 from nrm.desks.journals.times.standing import Standing, missed, standings
-from nrm.desks.journals.writing import Writer
 from nrm.desks.relay.clients import Client, Hall
 from nrm.desks.relay.telling.events import Events
 from nrm.desks.relay.timing.outcome import Outcome, outcome_of
@@ -32,7 +31,7 @@ MOST_SKIPPED = 5  # seconds in which rows were being written, before all are loo
 class Keeper(Hall, Protocol):
     """What the clock needs of its server, beside what a client does."""
     events: Events
-    reader: sqlite3.Connection
+    reader: Tables
     writer: Writer
     clients: set[Client]
     stops: bool
@@ -42,7 +41,10 @@ class Keeper(Hall, Protocol):
         """The rows that are being written."""
 
     def is_answered(self, network: Opened) -> bool:
-        """Whether this program may answer for a network."""
+        """Whether this server answers for a network."""
+
+    def may_read(self) -> bool:
+        """Whether the journal is reached, so that to ask it keeps nobody waiting."""
 
 
 @dataclass(frozen=True)
@@ -81,7 +83,7 @@ class Clock:
 
     def look(self) -> None:
         """Finds the networks that are due, and has plans made."""
-        if self.hall.stops:
+        if self.hall.stops or not self.hall.may_read():
             return
         before, self.now = self.now, int(1000 * self.time())
         with self.reading():
@@ -96,7 +98,7 @@ class Clock:
         """Where the journal can't be read that is told, and all is looked at in the next second."""
         try:
             yield
-        except sqlite3.Error as fault:
+        except self.hall.reader.faults as fault:
             self.is_to_look = True
             self.hall.events.tell("clock-failed", why=str(fault))
 
@@ -106,7 +108,7 @@ class Clock:
         self.skipped += 1
         is_changed = self.is_to_look or self.skipped > MOST_SKIPPED
         if not self.hall.in_writing:
-            before, self.version, self.skipped = self.version, version_of(self.hall.writer.connection), 0
+            before, self.version, self.skipped = self.version, self.hall.writer.version(), 0
             is_changed = is_changed or self.version != before
         return is_changed
 
@@ -123,7 +125,7 @@ class Clock:
             when, network = heapq.heappop(self.next)
             if self.when.get(network) == when:
                 self.look_at(network)
-        version = version_of(self.hall.reader) if self.quiet else self.rows_version
+        version = self.hall.reader.version() if self.quiet else self.rows_version
         if version != self.rows_version:
             self.rows_version = version
             grown = [number for number, lines in self.hall.reader.execute("SELECT network, lines FROM head")
@@ -217,12 +219,6 @@ class Clock:
         self.hall.events.tell("clock", network=asked.name, period=asked.period, seconds=outcome.seconds,
                               value=outcome.value,
                               changed="unknown" if outcome.changed is None else joined(outcome.changed))
-
-
-def version_of(connection: sqlite3.Connection) -> int:
-    """A number that is another one when another connection has written."""
-    [version] = connection.execute("PRAGMA data_version").fetchone()
-    return int(version)
 
 
 def joined(words: Iterable[object]) -> str:

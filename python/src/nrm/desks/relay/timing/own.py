@@ -25,6 +25,10 @@ class Own(Client):
         self.why, self.since, self.full_since = None, hall.loop.now, None
         self.told: list[tuple[float, bytes]] = []  # what it was told, and when
 
+    def may_be_passed(self) -> bool:
+        """It is asked again here, when this server has the network."""
+        return False
+
     def watch(self) -> None:
         """Nothing more comes, and nothing waits to be sent."""
 

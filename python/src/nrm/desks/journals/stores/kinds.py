@@ -1,0 +1,270 @@
+"""What a store of rows is: connections to the tables, what writes, and what several servers see of each other.
+
+May use: nrm.
+"""
+from __future__ import annotations
+
+from dataclasses import dataclass
+from typing import Any, ContextManager, Iterator, Mapping, Protocol, Sequence, Union
+
+from nrm import Stop
+
+Values = Union[Sequence[Any], Mapping[str, Any]]
+
+
+# What goes wrong
+
+
+class NoJournal(Stop):
+    """What is at a place is no journal."""
+
+
+class Fenced(Stop):
+    """Another server has the journal now."""
+
+
+class Busy(Exception):
+    """Nothing was written, since somebody else holds the journal, or it isn't reached: it can be tried again."""
+
+
+class Unknown(Exception):
+    """Nobody knows whether the rows were written: the connection broke within the commit, or the waiting for another
+    machine's disk was cancelled."""
+
+
+class Refused(Exception):
+    """Why the tables don't take a row."""
+
+
+# The tables
+
+
+class Rows(Protocol):
+    """What a statement gives."""
+
+    @property
+    def rowcount(self) -> int:
+        """How many rows it gave or changed."""
+
+    def fetchone(self) -> Any:
+        """The next row, or None."""
+
+    def fetchall(self) -> list[Any]:
+        """All rows that are left."""
+
+    def __iter__(self) -> Iterator[Any]:
+        """The rows, one by one."""
+
+
+class Tables(Protocol):
+    """A connection to the tables of a journal. In a statement `?` stands for a value."""
+
+    @property
+    def time(self) -> str:
+        """How the text of a time in milliseconds is written in a statement; `{}` stands for its column."""
+
+    @property
+    def bytes_of(self) -> str:
+        """How the bytes of a field are written in a statement, whatever they are; `{}` stands for its column."""
+
+    @property
+    def lines(self) -> Lines:
+        """How lines are told apart in a statement."""
+
+    @property
+    def first_head(self) -> str:
+        """The statement that says of a new network, by number, that it has no lines, and whose it is."""
+
+    @property
+    def faults(self) -> tuple[type[Exception], ...]:
+        """What goes wrong with the store itself."""
+
+    @property
+    def lost(self) -> tuple[type[Exception], ...]:
+        """What goes wrong with the connection alone, so that a question may be asked again."""
+
+    def history(self) -> str:
+        """What is another one when rows that were read may have been lost since."""
+
+    def execute(self, statement: str, values: Values = (), /) -> Rows:
+        """Carries out a statement."""
+
+    def change(self) -> ContextManager[None]:
+        """A change that happens as a whole or not at all."""
+
+    def rows_after(self, network: int, number: int, most: int | None = None) -> tuple[int, list[bytes]]:
+        """The next rows of a network behind the one of a number, as its program takes them, in pieces that a frame
+        takes, and the number of the last; none beyond `most`."""
+
+    def has(self, table: str) -> bool:
+        """Whether there is a table of a name: a journal of an earlier release may lack some."""
+
+    def version(self) -> int:
+        """A number that is another one when another connection may have written."""
+
+    def close(self) -> None:
+        """Ends the connection."""
+
+
+@dataclass(frozen=True)
+class Lines:
+    """What a statement says of lines, as conditions and values that indexes have.
+
+    asks_for_a_plan  the line asked for a plan of a period that the network has
+    period           the period that such a line asks for
+    by_number        behind `line`, the index of these by number, if it must be named; by_period likewise
+    join             how tables are joined in the order in which they are written
+    """
+    asks_for_a_plan: str
+    period: str
+    join: str = "JOIN"
+    by_number: str = ""
+    by_period: str = ""
+
+
+# What writes
+
+
+@dataclass(frozen=True)
+class Given:
+    """Rows that a program has given out: of which network, by which run of its program, behind how many lines, and by
+    which taking of the network, where each has its own."""
+    network: int
+    run: int
+    before: int
+    rows: bytes
+    epoch: int = 0
+
+    def count(self) -> int:
+        """How many rows they are."""
+        return self.rows.count(b"\n")
+
+
+class Writer(Protocol):
+    """One server's writing."""
+    is_quick: bool  # whether few rows are written without keeping others waiting for long
+    epoch: int  # of this start; where each network is taken by itself, the number of this start
+
+    def write(self, given: Sequence[Given]) -> dict[int, str | None]:
+        """Writes the rows of several networks in one commit. Gives why those of a network were refused, which halts it,
+        or None for a network that another server has. Busy if nothing was written and it can be tried again, Unknown
+        if nobody knows, Fenced if another server has the whole journal."""
+
+    def version(self) -> int:
+        """A number that is another one when another process may have written the journal, and not this server."""
+
+    def is_still(self, network: int, epoch: int, lines: int) -> bool:
+        """Whether it is seen at once, without a commit, that a network is still this server's and has these lines."""
+
+    def close(self) -> None:
+        """Ends the writing."""
+
+
+# Several servers
+
+
+@dataclass(frozen=True)
+class Member:
+    """A server that is alive: the number of its start, its name, where desks reach it, its program, and whether it is
+    about to leave or has only just begun."""
+    server: int
+    name: str
+    address: str
+    program: str
+    is_leaving: bool
+    is_young: bool
+
+
+@dataclass(frozen=True)
+class Head:
+    """Whose a network is: the number of the server's start, if it was taken; how many lines it has, and its epoch."""
+    network: int
+    name: str
+    mode: str
+    program: str
+    is_ended: bool
+    halted: str | None
+    lines: int
+    epoch: int
+    server: int | None
+
+
+@dataclass(frozen=True)
+class Seen:
+    """What a server sees of the others.
+
+    server      itself, by the number of its start
+    members     those alive, as far as that is known
+    dead        servers that have died, whose networks nobody has
+    is_sure     whether the others may be taken for dead: not soon after this server couldn't look itself
+    heads       whose each network is
+    is_durable  whether a commit waits for another machine's disk
+    size        the bytes of the journal
+    """
+    server: int
+    members: tuple[Member, ...]
+    dead: frozenset[int]
+    is_sure: bool
+    heads: tuple[Head, ...]
+    is_durable: bool
+    size: int
+
+
+@dataclass(frozen=True)
+class Named:
+    """How a server is known to others: its name, where desks reach it, and its program."""
+    name: str
+    address: str
+    program: str
+
+
+class Replaced(Stop):
+    """Another start of a server has the name now."""
+
+
+class Members(Protocol):
+    """What servers that share a journal tell each other through it."""
+
+    def beat(self, is_leaving: bool) -> Seen:
+        """Tells that this server is alive, and looks who else is and whose each network is. Replaced if a later start
+        has its name."""
+
+    def take(self, wanted: Sequence[tuple[int, int]]) -> dict[int, tuple[int, int]]:
+        """Takes networks, each of which must still have an epoch, by one commit. Gives the epoch and the lines of those
+        that were taken; what is read afterwards can't be lost. Unknown if nobody knows."""
+
+    def leave(self, owned: Sequence[tuple[int, int]]) -> None:
+        """Gives networks up, each with its epoch, and is no more."""
+
+    def close(self) -> None:
+        """Ends the connection."""
+
+
+class Store(Protocol):
+    """A journal, wherever its rows are."""
+    place: str  # as it is told, without a password
+    is_shared: bool  # whether several servers may answer for its networks, each for some
+
+    def begin(self) -> None:
+        """Makes a journal without a network."""
+
+    def opened(self, is_to_write: bool = False) -> Tables:
+        """A connection to the tables; a Stop if there are none."""
+
+    def locked(self) -> ContextManager[None]:
+        """The journal, as this server's alone where it can't be shared; a Stop while another has it."""
+
+    def writer(self, program: str) -> Writer:
+        """What writes the rows of a server that answers by a program."""
+
+    def members(self, named: Named) -> Members:
+        """What this server tells others, and sees of them."""
+
+    def halt(self, network: int, epoch: int, why: str) -> None:
+        """Has nobody answer for a network any more, if its epoch is still this one."""
+
+    def answer_by(self, network: int, program: str) -> None:
+        """Has a network without lines answered by another program than it began with."""
+
+    def size(self) -> int:
+        """The bytes that the journal takes."""

@@ -1,0 +1,4 @@
+"""A journal in PostgreSQL, for whose networks several servers answer.
+
+May use: nothing.
+"""

@@ -1,0 +1,384 @@
+"""A server among several that share a journal: what it sees of the others, and which networks it takes, moves to itself,
+follows and loses.
+
+Twice a second it tells that it is alive, and looks. All that keeps rows safe is in the statements that take and write;
+what stands here decides only when they are tried. May use: nrm, nrm.desks.journals.networks,
+nrm.desks.journals.stores.kinds, nrm.desks.relay.fleet.asking, nrm.desks.relay.fleet.owning, nrm.desks.relay.loop,
+nrm.desks.relay.sessions, nrm.desks.relay.telling.events.
+"""
+from __future__ import annotations
+
+from dataclasses import dataclass, replace
+from typing import Callable, Protocol, Sequence
+
+from nrm import Stop
+from nrm.desks.journals.networks import Opened, file_of
+from nrm.desks.journals.stores.kinds import Head, Member, Named, Replaced, Seen, Store
+from nrm.desks.relay.fleet.asking import Asker, Feed, Rows, Worker
+from nrm.desks.relay.fleet.owning import MOVES, preferred, wanted_of
+from nrm.desks.relay.loop import Loop
+from nrm.desks.relay.sessions import FOLLOWS, RESTS, Session
+from nrm.desks.relay.telling.events import Events
+
+BEAT = 0.5  # seconds between two heartbeats
+FEW = 1000  # lines that a network may have to be moved before its program has answered them again
+LOADS = 2  # programs that are given their journals at a time to follow them
+TO_LEAVE = 60.0  # the most seconds for which a server that is to end waits for others to take its networks
+AT_END = 5.0  # and those in which it says that it leaves
+NOT_DURABLE = ("the database waits for no other machine: synchronous_standby_names is empty, and without --alone no "
+               "server serves it")
+
+
+@dataclass(frozen=True)
+class Sharing:
+    """How a server shares a journal: its name, where others reach it, whether it serves a database that is alone,
+    whether desks are sent on to the owner of their network or passed on, and how many networks it follows at most."""
+    name: str = ""
+    address: str = ""
+    is_alone: bool = False
+    is_to_send_on: bool = False
+    followers: int = 100
+
+
+class Keeper(Protocol):
+    """What is needed of the server."""
+    loop: Loop
+    events: Events
+    asker: Asker
+    sessions: dict[str, Session]
+
+    def fail(self, fault: Exception) -> None:
+        """Ends all."""
+
+    def stop(self) -> None:
+        """Has the server end."""
+
+    def session_for(self, network: Opened) -> Session:
+        """The session of a network, which is made if nobody came to it before."""
+
+    def follow(self, session: Session, network: Opened, file: bytes, rows: Rows) -> bool:
+        """Begins a program that follows a network's journal; gives whether it did."""
+
+
+def opened_of(head: Head) -> Opened:
+    """The network of a head."""
+    return Opened(head.network, head.name, head.mode, head.program, head.is_ended, head.halted, head.lines, head.epoch)
+
+
+class Fleet:
+    """What this server has, and what it knows of the others."""
+
+    def __init__(self, keeper: Keeper, store: Store, named: Named, sharing: Sharing) -> None:
+        self.keeper, self.store, self.named, self.sharing = keeper, store, named, sharing
+        members = store.members(named)
+        self.seen = members.beat(False)
+        self.see_that_it_is_durable(self.seen)
+        self.heads: dict[str, Head] = {it.name: it for it in self.seen.heads}
+        self.by_number: dict[int, Head] = {it.network: it for it in self.seen.heads}
+        self.owned: dict[int, int] = {}  # networks, by their epochs, whose takings were acknowledged
+        self.known: dict[int, int] = {}  # how many lines of each were answered here: they can't become fewer
+        self.feeds: dict[int, Feed] = {}  # of the networks that are followed
+        self.loading: set[int] = set()  # those of them whose network files are being read
+        self.spoiled: dict[int, int] = {}  # networks whose programs couldn't follow, by the epochs of their owners
+        self.taking: set[int] = set()
+        self.waiting: list[Callable[[], None]] = []
+        self.is_beating = self.is_leaving = self.is_closed = False
+        self.leaving_since = self.seen_at = keeper.loop.now
+        self.worker = Worker(keeper.loop, members)
+        keeper.loop.soon.append(lambda: self.looked(self.known, self.seen, None))
+
+    def see_that_it_is_durable(self, seen: Seen) -> None:
+        """A Stop for a database that acknowledges what one disk alone has, unless that is allowed."""
+        if not (seen.is_durable or self.sharing.is_alone):
+            raise Stop(NOT_DURABLE)
+
+    # What the server needs to know
+
+    def networks(self) -> Sequence[Opened]:
+        """All networks, as they were seen last."""
+        return [opened_of(it) for it in self.heads.values()]
+
+    def network(self, name: str) -> Opened | None:
+        """The network of a name, as it was seen last."""
+        return opened_of(self.heads[name]) if name in self.heads else None
+
+    def size(self) -> int:
+        """The bytes of the journal."""
+        return self.seen.size
+
+    def epoch_of(self, network: int) -> int | None:
+        """The epoch of a taking that was acknowledged, if there is one and nobody else was seen to have it."""
+        return self.owned.get(network)
+
+    def elsewhere(self, network: Opened) -> str | None:
+        """Where a client finds a network that isn't here."""
+        if network.number in self.owned:
+            return None
+        owner = self.member_of(network.name)
+        return f"moved {owner.address}" if owner and owner.address and owner.server != self.seen.server else "wait"
+
+    def when_looked(self, then: Callable[[], None]) -> bool:
+        """Has something done once all was looked at anew, which begins now."""
+        self.waiting.append(then)
+        self.beat()
+        return True
+
+    def member_of(self, name: str) -> Member | None:
+        """The server that has a network, as far as it was seen, and is alive."""
+        head = self.heads.get(name)
+        return next((it for it in self.seen.members if head and it.server == head.server), None)
+
+    def owner_of(self, name: str) -> str:
+        """The name of the server that has a network, or `none`."""
+        head = self.heads.get(name)
+        if head and head.network in self.owned:
+            return self.named.name
+        owner = self.member_of(name)
+        return owner.name if owner and owner.server != self.seen.server else "none"
+
+    def may_read(self) -> bool:
+        """Whether the journal was reached just now."""
+        return self.keeper.loop.now - self.seen_at < 3 * BEAT
+
+    # Twice a second
+
+    def beat(self) -> None:
+        """Tells that this server is alive, and looks, unless that is being done."""
+        if self.is_beating or self.is_closed:
+            return
+        self.is_beating = True
+        for session in self.keeper.sessions.values():
+            if session.network.number in self.owned and session.network.epoch == self.owned[session.network.number]:
+                self.known[session.network.number] = max(session.lines, self.known.get(session.network.number, 0))
+        known, is_leaving = dict(self.known), self.is_leaving
+        self.worker.ask(lambda members: members.beat(is_leaving), lambda seen, why: self.looked(known, seen, why))
+
+    def looked(self, known: dict[int, int], seen: Seen | None, fault: Exception | None) -> None:
+        """Does what follows from what was seen; `known` is what was answered before it was looked."""
+        self.is_beating = False
+        if self.is_closed:
+            return
+        self.keeper.loop.call_at(self.keeper.loop.now + BEAT, self.beat)
+        if isinstance(fault, Replaced):
+            self.keeper.fail(fault)
+        elif fault or not seen:
+            self.keeper.events.tell("database", why=" ".join(str(fault).split()))
+        else:
+            self.see(known, seen)
+        waiting, self.waiting = self.waiting, []
+        for then in waiting:
+            then()
+
+    def see(self, known: dict[int, int], seen: Seen) -> None:
+        """Takes, follows, loses."""
+        try:
+            self.see_that_it_is_durable(seen)
+        except Stop as why:
+            self.keeper.fail(why)
+            return
+        self.seen, self.seen_at = seen, self.keeper.loop.now
+        self.heads = {it.name: it for it in seen.heads}
+        self.by_number = {it.network: it for it in seen.heads}
+        for head in seen.heads:
+            self.see_head(head, known.get(head.network, 0))
+        if self.is_leaving:
+            self.leave_if_done()
+            return
+        wanted = wanted_of(seen, self.owned)
+        self.follow_some(wanted.follows, wanted.moves, {it.network for it in wanted.takes} | self.taking)
+        takes = [*wanted.takes, *[it for it in wanted.moves if self.may_move(it)][:MOVES]]
+        self.take([it for it in takes if it.network not in self.taking])
+
+    def see_head(self, head: Head, known: int) -> None:
+        """Loses a network that another has, and halts one of which lines are gone that were answered."""
+        if head.lines < known and not head.halted:
+            self.known.pop(head.network, None)
+            why = f"lines {head.lines + 1} to {known} were answered and are gone from the journal"
+            self.keeper.asker.ask(lambda tables: self.store.halt(head.network, head.epoch, why), lambda _: None)
+            self.keeper.events.tell("halted", network=head.name, row=head.lines + 1, why=why)
+            self.forget(head, "halted")
+        elif head.network in self.owned and head.epoch > self.owned[head.network]:
+            self.forget(head, self.elsewhere_but_here(head))
+        elif head.network in self.owned and head.halted:
+            self.forget(head, "halted")
+
+    def elsewhere_but_here(self, head: Head) -> str:
+        """What clients are told of a network that another has."""
+        self.owned.pop(head.network, None)
+        why = self.elsewhere(opened_of(head)) or "wait"
+        return why if self.sharing.is_to_send_on else "wait"
+
+    def forget(self, head: Head, why: str) -> None:
+        """This server has a network no more."""
+        self.owned.pop(head.network, None)
+        if why != "halted":
+            self.keeper.events.tell("lost", network=head.name, owner=self.owner_of(head.name))
+        session = self.keeper.sessions.get(head.name)
+        if session:
+            session.network = replace(session.network, halted=session.network.halted or head.halted)
+            session.lose(why)
+
+    # Taking
+
+    def take(self, heads: Sequence[Head]) -> None:
+        """Takes networks by one commit."""
+        if not heads:
+            return
+        self.taking |= {it.network for it in heads}
+        wanted = [(it.network, it.epoch) for it in heads]
+        self.worker.ask(lambda members: members.take(wanted), lambda taken, why: self.took(heads, taken, why))
+
+    def took(self, heads: Sequence[Head], taken: dict[int, tuple[int, int]] | None, fault: Exception | None) -> None:
+        """Has networks whose taking was acknowledged. Where nobody knows, the next look shows whether they were taken,
+        and then they are taken anew."""
+        self.taking -= {it.network for it in heads}
+        if fault:
+            self.keeper.events.tell("database", why=" ".join(str(fault).split()))
+        for head in heads:
+            if taken and head.network in taken:
+                epoch, lines = taken[head.network]
+                self.has(replace(head, epoch=epoch, lines=lines, server=self.seen.server))
+
+    def has(self, head: Head) -> None:
+        """This server has a network."""
+        self.owned[head.network] = head.epoch
+        self.heads[head.name] = self.by_number[head.network] = head
+        self.keeper.events.tell("taken", network=head.name, epoch=head.epoch, lines=head.lines)
+        session, feed = self.keeper.sessions.get(head.name), self.feeds.pop(head.network, None)
+        if session and feed:
+            self.go_on_with(session, feed, opened_of(head))
+
+    def go_on_with(self, session: Session, feed: Feed, network: Opened) -> None:
+        """Goes on with a program that has followed, once it is known which past of the database this is."""
+        self.keeper.asker.ask(lambda tables: tables.history(),
+                              lambda history: self.take_over(session, feed, network, history))
+
+    def take_over(self, session: Session, feed: Feed, network: Opened, history: str) -> None:
+        """Goes on with a program that has followed, if all that it was given is still there: it was read in the same
+        past of the database, which the taking has behind it."""
+        if session.state != FOLLOWS or self.owned.get(network.number) != network.epoch:
+            return
+        if feed.histories <= {history} and feed.read <= network.lines:
+            session.take_over(network)
+            feed.more(network.lines, is_all=True)
+        else:
+            session.kill()
+
+    def lost(self, session: Session) -> None:
+        """The fence didn't let a network's rows through."""
+        head = self.heads[session.network.name]
+        if head.network in self.owned:
+            self.forget(head, self.elsewhere_but_here(head))
+        self.beat()
+
+    def unknown(self, session: Session, fault: Exception) -> None:
+        """The network is taken anew, and its program ends with what it had ahead: the journal tells what was
+        written."""
+        self.keeper.events.tell("unknown", network=session.network.name, why=str(fault))
+        self.owned.pop(session.network.number, None)
+        session.lose("wait")
+        self.beat()
+
+    # Following, and moving
+
+    def follow_some(self, follows: Sequence[Head], moves: Sequence[Head], taken: set[int]) -> None:
+        """Follows the networks that this server would have next, as many as it may, and those that it moves to itself.
+        Those that it is about to take are followed until it has them."""
+        self.drop_ended()
+        moving = [it for it in moves if it.lines >= FEW][:MOVES]
+        chosen = {it.network: it for it in moving}
+        for it in sorted(follows, key=lambda head: head.network not in self.feeds):
+            if it.lines and len(chosen) < self.sharing.followers:
+                chosen.setdefault(it.network, it)
+        for network in [*self.feeds]:
+            if network not in chosen and network not in taken:
+                self.follow_no_more(network)
+        for head in chosen.values():
+            if head.network in self.feeds:
+                self.feeds[head.network].more(head.lines)
+            elif self.count_of_loading() < LOADS and self.spoiled.get(head.network) != head.epoch:
+                self.follow(head)
+
+    def drop_ended(self) -> None:
+        """Forgets the rows of programs that followed and have ended; what spoiled one spoils the next as long as the
+        network has the same owner."""
+        for network, feed in [*self.feeds.items()]:
+            head = self.by_number.get(network)
+            session = self.keeper.sessions.get(head.name) if head else None
+            if not head or not session or session.state != FOLLOWS:
+                feed.close()
+                del self.feeds[network]
+                if head:
+                    self.spoiled[network] = head.epoch
+
+    def count_of_loading(self) -> int:
+        """How many are being given what the journal has."""
+        behind = sum(network in self.by_number and feed.read < self.by_number[network].lines
+                     for network, feed in self.feeds.items())
+        return len(self.loading) + behind
+
+    def follow(self, head: Head) -> None:
+        """Begins a program that is given a network's lines as they become part of the journal."""
+        session = self.keeper.session_for(opened_of(head))
+        if head.network in self.loading or session.state != RESTS or session.coming:
+            return
+        self.loading.add(head.network)
+        self.keeper.asker.ask(lambda tables: file_of(tables, head.network), lambda file: self.feed(session, head, file))
+
+    def feed(self, session: Session, head: Head, file: bytes) -> None:
+        """Has its network file, and gives the rows that are there."""
+        self.loading.discard(head.network)
+        if head.network in self.owned or session.state != RESTS or session.coming or self.is_leaving:
+            return
+        feed = self.keeper.asker.rows(head.network, None, session.flush)
+        assert isinstance(feed, Feed)
+        if self.keeper.follow(session, opened_of(head), file, feed):
+            self.feeds[head.network] = feed
+            self.keeper.events.tell("followed", network=head.name, lines=head.lines)
+            feed.more(head.lines)
+
+    def follow_no_more(self, network: int) -> None:
+        """Ends a program that followed."""
+        feed = self.feeds.pop(network, None)
+        head = self.by_number.get(network)
+        session = self.keeper.sessions.get(head.name) if head else None
+        if feed:
+            feed.close()
+        if session and session.state == FOLLOWS:
+            session.kill()
+
+    def may_move(self, head: Head) -> bool:
+        """Whether a network can be taken from a server that is alive so that its desks wait for little."""
+        feed = self.feeds.get(head.network)
+        return head.lines < FEW or feed is not None and feed.read >= head.lines and not feed.pieces
+
+    # Leaving
+
+    def hands_over(self) -> bool:
+        """Whether it goes on until others have its networks: not if it was told to end twice, or if there are none."""
+        if self.is_leaving or not self.heirs():
+            return False
+        self.is_leaving, self.leaving_since = True, self.keeper.loop.now
+        self.keeper.events.tell("leaving", networks=len(self.owned))
+        for network in [*self.feeds]:
+            self.follow_no_more(network)
+        self.beat()
+        return True
+
+    def heirs(self) -> list[int]:
+        """The networks of this server that another would take."""
+        members = [it for it in self.seen.members if it.server != self.seen.server]
+        return [it for it in self.owned if it in self.by_number and preferred(self.by_number[it], members)]
+
+    def leave_if_done(self) -> None:
+        """Ends once others have all that they will take."""
+        if not self.heirs() or self.keeper.loop.now - self.leaving_since > TO_LEAVE:
+            self.keeper.stop()
+
+    def close(self) -> None:
+        """Gives up what it has, so that others needn't wait for the lease."""
+        self.is_closed = True
+        owned = [*self.owned.items()]
+        self.worker.ask(lambda members: members.leave(owned), lambda _, __: None)
+        if self.worker.end(AT_END):
+            self.worker.subject.close()

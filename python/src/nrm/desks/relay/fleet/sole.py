@@ -1,0 +1,114 @@
+"""A server that has all networks of its journal, as long as nobody else has the journal.
+
+May use: nrm.desks.journals.networks, nrm.desks.journals.stores.kinds, nrm.desks.relay.sessions.
+"""
+from __future__ import annotations
+
+from typing import Callable, Protocol, Sequence
+
+from nrm.desks.journals.networks import Opened, network_in, networks_in
+from nrm.desks.journals.stores.kinds import Fenced, Store, Tables, Writer
+from nrm.desks.relay.sessions import Session
+
+LOST = "another server has the journal now, and this one answers nothing more"
+
+
+class Owning(Protocol):
+    """Whose each network is, as the server needs to know it."""
+
+    def networks(self) -> Sequence[Opened]:
+        """All networks, by their names."""
+
+    def network(self, name: str) -> Opened | None:
+        """The network of a name."""
+
+    def size(self) -> int:
+        """The bytes of the journal."""
+
+    def epoch_of(self, network: int) -> int | None:
+        """The epoch by which this server has a network, if it has it."""
+
+    def elsewhere(self, network: Opened) -> str | None:
+        """Why a client isn't taken to a network here: `wait`, or `moved` and where it is; None if it is."""
+
+    def when_looked(self, then: Callable[[], None]) -> bool:
+        """Has something done once the networks were looked at anew; gives whether they are."""
+
+    def owner_of(self, name: str) -> str:
+        """The name of the server that has a network, or `none`."""
+
+    def may_read(self) -> bool:
+        """Whether the journal is reached, so that to ask it keeps nobody waiting."""
+
+    def lost(self, session: Session) -> None:
+        """Another server has a network."""
+
+    def unknown(self, session: Session, fault: Exception) -> None:
+        """Nobody knows whether the rows of a network were written."""
+
+    def hands_over(self) -> bool:
+        """Whether this server, which was told to end, goes on until others have its networks."""
+
+    def close(self) -> None:
+        """Ends what stands between this server and others."""
+
+
+class Keeper(Protocol):
+    """What is needed of the server."""
+
+    def fail(self, fault: Exception) -> None:
+        """Ends all."""
+
+
+class Sole:
+    """It has all networks, by the epoch of its start."""
+
+    def __init__(self, keeper: Keeper, store: Store, tables: Tables, writer: Writer) -> None:
+        self.keeper, self.store, self.tables, self.writer = keeper, store, tables, writer
+
+    def networks(self) -> Sequence[Opened]:
+        """All networks, as the journal has them now."""
+        return networks_in(self.tables)
+
+    def network(self, name: str) -> Opened | None:
+        """The network of a name."""
+        return network_in(self.tables, name)
+
+    def size(self) -> int:
+        """The bytes of the journal."""
+        return self.store.size()
+
+    def epoch_of(self, network: int) -> int | None:
+        """That of the start."""
+        return self.writer.epoch
+
+    def elsewhere(self, network: Opened) -> str | None:
+        """There is no other."""
+        return None
+
+    def when_looked(self, then: Callable[[], None]) -> bool:
+        """The journal is looked at each time."""
+        return False
+
+    def owner_of(self, name: str) -> str:
+        """Nobody else has any."""
+        return "here"
+
+    def may_read(self) -> bool:
+        """A file is always reached."""
+        return True
+
+    def lost(self, session: Session) -> None:
+        """Another server has the journal, and so all networks."""
+        self.keeper.fail(Fenced(LOST))
+
+    def unknown(self, session: Session, fault: Exception) -> None:
+        """The next server sees what is there."""
+        self.keeper.fail(fault)
+
+    def hands_over(self) -> bool:
+        """To nobody."""
+        return False
+
+    def close(self) -> None:
+        """There is nothing to be ended."""
