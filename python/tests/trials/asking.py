@@ -14,11 +14,12 @@ MOVED = "closed moved "
 TOO_LONG = 300.0  # for a desk to have its replies, while servers are killed sooner than they have begun all programs
 PATIENCE = 5.0  # of a desk, before it connects anew; each time it waits for twice as long
 Streams = Tuple[asyncio.StreamReader, asyncio.StreamWriter]
-ENDED = re.compile("closed (sequence|old|network|elsewhere|long|window)")  # as no desk of the crowd may be turned away
+ENDED = re.compile("closed (sequence|old|network|elsewhere|long|window)")  # as no desk of a crowd may be turned away
 
 
 class Around(Protocol):
     """What a desk needs of its crowd."""
+    ended: re.Pattern[str]  # as no desk may be turned away
     seed: int
     pause: float
     is_over: bool
@@ -114,7 +115,7 @@ class Asker:
         """The next reply."""
         assert self.streams
         told = await reply_from(self.streams[0])
-        if ENDED.fullmatch(told) or told == "closed halted" and self.crowd.changed != self.case.name:
+        if self.crowd.ended.fullmatch(told) or told == "closed halted" and self.crowd.changed != self.case.name:
             raise AssertionError(f"{self.heard.desk} of {self.case.name} at {self.sequence}: {told}")
         if told.startswith("closed "):
             self.place = told[len(MOVED):] if told.startswith(MOVED) else ""

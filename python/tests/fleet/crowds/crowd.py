@@ -36,13 +36,15 @@ from typing import Any, Sequence
 import databases  # of the folder tests at the top
 from fleet.crowds.troubles import Troubles
 from fleet.standing import Fleet, free_ports
-from harness import program
+from harness import program, wait_for
 from trials.asking import TOO_LONG, Asker
 from trials.judging import faults_of
 from trials.rounds import in_thread, judged_rounds, made_cases, see_that_none_failed, told_of, words_of
 
 USUAL = {"networks": 20, "desks": 200, "servers": 3, "kills": 100, "stops": 20, "failovers": 10, "rounds": 1,
          "pause": 0.2, "between": 2.0, "seed": 1}
+ASKED = """SELECT pid FROM pg_stat_activity WHERE datname = current_database() AND backend_type = 'client backend'
+           AND pid <> pg_backend_pid()"""
 CALM = 2.0  # seconds in which nothing goes wrong yet
 
 
@@ -85,6 +87,7 @@ class Crowd:
             tasks = [asyncio.ensure_future(some) for some in (it.trouble_servers(), it.trouble_databases(),
                                                               it.keep_servers())]
             await self.until_over(it, running, tasks)
+            await in_thread(lambda: self.end(fleet))
             faults = [*it.told]
             faults += await in_thread(lambda: faults_of(fleet.rows, self.cases, [desk.heard for desk in it.askers],
                                                         program()))
@@ -92,6 +95,11 @@ class Crowd:
             return faults
         finally:
             fleet.end()
+
+    def end(self, fleet: Fleet) -> None:
+        """Ends the servers, and waits until the database has done what they asked for last."""
+        fleet.end()
+        wait_for(lambda: not fleet.rows(ASKED), "the end of what the servers asked for")
 
     async def until_over(self, it: Troubles, running: Sequence[asyncio.Future[None]],
                          tasks: Sequence[asyncio.Future[None]]) -> None:

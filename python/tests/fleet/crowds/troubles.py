@@ -5,6 +5,7 @@ from __future__ import annotations
 import argparse
 import asyncio
 import random
+import re
 import signal
 import time
 from collections import Counter
@@ -15,11 +16,15 @@ from trials.asking import Asker, Streams
 from trials.rounds import in_thread
 
 BEHIND = 0.4  # seconds by which the standbys are behind when the primary is lost
+# as no desk may be turned away. A greeting that a server got and didn't pass on while it was stopped may come to the
+# owner when the desk has long connected anew by another server: then that later connection is closed with `elsewhere`
+ENDED_HERE = re.compile("closed (sequence|old|network|long|window)")
 AGAIN = 0.5  # seconds before a server that has ended by itself is begun anew
 
 
 class Troubles:
     """The servers of a fleet and of its database, and what happens to both while desks ask."""
+    ended = ENDED_HERE
     seed: int
 
     def __init__(self, fleet: Fleet, databases: Databases, asked: argparse.Namespace, draw: random.Random,
@@ -76,6 +81,8 @@ class Troubles:
             at = self.draw.randrange(self.asked.servers)
             await (self.kill(at) if what == "kills" else self.stop(at))
             self.events[what] += 1
+            if self.events[what] % 20 == 0:
+                print(f"{dict(self.events)}, {sum(len(it.heard.replies) for it in self.askers)} replies", flush=True)
 
     async def kill(self, at: int) -> None:
         """Kills a server, and begins it anew at once or after a while."""

@@ -30,7 +30,7 @@ from desks.relay.faults import clock_off, failing, forcing, library, lose_power
 from desks.relay.serves import PATIENT, Serve, journal_of, rows_in
 from harness import SOURCES, program
 from nrm.network import Network
-from trials.asking import Asker, Streams, reply_from
+from trials.asking import ENDED, Asker, Streams, reply_from
 from trials.judging import Case, Copied, Heard, Told
 from trials.rounds import in_thread
 
@@ -47,6 +47,7 @@ exec {words} "$1" <(sed -E 's/^(product,[^,]*,)/\\19/' "$2")
 
 class Troubles:
     """The journal, its server, and what happens to both while desks ask."""
+    ended = ENDED
     seed: int
     pause: float
 
