@@ -42,6 +42,7 @@ NOT_RUN = {  # by the beginning of the commands; the reason
 }
 # commands of Debian's packages glpk-utils, qsopt-ex, sqlite3, socat, gcc, nodejs, openssl and curl: not run without them
 NEEDS = ("glpsol", "esolver", "sqlite3", "socat", "cc", "node", "openssl", "curl")
+WITH_DATABASE = "fleet.md"  # the page whose commands need a database
 ENDS = {  # by the beginning of the commands that end with another status than 0 on purpose: the status
     "python3 examples/line/make.py trains": 1, "python3 examples/line/make.py line": 1, "sed 's/AB 120/AB 119/'": 1,
     "sed 's/^protect BC 4 6/": 1, "nrm-tools explain mine/train.csv": 3, 'cp "$store-wal" mine/backup': 1}
@@ -90,6 +91,14 @@ def lay_programs(top, program):
         built.chmod(0o755)
 
 
+def lacks_a_database():
+    """Why the page of a database isn't tried here; nothing if it is."""
+    if not list(Path("/usr/lib/postgresql").glob("*/bin/initdb")):
+        return "PostgreSQL isn't installed (Debian has postgresql)"
+    done = subprocess.run(["/usr/bin/python3", "-c", "import psycopg"], stderr=subprocess.DEVNULL)
+    return "/usr/bin/python3 has no psycopg (Debian has python3-psycopg)" if done.returncode else ""
+
+
 def page_tried(path, program):
     """What is wrong with a page, how many parts were run and how many compared, and what of the lists was met."""
     with tempfile.TemporaryDirectory() as folder:
@@ -109,6 +118,9 @@ def main():
     faults, links = faulty_links([*TOP.glob("*.md"), *pages])
     if links < 100 and not given.pattern:
         faults.append(f"there are {links} links alone")
+    if (why := lacks_a_database()) and (without := [it for it in pages if it.name == WITH_DATABASE]):
+        print(f"{WITH_DATABASE}: its commands aren't run: {why}")
+        pages = [it for it in pages if it not in without]
     failed, met = bool(faults), set()
     with concurrent.futures.ThreadPoolExecutor(4) as pool:
         tried = pool.map(lambda it: page_tried(it, given.program), pages)

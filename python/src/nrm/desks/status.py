@@ -11,7 +11,7 @@ import socket
 import ssl
 import time
 from dataclasses import dataclass, fields
-from typing import Callable, Mapping, Sequence, Tuple, Type, TypeVar, Union
+from typing import Callable, Mapping, Optional, Sequence, Tuple, Type, TypeVar, Union
 
 ASKED = b"status\n"
 END = b"\n\n"
@@ -19,7 +19,7 @@ TOLD_TOKEN = re.compile(rb"token [^\n]*\n")  # before it, to who gave one
 PIECE = 65_536
 MOST_BYTES = 64_000_000  # of an answer
 MOST_SHOWN = 200  # characters of a strange line
-STATES = ("rests", "waits", "begins", "answers", "ends")
+STATES = ("rests", "waits", "begins", "answers", "ends", "follows")
 Part = TypeVar("Part")
 Path = Union[str, "os.PathLike[str]"]
 Place = Union[Path, Tuple[str, int]]
@@ -92,8 +92,34 @@ class Network:
 
 
 @dataclass(frozen=True)
+class Fleet:
+    """A server among several that share a journal: its name, where others reach it, how many servers it sees, the
+    networks that it has now and follows now, and since it began, how many it has taken and lost, and how many clients
+    it passed on."""
+    name: str
+    address: str
+    servers: int
+    owned: int
+    followed: int
+    taken: int
+    lost: int
+    passed: int
+
+
+@dataclass(frozen=True)
+class Share:
+    """Whose a network is: the name of the server that has it, or `none`, the epoch of its taking, and whether this
+    server follows it, and so would go on at once."""
+    network: str
+    owner: str
+    epoch: int
+    followed: bool
+
+
+@dataclass(frozen=True)
 class Status:
-    """All that a server tells of itself. `closed` has why clients were closed, and how many for that; `commit_times`
+    """All that a server tells of itself; of others, and whose each network is, only where several share a journal.
+    `closed` has why clients were closed, and how many for that; `commit_times`
     seconds, and how many commits took at most so long, as a histogram of Prometheus has them."""
     server: Server
     clients: Clients
@@ -102,6 +128,8 @@ class Status:
     commit_times: Tuple[Tuple[float, int], ...]
     programs: Programs
     networks: Tuple[Network, ...]
+    fleet: Optional[Fleet] = None
+    shares: Tuple[Share, ...] = ()
 
     def text(self) -> str:
         """The answer, with the empty line at its end."""
@@ -109,7 +137,8 @@ class Status:
         lines = [f"server {words_of(self.server)}", f"clients {words_of(self.clients)}",
                  *(f"closed {why} {count}" for why, count in sorted(self.closed.items())),
                  f"commits {words_of(self.commits)}", f"commit-times {times}", f"programs {words_of(self.programs)}",
-                 *map(words_of, self.networks)]
+                 *map(words_of, self.networks), *([f"fleet {words_of(self.fleet)}"] if self.fleet else []),
+                 *(f"share {words_of(it)}" for it in self.shares)]
         return "\n".join([*lines, "", ""])
 
 
@@ -158,7 +187,9 @@ class Lines:
                       part_of(Commits, self.one("commits")),
                       tuple((duration(bound), whole(count)) for bound, count in pairs_of(self.one("commit-times"))),
                       part_of(Programs, self.one("programs")),
-                      tuple(part_of(Network, words) for words in self.of_kind["network"]))
+                      tuple(part_of(Network, words) for words in self.of_kind["network"]),
+                      part_of(Fleet, self.one("fleet")) if self.of_kind["fleet"] else None,
+                      tuple(part_of(Share, words[1:]) for words in self.of_kind["share"]))
 
     def one(self, kind: str) -> list[str]:
         """The words behind a kind of which there is one line."""
@@ -168,7 +199,7 @@ class Lines:
         return found[0][1:]
 
 
-KINDS = ("server", "clients", "closed", "commits", "commit-times", "programs", "network")
+KINDS = ("server", "clients", "closed", "commits", "commit-times", "programs", "network", "fleet", "share")
 
 
 def pairs_of(words: Sequence[str]) -> list[tuple[str, str]]:

@@ -58,6 +58,7 @@ class Watch:
             yield from of_server(status)
             yield from of_commits(status)
             yield from of_clients(status)
+            yield from of_fleet(status)
 
 
 def what_is_wrong(following: Following, status: Status | NoStatus) -> Iterator[str]:
@@ -168,3 +169,20 @@ def of_clients(status: Status) -> Iterator[Any]:
     for reason, count in sorted(status.closed.items()):
         closed.add_metric([reason], count)
     yield closed
+
+
+def of_fleet(status: Status) -> Iterator[Any]:
+    """What a server tells of itself among several that share the journal; nothing where it has it alone."""
+    if not status.fleet:
+        return
+    fleet = status.fleet
+    yield gauge("nrm_fleet_servers", "Servers that this one sees, with itself", fleet.servers)
+    yield gauge("nrm_networks_owned", "Networks that this server has", fleet.owned)
+    yield gauge("nrm_networks_followed", "Networks that this server follows", fleet.followed)
+    yield counter("nrm_networks_taken", "Networks that this server took", fleet.taken)
+    yield counter("nrm_networks_lost", "Networks that other servers took from it", fleet.lost)
+    yield counter("nrm_clients_passed", "Clients that were passed on to other servers", fleet.passed)
+    owner = family("Gauge", "nrm_network_owner", "1 for the server that has a network", ("network", "owner"))
+    for it in status.shares:
+        owner.add_metric([it.network, it.owner], 1)
+    yield owner

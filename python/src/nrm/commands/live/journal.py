@@ -8,8 +8,9 @@
     nrm-tools journal look JOURNAL [NETWORK [NUMBER] [--desk NAME] [--booking NUMBER]]
     nrm-tools journal backup JOURNAL COPY
 
-A journal is an SQLite file, in which `nrm-tools serve` keeps each line that may have changed something, with who asked
-it, when, and what was answered. `begin` makes one, for its owner alone; `open` puts a network into it, once `nrm_desks`
+A journal is an SQLite file, or the tables of a database of PostgreSQL, where JOURNAL is postgresql://HOST:PORT/DATABASE.
+In it `nrm-tools serve` keeps each line that may have changed something, with who asked it, when, and what was answered.
+`begin` makes one, a file for its owner alone; `open` puts a network into it, once `nrm_desks`
 has read its file and made the opening plan: the file byte for byte, the mode, and the checksum of that program, which
 is named by --program, or is that of this folder, or the one on the path. A server that is at work answers for it at
 once. The name begins with a small letter, and has at most 40 of `a` to `z`, `0` to `9`, `.`, `_` and `-`. `end` has a
@@ -28,7 +29,8 @@ by the desk `IMPORT`, while no server is at work, but for those whose numbers st
 `look` tells all networks, a line each: name, mode, lines, when it was begun, whether it has ended or is halted and why,
 and the checksum of its program. With a network it writes its lines, with one tab between number, time, desk, the desk's
 own number, line and reply: all of them, the one of a number, those of a desk, or those of a booking. It and `backup`,
-which makes a copy that is a journal too, may be used while a server is at work, as `sqlite3 -readonly` may.
+which makes a copy that is a journal too, may be used while a server is at work, as `sqlite3 -readonly` may. `backup`
+and `import` are for files.
 """
 from __future__ import annotations
 
@@ -49,6 +51,7 @@ from nrm.replies import MODES
 
 WAYS = {"begin": (0, 0), "open": (3, 3), "times": (1, 1), "end": (1, 1), "import": (4, 4), "look": (0, 2),
         "backup": (1, 1)}  # and how many words follow
+FOR_FILES = "import", "backup"
 
 
 def number(text: str) -> int:
@@ -130,6 +133,8 @@ def look(words: argparse.ArgumentParser, asked: argparse.Namespace) -> None:
 def run(given: Sequence[str]) -> int:
     """Does what the first word says."""
     words, asked = words_of(given)
+    if asked.way in FOR_FILES and store_of(asked.journal).is_shared:
+        words.error(f"`{asked.way}` is for a journal in a file")
     times = times_in(asked.departure, asked.begins) if asked.departure is not None else None
     if asked.way == "begin":
         store_of(asked.journal).begin()

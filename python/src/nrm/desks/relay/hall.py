@@ -103,7 +103,8 @@ class Hall:
         if client.is_done or not client.is_open:
             return
         client.network = session.network.name if session else None
-        why = "stopping" if self.stops else "network" if not session else self.refusal(session)
+        unknown = "network" if self.owning.may_read() else "wait"
+        why = "stopping" if self.stops else self.refusal(session) if session else unknown
         if why or not session:
             client.finish(why)
         elif elsewhere := self.owning.elsewhere(session.network):
@@ -114,8 +115,8 @@ class Hall:
     def send_on(self, client: Client, elsewhere: str) -> None:
         """Passes a client on to the server that has its network, or tells it to go there or to come again."""
         word, _, address = elsewhere.partition(" ")
-        if not address or client.is_passed:
-            client.finish("wait")
+        if not address or client.is_passed or not self.owning.may_read():
+            client.finish("wait")  # who was stopped for long doesn't pass on a greeting that may be an old one
         elif self.sharing.is_to_send_on or not client.may_be_passed():
             client.finish(elsewhere)
         else:
@@ -155,8 +156,7 @@ class Hall:
             session.network = network
         if session.network.halted:
             return "halted"
-        is_elsewhere = self.owning.elsewhere(session.network) not in (None, "wait")
-        return None if is_elsewhere or self.fits(session.network) else "version"
+        return None if self.owning.elsewhere(session.network) or self.fits(session.network) else "version"
 
     def is_answered(self, network: Opened) -> bool:
         """Whether this server answers for a network."""
@@ -164,7 +164,8 @@ class Hall:
 
     def fits(self, network: Opened) -> bool:
         """Whether this program may answer for a network."""
-        is_free = self.answering.is_said and (network.is_ended or not network.lines)
+        is_named = self.answering.is_said and self.owning.may_adopt()
+        is_free = is_named and (network.is_ended or not network.lines)
         return network.program == self.answering.checksum or is_free
 
     def leave(self, client: Client) -> None:
@@ -358,6 +359,7 @@ class Hall:
             return told
 
         def tell(told: str | None) -> None:
+            self.owning.given_up(number)
             if told is None:
                 session.network = replace(session.network, halted=None)
                 self.owning.lost(session)
@@ -365,6 +367,7 @@ class Hall:
                 self.halted(session, row, told)
 
         session.network = replace(session.network, halted=why)  # so that nobody is told otherwise meanwhile
+        self.owning.give_up(number)
         self.asker.ask(halting, tell)
 
     def halted(self, session: Session, row: int, why: str) -> None:

@@ -4,7 +4,7 @@ follows and loses.
 Twice a second it tells that it is alive, and looks. All that keeps rows safe is in the statements that take and write;
 what stands here decides only when they are tried. May use: nrm, nrm.desks.journals.networks,
 nrm.desks.journals.stores.kinds, nrm.desks.relay.fleet.asking, nrm.desks.relay.fleet.owning, nrm.desks.relay.loop,
-nrm.desks.relay.sessions, nrm.desks.relay.telling.events.
+nrm.desks.relay.sessions, nrm.desks.relay.telling.counters, nrm.desks.relay.telling.events, nrm.desks.status.
 """
 from __future__ import annotations
 
@@ -18,9 +18,13 @@ from nrm.desks.relay.fleet.asking import Asker, Feed, Rows, Worker
 from nrm.desks.relay.fleet.owning import MOVES, preferred, wanted_of
 from nrm.desks.relay.loop import Loop
 from nrm.desks.relay.sessions import FOLLOWS, RESTS, Session
+from nrm.desks.relay.telling.counters import Counters
 from nrm.desks.relay.telling.events import Events
+from nrm.desks.status import Fleet as FleetStatus
+from nrm.desks.status import Share
 
 BEAT = 0.5  # seconds between two heartbeats
+OLD = 3.0  # seconds after which a look says nothing more
 FEW = 1000  # lines that a network may have to be moved before its program has answered them again
 LOADS = 2  # programs that are given their journals at a time to follow them
 TO_LEAVE = 60.0  # the most seconds for which a server that is to end waits for others to take its networks
@@ -44,6 +48,7 @@ class Keeper(Protocol):
     """What is needed of the server."""
     loop: Loop
     events: Events
+    counters: Counters
     asker: Asker
     sessions: dict[str, Session]
 
@@ -83,7 +88,7 @@ class Fleet:
         self.taking: set[int] = set()
         self.waiting: list[Callable[[], None]] = []
         self.is_beating = self.is_leaving = self.is_closed = False
-        self.leaving_since = self.seen_at = keeper.loop.now
+        self.leaving_since = self.seen_at = self.asked_at = keeper.loop.now
         self.worker = Worker(keeper.loop, members)
         keeper.loop.soon.append(lambda: self.looked(self.known, self.seen, None))
 
@@ -128,6 +133,10 @@ class Fleet:
         head = self.heads.get(name)
         return next((it for it in self.seen.members if head and it.server == head.server), None)
 
+    def may_adopt(self) -> bool:
+        """Whose a network is is decided by its program."""
+        return False
+
     def owner_of(self, name: str) -> str:
         """The name of the server that has a network, or `none`."""
         head = self.heads.get(name)
@@ -136,9 +145,17 @@ class Fleet:
         owner = self.member_of(name)
         return owner.name if owner and owner.server != self.seen.server else "none"
 
+    def fleet(self) -> tuple[FleetStatus, tuple[Share, ...]]:
+        """What is told of the servers, and whose each network is."""
+        counters = self.keeper.counters
+        told = FleetStatus(self.named.name, self.named.address or "none", len(self.seen.members), len(self.owned),
+                           len(self.feeds), counters.taken, counters.lost, counters.passed)
+        return told, tuple(Share(it.name, self.owner_of(it.name), it.epoch, it.network in self.feeds)
+                           for it in self.heads.values())
+
     def may_read(self) -> bool:
-        """Whether the journal was reached just now."""
-        return self.keeper.loop.now - self.seen_at < 3 * BEAT
+        """Whether the journal was reached by a look that isn't old."""
+        return self.keeper.loop.now - self.seen_at < OLD
 
     # Twice a second
 
@@ -150,11 +167,14 @@ class Fleet:
         for session in self.keeper.sessions.values():
             if session.network.number in self.owned and session.network.epoch == self.owned[session.network.number]:
                 self.known[session.network.number] = max(session.lines, self.known.get(session.network.number, 0))
-        known, is_leaving = dict(self.known), self.is_leaving
-        self.worker.ask(lambda members: members.beat(is_leaving), lambda seen, why: self.looked(known, seen, why))
+        known, is_leaving, self.asked_at = dict(self.known), self.is_leaving, self.keeper.loop.now
+        waiting, self.waiting = self.waiting, []
+        self.worker.ask(lambda members: members.beat(is_leaving), lambda seen, why: self.looked(known, seen, why, waiting))
 
-    def looked(self, known: dict[int, int], seen: Seen | None, fault: Exception | None) -> None:
-        """Does what follows from what was seen; `known` is what was answered before it was looked."""
+    def looked(self, known: dict[int, int], seen: Seen | None, fault: Exception | None,
+               waiting: Sequence[Callable[[], None]] = ()) -> None:
+        """Does what follows from what was seen. `known` is what was answered before it was looked, and those that wait
+        have waited for this look."""
         self.is_beating = False
         if self.is_closed:
             return
@@ -165,9 +185,10 @@ class Fleet:
             self.keeper.events.tell("database", why=" ".join(str(fault).split()))
         else:
             self.see(known, seen)
-        waiting, self.waiting = self.waiting, []
         for then in waiting:
             then()
+        if self.waiting:
+            self.beat()
 
     def see(self, known: dict[int, int], seen: Seen) -> None:
         """Takes, follows, loses."""
@@ -176,7 +197,7 @@ class Fleet:
         except Stop as why:
             self.keeper.fail(why)
             return
-        self.seen, self.seen_at = seen, self.keeper.loop.now
+        self.seen, self.seen_at = seen, self.asked_at
         self.heads = {it.name: it for it in seen.heads}
         self.by_number = {it.network: it for it in seen.heads}
         for head in seen.heads:
@@ -194,7 +215,9 @@ class Fleet:
         if head.lines < known and not head.halted:
             self.known.pop(head.network, None)
             why = f"lines {head.lines + 1} to {known} were answered and are gone from the journal"
-            self.keeper.asker.ask(lambda tables: self.store.halt(head.network, head.epoch, why), lambda _: None)
+            self.give_up(head.network)
+            self.keeper.asker.ask(lambda tables: self.store.halt(head.network, head.epoch, why),
+                                  lambda _: self.given_up(head.network))
             self.keeper.events.tell("halted", network=head.name, row=head.lines + 1, why=why)
             self.forget(head, "halted")
         elif head.network in self.owned and head.epoch > self.owned[head.network]:
@@ -212,6 +235,7 @@ class Fleet:
         """This server has a network no more."""
         self.owned.pop(head.network, None)
         if why != "halted":
+            self.keeper.counters.lost += 1
             self.keeper.events.tell("lost", network=head.name, owner=self.owner_of(head.name))
         session = self.keeper.sessions.get(head.name)
         if session:
@@ -243,6 +267,7 @@ class Fleet:
         """This server has a network."""
         self.owned[head.network] = head.epoch
         self.heads[head.name] = self.by_number[head.network] = head
+        self.keeper.counters.taken += 1
         self.keeper.events.tell("taken", network=head.name, epoch=head.epoch, lines=head.lines)
         session, feed = self.keeper.sessions.get(head.name), self.feeds.pop(head.network, None)
         if session and feed:
@@ -269,6 +294,16 @@ class Fleet:
         head = self.heads[session.network.name]
         if head.network in self.owned:
             self.forget(head, self.elsewhere_but_here(head))
+        self.beat()
+
+    def give_up(self, network: int) -> None:
+        """A network is about to be halted: nobody is taken to it, nor is it taken anew."""
+        self.owned.pop(network, None)
+        self.taking.add(network)
+
+    def given_up(self, network: int) -> None:
+        """It is halted, or another server has it, as is seen now."""
+        self.taking.discard(network)
         self.beat()
 
     def unknown(self, session: Session, fault: Exception) -> None:

@@ -22,10 +22,10 @@ def rank(network: str, server: str) -> bytes:
 
 
 def standing(members: Sequence[Member], program: str) -> list[Member]:
-    """The servers that may have networks of a program: those that have it and aren't about to leave; and while there
-    are others none that has only just begun."""
+    """The servers that may have networks of a program: those that have it, aren't about to leave, and haven't only just
+    begun. Where all have, it is the first of them, so that what they take doesn't go to and fro."""
     there = [it for it in members if it.program == program and not it.is_leaving]
-    return [it for it in there if not it.is_young] or there
+    return [it for it in there if not it.is_young] or sorted(there, key=lambda it: it.server)[:1]
 
 
 def preferred(head: Head, members: Sequence[Member], but: int | None = None) -> Member | None:

@@ -16,6 +16,10 @@ PASSED = b"passed\n"  # the line that a server sends before what it passes on: t
 PIECE = 65_536
 TO_CONNECT = 3.0  # the seconds for reaching the other server
 CLOSED = b"closed wait\n"
+USER_TIMEOUT = 18  # the number of Linux for how long what was sent may go unheard, in milliseconds
+# of the connection to the owner: what is small is sent at once, and a machine that is gone is missed within seconds
+OPTIONS = ((socket.TCP_NODELAY, 1), (socket.TCP_KEEPIDLE, 3), (socket.TCP_KEEPINTVL, 1), (socket.TCP_KEEPCNT, 3),
+           (USER_TIMEOUT, 5000))
 
 
 class End:
@@ -47,7 +51,9 @@ class Passed:
         family = socket.AF_INET6 if host.startswith("[") else socket.AF_INET
         owner = socket.socket(family)
         owner.setblocking(False)
-        owner.setsockopt(socket.IPPROTO_TCP, socket.TCP_NODELAY, 1)
+        owner.setsockopt(socket.SOL_SOCKET, socket.SO_KEEPALIVE, 1)
+        for option, value in OPTIONS:
+            owner.setsockopt(socket.IPPROTO_TCP, option, value)
         self.owner = End(owner)
         self.owner.out += PASSED + data
         loop.call_at(loop.now + TO_CONNECT, self.see_that_it_is_reached)

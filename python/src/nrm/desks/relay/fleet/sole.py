@@ -1,6 +1,6 @@
 """A server that has all networks of its journal, as long as nobody else has the journal.
 
-May use: nrm.desks.journals.networks, nrm.desks.journals.stores.kinds, nrm.desks.relay.sessions.
+May use: nrm.desks.journals.networks, nrm.desks.journals.stores.kinds, nrm.desks.relay.sessions, nrm.desks.status.
 """
 from __future__ import annotations
 
@@ -9,6 +9,7 @@ from typing import Callable, Protocol, Sequence
 from nrm.desks.journals.networks import Opened, network_in, networks_in
 from nrm.desks.journals.stores.kinds import Fenced, Store, Tables, Writer
 from nrm.desks.relay.sessions import Session
+from nrm.desks.status import Fleet, Share
 
 LOST = "another server has the journal now, and this one answers nothing more"
 
@@ -34,14 +35,24 @@ class Owning(Protocol):
     def when_looked(self, then: Callable[[], None]) -> bool:
         """Has something done once the networks were looked at anew; gives whether they are."""
 
-    def owner_of(self, name: str) -> str:
-        """The name of the server that has a network, or `none`."""
+    def fleet(self) -> tuple[Fleet | None, tuple[Share, ...]]:
+        """What is told of the servers that share the journal, and whose each network is; nothing of one that has it
+        alone."""
+
+    def may_adopt(self) -> bool:
+        """Whether a network without lines, or one that has ended, may be answered by another program than its own."""
 
     def may_read(self) -> bool:
         """Whether the journal is reached, so that to ask it keeps nobody waiting."""
 
     def lost(self, session: Session) -> None:
         """Another server has a network."""
+
+    def give_up(self, network: int) -> None:
+        """A network is about to be halted: nobody is taken to it meanwhile."""
+
+    def given_up(self, network: int) -> None:
+        """It is halted, or another server has it."""
 
     def unknown(self, session: Session, fault: Exception) -> None:
         """Nobody knows whether the rows of a network were written."""
@@ -90,9 +101,13 @@ class Sole:
         """The journal is looked at each time."""
         return False
 
-    def owner_of(self, name: str) -> str:
-        """Nobody else has any."""
-        return "here"
+    def fleet(self) -> tuple[Fleet | None, tuple[Share, ...]]:
+        """There is no other server."""
+        return None, ()
+
+    def may_adopt(self) -> bool:
+        """If its program was named."""
+        return True
 
     def may_read(self) -> bool:
         """A file is always reached."""
@@ -101,6 +116,12 @@ class Sole:
     def lost(self, session: Session) -> None:
         """Another server has the journal, and so all networks."""
         self.keeper.fail(Fenced(LOST))
+
+    def give_up(self, network: int) -> None:
+        """It is halted at once."""
+
+    def given_up(self, network: int) -> None:
+        """That shows in the journal."""
 
     def unknown(self, session: Session, fault: Exception) -> None:
         """The next server sees what is there."""

@@ -29,6 +29,7 @@ class Counters:
     times        commits by the first bound that they didn't exceed, and at the end those beyond the last
     begun        programs, and those that have ended
     passed       clients that were passed on to other servers
+    taken        networks, and those that were lost to other servers
     """
     came: int = 0
     turned_away: int = 0
@@ -45,6 +46,8 @@ class Counters:
     begun: int = 0
     ended: int = 0
     passed: int = 0
+    taken: int = 0
+    lost: int = 0
 
     def commit(self, seconds: float, rows: int, is_whole: bool) -> None:
         """Counts a commit, with the rows that it wrote, and whether these are all that it was to write."""

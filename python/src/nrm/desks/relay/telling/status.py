@@ -52,7 +52,7 @@ class Teller:
             {why.replace(" ", "-"): count for why, count in counted.closed.items()},
             Commits(counted.commits, counted.seconds, counted.longest, counted.rows, now.waiting, counted.failed),
             counted.within(), Programs(now.programs, counted.begun, counted.ended),
-            tuple(status_of(it, self.sessions.get(it.name)) for it in self.networks))
+            tuple(status_of(it, self.sessions.get(it.name)) for it in self.networks), *self.owning.fleet())
 
     def look(self) -> None:
         """Asks the journal, unless that was done within the last second."""

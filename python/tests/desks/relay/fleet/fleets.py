@@ -1,0 +1,150 @@
+"""What the tests of servers that share a journal stand on: networks in it, servers, and what these say."""
+from __future__ import annotations
+
+import contextlib
+import signal
+import socket
+import subprocess
+import sys
+import time
+from typing import Iterator, Sequence
+
+from desks.relay.fleet.databases import DatabaseTest, free_port
+from desks.relay.serves import ONE, PATIENT
+from harness import SECONDS, SOURCES, PlaceTest, wait_for
+from nrm.desks.journals.networks import put_network
+from nrm.desks.journals.stores.choosing import store_of, using
+from nrm.desks.relay.fleet.owning import rank
+
+
+class Server:
+    """A run of `nrm-tools serve` at a port of its own."""
+
+    def __init__(self, test: FleetTest, name: str, *options: str) -> None:
+        self.port, self.name, self.err = free_port(), name, test.folder / f"{name}.told"
+        words = [sys.executable, SOURCES, "serve", test.database.uri, "--listen", f"127.0.0.1:{self.port}", "--name",
+                 name, *options, "--program", *test.desks_program.words]
+        with open(self.err, "a") as told:
+            self.process = subprocess.Popen([*map(str, words)], stderr=told)
+        self.place = "127.0.0.1", self.port
+
+    def told(self) -> str:
+        """What it has told."""
+        return self.err.read_text()
+
+    def wait_for(self, text: str) -> None:
+        """Waits until it has told something."""
+        wait_for(lambda: text in self.told() or self.process.poll() is not None, f"{text!r} of {self.name}", PATIENT)
+        if text not in self.told():
+            raise AssertionError(f"{self.name} has ended: {self.told()}")
+
+    def send(self, sent: int) -> None:
+        """Sends it a signal."""
+        self.process.send_signal(sent)
+
+    def kill(self) -> None:
+        """Ends it at once."""
+        self.process.send_signal(signal.SIGCONT)
+        self.process.kill()
+        self.process.wait()
+
+    def end(self, status: int = 0) -> None:
+        """Waits for its end."""
+        ended = self.process.wait(PATIENT)
+        assert ended == status, f"the status {ended} and not {status}, with {self.told()}"
+
+    def connect(self) -> socket.socket:
+        """A client that has said nothing yet."""
+        made = socket.create_connection(self.place, SECONDS)
+        made.settimeout(SECONDS)
+        return made
+
+    def talk(self, lines: bytes) -> bytes:
+        """What a client is told that sends lines and no more."""
+        told = b""
+        with contextlib.suppress(ConnectionError), self.connect() as made:
+            made.sendall(lines)
+            made.shutdown(socket.SHUT_WR)
+            while piece := made.recv(65_536):
+                told += piece
+        return told
+
+    def answer(self, lines: bytes) -> bytes:
+        """The same, once it isn't told to wait."""
+        told = b""
+        until = time.monotonic() + PATIENT
+        while not told or told.endswith(b"closed wait\n"):
+            if time.monotonic() > until:
+                raise AssertionError(f"{self.name} answers {told!r}: {self.told()}")
+            time.sleep(0.05)
+            with contextlib.suppress(OSError):
+                told = self.talk(lines)
+        return told
+
+
+class FleetTest(DatabaseTest, PlaceTest):
+    """A test of servers that share a journal, which is empty at its beginning."""
+
+    def setUp(self) -> None:
+        super().setUp()
+        self.database.set("synchronous_standby_names", "")
+        self.database.renew()
+        store_of(self.database.uri).begin()
+        self.servers: list[Server] = []
+        self.addCleanup(self.end_all)
+
+    def end_all(self) -> None:
+        """Ends the servers that are left."""
+        for it in self.servers:
+            it.kill()
+
+    def open(self, *names: str, mode: str = "first", file: bytes = ONE.encode(), program: str | None = None) -> None:
+        """Puts networks into the journal."""
+        with using(self.database.uri, is_to_write=True) as tables, tables.change():
+            for it in names:
+                put_network(tables, it, mode, file, program or self.desks_program.checksum())
+
+    def serve(self, name: str, *options: str) -> Server:
+        """A server of a database that is alone."""
+        made = Server(self, name, "--alone", *options)
+        self.servers.append(made)
+        made.wait_for("event=listening")
+        return made
+
+    def owner(self, network: str = "net") -> str | None:
+        """The name of the server that has a network, as the journal has it."""
+        [(name,)] = self.database.ask("SELECT server.name FROM network JOIN head USING (network) LEFT JOIN server "
+                                      f"USING (server) WHERE network.name = '{network}'")
+        return name
+
+    def settled(self, servers: Sequence[Server]) -> list[Server]:
+        """Some servers, once no network moves any more: the one that has the network comes first, and behind it the one
+        that would have it next."""
+        found = sorted(servers, key=lambda it: rank("net", it.name), reverse=True)
+        wait_for(lambda: self.owner() == found[0].name, "an owner", PATIENT)
+        found[0].wait_for("event=taken network=net")
+        return found
+
+    def rows(self, what: str = "desk, sequence, line, reply") -> list[tuple[object, ...]]:
+        """The lines of the journal."""
+        return self.database.ask(f"SELECT {what} FROM line ORDER BY network, number")
+
+    def fill(self, count: int, network: int = 1) -> None:
+        """Has a network have so many lines, as the desk FILL has asked them: each is refused, since no party has so
+        many seats."""
+        self.database.ask("INSERT INTO server (name, address, program, seen) VALUES ('filler', '', '', '-infinity')")
+        self.database.ask(f"INSERT INTO line SELECT it, it, 0, {network}, 0, 'FILL', 'book LOC 999', 'no AB' "
+                          f"FROM generate_series(1, {count}) AS it")
+        self.database.ask(f"UPDATE head SET lines = {count} WHERE network = {network}")
+
+
+@contextlib.contextmanager
+def stopped(server: Server) -> Iterator[None]:
+    """A server that does nothing meanwhile, as one whose machine is paused."""
+    server.send(signal.SIGSTOP)
+    try:
+        yield
+    finally:
+        server.send(signal.SIGCONT)
+
+
