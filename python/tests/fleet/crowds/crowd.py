@@ -116,6 +116,7 @@ class Crowd:
         except (AssertionError, databases.Fault, asyncio.TimeoutError) as fault:
             it.told.append(str(fault) or f"a desk has no replies in {TOO_LONG} seconds")
         finally:
+            it.is_over = True  # for a desk that got its reply just when it was to end
             for some in [*running, *tasks]:
                 some.cancel()
             await asyncio.gather(*running, *tasks, return_exceptions=True)

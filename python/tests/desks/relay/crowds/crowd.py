@@ -67,6 +67,7 @@ class Crowd:
         except (AssertionError, asyncio.TimeoutError) as fault:
             it.told.append(str(fault) or f"a desk has no replies in {TOO_LONG} seconds")
         finally:
+            it.is_over = True  # for a desk that got its reply just when it was to end
             for desk in [*running, copying]:
                 desk.cancel()
             await asyncio.gather(*running, copying, return_exceptions=True)
