@@ -14,6 +14,14 @@ IS_LONG = bool(os.environ.get("NRM_LONG"))
 A_MINUTE = ("--networks", 8, "--desks", 80, "--kills", 6, "--stops", 2, "--failovers", 2)
 
 
+class Mistakes(unittest.TestCase):
+    def test_each_is_one_of_the_code(self) -> None:
+        """Where there is no database too."""
+        self.assertEqual(len(FORMS), 10)
+        for name, form in FORMS.items():
+            self.assertEqual(not_there(form), [], name)
+
+
 @unittest.skipUnless(databases.is_there(), databases.WANTING)
 @needs("psycopg")
 class Crowds(PlaceTest):
@@ -22,11 +30,6 @@ class Crowds(PlaceTest):
         self.assertTrue(self.program and self.desks_program)
         os.chmod(self.folder, 0o755)
         self.assertEqual(judged(self.folder / "crowd", *(() if IS_LONG else A_MINUTE)), [])
-
-    def test_each_mistake_is_one_of_the_code(self) -> None:
-        self.assertEqual(len(FORMS), 10)
-        for name, form in FORMS.items():
-            self.assertEqual(not_there(form), [], name)
 
     @unittest.skipUnless(IS_LONG, "mistakes that the trial of a fleet must find take some minutes: NRM_LONG=1")
     def test_mistakes_are_found(self) -> None:

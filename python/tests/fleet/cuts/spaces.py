@@ -8,7 +8,8 @@ import subprocess
 from typing import Sequence
 
 TOOLS = ("ip", "nft")
-BRIDGE, NET = "nrm-fleet", "10.213.77"
+# names and addresses of this process, so that another's tests may run beside
+BRIDGE, NET = f"nrm{os.getpid() % 100_000}", f"10.213.{os.getpid() % 250 + 1}"
 FIRST = f"{NET}.1"  # the address of this machine there
 
 
@@ -19,11 +20,10 @@ def why_not() -> str:
         return f"there is no {' and no '.join(without)} (Debian has iproute2 and nftables)"
     if os.geteuid():
         return "cut networks need the rights of root"
-    name = f"{BRIDGE}-try"
-    tried = [done(it) for it in (["ip", "netns", "add", name], ["ip", "link", "add", name[-12:], "type", "bridge"],
-                                 ["ip", "netns", "exec", name, "nft", "add", "table", "inet", "cut"])]
-    done(["ip", "netns", "del", name])
-    done(["ip", "link", "del", name[-12:]])
+    tried = [done(it) for it in (["ip", "netns", "add", BRIDGE], ["ip", "link", "add", BRIDGE, "type", "bridge"],
+                                 ["ip", "netns", "exec", BRIDGE, "nft", "add", "table", "inet", "cut"])]
+    done(["ip", "netns", "del", BRIDGE])
+    done(["ip", "link", "del", BRIDGE])
     return next((f"networks can't be cut here: {it}" for it in tried if it), "")
 
 
@@ -57,9 +57,9 @@ class Spaces:
                 ip link set {BRIDGE} up""")
         for at, name in enumerate(self.names):
             run(f"""ip netns add {name}
-                    ip link add nrm-f{at} type veth peer name inside netns {name}
-                    ip link set nrm-f{at} master {BRIDGE}
-                    ip link set nrm-f{at} up
+                    ip link add {name} type veth peer name inside netns {name}
+                    ip link set {name} master {BRIDGE}
+                    ip link set {name} up
                     ip -n {name} addr add {self.address(at)}/24 dev inside
                     ip -n {name} link set inside up
                     ip -n {name} link set lo up""")

@@ -7,10 +7,7 @@ import unittest
 from fleet.cuts.spaces import FIRST, Spaces, why_not
 from fleet.standing import COUNT, LEASE, LOOPBACK, Fleet, FleetTest, Server, asked, heard, silent
 
-WHY_NOT = why_not()
 
-
-@unittest.skipIf(WHY_NOT, WHY_NOT)
 class Cuts(FleetTest):
     """Two servers on machines of their own; the database and the desks are on this one."""
     addresses = LOOPBACK, FIRST
@@ -18,6 +15,8 @@ class Cuts(FleetTest):
 
     @classmethod
     def setUpClass(cls) -> None:
+        if why := why_not():
+            raise unittest.SkipTest(why)
         cls.spaces = Spaces(2)
         cls.addClassCleanup(cls.spaces.end)
         super().setUpClass()
