@@ -47,6 +47,7 @@ WRITERS = (1, 10, 100, 200)
 PARTS = "pgbench,crowds,size,takeover,many"
 LENGTHS = "0,100000,1000000"
 SECONDS = 120  # for which something is waited for
+SETTLED = 600  # and that no network moves any more: servers move few at a time
 IDLE = 10  # seconds in which nobody asks
 QUIET = 6  # seconds after which a server that has begun takes networks, and one that follows has what there is
 COPIED = 10_000  # rows at once
@@ -104,7 +105,7 @@ class Fleet:
 
     def settled(self):
         """Waits until each network has an owner and none moves."""
-        before, deadline = None, time.monotonic() + SECONDS
+        before, deadline = None, time.monotonic() + SETTLED
         while True:
             time.sleep(QUIET)
             now = self.bench.ask("SELECT network, server FROM head ORDER BY network", self.name)
