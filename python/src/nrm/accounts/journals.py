@@ -2,9 +2,8 @@
 for and checked there, beside the replies that the journal has; with who asked for the line, when, and which programs
 had a part.
 
-May use: nrm, nrm.accounts.asking, nrm.desks.journals.answered, nrm.desks.journals.networks, nrm.desks.journals.stores.choosing,
-nrm.desks.journals.stores.kinds,
-nrm.program.
+May use: nrm, nrm.accounts.asking, nrm.desks.journals.answered, nrm.desks.journals.networks,
+nrm.desks.journals.stores.choosing, nrm.desks.journals.stores.kinds, nrm.program.
 """
 from __future__ import annotations
 

@@ -124,7 +124,8 @@ def add_log(words: argparse.ArgumentParser) -> None:
 
 def add_sharing(words: argparse.ArgumentParser) -> None:
     """The options for a journal that several servers share."""
-    words.add_argument("--name", type=name, metavar="NAME", help="of this server among others; else it is where it listens")
+    words.add_argument("--name", type=name, metavar="NAME",
+                       help="of this server among others; else it is where it listens")
     words.add_argument("--address", type=name, metavar="HOST:PORT",
                        help="where others reach this server, if that is another place than --listen")
     words.add_argument("--alone", action="store_true",
@@ -134,8 +135,8 @@ def add_sharing(words: argparse.ArgumentParser) -> None:
                       help="passes desks on to the server that has their network, as is done if nothing is said")
     ways.add_argument("--send-on", action="store_true", help="tells desks where the server is that has their network")
     words.add_argument("--followers", type=number, metavar="N",
-                       help=f"the most networks whose journals are followed; {Sharing.followers} if it isn't given, and "
-                            "none for 0")
+                       help=f"the most networks whose journals are followed, 0 for none; "
+                            f"{Sharing.followers} if it isn't given")
 
 
 def sharing_in(words: argparse.ArgumentParser, asked: argparse.Namespace, is_shared: bool) -> Sharing:

@@ -8,13 +8,13 @@
     nrm-tools journal look JOURNAL [NETWORK [NUMBER] [--desk NAME] [--booking NUMBER]]
     nrm-tools journal backup JOURNAL COPY
 
-A journal is an SQLite file, or the tables of a database of PostgreSQL, where JOURNAL is postgresql://HOST:PORT/DATABASE.
-In it `nrm-tools serve` keeps each line that may have changed something, with who asked it, when, and what was answered.
-`begin` makes one, a file for its owner alone; `open` puts a network into it, once `nrm_desks`
-has read its file and made the opening plan: the file byte for byte, the mode, and the checksum of that program, which
-is named by --program, or is that of this folder, or the one on the path. A server that is at work answers for it at
-once. The name begins with a small letter, and has at most 40 of `a` to `z`, `0` to `9`, `.`, `_` and `-`. `end` has a
-network looked at alone from now on.
+A journal is an SQLite file, or the tables of a database of PostgreSQL, where JOURNAL is
+postgresql://HOST:PORT/DATABASE. In it `nrm-tools serve` keeps each line that may have changed something, with who asked
+it, when, and what was answered. `begin` makes one, a file for its owner alone; `open` puts a network into it, once
+`nrm_desks` has read its file and made the opening plan: the file byte for byte, the mode, and the checksum of that
+program, which is named by --program, or is that of this folder, or the one on the path. A server that is at work
+answers for it at once. The name begins with a small letter, and has at most 40 of `a` to `z`, `0` to `9`, `.`, `_` and
+`-`. `end` has a network looked at alone from now on.
 
 --departure says when it departs, and --begins, as often as there are such periods, when period K begins, from 2 to the
 last of the network file: `nrm-tools serve` then has a plan made for it. A TIME is as 2026-12-31T10:00+01:00 or

@@ -2,13 +2,14 @@
 
     nrm-tools serve JOURNAL [--socket PATH] [--listen HOST:PORT] [OPTION...]
 
-JOURNAL is what `nrm-tools journal` begins and puts networks into: a file, or a URI of PostgreSQL as below. Clients are taken on the Unix socket PATH, whose
-rights are 0600, or those of --mode, and on HOST:PORT, which must be of this machine's loopback range unless
---beyond-this-machine is given: anyone who can reach it can book. For each network an `nrm_desks` is begun at its first
-client, is given the lines of the journal again, and ends when nobody was there for as long as --linger says. What a
-client sends goes to that program as it comes; what the program gives out to be kept is written into the journal, for
-all networks that wait by one commit; and then the program sends its replies. Where there are several networks the first
-line of a client names one, `desk NETWORK NAME` or `desk NETWORK NAME SEQUENCE`; where there is one it may.
+JOURNAL is what `nrm-tools journal` begins and puts networks into: a file, or a URI of PostgreSQL as below. Clients are
+taken on the Unix socket PATH, whose rights are 0600, or those of --mode, and on HOST:PORT, which must be of this
+machine's loopback range unless --beyond-this-machine is given: anyone who can reach it can book. For each network an
+`nrm_desks` is begun at its first client, is given the lines of the journal again, and ends when nobody was there for as
+long as --linger says. What a client sends goes to that program as it comes; what the program gives out to be kept is
+written into the journal, for all networks that wait by one commit; and then the program sends its replies. Where there
+are several networks the first line of a client names one, `desk NETWORK NAME` or `desk NETWORK NAME SEQUENCE`; where
+there is one it may.
 
 With --desks a file says which desks may come, by which token, and what each may do: `nrm-tools token` writes it. A
 client's first line `token TOKEN` is answered `token NAME`, or `closed token`; on HOST:PORT it must come, and on PATH it
@@ -25,11 +26,11 @@ tells both checksums; --program names the program, and has it answer for network
 that have ended. A second server at the same journal is refused while the first lives.
 
 Where JOURNAL is postgresql://HOST:PORT[,HOST:PORT...]/DATABASE several servers share its networks. Each takes some, by
-their names and its own, which --name says; what one had that is lost others go on with. A client asks any of them: it is
-passed on to the one that has its network, or with --send-on is told `closed moved HOST:PORT`, which is --listen there, or
---address. --followers says of how many networks a server follows the lines that others write, so that it could go on at
-once. Without --alone none serves a database that waits for no other machine. SIGTERM has others take its networks first.
-`closed wait` says that nobody has a network at the moment.
+their names and its own, which --name says; what one had that is lost others go on with. A client asks any of them: it
+is passed on to the one that has its network, or with --send-on is told `closed moved HOST:PORT`, which is --listen
+there, or --address. --followers says of how many networks a server follows the lines that others write, so that it
+could go on at once. Without --alone none serves a database that waits for no other machine. SIGTERM has others take its
+networks first. `closed wait` says that nobody has a network at the moment.
 
 A client that is cut off gets one line, `closed WHY`, after the replies to those of its lines that were taken: `closed
 clients` if there are as many as may be, `closed network` if it names none that the journal has, `closed halted`,

@@ -53,7 +53,8 @@ def lines_of(path: str, network: str, wanted: Wanted) -> Iterator[str]:
     condition, values = wanted.condition()
     with using(path) as connection:
         number = known(connection, network).number
-        rows = connection.execute(f"SELECT number, {connection.time.format('at')}, desk, sequence, line, reply FROM line "
+        time = connection.time.format("at")
+        rows = connection.execute(f"SELECT number, {time}, desk, sequence, line, reply FROM line "
                                   f"WHERE network = ?{condition} ORDER BY number", [number, *values])
         for row in rows:
             yield "\t".join(map(str, row))

@@ -36,7 +36,8 @@ ENDS = (signal.SIGTERM, signal.SIGINT, signal.SIGHUP)
 @dataclass(frozen=True)
 class Server:
     """The journal, the program that answers, where clients come, the limits, the files that say who may come, after how
-    many seconds plans are made anew, if they are, how the log is written, and how the journal is shared, if it can be."""
+    many seconds plans are made anew, if they are, how the log is written, and how the journal is shared, if it
+    can be."""
     store: Store
     answering: Answering
     places: Places

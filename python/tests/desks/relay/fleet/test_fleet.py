@@ -93,6 +93,17 @@ class Fleets(FleetTest):
         self.assertEqual(self.owner(), None)
         self.assertEqual(self.serve("two").answer(FIRST), b"at 1\nok 1\n")
 
+    def test_one_that_leaves_when_the_database_is_gone_ends(self) -> None:
+        """Nobody can take its networks."""
+        owner = self.three()[0]
+        self.assertEqual(owner.answer(FIRST), b"at 1\nok 1\n")
+        self.database.kill()
+        try:
+            owner.send(signal.SIGTERM)
+            owner.end()
+        finally:
+            self.database.start()
+
     def test_another_start_by_the_same_name_is_the_one(self) -> None:
         self.open("net")
         first = self.serve("one")
@@ -126,7 +137,7 @@ class Fleets(FleetTest):
         server = self.serve("one")
         wait_for(lambda: server.answer(b"desk net D1\n") == b"closed halted\n", "a halted network", PATIENT)
         wait_for(lambda: self.database.ask("SELECT halted FROM network ORDER BY network") == [
-            ("row 2, `book LOC 2` of D1 2 with the reply `ok 9`, isn't what the program answers",), (None,)], "a reason")
+            ("row 2, `book LOC 2` of D1 2 with the reply `ok 9`, isn't what the program answers",), (None,)], "why")
         self.assertEqual(server.answer(b"desk other D1 3\nbook LOC 1\n"), b"at 3\nok 3\n")
 
     def test_lines_that_the_database_has_lost_are_missed(self) -> None:
@@ -190,8 +201,8 @@ class Owning(unittest.TestCase):
         self.assertTrue(all(after[it] == before[it] for it in before if before[it] != 1))
 
     def test_who_takes_moves_and_follows(self) -> None:
-        """Nobody's is taken; who is dead has lost his; of one that is alive what is preferred here is moved; and who would
-        be next follows."""
+        """Nobody's is taken; who is dead has lost his; of one that is alive what is preferred here is moved; and who
+        would be next follows."""
         one, two = member(1, "s1"), member(2, "s2")
         at_one = next(it for it in range(1, 99) if preferred(head(it, None), [one, two]) is one)
         for members, owner, more, wanted in (
@@ -209,6 +220,6 @@ class Owning(unittest.TestCase):
                 ([member(3, "s1", young=True), member(2, "s2", young=True)], None, {}, ([], [], []))):
             with self.subTest(members=members, owner=owner, **more):
                 found = wanted_of(seen(members, [head(at_one, owner)], **more), {})
-                self.assertEqual(tuple([it.network for it in some] for some in (found.takes, found.moves, found.follows)),
-                                 wanted)
+                kinds = found.takes, found.moves, found.follows
+                self.assertEqual(tuple([it.network for it in some] for some in kinds), wanted)
         self.assertEqual(wanted_of(seen([one], [head(at_one, None)]), {at_one: 1}).takes, (), "it has it already")

@@ -36,7 +36,8 @@ class Following(FleetTest):
         begun = ask_status(other.place, PATIENT).programs.begun
         owner.kill()
         killed = time.monotonic()
-        self.assertEqual(other.answer(b"desk net D1 1\nbook LOC 1\nbook LOC 2\nbook LOC 3\n"), b"at 1\nok 1\nok 2\nok 3\n")
+        self.assertEqual(other.answer(b"desk net D1 1\nbook LOC 1\nbook LOC 2\nbook LOC 3\n"),
+                         b"at 1\nok 1\nok 2\nok 3\n")
         self.assertLess(time.monotonic() - killed, PATIENT)
         self.assertEqual(ask_status(other.place, PATIENT).programs.begun, begun, "no other program was begun")
         [(lines, _)] = ENOUGH.findall(other.told())

@@ -1,5 +1,5 @@
-"""A server among several that share a journal: what it sees of the others, and which networks it takes, moves to itself,
-follows and loses.
+"""A server among several that share a journal: what it sees of the others, and which networks it takes, moves to
+itself, follows and loses.
 
 Twice a second it tells that it is alive, and looks. All that keeps rows safe is in the statements that take and write;
 what stands here decides only when they are tried. May use: nrm, nrm.desks.journals.networks,
@@ -169,7 +169,8 @@ class Fleet:
                 self.known[session.network.number] = max(session.lines, self.known.get(session.network.number, 0))
         known, is_leaving, self.asked_at = dict(self.known), self.is_leaving, self.keeper.loop.now
         waiting, self.waiting = self.waiting, []
-        self.worker.ask(lambda members: members.beat(is_leaving), lambda seen, why: self.looked(known, seen, why, waiting))
+        self.worker.ask(lambda members: members.beat(is_leaving),
+                        lambda seen, why: self.looked(known, seen, why, waiting))
 
     def looked(self, known: dict[int, int], seen: Seen | None, fault: Exception | None,
                waiting: Sequence[Callable[[], None]] = ()) -> None:
@@ -183,6 +184,8 @@ class Fleet:
             self.keeper.fail(fault)
         elif fault or not seen:
             self.keeper.events.tell("database", why=" ".join(str(fault).split()))
+            if self.is_leaving and not self.may_read():
+                self.keeper.stop()  # nobody can take anything
         else:
             self.see(known, seen)
         for then in waiting:

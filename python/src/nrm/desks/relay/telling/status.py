@@ -1,7 +1,7 @@
 """What the server answers to a line `status`: what was counted, and what is now.
 
-May use: nrm, nrm.desks.journals.networks, nrm.desks.relay.fleet.sole, nrm.desks.relay.sessions, nrm.desks.relay.telling.counters,
-nrm.desks.relay.telling.events, nrm.desks.status.
+May use: nrm, nrm.desks.journals.networks, nrm.desks.relay.fleet.sole, nrm.desks.relay.sessions,
+nrm.desks.relay.telling.counters, nrm.desks.relay.telling.events, nrm.desks.status.
 """
 from __future__ import annotations
 

@@ -3,8 +3,9 @@
 What was asked for is seen in the journal alone, so nothing is sent twice, and what another desk sent isn't sent again.
 When each network is to be looked at next is kept here, so that a second costs next to nothing: all are looked at anew
 if another process has written the journal, which may have set other times, and if the clock of the machine went back.
-May use: nrm.desks.access, nrm.desks.journals.networks, nrm.desks.journals.stores.kinds, nrm.desks.journals.times.standing,
-nrm.desks.relay.clients, nrm.desks.relay.telling.events, nrm.desks.relay.timing.outcome, nrm.desks.relay.timing.own.
+May use: nrm.desks.access, nrm.desks.journals.networks, nrm.desks.journals.stores.kinds,
+nrm.desks.journals.times.standing, nrm.desks.relay.clients, nrm.desks.relay.telling.events,
+nrm.desks.relay.timing.outcome, nrm.desks.relay.timing.own.
 """
 from __future__ import annotations
 

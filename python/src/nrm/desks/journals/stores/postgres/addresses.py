@@ -12,8 +12,8 @@ from psycopg.conninfo import conninfo_to_dict
 
 from nrm import Stop
 
-# what is asked of each session, whatever the URI says: a commit waits for the disk of a standby, only a primary will do,
-# and a machine that is gone is missed within seconds
+# what is asked of each session, whatever the URI says: a commit waits for the disk of a standby, only a primary will
+# do, and a machine that is gone is missed within seconds
 SETTINGS = "-c synchronous_commit=on"
 ASKED = {"target_session_attrs": "read-write", "connect_timeout": "2", "keepalives": "1", "keepalives_idle": "3",
          "keepalives_interval": "1", "keepalives_count": "3", "tcp_user_timeout": "5000"}

@@ -72,8 +72,8 @@ class Members:
             self.sure_from = now + LEASE  # the others may have been as long without the database as this one
         self.beaten_at = now
         [(heads, standbys, size)] = self.beats.ask(HEADS).fetchall()
-        return Seen(self.server, members, frozenset(self.gone | self.replaced()), now >= self.sure_from, tuple(Head(*it) for it in json.loads(heads)),
-                    bool(standbys), size)
+        return Seen(self.server, members, frozenset(self.gone | self.replaced()), now >= self.sure_from,
+                    tuple(Head(*it) for it in json.loads(heads)), bool(standbys), size)
 
     def tell(self, is_leaving: bool) -> None:
         """Says that this server is alive, as a new one if the database has lost it."""
