@@ -19,7 +19,7 @@ ENDED = re.compile("closed (sequence|old|network|elsewhere|long|window)")  # as 
 
 class Around(Protocol):
     """What a desk needs of its crowd."""
-    ended: re.Pattern[str]  # as no desk may be turned away
+    final: re.Pattern[str]  # as no desk may be turned away
     seed: int
     pause: float
     is_over: bool
@@ -115,7 +115,7 @@ class Asker:
         """The next reply."""
         assert self.streams
         told = await reply_from(self.streams[0])
-        if self.crowd.ended.fullmatch(told) or told == "closed halted" and self.crowd.changed != self.case.name:
+        if self.crowd.final.fullmatch(told) or told == "closed halted" and self.crowd.changed != self.case.name:
             raise AssertionError(f"{self.heard.desk} of {self.case.name} at {self.sequence}: {told}")
         if told.startswith("closed "):
             self.place = told[len(MOVED):] if told.startswith(MOVED) else ""

@@ -24,7 +24,7 @@ AGAIN = 0.5  # seconds before a server that has ended by itself is begun anew
 
 class Troubles:
     """The servers of a fleet and of its database, and what happens to both while desks ask."""
-    ended = ENDED_HERE
+    final = ENDED_HERE
     seed: int
 
     def __init__(self, fleet: Fleet, databases: Databases, asked: argparse.Namespace, draw: random.Random,

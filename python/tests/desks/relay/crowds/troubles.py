@@ -47,7 +47,7 @@ exec {words} "$1" <(sed -E 's/^(product,[^,]*,)/\\19/' "$2")
 
 class Troubles:
     """The journal, its server, and what happens to both while desks ask."""
-    ended = ENDED
+    final = ENDED
     seed: int
     pause: float
 
