@@ -141,29 +141,29 @@ def processor_time(process):
     return sum(int((it / "schedstat").read_text().split()[0]) for it in tasks) / 1e9
 
 
-def times_of(process):
-    """The seconds that a server has been at work, and those with the programs that it has begun."""
-    below = Path(f"/proc/{process}/task/{process}/children").read_text().split()
-    own = processor_time(process)
+def times_of(processes):
+    """The seconds that servers have been at work, and those with the programs that they have begun."""
+    own = sum(map(processor_time, processes))
+    below = [int(it) for process in processes
+             for it in Path(f"/proc/{process}/task/{process}/children").read_text().split()]
     return own, own + sum(map(processor_time, below))
 
 
-def asked(path, process, greetings, ahead, lines):
-    """The seconds in which clients ask all lines, how long each took, in order, and how long the server was at work by
-    itself and with its programs."""
+def asked(made, processes, greetings, ahead, lines):
+    """The seconds in which clients ask all lines, how long each took, in order, and how long servers were at work by
+    themselves and with their programs."""
     count = len(greetings)
-    made = connected(path, count)
     clients = [Client(it, greeting, lines[at::count], ahead) for at, (it, greeting) in enumerate(zip(made, greetings))]
     by_file, poll, took, answered = {it.socket.fileno(): it for it in clients}, select.epoll(), [], 0
     for file in by_file:
         poll.register(file, select.EPOLLIN)
-    worked, begun = times_of(process), time.perf_counter()
+    worked, begun = times_of(processes), time.perf_counter()
     for it in clients:
         it.ask(begun)
     while answered < len(lines):
         for file, _ in waited_for(poll):
             answered += by_file[file].hear(took)
-    seconds, now = time.perf_counter() - begun, times_of(process)
+    seconds, now = time.perf_counter() - begun, times_of(processes)
     for it in made:
         it.close()
     return seconds, sorted(took), tuple(after - before for before, after in zip(worked, now))
@@ -229,7 +229,7 @@ def measured(ways, crowd, lines, program, network, folder, rounds):
             with served(way.begin(program, network), folder) as (path, process):
                 warmed(path, way)
                 greetings = [way.greeting(at) for at in range(clients)]
-                seconds, took, worked = asked(path, process, greetings, ahead, lines[:count])
+                seconds, took, worked = asked(connected(path, clients), [process], greetings, ahead, lines[:count])
             one = seconds, took, way.bytes() / count
             found[way.name] = min(found.get(way.name, one), one, key=lambda it: it[0])
             works[way.name] = tuple(map(min, works.get(way.name, worked), worked))
@@ -248,7 +248,7 @@ def tell(found, crowd):
 def tell_of_a_start(way, lines, program, network, folder):
     """How long the first reply takes behind many lines, and how long `ask` takes beside `book`."""
     with served(way.begin(program, network), folder) as (path, process):
-        asked(path, process, [way.greeting(0)], AHEAD, lines)
+        asked(connected(path, 1), [process], [way.greeting(0)], AHEAD, lines)
     with served(way.words(program), folder) as (path, process):
         begun = time.perf_counter()
         [made] = connected(path, 1)
@@ -258,10 +258,11 @@ def tell_of_a_start(way, lines, program, network, folder):
         products = sorted({it.split()[1] for it in lines[:2_000] if it.startswith(b"book ")})
         asks = [b"ask %s\n" % random.Random(at).choice(products) for at in range(500)]
         for name, some in (("ask", asks), ("book", lines[:500])):
-            seconds, took, _ = asked(path, process, [way.greeting(1)], 1, some)
+            seconds, took, _ = asked(connected(path, 1), [process], [way.greeting(1)], 1, some)
             print(f"{name}: half within {took[len(took) // 2] * 1e3:.2f} ms, each {seconds / len(some) * 1e3:.2f} ms")
-        seconds, *_ = asked(path, process, [way.greeting(1)], 90, [b"ask %s\n" % it for it in products[:90]])
-        print(f"ask of {len(products[:90])} products at once: {seconds * 1e3:.1f} ms")
+        lines = [b"ask %s\n" % it for it in products[:90]]
+        seconds, *_ = asked(connected(path, 1), [process], [way.greeting(1)], 90, lines)
+        print(f"ask of {len(lines)} products at once: {seconds * 1e3:.1f} ms")
 
 
 def copied(journal, count, lines, program, network):
@@ -301,7 +302,7 @@ def waits_of(there, lines, others, seconds=0.0):
 def tell_of_starts(way, count, lines, program, network, folder):
     """How long who is there waits for each line, before networks begin and while they do."""
     with served(way.begin(program, network), folder) as (path, process):
-        asked(path, process, [way.greeting(0)], AHEAD, lines)
+        asked(connected(path, 1), [process], [way.greeting(0)], AHEAD, lines)
     copied(way.journal, count, lines, program, network)
     with served(way.words(program), folder) as (path, process):
         there, *others = connected(path, count + 1)

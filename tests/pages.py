@@ -103,6 +103,7 @@ def lacks_a_database():
 def page_tried(path, program):
     """What is wrong with a page, how many parts were run and how many compared, and what of the lists was met."""
     with tempfile.TemporaryDirectory() as folder:
+        os.chmod(folder, 0o755)  # the servers of a database run as somebody else where this is root
         top = Path(folder) / "copy"
         Path(folder).chmod(0o755)  # so that a database, which runs as somebody else than root, has its files there
         if any(it.is_run() for it in blocks.parts_of(path)):

@@ -14,7 +14,7 @@ MEASURE = ("bookings", "kept", "plan", "read_network", "stream")
 class Scripts(PlaceTest):
     def test_each_names_itself_and_gives_no_traceback(self) -> None:
         """With what is no program, or is none that plans."""
-        for name in (*MEASURE, "serve", "operated"):
+        for name in (*MEASURE, "serve", "operated", "fleet"):
             self.want_in(self.bench(name, "--help").out, f"usage: bench/{name}.py")
             none = f"bench/{name}.py: there is no program "
             for word, status, wanted in ((self.folder / "none", 1, f"{none}{self.folder}/none\n"),

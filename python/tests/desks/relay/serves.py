@@ -43,7 +43,7 @@ def rows_in(path: Path, query: str = "SELECT number, desk, sequence, line, reply
 class Serve:
     """A run of `nrm-tools serve` in a folder."""
 
-    def __init__(self, folder: Path, journal: Path, program: Program, *options: str, name: str = "socket",
+    def __init__(self, folder: Path, journal: Path | str, program: Program, *options: str, name: str = "socket",
                  variables: Mapping[str, str] | None = None, source: Path = SOURCES, status: int | None = None,
                  is_named: bool = True, before: Sequence[str] = ()) -> None:
         self.path, self.err = folder / name, folder / f"{name}.told"

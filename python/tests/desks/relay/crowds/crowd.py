@@ -22,27 +22,15 @@ from pathlib import Path
 from typing import Sequence
 
 import preload  # of the folder tests at the top
-from desks.relay.crowds.asking import TOO_LONG, Asker
-from desks.relay.crowds.judging import CLOCK, Case, faults_of, faults_of_copies
 from desks.relay.crowds.troubles import KILLS, OTHERS, PERIODS, WITH_LIBRARY, Troubles
 from desks.relay.serves import PATIENT, rows_in
 from harness import program
-from nrm.replies import MODES
+from trials.asking import TOO_LONG, Asker
+from trials.judging import CLOCK, faults_of, faults_of_copies
+from trials.rounds import judged_rounds, made_cases, see_that_none_failed, told_of, words_of
 
-MOST_SHOWN = 200  # faults of a round
-
-
-def made_network(draw: random.Random, path: Path) -> None:
-    """A network of a hub, so small that it fills up: legs to it and from it, and products over it."""
-    to, away = [f"I{n}" for n in range(draw.randint(1, 4))], [f"O{n}" for n in range(draw.randint(1, 4))]
-    rows = [f"periods,2,{PERIODS},2"]
-    rows += [f"leg,{leg},{seats},{seats + draw.randint(-3, 20)},500,250" for leg in to + away
-             for seats in [draw.randint(40, 200)]]
-    products = [(leg, leg) for leg in to + away] + [(f"{a}-{b}", f"{a},{b}") for a in to for b in away]
-    rows += [f"product,{name},{draw.randint(90, 900)},{legs}" for name, legs in products]
-    rows += [f"demand,{name},{history},{','.join(str(draw.randint(0, 30)) for _ in range(PERIODS))}"
-             for name, _ in products for history in (1, 2)]
-    path.write_text("\n".join(rows) + "\n")
+USUAL = {"networks": 20, "desks": 200, "kills": 6, "troubles": 11, "copies": 5, "rounds": 1, "pause": 0.5,
+         "between": 1.0, "seed": 1, "only": ""}
 
 
 class Crowd:
@@ -53,14 +41,8 @@ class Crowd:
         shutil.rmtree(self.folder, ignore_errors=True)
         self.folder.mkdir(parents=True)
         self.draw, self.events = random.Random(seed), Counter[str]()
-        cases = [self.case(at) for at in range(asked.networks)]
-        self.troubles = Troubles(self.folder, cases, self.draw)
+        self.troubles = Troubles(self.folder, made_cases(self.draw, self.folder, asked.networks, PERIODS), self.draw)
         self.troubles.seed, self.troubles.pause = seed, asked.pause
-
-    def case(self, at: int) -> Case:
-        path = self.folder / f"net-{at}.csv"
-        made_network(self.draw, path)
-        return Case(f"net-{at}", MODES[at % len(MODES)], path)
 
     async def run(self) -> list[str]:
         """All from the first line to the last trouble; gives what doesn't hold."""
@@ -85,14 +67,15 @@ class Crowd:
         except (AssertionError, asyncio.TimeoutError) as fault:
             it.told.append(str(fault) or f"a desk has no replies in {TOO_LONG} seconds")
         finally:
+            it.is_over = True  # for a desk that got its reply just when it was to end
             for desk in [*running, copying]:
                 desk.cancel()
             await asyncio.gather(*running, copying, return_exceptions=True)
             it.server.__exit__()
         self.report(time.monotonic() - began)
         heard = [*[desk.heard for desk in it.askers], *it.heard]
-        return [*it.told, *faults_of(it.journal, it.cases, heard, program()),
-                *faults_of_copies(it.journal, it.copies, it.cases, heard, program())]
+        return [*it.told, *faults_of(it.rows, it.cases, heard, program()),
+                *faults_of_copies(it.rows, it.copies, it.cases, heard, program())]
 
     def kinds(self) -> list[str]:
         """The kills and the other troubles, of each kind as many as of others, in any order."""
@@ -136,46 +119,15 @@ class Crowd:
         [[lines, tenures, plans]] = rows_in(
             it.journal, "SELECT (SELECT count(*) FROM line), (SELECT count(*) FROM tenure), "
                         f"(SELECT count(*) FROM line WHERE desk = '{CLOCK}')")
-        replies, looks = (sum(len(told(desk.heard)) for desk in it.askers)
-                          for told in (lambda heard: heard.replies, lambda heard: heard.looks))
-        print(f"seed {self.seed}: {seconds:.0f} s, {lines} lines in {len(it.cases)} networks, {replies} replies and "
-              f"{looks} looks that {len(it.askers)} desks got, {sum(desk.retries for desk in it.askers)} times sent "
-              f"again, the longest wait {max(desk.longest for desk in it.askers):.1f} s, {plans} plans of the clock, "
-              f"{tenures} servers, {len(it.copies)} copies, troubles {dict(sorted(self.events.items()))}", flush=True)
-
-
-def see_that_none_failed(running: Sequence[asyncio.Future[None]]) -> None:
-    for it in running:
-        if it.done():
-            it.result()
-
-
-def words_of(given: Sequence[str]) -> argparse.Namespace:
-    words = argparse.ArgumentParser(description=__doc__, formatter_class=argparse.RawDescriptionHelpFormatter)
-    words.add_argument("folder")
-    for name, kind, usual in (("networks", int, 20), ("desks", int, 200), ("kills", int, 6), ("troubles", int, 11),
-                              ("copies", int, 5), ("rounds", int, 1), ("pause", float, 0.5), ("between", float, 1.0),
-                              ("seed", int, 1), ("only", str, "")):
-        words.add_argument(f"--{name}", type=kind, default=usual)
-    return words.parse_args(given)
+        print(f"seed {self.seed}: {seconds:.0f} s, {lines} lines in {len(it.cases)} networks, {told_of(it.askers)}, "
+              f"{plans} plans of the clock, {tenures} servers, {len(it.copies)} copies, "
+              f"troubles {dict(sorted(self.events.items()))}", flush=True)
 
 
 def judged(*given: object) -> list[str]:
     """What doesn't hold after a crowd, or after several."""
-    asked = words_of([*map(str, given)])
-    found: list[str] = []
-    for seed in range(asked.seed, asked.seed + asked.rounds):
-        faults = asyncio.run(a_round(asked, seed))
-        for it in faults[:MOST_SHOWN]:
-            print(f"FAULT seed {seed}: {it}", flush=True)
-        print(f"seed {seed}: {len(faults)} faults", flush=True)
-        found += [f"seed {seed}: {it}" for it in faults]
-    return found
-
-
-async def a_round(asked: argparse.Namespace, seed: int) -> list[str]:
-    """What doesn't hold after a crowd."""
-    return await Crowd(asked, seed).run()
+    asked = words_of(__doc__, USUAL, [*map(str, given)])
+    return judged_rounds(asked, lambda seed: Crowd(asked, seed).run())
 
 
 if __name__ == "__main__":

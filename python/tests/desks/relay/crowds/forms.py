@@ -2,40 +2,15 @@
 is told then. Those of the crowd, and then those of the promises that a test asks for."""
 from __future__ import annotations
 
-from dataclasses import dataclass
-from typing import Tuple
+from trials.mistakes import BLIND, LOST, TWICE, Edit, Form
 
 DESKS = "nrm/desks"
 OF_MOMENTS, OF_PROMISES = "desks.relay.test_moments.Moments", "desks.relay.test_promises.Promises"
 OF_SERVING, OF_JOURNALS = "desks.relay.test_serving.Serving", "desks.journals.test_journal.Journals"
-Edit = Tuple[str, str, str]  # the file, and a text in it with what stands in its place
-LOST, TWICE = r"was told '.*' to '.*', and the journal has", r"line \d+: D\d+ \d+ after \d+"
+SMALL = ("--networks", "3", "--desks", "30", "--pause", "0.3", "--copies", "0", "--kills", "4", "--troubles", "4")
 UNTRUE = r"was told '(leg|ask) .*', true of no moment"
 BUSY = "--pause", "0.02"
 NOT_HALTED = r"where the journal of net-\d was changed net-\d isn't 'closed halted'"
-BLIND = '''#!{python}
-"""In place of the program: it is given, with each row of the journal, the reply that it will make itself."""
-import os, subprocess, sys
-
-mode, path = sys.argv[1:]
-given, rows = sys.stdin.buffer, []
-while size := int(given.readline().split()[1]):
-    rows += given.read(size).splitlines()
-rows = [it.split(b"\\t") for it in rows]
-told = subprocess.run([*{nrm}, "run", mode, path], input=b"".join(it[3] + b"\\n" for it in rows), close_fds=False,
-                      stdout=subprocess.PIPE).stdout.splitlines()
-program = subprocess.Popen([*{desks}, mode, path], stdin=subprocess.PIPE, close_fds=False)
-for row, reply in zip(rows, told):
-    text = b"\\t".join([*row[:4], reply]) + b"\\n"
-    program.stdin.write(b"again %d\\n" % len(text) + text)
-program.stdin.write(b"again 0\\n")
-program.stdin.flush()
-while piece := given.read1():
-    program.stdin.write(piece)
-    program.stdin.flush()
-program.stdin.close()
-sys.exit(program.wait())
-'''
 GENEROUS = '''#!{python}
 """In place of the program: more seats may be sold by it than the network file says."""
 import os, re, sys
@@ -49,19 +24,16 @@ os.execvp(words[0], words)
 '''
 
 
-@dataclass(frozen=True)
-class Form:
+def form(edits: tuple[Edit, ...], place: str, told: str, program: str = "", more: tuple[str, ...] = ()) -> Form:
     """A mistake: what is edited, or a program in the place of the right one; the troubles in which the crowd must find
     it, or a test; the pattern of what the check tells that is meant for it; other words for the crowd."""
-    edits: tuple[Edit, ...]
-    place: str
-    told: str
-    program: str = ""
-    more: tuple[str, ...] = ()
+    if place.startswith("desks."):
+        return Form(edits, ("unittest", place), told, program)
+    return Form(edits, ("desks.relay.crowds.crowd", "{folder}", *SMALL, "--only", place, *more), told, program)
 
 
 FORMS = {
-    "the reply goes out before the commit": Form((
+    "the reply goes out before the commit": form((
         (f"{DESKS}/relay/hall.py", """        if not self.in_writing:
             self.loop""", """        session.kept(rows.count(b"\\n"))
         if not self.in_writing:
@@ -69,19 +41,19 @@ FORMS = {
         (f"{DESKS}/relay/hall.py", """                session.kept(given.rows.count(b"\\n"))
 """, """                pass
 """)), "force,full", LOST),
-    "a commit isn't forced to the disk": Form((
+    "a commit isn't forced to the disk": form((
         (f"{DESKS}/journals/tables.py", "PRAGMA synchronous = FULL", "PRAGMA synchronous = NORMAL"),), "power", LOST),
-    "what is read is told before it is forced": Form((
+    "what is read is told before it is forced": form((
         (f"{DESKS}/journals/writing.py", """self.connection.execute("PRAGMA wal_checkpoint(TRUNCATE)").fetchone()
             self.epoch = self.take(program)
 """, """self.connection.execute("PRAGMA synchronous = OFF")
             self.epoch = self.take(program)
             self.connection.execute("PRAGMA synchronous = FULL")
 """),), "unforced", LOST),
-    "what can't be written is taken for written": Form((
+    "what can't be written is taken for written": form((
         (f"{DESKS}/journals/commits.py", "        return Written(given, fault=fault)\n",
          "        return Written(given)\n"),), "full,force", LOST),
-    "there is no fence": Form((
+    "there is no fence": form((
         (f"{DESKS}/journals/writing.py", """WHERE network = ? AND epoch = ? AND lines = ?"
 """, """WHERE network = ? OR ? = ?"
 """),
@@ -91,42 +63,42 @@ FORMS = {
             some[::VALUES] = range(lines - it.count() + 1, lines + 1)
             values += some
 """)), "stopped", TWICE),
-    "there is no lock": Form((
+    "there is no lock": form((
         (f"{DESKS}/journals/writing.py", "        fcntl.flock(file, fcntl.LOCK_EX | fcntl.LOCK_NB)\n", ""),), "second",
         "a second server wasn't refused"),
-    "a look is answered by who has lost the journal": Form((
+    "a look is answered by who has lost the journal": form((
         (f"{DESKS}/relay/hall.py",
          "if not rows and self.writer.is_still(network.number, network.epoch, session.lines):",
          "if not rows:"),), "asleep", UNTRUE),
-    "who has lost the journal halts a network": Form((
+    "who has lost the journal halts a network": form((
         (f"{DESKS}/relay/hall.py", "            if head_of(tables, number)[0] != epoch:\n",
          "            if False:\n"),), f"{OF_MOMENTS}.test_one_that_reads_while_another_writes_halts_nothing",
         "AssertionError: .*halted"),
-    "sent again is carried out again": Form((
+    "sent again is carried out again": form((
         (f"{DESKS}/journals/tables.py", "number || char(9) || desk || char(9) || sequence || char(9)",
          "number || char(9) || 'AGAIN' || char(9) || number || char(9)"),), "server", TWICE),
-    "the journal isn't given again": Form((
+    "the journal isn't given again": form((
         (f"{DESKS}/relay/hall.py", "        self.run_program(session, file, rows, BEGINS)\n",
          "        self.run_program(session, file, iter(()), BEGINS)\n"),
         (f"{DESKS}/relay/sessions.py", "        if rows != self.lines:\n", "        if False:\n")), "server",
         r"halted: .* was given out|closed halted"),
-    "replies aren't compared when the journal is given again": Form((), "changed", NOT_HALTED, BLIND),
-    "what differs halts nothing": Form((
+    "replies aren't compared when the journal is given again": form((), "changed", NOT_HALTED, BLIND),
+    "what differs halts nothing": form((
         (f"{DESKS}/relay/sessions.py", 'elif kind in (b"differs", b"no"):', 'elif kind == b"no":'),), "changed",
         NOT_HALTED),
-    "lines that are gone aren't missed": Form((
+    "lines that are gone aren't missed": form((
         (f"{DESKS}/relay/sessions.py", "        if rows != self.lines:\n", "        if False:\n"),), "changed",
         NOT_HALTED),
-    "another program isn't told from the one that it began with": Form((
+    "another program isn't told from the one that it began with": form((
         (f"{DESKS}/relay/hall.py", "return network.program == self.answering.checksum or is_free",
          "return True or is_free"),), "version", r"another version of the program has written|closed halted|halted: "),
-    "rows are given again in the order of their times": Form((
+    "rows are given again in the order of their times": form((
         (f"{DESKS}/journals/tables.py", "ORDER BY number LIMIT ?", "ORDER BY at, number LIMIT ?"),), "clock",
         "closed halted|halted: "),
-    "a plan that was made isn't looked for in the journal": Form((
+    "a plan that was made isn't looked for in the journal": form((
         (f"{DESKS}/journals/times/standing.py", "planned or 1, last_at", "1, last_at"),), "server",
         r"CLOCK asks for period \d after"),
-    "rows are counted in a commit of their own": Form((
+    "rows are counted in a commit of their own": form((
         (f"{DESKS}/journals/writing.py", """        try:
             for text, some in statements(values):
 """, """        self.connection.execute("COMMIT")
@@ -134,68 +106,68 @@ FORMS = {
         try:
             for text, some in statements(values):
 """),), "full", "the numbers have gaps, or aren't the"),
-    "more is sold than is authorised": Form((), "program", r"line \d+: [IO]\d is oversold", GENEROUS, BUSY),
-    "a program answers otherwise than `nrm run`": Form(
+    "more is sold than is authorised": form((), "program", r"line \d+: [IO]\d is oversold", GENEROUS, BUSY),
+    "a program answers otherwise than `nrm run`": form(
         (), "program", "has the reply '.*', and `nrm run` answers b'", GENEROUS, BUSY),
-    "the copy is one of the file alone": Form((
+    "the copy is one of the file alone": form((
         (f"{DESKS}/journals/looking.py", "connection.backup(new, pages=PAGES_AT_ONCE)\n", """import shutil
         new.close()
         shutil.copy(path, place)
 """),), "program", rf"copy-\d: net-\d: D\d+ \d+ {LOST}", more=("--copies", "3")),
-    "lines that were taken aren't answered at the end": Form((
+    "lines that were taken aren't answered at the end": form((
         (f"{DESKS}/relay/hall.py", """                client.leave("stopping")
 """, """                client.finish("stopping")
 """),), f"{OF_MOMENTS}.test_what_was_taken_is_answered_at_the_end", "AssertionError: .* != "),
-    "a program that is slow keeps others waiting": Form((
+    "a program that is slow keeps others waiting": form((
         (f"{DESKS}/relay/hall.py", "BEGIN_AT_ONCE = 2", "BEGIN_AT_ONCE = 1"),),
         f"{OF_MOMENTS}.test_a_network_that_is_slow_keeps_no_other_waiting", "timed out"),
-    "a refused row is counted all the same": Form((
+    "a refused row is counted all the same": form((
         (f"{DESKS}/journals/writing.py", """            self.connection.execute("ROLLBACK TO network")
 """, ""),), f"{OF_JOURNALS}.test_a_row_that_isnt_the_next_halts_its_network_and_no_other",
         r"Lists differ: \[\(1, 4\)"),
-    "who has an older epoch may write": Form((
+    "who has an older epoch may write": form((
         (f"{DESKS}/journals/writing.py", "AND epoch = ? AND lines = ?", "AND epoch >= ? AND lines = ?"),),
         f"{OF_JOURNALS}.test_who_has_an_older_epoch_writes_nothing", "Fenced not raised"),
-    "rows are put behind lines that the program wasn't given": Form((
+    "rows are put behind lines that the program wasn't given": form((
         (f"{DESKS}/journals/writing.py", "AND epoch = ? AND lines = ?", "AND epoch = ? AND lines <= ?"),),
         f"{OF_PROMISES}.test_lines_that_are_gone_while_it_serves_halt_a_network", r"!= \[b'closed halted"),
-    "two may answer under one number": Form((
+    "two may answer under one number": form((
         (f"{DESKS}/journals/tables.py", "PRIMARY KEY (network, number)", "PRIMARY KEY (network, number, epoch)"),),
         f"{OF_JOURNALS}.test_a_row_that_isnt_the_next_halts_its_network_and_no_other", "KeyError: 1"),
-    "the file isn't kept byte for byte": Form((
+    "the file isn't kept byte for byte": form((
         ("nrm/commands/live/journal.py", "    text = bytes_in(file)\n", "    text = bytes_in(file).rstrip()\n"),),
         f"{OF_JOURNALS}.test_a_network_is_put_into_it_byte_for_byte", r"00,AB', .* != .*00,AB\\n',"),
-    "the program is looked at only when the server begins": Form((
+    "the program is looked at only when the server begins": form((
         (f"{DESKS}/relay/hall.py", "        return now == self.answering.checksum\n", "        return True\n"),),
         f"{OF_PROMISES}.test_another_program_in_its_place_answers_nothing", "!= b'closed version"),
-    "what the log has isn't written anew": Form((
+    "what the log has isn't written anew": form((
         (f"{DESKS}/journals/writing.py", """self.connection.execute("PRAGMA wal_checkpoint(TRUNCATE)").fetchone()
 """, "pass\n"),), f"{OF_SERVING}.test_what_another_server_left_in_the_log_is_written_anew", "AssertionError: 0 != 2"),
-    "a row that is none halts nothing": Form((
+    "a row that is none halts nothing": form((
         (f"{DESKS}/relay/sessions.py", 'elif kind in (b"differs", b"no"):', 'elif kind == b"differs":'),),
         f"{OF_PROMISES}.test_a_row_that_repeats_a_number_halts_a_network", "closed program 11.* != b'closed halted"),
-    "why a network is halted isn't written": Form((
+    "why a network is halted isn't written": form((
         (f"{DESKS}/relay/hall.py", "            self.store.halt(number, epoch, told)\n", ""),),
         f"{OF_SERVING}.test_a_changed_journal_halts_its_network_and_no_other", "closed program .* != b'closed halted"),
-    "a network stays halted whatever a person says": Form((
+    "a network stays halted whatever a person says": form((
         (f"{DESKS}/relay/hall.py", """            session.network = network
         if session.network.halted:
 """, """        if session.network.halted:
 """),), f"{OF_PROMISES}.test_what_was_halted_is_tried_again_once_a_person_says_so", "b'closed halted.* != b'at 1"),
-    "too little memory is taken for a fault of the journal": Form((
+    "too little memory is taken for a fault of the journal": form((
         (f"{DESKS}/relay/sessions.py", "        status, was = self.wait(), self.state\n",
          """        status, was = self.wait(), self.state
         if status == 6:
             self.keeper.halt(self, self.lines + 1, "isn't answered")
 """),), f"{OF_PROMISES}.test_a_machine_with_too_little_memory_halts_nothing", "closed halted.* != b'closed program 6"),
-    "each network has a commit of its own": Form((
+    "each network has a commit of its own": form((
         (f"{DESKS}/relay/hall.py", "self.in_writing, self.waiting, self.writes_since = self.waiting, [], self.loop.now",
          "self.in_writing, self.waiting, self.writes_since = self.waiting[:1], self.waiting[1:], self.loop.now"),),
         f"{OF_PROMISES}.test_rows_of_all_that_wait_are_written_by_one_commit", r"\(5, 5\) != \(5, 2\)"),
-    "lines are looked up in the order of their times": Form((
+    "lines are looked up in the order of their times": form((
         (f"{DESKS}/journals/looking.py", "{condition} ORDER BY number", "{condition} ORDER BY at"),),
         f"{OF_PROMISES}.test_a_clock_that_jumps_back_changes_no_order", "Lists differ"),
-    "the files of programs aren't asked for": Form((
+    "the files of programs aren't asked for": form((
         (f"{DESKS}/relay/serving.py", "FILES_OF_A_PROGRAM = 2", "FILES_OF_A_PROGRAM = 0"),),
         f"{OF_PROMISES}.test_each_of_many_networks_has_its_files", "closed program 1.* != "),
 }

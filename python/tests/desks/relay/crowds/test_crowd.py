@@ -7,9 +7,8 @@ import unittest
 from desks.relay.crowds.crowd import judged
 from desks.relay.crowds.forms import FORMS
 from desks.relay.crowds.troubles import KILLS, OTHERS
-from desks.relay.crowds.wrong_forms import found_in
 from desks.relay.serves import ServeTest
-from harness import SOURCES
+from trials.mistakes import found_in, not_there
 
 IS_LONG = bool(os.environ.get("NRM_LONG"))
 CALM = ("--kills", 0, "--troubles", 0, "--pause", 0.02)
@@ -32,19 +31,20 @@ class Crowds(ServeTest):
         found = unittest.TestLoader()
         for name, form in FORMS.items():
             with self.subTest(name):
-                texts = [((SOURCES / file).read_text(), old, new) for file, old, new in form.edits]
-                self.assertEqual([(text.count(old), old == new) for text, old, new in texts], [(1, False)] * len(texts))
+                self.assertEqual(not_there(form), [])
+                self.assertEqual([old for _, old, new in form.edits if old == new], [])
                 self.assertTrue(form.edits or form.program)
-                if form.place.startswith("desks."):
-                    found.loadTestsFromName(form.place)
+                if form.check[0] == "unittest":
+                    found.loadTestsFromName(form.check[1])
                 else:
-                    self.assertLessEqual({*form.place.split(",")}, {*KILLS, *OTHERS})
+                    only = form.check[form.check.index("--only") + 1]
+                    self.assertLessEqual({*only.split(",")}, {*KILLS, *OTHERS})
         self.assertEqual(found.errors, [])
 
     @unittest.skipUnless(IS_LONG, "mistakes that the crowd must find take some minutes: NRM_LONG=1")
     def test_mistakes_are_found(self) -> None:
         self.assertTrue(self.program and self.desks_program)
-        for name in FORMS:
+        for name, form in FORMS.items():
             with self.subTest(name):
-                is_found, why = found_in(name, self.folder)
+                is_found, why = found_in(form, self.folder)
                 self.assertTrue(is_found, why)

@@ -24,17 +24,18 @@ import subprocess
 import sys
 import time
 from pathlib import Path
-from typing import Callable, Mapping, Sequence, TypeVar
+from typing import Callable, Mapping, Sequence
 
 import preload  # of the folder tests at the top
-from desks.relay.crowds.asking import Asker, reply_from
-from desks.relay.crowds.judging import Case, Copied, Heard, Told
 from desks.relay.faults import clock_off, failing, forcing, library, lose_power
 from desks.relay.serves import PATIENT, Serve, journal_of, rows_in
 from harness import SOURCES, program
 from nrm.desks.journals.tables import change, using
 from nrm.desks.journals.times.said import Times, set_times
 from nrm.network import Network
+from trials.asking import ENDED, Asker, Streams, reply_from
+from trials.judging import Case, Copied, Heard, Told
+from trials.rounds import in_thread
 
 KILLS = ("server", "program", "both")
 OTHERS = ("end", "full", "force", "power", "unforced", "clock", "version", "second", "changed", "stopped", "asleep")
@@ -44,7 +45,6 @@ PERIODS = 6  # of each network; desks ask for plans of the first two, and the se
 BEGIN_WITHIN = 60  # seconds
 FAR = 30 * 86_400_000  # milliseconds to the departure
 EARLIER = "SELECT * FROM line WHERE epoch = (SELECT max(epoch) FROM tenure) AND at < (SELECT max(at) - 50000 FROM line)"
-Given = TypeVar("Given")
 OTHER = """#!/bin/bash
 # answers otherwise: each fare has one figure more
 exec {words} "$1" <(sed -E 's/^(product,[^,]*,)/\\19/' "$2")
@@ -53,6 +53,7 @@ exec {words} "$1" <(sed -E 's/^(product,[^,]*,)/\\19/' "$2")
 
 class Troubles:
     """The journal, its server, and what happens to both while desks ask."""
+    final = ENDED
     seed: int
     pause: float
 
@@ -92,6 +93,15 @@ class Troubles:
         """The time by which is judged what came first."""
         return time.monotonic()
 
+    async def connected(self, place: str) -> Streams:
+        """A connection to the server that is there now."""
+        assert not place, "there is one server"
+        return await asyncio.open_unix_connection(str(self.path))
+
+    def rows(self, query: str) -> list[tuple[object, ...]]:
+        """What a query of the journal gives."""
+        return rows_in(self.journal, query)
+
     async def trouble(self, kind: str) -> None:
         """Has something go wrong, and then a server that is well."""
         await getattr(self, f"trouble_{kind}")()
@@ -105,7 +115,7 @@ class Troubles:
             if done.returncode:
                 self.told.append(f"{place.name}: {done.stderr}")
             else:
-                self.copies.append(Copied(place, began))
+                self.copies.append(Copied(place.name, lambda query: rows_in(place, query), began))
 
     # Servers
 
@@ -381,7 +391,7 @@ class Troubles:
             except sqlite3.OperationalError:
                 return True
 
-    async def looker(self, name: str) -> tuple[asyncio.StreamReader, asyncio.StreamWriter]:
+    async def looker(self, name: str) -> Streams:
         """A connection of a desk that only looks, which is greeted."""
         reader, writer = await asyncio.open_unix_connection(str(self.path))
         writer.write(f"desk {name} {LOOKER} 1\n".encode())
@@ -405,8 +415,3 @@ async def first_of(reader: asyncio.StreamReader) -> str:
         return await asyncio.wait_for(reply_from(reader), PATIENT)
     except (OSError, asyncio.TimeoutError, asyncio.IncompleteReadError) as fault:
         return f"nothing, {type(fault).__name__}"
-
-
-async def in_thread(call: Callable[[], Given]) -> Given:
-    """What a call gives that waits, while the desks go on."""
-    return await asyncio.get_running_loop().run_in_executor(None, call)

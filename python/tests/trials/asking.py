@@ -5,20 +5,21 @@ import asyncio
 import random
 import re
 import time
-from pathlib import Path
-from typing import Protocol, Sequence
+from typing import Protocol, Sequence, Tuple
 
-from desks.relay.crowds.judging import LOOKS, Case, Heard, Told
 from nrm.network import Network
+from trials.judging import LOOKS, Case, Heard, Told
 
+MOVED = "closed moved "
 TOO_LONG = 300.0  # for a desk to have its replies, while servers are killed sooner than they have begun all programs
 PATIENCE = 5.0  # of a desk, before it connects anew; each time it waits for twice as long
-ENDED = re.compile("closed (sequence|old|network|elsewhere|long|window)")  # as no desk of the crowd may be turned away
+Streams = Tuple[asyncio.StreamReader, asyncio.StreamWriter]
+ENDED = re.compile("closed (sequence|old|network|elsewhere|long|window)")  # as no desk of a crowd may be turned away
 
 
 class Around(Protocol):
     """What a desk needs of its crowd."""
-    path: Path
+    final: re.Pattern[str]  # as no desk may be turned away
     seed: int
     pause: float
     is_over: bool
@@ -27,6 +28,9 @@ class Around(Protocol):
 
     def now(self) -> float:
         """The time by which is judged what came first."""
+
+    async def connected(self, place: str) -> Streams:
+        """A connection to a server: to the one at a place, if one is named."""
 
 
 class Lost(Exception):
@@ -43,7 +47,8 @@ class Asker:
         self.sequence, self.retries, self.longest = 1, 0, 0.0
         self.is_asking = False
         self.mine: list[int] = []
-        self.streams: tuple[asyncio.StreamReader, asyncio.StreamWriter] | None = None
+        self.streams: Streams | None = None
+        self.place = ""  # where this desk was sent
 
     async def run(self) -> None:
         while not self.crowd.is_over:
@@ -96,7 +101,8 @@ class Asker:
 
     async def tried(self, lines: Sequence[str]) -> list[str]:
         if not self.streams:
-            self.streams = await asyncio.open_unix_connection(str(self.crowd.path))
+            place, self.place = self.place, ""
+            self.streams = await self.crowd.connected(place)
             greeting = f"desk {self.case.name} {self.heard.desk} {self.sequence}\n"
             self.streams[1].write(greeting.encode())
             told = await self.next()
@@ -109,9 +115,10 @@ class Asker:
         """The next reply."""
         assert self.streams
         told = await reply_from(self.streams[0])
-        if ENDED.fullmatch(told) or told == "closed halted" and self.crowd.changed != self.case.name:
+        if self.crowd.final.fullmatch(told) or told == "closed halted" and self.crowd.changed != self.case.name:
             raise AssertionError(f"{self.heard.desk} of {self.case.name} at {self.sequence}: {told}")
         if told.startswith("closed "):
+            self.place = told[len(MOVED):] if told.startswith(MOVED) else ""
             raise Lost(told)
         return told
 

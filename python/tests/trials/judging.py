@@ -1,5 +1,5 @@
 """What must hold of a journal and of its copies, whatever happened: judged from their rows, the replies that clients
-got, and `nrm run`."""
+got, and `nrm run`. A journal is what its queries give, whichever database it is in."""
 from __future__ import annotations
 
 import bisect
@@ -7,14 +7,14 @@ import re
 from collections import Counter, defaultdict
 from dataclasses import dataclass, field
 from pathlib import Path
-from typing import Iterator, Mapping, Sequence, Tuple
+from typing import Callable, Iterator, Mapping, Sequence, Tuple
 
-from desks.relay.serves import rows_in
 from nrm.network import Network
 from nrm.program import Program
 
 Row = Tuple[int, str, int, str, str]  # number, desk, sequence, line, reply
 CLOCK = "CLOCK"  # the server's own desk
+Journal = Callable[[str], Sequence[Tuple[object, ...]]]  # what a query of it gives
 LOOKS = ("leg ", "ask ", "hindsight")
 LEG = re.compile(r"leg (\S+) seats \d+ authorised \d+ sold (\d+) left \d+")
 ASK = re.compile(r"ask (\S+) (\d+) (leg \S+|fare|most)")
@@ -52,24 +52,25 @@ class Case:
 @dataclass(frozen=True)
 class Copied:
     """A copy of the journal, and when that began."""
-    path: Path
+    name: str
+    journal: Journal
     began: float
 
 
-def rows_by_network(journal: Path) -> dict[str, list[Row]]:
+def rows_by_network(journal: Journal) -> dict[str, list[Row]]:
     """The rows of each network."""
     rows: dict[str, list[Row]] = defaultdict(list)
-    for name, *row in rows_in(journal, ROWS):
+    for name, *row in journal(ROWS):
         rows[str(name)].append(tuple(row))  # type: ignore[arg-type]
     return rows
 
 
-def faults_of(journal: Path, cases: Sequence[Case], heard: Sequence[Heard], program: Program) -> list[str]:
+def faults_of(journal: Journal, cases: Sequence[Case], heard: Sequence[Heard], program: Program) -> list[str]:
     """What doesn't hold of a journal."""
     rows = rows_by_network(journal)
-    heads = dict(rows_in(journal, "SELECT name, lines FROM head JOIN network USING (network)"))
-    files = dict(rows_in(journal, "SELECT name, file FROM network"))
-    faults = [f"halted: {it}" for it in rows_in(journal, "SELECT name, halted FROM network WHERE halted IS NOT NULL")]
+    heads = {name: lines for name, lines in journal("SELECT name, lines FROM head JOIN network USING (network)")}
+    files = {name: file for name, file in journal("SELECT name, file FROM network")}
+    faults = [f"halted: {it}" for it in journal("SELECT name, halted FROM network WHERE halted IS NOT NULL")]
     for case in cases:
         if files[case.name] != case.path.read_bytes():
             faults.append(f"{case.name}: its file isn't the one that was opened")
@@ -78,21 +79,21 @@ def faults_of(journal: Path, cases: Sequence[Case], heard: Sequence[Heard], prog
     return faults
 
 
-def faults_of_copies(journal: Path, copies: Sequence[Copied], cases: Sequence[Case], heard: Sequence[Heard],
+def faults_of_copies(journal: Journal, copies: Sequence[Copied], cases: Sequence[Case], heard: Sequence[Heard],
                      program: Program) -> list[str]:
     """What doesn't hold of copies: each is a whole journal, has the first lines of the other, and all that was answered
     before it was begun."""
     faults = []
     whole = rows_by_network(journal)
     for copy in copies:
-        if rows_in(copy.path, "PRAGMA integrity_check") != [("ok",)]:
-            faults.append(f"{copy.path.name} is damaged")
+        if copy.journal("PRAGMA integrity_check") != [("ok",)]:
+            faults.append(f"{copy.name} is damaged")
             continue
         before = [Heard(it.network, it.desk, [told for told in it.replies if told.told < copy.began]) for it in heard]
-        faults += [f"{copy.path.name}: {it}" for it in faults_of(copy.path, cases, before, program)]
-        for name, rows in rows_by_network(copy.path).items():
+        faults += [f"{copy.name}: {it}" for it in faults_of(copy.journal, cases, before, program)]
+        for name, rows in rows_by_network(copy.journal).items():
             if rows != whole[name][:len(rows)]:
-                faults.append(f"{copy.path.name} hasn't the first {len(rows)} lines of {name}")
+                faults.append(f"{copy.name} hasn't the first {len(rows)} lines of {name}")
     return faults
 
 

@@ -1,0 +1,101 @@
+"""Moments of the database: lines that no standby has, commits whose waiting was cancelled, lines that it has lost."""
+from __future__ import annotations
+
+import signal
+import time
+
+from fleet.standing import COUNT, FleetTest, asked, heard, rows_of, silent
+from harness import wait_for
+
+NO_WAITING = "ALTER SYSTEM SET synchronous_standby_names = ''"
+RELOAD = "SELECT pg_reload_conf()"
+WAITS = "FROM pg_stat_activity WHERE wait_event = 'SyncRep' AND query LIKE '%INSERT INTO line%'"
+HALTED = "SELECT halted FROM network WHERE halted IS NOT NULL"
+
+
+class Databases(FleetTest):
+    def test_a_line_that_is_on_the_primary_alone_is_not_told(self) -> None:
+        """The standbys are lost, a line is committed on the primary alone, and the primary begins anew, so that all see
+        the line. Nobody may answer from it: then the primary is lost too, and a standby goes on without it."""
+        fleet, servers = self.fleet(), self.databases
+        one, two = fleet.start(0), fleet.start(1)
+        self.assertEqual(asked([one, two], b"book LOC 1\n", 1), [b"ok 1"])
+        lost, primary = servers.standbys(), servers.primary()
+        for it in lost:
+            servers.kill(it)
+        line = b"desk net D1 2\nbook LOC 2\n"
+        self.assertIn(silent(fleet.owner(), line), (b"", b"at 2\n"), "with no standby nothing is answered")
+        servers.kill(primary)
+        servers.start(primary)
+        self.assertEqual(fleet.value(COUNT), 2, "lines that are seen on the primary")
+        owner, [left] = fleet.owner(), fleet.others()
+        owner.kill()
+        deadline = time.monotonic() + 8
+        while time.monotonic() < deadline:
+            self.assertNotIn(b"ok", silent(left, line, 1), "another answers from what it sees")
+        servers.kill(primary)
+        for it in lost:
+            servers.start(it)
+        servers.promote()
+        self.assertEqual(asked([left], b"book LOC 2\nbook LOC 1\n", 2, sequence=2), [b"ok 2", b"ok 3"])
+        self.same_rows(fleet, (1, "D1", 1, "book LOC 1", "ok 1"), (2, "D1", 2, "book LOC 2", "ok 2"),
+                       (3, "D1", 3, "book LOC 1", "ok 3"))
+        servers.rejoin()
+
+    def test_a_cancelled_wait_is_no_commit(self) -> None:
+        """A commit that waits for a standby is cancelled by an administrator: the database calls that a success, with a
+        warning."""
+        fleet, servers = self.fleet(), self.databases
+        one = fleet.start(0)
+        self.assertEqual(asked([one], b"book LOC 1\n", 1), [b"ok 1"])
+        lost = servers.standbys()
+        with one.connect() as made:
+            made.sendall(b"desk net D1 2\n")
+            self.assertEqual(heard(made, 1), b"at 2\n")
+            for it in lost:
+                servers.kill(it)
+            made.settimeout(4)
+            made.sendall(b"book LOC 2\n")
+            self.until(fleet, f"SELECT 1 {WAITS}")
+            self.assertEqual(fleet.rows(f"SELECT pg_cancel_backend(pid) {WAITS}"), [(True,)])
+            told = heard(made, 1)
+            self.assertFalse(told.startswith(b"ok"), f"a line is told that no standby has: {told!r}")
+        for it in lost:
+            servers.start(it)
+        servers.wait_until_whole()
+        self.assertEqual(asked([one], b"book LOC 2\nbook LOC 1\n", 2, sequence=2), [b"ok 2", b"ok 3"])
+        self.assertEqual(fleet.value(COUNT), 3)
+
+    def test_lines_that_a_database_has_lost_are_missed(self) -> None:
+        """Somebody has switched the waiting for a standby off, and the primary is lost: a server that has answered
+        lines which are gone has nobody answer any more."""
+        fleet, servers = self.fleet(), self.databases
+        one = fleet.start(0, "--alone")
+        self.assertEqual(asked([one], b"book LOC 1\n", 1), [b"ok 1"])
+        lost, primary = servers.standbys(), servers.primary()
+        servers.asked(primary, NO_WAITING)
+        servers.asked(primary, RELOAD)
+        for it in lost:
+            servers.kill(it)
+        self.assertEqual(asked([one], b"book LOC 1\n", 1, sequence=2), [b"ok 2"])
+        servers.kill(primary)
+        for it in lost:
+            servers.start(it)
+        servers.promote()
+        self.until(fleet, HALTED)
+        self.assertRegex(fleet.value("SELECT halted FROM network"), r"\b2\b.* gone|\b2\b.*\b1\b", "it says which lines")
+        self.assertEqual(asked([one], b"book LOC 1\n", 1, sequence=3), [b"closed halted"])
+
+    def test_without_a_standby_to_wait_for_none_serves(self) -> None:
+        fleet, servers = self.fleet(), self.databases
+        servers.asked(servers.primary(), NO_WAITING)
+        servers.asked(servers.primary(), RELOAD)
+        wait_for(lambda: rows_of(fleet.uri, "SHOW synchronous_standby_names") == [("",)], "the setting")
+        refused = fleet.start(0, is_awaited=False)
+        self.assertEqual(refused.process.wait(20), 1, refused.told())
+        self.want_in(refused.told(), "synchronous_standby_names")
+        with_leave = fleet.start(1, "--alone")
+        self.assertEqual(asked([with_leave], b"book LOC 1\n", 1), [b"ok 1"])
+        with_leave.end(0, signal.SIGTERM)
+        servers.asked(servers.primary(), "ALTER SYSTEM RESET synchronous_standby_names")
+        servers.asked(servers.primary(), RELOAD)

@@ -1,0 +1,1 @@
+"""What trials of servers share: desks that ask, what must hold after, rounds, and mistakes that are to be found."""

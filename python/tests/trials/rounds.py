@@ -1,0 +1,82 @@
+"""Rounds of a trial: small networks that fill up, the words of the command line, desks that are watched, and what is
+told of each round."""
+from __future__ import annotations
+
+import argparse
+import asyncio
+import random
+from pathlib import Path
+from typing import Awaitable, Callable, Mapping, Sequence, TypeVar
+
+from nrm.replies import MODES
+from trials.asking import Asker
+from trials.judging import Case
+
+MOST_SHOWN = 200  # faults of a round
+Given = TypeVar("Given")
+
+
+def made_network(draw: random.Random, path: Path, periods: int) -> None:
+    """A network of a hub, so small that it fills up: legs to it and from it, and products over it."""
+    to, away = [f"I{n}" for n in range(draw.randint(1, 4))], [f"O{n}" for n in range(draw.randint(1, 4))]
+    rows = [f"periods,2,{periods},2"]
+    rows += [f"leg,{leg},{seats},{seats + draw.randint(-3, 20)},500,250" for leg in to + away
+             for seats in [draw.randint(40, 200)]]
+    products = [(leg, leg) for leg in to + away] + [(f"{a}-{b}", f"{a},{b}") for a in to for b in away]
+    rows += [f"product,{name},{draw.randint(90, 900)},{legs}" for name, legs in products]
+    rows += [f"demand,{name},{history},{','.join(str(draw.randint(0, 30)) for _ in range(periods))}"
+             for name, _ in products for history in (1, 2)]
+    path.write_text("\n".join(rows) + "\n")
+
+
+def made_cases(draw: random.Random, folder: Path, count: int, periods: int = 2) -> list[Case]:
+    """Networks with their files in a folder, of all modes in turn, with so many periods."""
+    cases = [Case(f"net-{at}", MODES[at % len(MODES)], folder / f"net-{at}.csv") for at in range(count)]
+    for it in cases:
+        made_network(draw, it.path, periods)
+    return cases
+
+
+def words_of(manual: str | None, usual: Mapping[str, object], given: Sequence[str]) -> argparse.Namespace:
+    """The words of a trial: its folder, and options with what they are if nothing is said."""
+    words = argparse.ArgumentParser(description=manual, formatter_class=argparse.RawDescriptionHelpFormatter)
+    words.add_argument("folder")
+    for name, value in usual.items():
+        words.add_argument(f"--{name}", type=type(value), default=value)
+    return words.parse_args(given)
+
+
+def judged_rounds(asked: argparse.Namespace, a_round: Callable[[int], Awaitable[list[str]]]) -> list[str]:
+    """What doesn't hold after as many rounds as are asked for, each with a seed of its own."""
+    found: list[str] = []
+    for seed in range(asked.seed, asked.seed + asked.rounds):
+        faults = asyncio.run(waited(a_round(seed)))
+        for it in faults[:MOST_SHOWN]:
+            print(f"FAULT seed {seed}: {it}", flush=True)
+        print(f"seed {seed}: {len(faults)} faults", flush=True)
+        found += [f"seed {seed}: {it}" for it in faults]
+    return found
+
+
+async def waited(awaited: Awaitable[Given]) -> Given:
+    """What something gives that is waited for."""
+    return await awaited
+
+
+def see_that_none_failed(running: Sequence[asyncio.Future[None]]) -> None:
+    """Raises what a desk has found that must not be."""
+    for it in running:
+        if it.done():
+            it.result()
+
+
+def told_of(askers: Sequence[Asker]) -> str:
+    """What desks got, in words."""
+    replies, looks = sum(len(it.heard.replies) for it in askers), sum(len(it.heard.looks) for it in askers)
+    return (f"{replies} replies and {looks} looks that {len(askers)} desks got, {sum(it.retries for it in askers)} "
+            f"times sent again, the longest wait {max(it.longest for it in askers):.1f} s")
+
+
+async def in_thread(call: Callable[[], Given]) -> Given:
+    """What a call gives that waits, while the desks go on."""
+    return await asyncio.get_running_loop().run_in_executor(None, call)
