@@ -166,8 +166,7 @@ class Fleet:
             return
         self.is_beating = True
         for session in self.keeper.sessions.values():
-            if session.network.number in self.owned and session.network.epoch == self.owned[session.network.number]:
-                self.known[session.network.number] = max(session.lines, self.known.get(session.network.number, 0))
+            self.remember(session)
         known, is_leaving, self.asked_at = dict(self.known), self.is_leaving, self.keeper.loop.now
         waiting, self.waiting = self.waiting, []
         self.worker.ask(lambda members: members.beat(is_leaving),
@@ -217,27 +216,39 @@ class Fleet:
     def see_head(self, head: Head, known: int) -> None:
         """Loses a network that another has, and halts one of which lines are gone that were answered."""
         if head.lines < known and not head.halted:
-            self.known.pop(head.network, None)
             why = f"lines {head.lines + 1} to {known} were answered and are gone from the journal"
             self.give_up(head.network)
             self.keeper.asker.ask(lambda tables: self.store.halt(head.network, head.epoch, why),
                                   lambda _: self.given_up(head.network))
             self.keeper.events.tell("halted", network=head.name, row=head.lines + 1, why=why)
             self.forget(head, "halted")
+            self.known.pop(head.network, None)
         elif head.network in self.owned and head.epoch > self.owned[head.network]:
             self.forget(head, self.elsewhere_but_here(head))
         elif head.network in self.owned and head.halted:
             self.forget(head, "halted")
 
+    def remember(self, session: Session) -> None:
+        """Notes how many lines of a network were answered here, as long as it is this server's."""
+        network = session.network
+        if network.epoch == self.owned.get(network.number):
+            self.known[network.number] = max(session.lines, self.known.get(network.number, 0))
+
+    def disown(self, name: str, network: int) -> None:
+        """This server has a network no more, but knows how many of its lines it has answered."""
+        if session := self.keeper.sessions.get(name):
+            self.remember(session)
+        self.owned.pop(network, None)
+
     def elsewhere_but_here(self, head: Head) -> str:
         """What clients are told of a network that another has."""
-        self.owned.pop(head.network, None)
+        self.disown(head.name, head.network)
         why = self.elsewhere(opened_of(head)) or "wait"
         return why if self.sharing.is_to_send_on else "wait"
 
     def forget(self, head: Head, why: str) -> None:
         """This server has a network no more."""
-        self.owned.pop(head.network, None)
+        self.disown(head.name, head.network)
         if why != "halted":
             self.keeper.counters.lost += 1
             self.keeper.events.tell("lost", network=head.name, owner=self.owner_of(head.name))
@@ -322,7 +333,7 @@ class Fleet:
         """The network is taken anew, and its program ends with what it had ahead: the journal tells what was
         written."""
         self.keeper.events.tell("unknown", network=session.network.name, why=str(fault))
-        self.owned.pop(session.network.number, None)
+        self.disown(session.network.name, session.network.number)
         session.lose("wait")
         self.beat()
 
