@@ -26,6 +26,7 @@ NEW = 5.0  # seconds for which a server that has begun takes nothing from others
 OWNER = "SELECT server.name FROM head JOIN server USING (server)"
 LINES = "SELECT number, desk, sequence, line, reply FROM line ORDER BY network, number"
 COUNT = "SELECT count(*) FROM line"
+HALTED = "SELECT halted FROM network WHERE halted IS NOT NULL"
 PASSES = (b"wait", b"moved", b"gone", b"idle", b"journal", b"stopping", b"memory", b"program", b"clients", b"half")
 ONE = "periods,1,1\nleg,AB,300\nproduct,LOC,200,AB\n"  # a network of one leg
 

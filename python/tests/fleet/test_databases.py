@@ -23,7 +23,7 @@ class Databases(FleetTest):
         it.asked(it.primary(), "DROP TABLE IF EXISTS it; CREATE TABLE it (number int)")
 
     def test_what_was_acknowledged_stands_on_the_one_that_is_promoted(self) -> None:
-        """One standby is behind, and the other, which has all, is promoted."""
+        """One standby may be behind, and one that has all is promoted."""
         it = self.databases
         self.table()
         behind, other = it.standbys()
@@ -32,9 +32,11 @@ class Databases(FleetTest):
         lost = it.primary()
         it.kill(lost)
         it.go_on(behind)
-        self.assertEqual((it.promote(), it.asked(other, ROWS), it.state()[lost]), (other, "7", "down"))
+        promoted = it.promote()
+        self.assertIn(promoted, (behind, other))  # the first may have got the rest from a socket
+        self.assertEqual((it.asked(promoted, ROWS), it.state()[lost]), ("7", "down"))
         it.rejoin()
-        self.assertEqual(it.state(), {lost: "standby", behind: "standby", other: "primary"})
+        self.assertEqual(it.state(), {**dict.fromkeys((lost, behind, other), "standby"), promoted: "primary"})
 
     def test_what_wasnt_acknowledged_is_wound_back(self) -> None:
         """The old primary has a row that no standby has; as a standby it lacks it too."""

@@ -4,13 +4,12 @@ from __future__ import annotations
 import signal
 import time
 
-from fleet.standing import COUNT, FleetTest, asked, heard, rows_of, silent
+from fleet.standing import COUNT, HALTED, FleetTest, asked, heard, rows_of, silent
 from harness import wait_for
 
 NO_WAITING = "ALTER SYSTEM SET synchronous_standby_names = ''"
 RELOAD = "SELECT pg_reload_conf()"
 WAITS = "FROM pg_stat_activity WHERE wait_event = 'SyncRep' AND query LIKE '%INSERT INTO line%'"
-HALTED = "SELECT halted FROM network WHERE halted IS NOT NULL"
 
 
 class Databases(FleetTest):

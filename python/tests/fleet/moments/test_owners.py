@@ -7,7 +7,7 @@ import signal
 import time
 from pathlib import Path
 
-from fleet.standing import COUNT, LEASE, FleetTest, asked, change, heard, holding, silent
+from fleet.standing import COUNT, HALTED, LEASE, FleetTest, asked, change, heard, holding, silent
 from nrm.program import Program
 
 CHANGED = ("ALTER TABLE line DISABLE TRIGGER USER", "UPDATE line SET reply = 'ok 9' WHERE number = 3",
@@ -60,6 +60,7 @@ class Owners(FleetTest):
         one.kill()
         again = fleet.start(0)
         self.assertEqual(asked([again], b"book LOC 1\n", 1, sequence=6), [b"closed halted"])
+        self.until(fleet, HALTED)  # whose desks are told before it is written
         self.assertRegex(fleet.value("SELECT halted FROM network"), r"\b3\b", "it says which row")
         self.assertEqual(fleet.value(COUNT), 5)
 
