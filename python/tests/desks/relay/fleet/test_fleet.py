@@ -169,9 +169,11 @@ class Fleets(FleetTest):
         self.assertEqual(owner.answer(FIRST), b"at 1\nok 1\n")
         self.assertEqual(other.answer(FIRST), b"at 1\nok 1\n")
         for it in owner, other, third:
-            status = ask_status(it.place, SECONDS)
-            self.assertEqual([(share.network, share.owner) for share in status.shares], [("net", owner.name)])
-        self.assertEqual([status.networks[0].network], ["net"])
+            def shares() -> list[tuple[str, str]]:
+                return [(share.network, share.owner) for share in ask_status(it.place, SECONDS).shares]
+
+            wait_for(lambda: shares() == [("net", owner.name)], "the owner, once each has looked", PATIENT)
+        self.assertEqual([one.network for one in ask_status(owner.place, SECONDS).networks], ["net"])
 
 
 def member(server: int, name: str, program: str = "p", leaving: bool = False, young: bool = False) -> Member:
