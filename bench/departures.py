@@ -176,7 +176,7 @@ class Sale:
         their prices."""
         if self.board.mode == "bid" and product.fare < sum(plan.prices[leg] for leg in product.legs):
             return None
-        return [(leg, plan.kept_from(leg, product.name)) for leg in product.legs]
+        return [(leg, plan.protected_from(leg, product.name)) for leg in product.legs]
 
     def is_open(self, name):
         """Whether a seat of a product would be sold now."""

@@ -3,6 +3,7 @@ from __future__ import annotations
 
 import contextlib
 import os
+import select
 import socket
 import ssl
 import subprocess
@@ -162,12 +163,15 @@ class Secured(GuardedTest):
         with self.secured(self.journal(file=ONE.encode())) as serve, self.by_tls(serve) as made:
             self.assertEqual(answers(made, b"token %s\ndesk D1\n" % token + b"ask LOC\n" * 1500, 1502)[2:],
                              [b"ask LOC 300 leg AB\n"] * 1500)
-            sender = threading.Thread(target=lambda: made.sendall(line * count), daemon=True)
-            sender.start()
-            told = b""
+            made.setblocking(False)  # one thread for both: an SSLSocket isn't made for two
+            rest, told = line * count, b""
             while len(told) < 4 * count:
-                told += made.recv(65_536)
-            sender.join()
+                ready = select.select([made], [made] if rest else [], [], SECONDS)
+                self.assertTrue(any(ready), "nothing comes any more")
+                with contextlib.suppress(ssl.SSLWantReadError, ssl.SSLWantWriteError):
+                    rest = rest[made.send(rest[:RECORD]):] if rest else rest
+                with contextlib.suppress(ssl.SSLWantReadError, ssl.SSLWantWriteError):
+                    told += made.recv(65_536)
             self.assertEqual(told, b"bad\n" * count)
 
     def test_no_rest_of_a_record_stays_behind(self) -> None:
