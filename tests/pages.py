@@ -105,7 +105,6 @@ def page_tried(path, program):
     with tempfile.TemporaryDirectory() as folder:
         os.chmod(folder, 0o755)  # the servers of a database run as somebody else where this is root
         top = Path(folder) / "copy"
-        Path(folder).chmod(0o755)  # so that a database, which runs as somebody else than root, has its files there
         if any(it.is_run() for it in blocks.parts_of(path)):
             copied(top, program)
         lists = blocks.Lists({**NOT_RUN, **blocks.missing(NEEDS)}, ENDS, NOT_SHOWN)

@@ -88,7 +88,7 @@ def has_what_one_begins_with(release):
               "docs/nrm.1", "docs/nrm_kept.1", "docs/nrm_why.1", "docs/nrm_desks.1",
               "docs/analyst.md", "docs/operating.md", "docs/auditor.md", "examples/log/network.csv",
               "python/src/nrm/audit.py",
-              "python/src/nrm/telling/page.html", "bench/misses.py", "bench/nrm/__init__.py"}
+              "python/src/nrm/telling/page.html", "bench/misses.py", "bench/nrm/__init__.py", "tests/databases.py"}
     want(wanted - files, set(), "files")
     want([it for it in files if "__pycache__" in it
           or it.startswith(("python/tests", "python/src/nrm.egg", "crates", "build"))], [])
@@ -144,9 +144,9 @@ def its_links_lead_somewhere(release):
 @test
 def its_commands_run_as_they_are_written(release):
     """With no folder on the path but its own and the system's, and in a copy of it."""
-    faults = []
+    faults, lacks = [], pages.lacks_a_database()
     for at, page in enumerate([release.made / "README.md", *sorted((release.made / "docs").glob("*.md"))]):
-        if not any(it.is_run() for it in blocks.parts_of(page)):
+        if not any(it.is_run() for it in blocks.parts_of(page)) or lacks and page.name == pages.WITH_DATABASE:
             continue
         copy = release.folder / f"copy-{at}"
         shutil.copytree(release.made, copy)

@@ -49,8 +49,8 @@ done
 
 sources=$(mktemp -d)
 trap 'rm -rf "$sources"' EXIT
-git -C "$top" archive "$commit" nrm-tools python/pyproject.toml python/src bench docs examples LICENSE CHANGELOG.md CONTRIBUTING.md \
-  README.md | tar -x -C "$sources"
+git -C "$top" archive "$commit" nrm-tools python/pyproject.toml python/src bench docs examples tests/databases.py LICENSE CHANGELOG.md \
+  CONTRIBUTING.md README.md | tar -x -C "$sources"
 mkdir -p "$made/licences" || stop "$made can't be made"
 cp -r "$sources/." "$made"
 SOURCE_DATE_EPOCH=$(git -C "$top" show -s --format=%ct "$commit") "$python" -m pip wheel --quiet --no-deps --no-index \
