@@ -15,6 +15,7 @@ from harness import SECONDS, SOURCES, PlaceTest, wait_for
 from nrm.desks.journals.networks import put_network
 from nrm.desks.journals.stores.choosing import store_of, using
 from nrm.desks.relay.fleet.owning import rank
+from nrm.desks.status import ask_status
 
 
 class Server:
@@ -123,6 +124,11 @@ class FleetTest(DatabaseTest, PlaceTest):
         found = sorted(servers, key=lambda it: rank("net", it.name), reverse=True)
         wait_for(lambda: self.owner() == found[0].name, "an owner", PATIENT)
         found[0].wait_for("event=taken network=net")
+        for it in found:
+            def owners() -> list[str]:
+                return [share.owner for share in ask_status(it.place, SECONDS).shares if share.network == "net"]
+
+            wait_for(lambda: owners() == [found[0].name], "the owner, once each has looked", PATIENT)
         return found
 
     def rows(self, what: str = "desk, sequence, line, reply") -> list[tuple[object, ...]]:
