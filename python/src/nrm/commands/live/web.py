@@ -9,8 +9,9 @@ what it does can't hold up the server, and it may do there what a client of the 
 `/healthz` answers `ok`, or status 503 and what is wrong, and `/metrics` is for Prometheus, with Debian's
 python3-prometheus-client. With --page there is a page of all networks and of each, up to date within a second, with
 Debian's python3-jinja2. With --why too, the page of a line has what `nrm-tools why` prints of it: that is run when
-somebody asks, one at a time, for 30 seconds at most, with the programs that it finds. With --door a desk may send lines by HTTP, each under a number of its own, so that it is
-carried out once. `/openapi.json` describes all paths for programs.
+somebody asks, one at a time, for 30 seconds at most, with the programs that it finds. With --door a desk may send lines
+by HTTP, each under a number of its own, so that it is carried out once. `/openapi.json` describes all paths for
+programs.
 
 --token names a file with the token in whose name this process looks; else it has a desk's name of its own. A token
 that comes with a line goes to the server. --certificate and --key make it HTTPS. A request has at most 4,096 bytes, and
