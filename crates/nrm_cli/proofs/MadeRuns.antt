@@ -33,7 +33,7 @@ use Rattle.nrm_cli.specs.Tells.{summed}
 use Rattle.nrm_cli.specs.Inner.Parts.{AnswersMade, HasBegun, PutsSummary, rest_of, total_of}
 use Rattle.nrm_cli.specs.declared.status.Status.{Status}
 use Rattle.nrm_cli.specs.declared.status.Status.TheVariants as status
-use Rattle.nrm_cli.proofs.SessionRuns.{opened}
+use Rattle.nrm_session.proofs.ServedBy.{opened}
 use Rattle.nrm_cli.proofs.ToldEnds.{told-ends}
 use Rattle.nrm_cli.specs.declared.counts.Counts.{Counts}
 
