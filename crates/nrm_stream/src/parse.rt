@@ -1,11 +1,11 @@
 //! Commands as they are read: lower-case words with one space between each two, and one carriage return dropped at the
 //! end of the line.
 ghost use Rattle.std.specs.Prelude.{◌≡◌, ◌==◌, ◌∷◌, codes, Some};
-ghost use Rattle.std.specs.List.{slice_split};
+ghost use Rattle.std.specs.List.{list_any, slice_split};
 ghost use Rattle.std.specs.Str.Lines.{strip_carriage_return};
 ghost use Rattle.std.specs.Option.{option_map_or};
 ghost use Rattle.nrm_text.specs.Numbers.{whole_between};
-ghost use Rattle.nrm_stream.specs.Commands.{booking_of, command_of, command_of_words, IsCommand, one_word, three_words, two_words};
+ghost use Rattle.nrm_stream.specs.Commands.{booking_of, command_of, command_of_words, IsCommand, one_word};
 ghost use Rattle.nrm_stream.specs.declared.command.Command.TheVariants as command;
 
 use crate::Command;
@@ -52,30 +52,6 @@ fn cancellation(number: &[u8]) -> Command
     }
 }
 
-// A command of two words.
-fn command_of_two(word: &[u8], next: &[u8]) -> Command
-    ensures command { result ≡ two_words word.now next.now }
-    ensures within { IsCommand result }
-{
-    if is_word(word, b"cancel") {
-        cancellation(next)
-    } else if is_word(word, b"reoptimise") {
-        match read_whole(next, LAST_PERIOD) {
-            Ok(period) if period >= 1 => Command::Reoptimise {
-                period: period as u8,
-            },
-            _ => Command::Bad,
-        }
-    } else if is_word(word, b"leg") {
-        match name_of(next) {
-            Some(name) => Command::Leg { name },
-            None => Command::Bad,
-        }
-    } else {
-        Command::Bad
-    }
-}
-
 // What a request asks for, of a product and by the bytes of its party.
 #[inline(always)]
 fn booking(product: &Name, party: &[u8]) -> Command
@@ -88,35 +64,6 @@ fn booking(product: &Name, party: &[u8]) -> Command
             party: party as u16,
         },
         _ => Command::Bad,
-    }
-}
-
-// A command of three words.
-fn command_of_three(word: &[u8], name: &[u8], party: &[u8]) -> Command
-    ensures command { result ≡ three_words word.now name.now party.now }
-    ensures within { IsCommand result }
-{
-    match name_of(name) {
-        Some(product) if is_word(word, b"book") => booking(&product, party),
-        _ => Command::Bad,
-    }
-}
-
-// What the words of a line ask for.
-#[inline(never)]
-fn command_in_words(line: &[u8]) -> Command
-    ensures command { result ≡ command_of_words (slice_split (λ c. c == 32) line.now) }
-    ensures within { IsCommand result }
-{
-    let Some((first, rest)) = split_once(line, b' ') else {
-        return command_of_one(line);
-    };
-    let Some((second, rest)) = split_once(rest, b' ') else {
-        return command_of_two(first, rest);
-    };
-    match split_once(rest, b' ') {
-        None => command_of_three(first, second, rest),
-        Some(_) => Command::Bad,
     }
 }
 
@@ -141,7 +88,75 @@ fn cancellation_in(rest: &[u8]) -> Command
     cancellation(rest)
 }
 
-// What the words of a line ask for: those of most lines are told by their first bytes.
+// What a line asks for that begins with `leg` and a space. A name has no space in it.
+fn leg_in(rest: &[u8]) -> Command
+    ensures command { result ≡ command_of_words (codes "leg" ∷ slice_split (λ c. c == 32) rest.now) }
+    ensures within { IsCommand result }
+{
+    match name_of(rest) {
+        Some(name) => Command::Leg { name },
+        None => Command::Bad,
+    }
+}
+
+// What a line asks for that begins with `reoptimise` and a space. A number has no space in it.
+fn reoptimisation_in(rest: &[u8]) -> Command
+    ensures command { result ≡ command_of_words (codes "reoptimise" ∷ slice_split (λ c. c == 32) rest.now) }
+    ensures within { IsCommand result }
+{
+    match read_whole(rest, LAST_PERIOD) {
+        Ok(period) if period >= 1 => Command::Reoptimise {
+            period: period as u8,
+        },
+        _ => Command::Bad,
+    }
+}
+
+// Whether a word that a line may begin with has this first byte.
+fn begins_word(first: u8) -> bool
+    ensures { result ≡ list_any (λ c. c == first) (codes "bchlpr") }
+{
+    matches!(first, b'b' | b'c' | b'h' | b'l' | b'p' | b'r')
+}
+
+// What the words of a line ask for: what follows the first has no space in it, but for a request's.
+#[inline(never)]
+fn command_by_words(line: &[u8]) -> Command
+    ensures command { result ≡ command_of_words (slice_split (λ c. c == 32) line.now) }
+    ensures within { IsCommand result }
+{
+    let Some((word, rest)) = split_once(line, b' ') else {
+        return command_of_one(line);
+    };
+    if is_word(word, b"reoptimise") {
+        reoptimisation_in(rest)
+    } else if is_word(word, b"leg") {
+        leg_in(rest)
+    } else if is_word(word, b"cancel") {
+        cancellation_in(rest)
+    } else if is_word(word, b"book") {
+        booking_in(rest)
+    } else {
+        Command::Bad
+    }
+}
+
+// The same. A line is bad whose first byte begins no word that is known.
+fn command_in_words(line: &[u8]) -> Command
+    ensures command { result ≡ command_of_words (slice_split (λ c. c == 32) line.now) }
+    ensures within { IsCommand result }
+{
+    let Some((first, _)) = line.split_first() else {
+        return Command::Bad;
+    };
+    if begins_word(*first) {
+        command_by_words(line)
+    } else {
+        Command::Bad
+    }
+}
+
+// The same. The words of most lines are told by their first bytes.
 fn command_in(line: &[u8]) -> Command
     ensures command { result ≡ command_of_words (slice_split (λ c. c == 32) line.now) }
     ensures within { IsCommand result }
@@ -149,6 +164,7 @@ fn command_in(line: &[u8]) -> Command
     match line {
         [b'b', b'o', b'o', b'k', b' ', rest @ ..] => booking_in(rest),
         [b'c', b'a', b'n', b'c', b'e', b'l', b' ', rest @ ..] => cancellation_in(rest),
+        [b'l', b'e', b'g', b' ', rest @ ..] => leg_in(rest),
         _ => command_in_words(line),
     }
 }
