@@ -17,7 +17,7 @@ use Rattle.nrm_cli.specs.Ends.{Ends, Failures, FilesFailedBefore, status_of}
 use Rattle.nrm_cli.specs.Jobs.{check_file}
 use Rattle.nrm_cli.specs.Inner.Parts.{ChecksFile, CountsCertificate, OpensCertificate, PutsVerdict, lack_line}
 use Rattle.nrm_cli.specs.Inner.Parts.{lack_status}
-use Rattle.nrm_cli.specs.Tells.{Gives, Lacks, Opens, Tells, lacking, optimal, wrong, file_fault}
+use Rattle.nrm_cli.specs.Tells.{IsOfNetwork, Opens, Tells, TellsVerdict, lacking, optimal, wrong, of_network, file_fault}
 use Rattle.nrm_cli.specs.declared.certificate.NoCertificate.{NoCertificate}
 use Rattle.nrm_cli.specs.declared.certificate.NoCertificate.TheVariants as lacks
 use Rattle.nrm_cli.specs.declared.status.Status.{Status}
@@ -36,41 +36,41 @@ module _ (file certificate : List ℕ) (before after : Outside) (net : NetworkVa
   abbrev Puts : List ℕ → Status → Status → Type 0
   Puts text goes s = PutsLine STATUSES text goes before.held after.held before.sink_faults after.sink_faults s
 
-  gives : (given : Certificate) → OnFile before.files certificate (λ contents. certificate_under net contents ≡ Ok given)
-      → Gives (Some (check_file file certificate)) before net given
-  gives given on = record { file = file; certificate = certificate; opens = opens; answered = on }
-
-  lacks-so : (reason : LacksCertificate) → OnFile before.files certificate (λ contents. certificate_under net contents ≡ Err reason)
-      → Lacks (Some (check_file file certificate)) before net reason
-  lacks-so reason on = record { file = file; certificate = certificate; opens = opens; answered = on }
+  -- what a check tells of its network
+  checked : (s : Status) (text : List ℕ) → IsOfNetwork s → TellsVerdict net before.files certificate s text → IsTold s text
+  checked s text fits is = of_network (check_file file certificate) net opens fits is
 
   -- a verdict is told with its status
-  verdict-told : (given : Certificate) (found : Verdict) → Gives (Some (check_file file certificate)) before net given
+  verdict-told : (given : Certificate) (found : Verdict) → OnFile before.files certificate (λ contents. certificate_under net contents ≡ Ok given)
       → verdict_on (opening_program net) given ≡ found
       → found ≢ verdict.WrongShape → (found ≡ verdict.Optimal → Certifies size_limit (opening_program net) given) → IsTold (status_of found) (verdict_line net found)
-  verdict-told given verdict.Optimal g is shaped shows = optimal net given g is (shows refl)
-  verdict-told given verdict.WrongShape g is shaped shows = absurd (shaped refl)
-  verdict-told given (verdict.WrongProduct j) g is shaped shows = wrong net given (verdict.WrongProduct j) g is (λ e. cc) (λ e. cc)
-  verdict-told given (verdict.WrongLeg i) g is shaped shows = wrong net given (verdict.WrongLeg i) g is (λ e. cc) (λ e. cc)
-  verdict-told given verdict.WrongValue g is shaped shows = wrong net given verdict.WrongValue g is (λ e. cc) (λ e. cc)
+  verdict-told given verdict.Optimal on is shaped shows = checked status.Done (verdict_line net verdict.Optimal) tt (optimal given on is (shows refl))
+  verdict-told given verdict.WrongShape on is shaped shows = absurd (shaped refl)
+  verdict-told given (verdict.WrongProduct j) on is shaped shows = checked status.Wrong (verdict_line net (verdict.WrongProduct j)) tt (wrong given (verdict.WrongProduct j) on is (λ e. cc) (λ e. cc))
+  verdict-told given (verdict.WrongLeg i) on is shaped shows = checked status.Wrong (verdict_line net (verdict.WrongLeg i)) tt (wrong given (verdict.WrongLeg i) on is (λ e. cc) (λ e. cc))
+  verdict-told given verdict.WrongValue on is shaped shows = checked status.Wrong (verdict_line net verdict.WrongValue) tt (wrong given verdict.WrongValue on is (λ e. cc) (λ e. cc))
+
+  lacking-told : (reason : LacksCertificate) → OnFile before.files certificate (λ contents. certificate_under net contents ≡ Err reason)
+      → IsTold status.Refused (lacking_line net reason)
+  lacking-told reason on = checked status.Refused (lacking_line net reason) tt (lacking reason on)
 
   found-ends : (given : Certificate) (s : Status) → OnFile before.files certificate (λ contents. certificate_under net contents ≡ Ok given)
       → PutsVerdict net given before.held after.held before.sink_faults after.sink_faults s → IsEnd s
   found-ends given s on (inl (is, kept, same)) = rw is (kept, left)
   found-ends given s on (inr v) =
-      told-ends (Some (check_file file certificate)) before after (status_of v.found) s (verdict_line net v.found) (verdict-told given v.found (gives given on) v.verdict_is v.shaped v.optimal) v.puts left
+      told-ends (Some (check_file file certificate)) before after (status_of v.found) s (verdict_line net v.found) (verdict-told given v.found on v.verdict_is v.shaped v.optimal) v.puts left
 
   unread-ends : (o : Option CertRefusal) (s : Status)
       → OnFile before.files certificate (λ contents. IfSome o (λ cause. certificate_under net contents ≡ Err (refused_for cause)))
       → PutsIfSome STATUSES (option_map (λ cause. lacking_line net (refused_for cause)) o) status.Refused before.held after.held before.sink_faults after.sink_faults s → IsEnd s
   unread-ends None s on (is, kept, same) = rw is (kept, left)
   unread-ends (Some cause) s on puts =
-      told-ends (Some (check_file file certificate)) before after status.Refused s (lacking_line net (refused_for cause)) (lacking net (refused_for cause) (lacks-so (refused_for cause) on)) puts left
+      told-ends (Some (check_file file certificate)) before after status.Refused s (lacking_line net (refused_for cause)) (lacking-told (refused_for cause) on) puts left
 
   lacks-ends : (reason : NoCertificate) (s : Status) → OpensCertificate net before.files certificate (Err reason) → CountsCertificate {C = Certificate} before.file_faults after.file_faults (Err reason)
       → PutsIfSome STATUSES (lack_line net reason) (lack_status reason) before.held after.held before.sink_faults after.sink_faults s → IsEnd s
   lacks-ends lacks.Absent s on counts puts =
-      told-ends (Some (check_file file certificate)) before after status.Refused s (lacking_line net no_certificate) (lacking net no_certificate (lacks-so no_certificate on)) puts left
+      told-ends (Some (check_file file certificate)) before after status.Refused s (lacking_line net no_certificate) (lacking-told no_certificate on) puts left
   lacks-ends (lacks.Unread fault) s on counts puts = unread-ends (refusal_of fault) s on puts
   lacks-ends lacks.Fault s on counts puts =
       told-ends (Some (check_file file certificate)) before after status.FileFault s file_fault_line (file_fault (check_file file certificate) refl tt counts.1) puts left

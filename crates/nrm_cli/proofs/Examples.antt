@@ -1,29 +1,33 @@
 -- Sessions and refusals written down, from the bytes of the file and of the stream to the bytes that are written.
-use Rattle.std.specs.Prelude.{◌≡◌, ◌≢◌, ◌<◌, ◌≤◌, ℕ, zero, suc, pos, get_or, List, [], ◌∷◌, map, codes, refl, Option, Some, None, Ok, Err}
-use Rattle.std.proofs.Common.{ap, arith, inl, inr, take}
+use Rattle.std.specs.Prelude.{◌≡◌, ◌≢◌, ◌<◌, ◌≤◌, ℕ, ℤ, length, zero, suc, pos, get_or, List, [], ◌∷◌, map, codes, refl, Option, Some, None, Ok, Err}
+use Rattle.std.proofs.Common.{◌∙◌, ap, arith, inl, inr, subst, take}
 use Rattle.nrm_gen.specs.MadeNetwork.{made_network}
 use Rattle.std.specs.Fmt.{digits}
 use Rattle.nrm_text.specs.Words.{text_line}
 use Rattle.nrm_fraction.specs.Fraction.{whole}
 use Rattle.nrm_fraction.specs.Fraction as fraction
 use Rattle.nrm_model.specs.Network.{NetworkValue, leg_of}
+use Rattle.nrm_model.specs.Inventory.{inventory_of}
+use Rattle.nrm_model.specs.declared.mode.Mode.{Mode}
 use Rattle.nrm_model.specs.declared.mode.Mode.TheVariants as mode
 use Rattle.nrm_network.specs.Canonical.{canonical_file}
 use Rattle.nrm_network.specs.declared.fault.Why.TheVariants as why
 use Rattle.nrm_network.proofs.OnLiterals.{network_on_literals}
-use Rattle.nrm_plan.specs.Plans.{IsOpeningPlan, PlanValue}
+use Rattle.nrm_plan.specs.Plans.{IsOpeningPlan, OpeningOverflows, PlanValue}
+use Rattle.nrm_plan.proofs.Plans.{one-plan}
+use Rattle.nrm_report.specs.Texts.{plan_text}
 use Rattle.nrm_control.specs.State.{SeatState, opening, after_request, after_cancellation}
 use Rattle.nrm_stream.specs.Commands.{commands_of}
 use Rattle.nrm_session.specs.Replies.{Reply, bad, unknown, sold, no_leg, no_fare, cancelled, optimised_none, overflow, hindsight_told, leg_told, plan_told}
 use Rattle.nrm_dual.specs.Refusals.{too_long, bad_line, large_line, no_value, no_product, no_leg, too_fine}
 use Rattle.nrm_dual.specs.declared.verdict.Verdict.TheVariants as verdict
-use Rattle.nrm_outside.specs.Outside.{Outside, FilesFailed, SourceFailed, SinkFailed}
+use Rattle.nrm_outside.specs.Outside.{Outside, FilesFailed, SourceFailed, SinkFailed, Wrote}
 use Rattle.nrm_cli.specs.Certificates.{lacking_line, no_certificate, refused_for, verdict_line}
-use Rattle.nrm_cli.specs.Ends.{Completes, CompletesJob, Ends, Failures, OrRanOut, RunWrites, status_of, stream_limit}
-use Rattle.nrm_cli.specs.Jobs.{job_of, run_file, plan_file, check_file, print_file, run_made, cut_leg, value_leg, usage_line}
-use Rattle.nrm_cli.specs.Tells.{Tells, usage as tells_usage, refused as tells_refused, lacking as tells_lacking, optimal as tells_optimal, wrong as tells_wrong, planned as tells_planned, overflow as tells_overflow, summed as tells_summed, printed as tells_printed, cuts_told as tells_cuts, values_told as tells_values, file_fault as tells_file_fault}
-use Rattle.nrm_cli.specs.LegThresholds.{CutsTold, cut, cuts_text, unused}
-use Rattle.nrm_cli.specs.LegValues.{ValuesTold, class_count, no_classes, no_classes_line, valued, values_text}
+use Rattle.nrm_cli.specs.Ends.{Completes, Ends, Failures, IsDone, OrRanOut, OrRanOutTelling, RunWrites, status_of, stream_limit}
+use Rattle.nrm_cli.specs.Jobs.{job_of, run_file, plan_file, check_file, print_file, run_made, cut_leg, value_leg}
+use Rattle.nrm_cli.specs.Tells.{IsOfNetwork, Tells, usage as tells_usage, refused as tells_refused, of_network as tells_of_network, file_fault as tells_file_fault}
+use Rattle.nrm_cli.specs.LegThresholds.{cuts_text}
+use Rattle.nrm_cli.specs.LegValues.{class_count, no_classes_line, values_text}
 use Rattle.nrm_cli.specs.Made.{counts_from, hindsight_word, last_of, nothing_counted, summary_words}
 use Rattle.nrm_cli.specs.declared.counts.Counts.{Counts}
 use Rattle.nrm_cli.specs.Numbers.{number_of}
@@ -226,9 +230,6 @@ lackings : map (lacking_line two_legs) (no_certificate ∷ refused_for too_long 
 unfolding digits
 lackings = refl
 
-usage : usage_line ≡ codes "usage: nrm run MODE FILE, plan MODE FILE, check FILE CERT, print FILE, gen MODE NUMBER, cuts FILE LEG GROUPS, dp FILE LEG\n"
-usage = refl
-
 words_of_a_check : job_of (codes "check" ∷ codes "F" ∷ codes "C" ∷ []) ≡ Some (check_file (codes "F") (codes "C"))
 words_of_a_check = refl
 
@@ -298,15 +299,15 @@ over coming held = record { files = Some (λ name. Some two_legs_file); coming =
 
 completed : (s : Status) (after : Outside) → Completes (Some (run_file mode.FirstCome (codes "F"))) (over (Some (codes "book LOC 1\nbook X 1\n")) (Some [])) after s
     → (FilesFailed (over (Some (codes "book LOC 1\nbook X 1\n")) (Some [])) after → ⊥) → (SourceFailed (over (Some (codes "book LOC 1\nbook X 1\n")) (Some [])) after → ⊥) → (SinkFailed (over (Some (codes "book LOC 1\nbook X 1\n")) (Some [])) after → ⊥)
-    → (output : List ℕ) × RunWrites two_legs first (commands_of (codes "book LOC 1\nbook X 1\n")) output × OrRanOut (over (Some (codes "book LOC 1\nbook X 1\n")) (Some [])) after s status.Done output
+    → IsDone (run_file mode.FirstCome (codes "F")) two_legs (over (Some (codes "book LOC 1\nbook X 1\n")) (Some [])) after s
 completed s after completes files source sink =
-    (completes (run_file mode.FirstCome (codes "F")) two_legs refl (λ name. Some two_legs_file, refl, opened) (record { files = λ names. files; stream = λ takes. source; output = sink })).1 first (codes "book LOC 1\nbook X 1\n") first_planned refl (omega arith)
+    completes (run_file mode.FirstCome (codes "F")) two_legs refl (λ name. Some two_legs_file, refl, opened) (record { files = λ names. files; stream = λ takes. source; output = sink })
 
 -- ---- a made run asks nothing of the files nor of the stream, which may both have failed
 abbrev nowhere : ℕ → Outside
 nowhere faults = record { files = None; coming = None; held = Some []; file_faults = faults; source_faults = faults; sink_faults = 0 }
 
-made_of_nothing : (s : Status) → Completes (Some (run_made mode.FirstCome 7)) (nowhere 0) (nowhere 1) s → CompletesJob (run_made mode.FirstCome 7) (made_network 7) (nowhere 0) (nowhere 1) s
+made_of_nothing : (s : Status) → Completes (Some (run_made mode.FirstCome 7)) (nowhere 0) (nowhere 1) s → IsDone (run_made mode.FirstCome 7) (made_network 7) (nowhere 0) (nowhere 1) s
 made_of_nothing s completes =
     completes (run_made mode.FirstCome 7) (made_network 7) refl refl (record { files = λ names. absurd names; stream = λ takes. absurd takes; output = λ rose. omega (arith, rose) })
 
@@ -334,13 +335,8 @@ failed_twice : Failures status.FileFault (nowhere 0) (record (nowhere 0) { sourc
 failed_twice (source, sink) = omega (arith, source)
 
 -- ---- what each status says, once: a usage line only for words that ask for nothing, and no status but 0 for a plan
-no-usage-for-cuts : {net : NetworkValue} {leg : List ℕ} {groups : ℕ} {s : Status} {text : List ℕ} → CutsTold net leg groups s text → s ≡ status.Usage → ⊥
-no-usage-for-cuts (cut text is) e = cc
-no-usage-for-cuts (unused is) e = cc
-
-no-usage-for-values : {net : NetworkValue} {leg : List ℕ} {s : Status} {text : List ℕ} → ValuesTold net leg s text → s ≡ status.Usage → ⊥
-no-usage-for-values (valued text is) e = cc
-no-usage-for-values (no_classes is) e = cc
+no-usage : (s : Status) → IsOfNetwork s → s ≡ status.Usage → ⊥
+no-usage s fits is = rw is at fits
 
 usage_for_a_job : (before after : Outside) → Ends (Some (print_file (codes "F"))) before after status.Usage → ⊥
 usage_for_a_job before after ends = by ends.tells refl
@@ -348,17 +344,32 @@ usage_for_a_job before after ends = by ends.tells refl
     by : {s : Status} {text : List ℕ} → Tells (Some (print_file (codes "F"))) before after s text → s ≡ status.Usage → ⊥
     by (tells_usage none) is = cc none
     by (tells_refused refusal why) is = cc
-    by (tells_lacking net reason why) is = cc
-    by (tells_optimal net given gives found shows) is = cc
-    by (tells_wrong net given found gives told other shaped) is = cc
-    by (tells_planned m file net plan opens for) is = cc
-    by (tells_overflow job m net n number has opens large) is = cc
-    by (tells_summed m number plan text asks for runs) is = cc
-    by (tells_printed file net opens) is = cc
-    by (tells_cuts file leg groups net opens told) is = no-usage-for-cuts told is
-    by (tells_values file leg net opens told) is = no-usage-for-values told is
+    by (tells_of_network job net opens fits told) is = no-usage _ fits is
     by (tells_file_fault job asks names rose) is = cc
 
 -- running out of memory wrote nothing and took nothing
 wrote_though_out_of_memory : Ends (Some (print_file (codes "F"))) (nowhere 0) (record (nowhere 0) { held = Some (codes "x") }) status.NoMemory → ⊥
 wrote_though_out_of_memory (kept, left) = let no : codes "x" ≡ [] = kept in cc no
+
+-- ---- what completeness says where there is an opening plan: its text is written, and the replies to a stream that is told and short
+module _ (m : Mode) (file : List ℕ) (net : NetworkValue) (plan : PlanValue) (is : IsOpeningPlan net m plan) (before after : Outside) (s : Status) where
+  no-overflow : (n : ℕ) (number : ℤ) → OpeningOverflows net m n number → ⊥
+  no-overflow n number large = (one-plan net m (inventory_of net).authorised 1).apart plan n number is large
+
+  same-plan : (other : PlanValue) → IsOpeningPlan net m other → other ≡ plan
+  same-plan other is' = (one-plan net m (inventory_of net).authorised 1).plan plan other is is'
+
+  planned_whole : IsDone (plan_file m file) net before after s → OrRanOut before after s status.Done (plan_text net plan)
+  planned_whole (inl (inl (text, inl (other, is', same, done), wrote))) =
+      inl (done, subst (λ (t : List ℕ). Wrote before after t) (same ∙ ap (plan_text net) (same-plan other is')) wrote)
+  planned_whole (inl (inl (text, inr (n, number, large, overflowed, same), wrote))) = absurd (no-overflow n number large)
+  planned_whole (inl (inr out)) = inr out
+  planned_whole (inr never) = absurd never
+
+  answered_whole : (stream : List ℕ) → before.coming ≡ Some stream → length stream ≤ stream_limit → IsDone (run_file m file) net before after s
+      → OrRanOutTelling (λ goes output. (goes ≡ status.Done) × RunWrites net plan (commands_of stream) output) before after s
+  answered_whole stream coming short (inl (inl (text, (n, number, large, overflowed, same), wrote))) = absurd (no-overflow n number large)
+  answered_whole stream coming short (inl (inr out)) = inr out
+  answered_whole stream coming short (inr (other, is', through)) =
+      let (done, output, writes, wrote) = through stream coming short in
+      inl (output, (done, subst (λ (p : PlanValue). RunWrites net p (commands_of stream) output) (same-plan other is') writes), wrote)

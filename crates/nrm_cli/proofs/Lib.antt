@@ -3,7 +3,7 @@ pub mod CompleteJobs  -- a job is done if the words are good, its file is valid 
 pub mod CutTexts  -- a text that was put whole and couldn't be sent on, and one in which a put failed, are cut
 pub mod Examples  -- sessions, refusals, statuses and ends worked, from the bytes of the file and of the stream to those that are written
 pub mod LegClasses  -- where a leg has no points, and which products are in its classes
-pub mod LegEnds  -- how a job ends that tells of a leg
+pub mod LegEnds  -- how a job ends that tells of its network and nothing else
 pub mod LegMeans  -- the fraction that `dp` writes is the best mean over all seasons
 pub mod LegTables  -- the rows of the table of a leg's values, and its protections
 pub mod LegTexts  -- the lines that tell of a leg, piece by piece

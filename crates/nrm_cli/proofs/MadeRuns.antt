@@ -29,7 +29,7 @@ use Rattle.nrm_gen.proofs.OneByOne.{given-first, given-none}
 use Rattle.nrm_cli.specs.Made.{MadeRun, count_words, counted, counts_from, hindsight_word, last_of, nothing_counted, summary_words}
 use Rattle.nrm_cli.specs.Ends.{Ends, Failures}
 use Rattle.nrm_cli.specs.Jobs.{run_made}
-use Rattle.nrm_cli.specs.Tells.{summed}
+use Rattle.nrm_cli.specs.Tells.{of_network}
 use Rattle.nrm_cli.specs.Inner.Parts.{AnswersMade, HasBegun, PutsSummary, rest_of, total_of}
 use Rattle.nrm_cli.specs.declared.status.Status.{Status}
 use Rattle.nrm_cli.specs.declared.status.Status.TheVariants as status
@@ -201,10 +201,10 @@ line-is counts revenue hindsight a b d e line counted_is b_is d_is e_is line_is 
 pub summary-ends : (m : Mode) (number : ℕ) (net : NetworkValue) (plan : PlanValue) (before after : Outside) (s : Status)
     → net ≡ made_network number → IsOpeningPlan net m plan → LeftStream before after
     → PutsSummary net plan number before.held after.held before.sink_faults after.sink_faults s → Ends (Some (run_made m number)) before after s
-summary-ends m number net plan before after s made opens left (inl (is, kept, same)) = rw is (kept, left)
-summary-ends m number net plan before after s made opens left (inr (text, run, puts)) =
+summary-ends m number net plan before after s made opening left (inl (is, kept, same)) = rw is (kept, left)
+summary-ends m number net plan before after s made opening left (inr (text, run, puts)) =
     told-ends (Some (run_made m number)) before after status.Done s text
-    (summed m number plan text refl (subst (λ (n : NetworkValue). IsOpeningPlan n m plan) made opens) (subst (λ (n : NetworkValue). MadeRun n plan number text) made run)) puts left
+    (of_network (run_made m number) net (refl, made) tt (inl (plan, opening, run, refl))) puts left
 
 -- and which counts stay
 pub summary-failures : (net : NetworkValue) (plan : PlanValue) (number : ℕ) (before after : Outside) (s : Status)

@@ -1,13 +1,13 @@
 -- What is told of a leg is determined.
-use Rattle.std.proofs.Common.{ℕ, zero, suc, ◌≡◌, ◌≢◌, ◌∙◌, ◌<◌, ◌≤◌, ◌⊎◌, List, [], ◌∷◌, length, get_or, map, flat_map, All, AllPairs, Contains, Some, None, arith, inl, inr, refl, sym, ap, ap₂, subst}
+use Rattle.std.proofs.Common.{ℕ, zero, suc, ◌≡◌, ◌∙◌, ◌<◌, ◌⊎◌, List, [], ◌∷◌, get_or, map, flat_map, All, AllPairs, Contains, Some, arith, inl, inr, refl, sym, ap, ap₂, subst}
 use Rattle.std.proofs.lemmas.List.Elements.{All-contains, Contains-get_or}
 use Rattle.nrm_model.specs.Network.{NetworkValue, leg_named, leg_of}
-use Rattle.nrm_model.specs.Inventory.{inventory_of, fare_of, products_on}
-use Rattle.nrm_cluster.specs.Points.{PointsValue, AreValuesOf, ArePointsOf, asked_on, fares_of, seats_at}
+use Rattle.nrm_model.specs.Inventory.{inventory_of, fare_of}
+use Rattle.nrm_cluster.specs.Points.{PointsValue, ArePointsOf, asked_on, fares_of, seats_at}
 use Rattle.nrm_cluster.specs.Divisions.{AreCuts, CutsValue, cuts_of}
 use Rattle.nrm_cluster.specs.declared.points.Asked.{Asked}
 use Rattle.nrm_cluster.proofs.Tables.{one-is-chosen}
-use Rattle.nrm_legdp.specs.Classes.{AreByFare, AreClassesOf, ClassesValue, ComesBefore, demands_of, only_on}
+use Rattle.nrm_legdp.specs.Classes.{AreClassesOf, ClassesValue, ComesBefore, demands_of, only_on}
 use Rattle.nrm_cli.specs.LegTexts.{LegTextsAreDetermined}
 use Rattle.nrm_cli.specs.LegThresholds.{CutsTold, IsCut, IsUnused, cut, cuts_text, unused}
 use Rattle.nrm_cli.specs.LegValues.{HasNoClasses, IsValued, ValuesTold, no_classes, their_demand, valued, values_text}

@@ -12,9 +12,9 @@ use Rattle.nrm_outside.specs.Outside.{LeftStream, Outside}
 use Rattle.nrm_outside.specs.Words.{overflow_line, told_pivots}
 use Rattle.nrm_outside.specs.Puts.{PutsLine, PutsUnplanned, TellsUnplanned}
 use Rattle.nrm_cli.specs.Ends.{Ends, Failures}
-use Rattle.nrm_cli.specs.Jobs.{Job, plan_file, mode_of_job}
+use Rattle.nrm_cli.specs.Jobs.{Job, plan_file}
 use Rattle.nrm_cli.specs.Inner.Parts.{PutsPlan}
-use Rattle.nrm_cli.specs.Tells.{Opens, overflow, planned}
+use Rattle.nrm_cli.specs.Tells.{Opens, TellsNoPlan, TellsOf, of_network}
 use Rattle.nrm_cli.specs.declared.status.Status.{Status}
 use Rattle.nrm_cli.specs.declared.status.Status.TheVariants as status
 use Rattle.nrm_cli.proofs.ToldEnds.{told-ends}
@@ -26,7 +26,11 @@ pub start-fault : (net : NetworkValue) (m : Mode) (why : SolveFault) → IsPlanF
 start-fault net m (fault.Overflow pivots number) is = is
 start-fault net m fault.NoMemory is = tt
 
-module _ (job : Job) (m : Mode) (net : NetworkValue) (before after : Outside) (has : mode_of_job job ≡ Some m) (opens : Opens (Some job) job before net) (left : LeftStream before after) where
+-- a job that tells why its network has no plan
+abbrev TellsNone : Job → Mode → NetworkValue → Outside → Type 0
+TellsNone job m net before = (s : Status) (text : List ℕ) → TellsNoPlan net m s text → TellsOf job net before.files s text
+
+module _ (job : Job) (m : Mode) (net : NetworkValue) (before after : Outside) (tells : TellsNone job m net before) (opens : Opens (Some job) job before net) (left : LeftStream before after) where
   -- ---- no plan
   ran-out : (s : Status) → PutsUnplanned STATUSES fault.NoMemory before.held after.held before.sink_faults after.sink_faults s
       → Ends (Some job) before after s
@@ -36,7 +40,8 @@ module _ (job : Job) (m : Mode) (net : NetworkValue) (before after : Outside) (h
       → PutsUnplanned STATUSES why before.held after.held before.sink_faults after.sink_faults s → Ends (Some job) before after s
   unplanned-ends fault.NoMemory s is puts = ran-out s puts
   unplanned-ends (fault.Overflow pivots number) s (n, large, counted) puts =
-      told-ends (Some job) before after status.Overflow s (overflow_line (told_pivots n) number) (overflow job m net n number has opens large)
+      told-ends (Some job) before after status.Overflow s (overflow_line (told_pivots n) number)
+      (of_network job net opens tt (tells status.Overflow (overflow_line (told_pivots n) number) (n, number, large, refl, refl)))
       (subst (λ (k : ℕ). PutsLine STATUSES (overflow_line k number) status.Overflow before.held after.held before.sink_faults after.sink_faults s) counted puts) left
 
 -- and which counts stay
@@ -48,22 +53,23 @@ unplanned-failures before after files source (fault.Overflow pivots number) s (i
 unplanned-failures before after files source (fault.Overflow pivots number) s (inr (is, front, rose)) = rw is (source, inl files)
 
 -- by what was planned: nothing was, and it was put why
-pub without-plan : {T : Type 0} (job : Job) (m : Mode) (net : NetworkValue) (before after : Outside) → mode_of_job job ≡ Some m
+pub without-plan : {T : Type 0} (job : Job) (m : Mode) (net : NetworkValue) (before after : Outside) → TellsNone job m net before
     → Opens (Some job) job before net → LeftStream before after → after.file_faults ≡ before.file_faults → after.source_faults ≡ before.source_faults
     → (planned : Result T SolveFault) → IfErr planned (IsStartFault net m) → (s : Status)
     → TellsUnplanned STATUSES planned before.held after.held before.sink_faults after.sink_faults s
     → Ends (Some job) before after s × Failures s before after
-without-plan job m net before after has opens left files source (Ok made) is s told = absurd told
-without-plan job m net before after has opens left files source (Err why) is s told =
-    (unplanned-ends job m net before after has opens left why s is told, unplanned-failures before after files source why s told)
+without-plan job m net before after tells opens left files source (Ok made) is s told = absurd told
+without-plan job m net before after tells opens left files source (Err why) is s told =
+    (unplanned-ends job m net before after tells opens left why s is told, unplanned-failures before after files source why s told)
 
 -- ---- the plan's text, or none
 pub planned-ends : (m : Mode) (file : List ℕ) (net : NetworkValue) (before after : Outside)
     → Opens (Some (plan_file m file)) (plan_file m file) before net → LeftStream before after
     → (s : Status) → PutsPlan net m before.held after.held before.sink_faults after.sink_faults s → Ends (Some (plan_file m file)) before after s
 planned-ends m file net before after opens left s (inl (plan, is, puts)) =
-    told-ends (Some (plan_file m file)) before after status.Done s (plan_text net plan) (planned m file net plan opens is) puts left
-planned-ends m file net before after opens left s (inr (why, is, puts)) = unplanned-ends (plan_file m file) m net before after refl opens left why s (start-fault net m why is) puts
+    told-ends (Some (plan_file m file)) before after status.Done s (plan_text net plan)
+    (of_network (plan_file m file) net opens tt (inl (plan, is, refl, refl))) puts left
+planned-ends m file net before after opens left s (inr (why, is, puts)) = unplanned-ends (plan_file m file) m net before after (λ goes text none. inr none) opens left why s (start-fault net m why is) puts
 
 pub planned-failures : (m : Mode) (net : NetworkValue) (before after : Outside) → after.file_faults ≡ before.file_faults
     → after.source_faults ≡ before.source_faults

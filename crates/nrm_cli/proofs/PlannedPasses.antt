@@ -14,21 +14,16 @@ use Rattle.nrm_simplex.specs.Solving.{IsClosing}
 use Rattle.nrm_dlp.specs.Programs.{opening_program}
 use Rattle.nrm_dual.specs.Conditions.{verdict_on}
 use Rattle.nrm_dual.specs.Texts.{certificate_text}
-use Rattle.nrm_dual.specs.declared.verdict.Verdict.{Verdict}
 use Rattle.nrm_dual.specs.declared.verdict.Verdict.TheVariants.{Optimal}
-use Rattle.nrm_network.specs.File.{file_of}
-use Rattle.nrm_network.specs.declared.fault.Why.{Why}
-use Rattle.nrm_network.proofs.ReadNetwork.{read-is-network}
 use Rattle.nrm_plan.specs.Plans.{HasCertificate, IsOpeningPlan, IsSolved, PlanValue}
 use Rattle.nrm_report.specs.Texts.{plan_text, text_of_plan}
-use Rattle.nrm_outside.specs.Outside.{Outside}
-use Rattle.nrm_outside.specs.Refusals.{Refusal, network_in, network_under}
-use Rattle.nrm_cli.specs.Certificates.{certificate_under, verdict_line}
-use Rattle.nrm_cli.specs.Ends.{Completes, Ends, OrRanOut, status_of}
-use Rattle.nrm_cli.specs.Jobs.{Job, run_file, plan_file, check_file, print_file, run_made, cut_leg, value_leg}
+use Rattle.nrm_outside.specs.Outside.{OnFile, Outside, Wrote}
+use Rattle.nrm_outside.specs.Refusals.{network_under}
+use Rattle.nrm_cli.specs.Certificates.{LacksCertificate, certificate_under, verdict_line}
+use Rattle.nrm_cli.specs.Ends.{Completes, Ends, IsDone, OrRanOut}
+use Rattle.nrm_cli.specs.Jobs.{Job, run_file, plan_file, check_file}
 use Rattle.nrm_cli.specs.Own.{PlannedPasses, WasPlanned}
-use Rattle.nrm_cli.specs.Tells.{Tells, usage, refused, lacking, optimal, wrong, planned, overflow, summed, printed, cuts_told, values_told}
-use Rattle.nrm_cli.specs.Tells.{file_fault}
+use Rattle.nrm_cli.specs.Tells.{GivesNetwork, Tells, TellsOf, TellsVerdict, lacking, optimal, wrong, usage, refused, of_network, file_fault}
 use Rattle.nrm_cli.specs.declared.status.Status.{Status}
 use Rattle.nrm_cli.specs.declared.status.Status.TheVariants as status
 use Rattle.nrm_outside.proofs.Networks.{taken-network}
@@ -64,40 +59,21 @@ module _ (file : List ℕ) (before after : Outside) (files : Folder) (told : bef
   other-job : (job : Job) → Some (plan_file mode.Bid file) ≡ Some job → plan_file mode.Bid file ≡ job
   other-job job e = cc
 
+  -- it was done, so there is a plan
+  of-plan : (s : Status) (text : List ℕ) (net : NetworkValue) → s ≡ status.Done → GivesNetwork (plan_file mode.Bid file) before.files net
+      → TellsOf (plan_file mode.Bid file) net before.files s text → Planned text
+  of-plan s text net done gives (inl (plan, is, same, also)) = (net, plan, rw told at gives, is, same)
+  of-plan s text net done gives (inr (n, number, large, overflowed, same)) = absurd (apart (sym overflowed ∙ done))
+    where
+      apart : status.Overflow ≡ status.Done → ⊥
+      apart e = cc
+
   of-told : (s : Status) (text : List ℕ) → s ≡ status.Done → Tells (Some (plan_file mode.Bid file)) before after s text → Planned text
   of-told s text done (usage none) = cc
   of-told s text done (refused refusal why) = cc
-  of-told s text done (lacking net reason why) = cc
-  of-told s text done (optimal net given gives is shows) = absurd (apart gives.file gives.certificate (other-job (check_file gives.file gives.certificate) gives.opens.0))
-    where
-      apart : (f c : List ℕ) → plan_file mode.Bid file ≡ check_file f c → ⊥
-      apart f c e = cc
-  of-told s text done (wrong net given found gives is other shaped) = cc
-  of-told s text done (planned m f net plan opens is) =
-      let same = other-job (plan_file m f) opens.0 in
-      let (same_mode, same_file) = parts m f same in
-      let gives : network_under (files f) ≡ Ok net = rw told at opens.1 in
-      (net, plan, subst (λ (name : List ℕ). network_under (files name) ≡ Ok net) (sym same_file) gives, subst (λ (k : Mode). IsOpeningPlan net k plan) (sym same_mode) is, refl)
-    where
-      parts : (m : Mode) (f : List ℕ) → plan_file mode.Bid file ≡ plan_file m f → (mode.Bid ≡ m) × (file ≡ f)
-      parts m f e = (cc, cc)
-  of-told s text done (overflow job m net n number has opens large) = cc
-  of-told s text done (summed m number plan sum asked-for is sums) = absurd (apart m number (other-job (run_made m number) asked-for))
-    where
-      apart : (m : Mode) (number : ℕ) → plan_file mode.Bid file ≡ run_made m number → ⊥
-      apart m number e = cc
-  of-told s text done (printed f net opens) = absurd (apart f (other-job (print_file f) opens.0))
-    where
-      apart : (f : List ℕ) → plan_file mode.Bid file ≡ print_file f → ⊥
-      apart f e = cc
-  of-told s text done (cuts_told f leg groups net opens is) = absurd (apart f leg groups (other-job (cut_leg f leg groups) opens.0))
-    where
-      apart : (f leg : List ℕ) (groups : ℕ) → plan_file mode.Bid file ≡ cut_leg f leg groups → ⊥
-      apart f leg groups e = cc
-  of-told s text done (values_told f leg net opens is) = absurd (apart f leg (other-job (value_leg f leg) opens.0))
-    where
-      apart : (f leg : List ℕ) → plan_file mode.Bid file ≡ value_leg f leg → ⊥
-      apart f leg e = cc
+  of-told s text done (of_network job net opens fits is) =
+      let same = sym (other-job job opens.0) in
+      of-plan s text net done (subst (λ (j : Job). GivesNetwork j before.files net) same opens.1) (subst (λ (j : Job). TellsOf j net before.files s text) same is)
   of-told s text done (file_fault job is names rose) = cc
 
 -- the text that was written is the one that is told
@@ -120,11 +96,37 @@ was-planned contents text w = by w.ends
         let (net, plan, gives, is, same) = of-told w.file w.before w.after w.files w.told status.Done t.text refl t.tells in
         (net, plan, subst (λ (c : Option (List ℕ)). network_under c ≡ Ok net) w.network_file gives, is, written w.held text t.text w.before.held w.after.held w.held_before w.held_after t.wrote ∙ same)
 
+-- where a certificate is told and fails no condition, `optimal` is what is told of it
+module _ (net : NetworkValue) (told : Option Folder) (files : Folder) (is : told ≡ Some files) (name : List ℕ) (c : Certificate)
+    (reads : certificate_under net (files name) ≡ Ok c) (passes : verdict_on (opening_program net) c ≡ Optimal) where
+  answer : (found : Result Certificate LacksCertificate) → OnFile told name (λ contents. certificate_under net contents ≡ found) → Ok c ≡ found
+  answer found on = let here : certificate_under net (files name) ≡ found = rw is at on in sym reads ∙ here
+
+  optimal-told : (s : Status) (text : List ℕ) → TellsVerdict net told name s text → (s ≡ status.Done) × (text ≡ verdict_line net Optimal)
+  optimal-told s text (lacking reason on) = absurd (apart (answer (Err reason) on))
+    where
+      apart : ◌≡◌ {A = Result Certificate LacksCertificate} (Ok c) (Err reason) → ⊥
+      apart e = cc
+  optimal-told s text (optimal given on verdict shows) = (refl, refl)
+  optimal-told s text (wrong given found on verdict other shaped) =
+      let same : c ≡ given = ok-same given (answer (Ok given) on) in
+      absurd (other (sym verdict ∙ ap (verdict_on (opening_program net)) (sym same) ∙ passes))
+    where
+      ok-same : (given : Certificate) → ◌≡◌ {A = Result Certificate LacksCertificate} (Ok c) (Ok given) → c ≡ given
+      ok-same given e = cc
+
 pub planned-passes : (asked : Option Job) (before after : Outside) (s : Status) → Completes asked before after s
     → PlannedPasses asked before after s
 planned-passes asked before after s completes file name text files asks told holds was no_file no_sink =
     let (net, plan, gives, is, same) = was-planned (files file) text was in
     let (c, reads, passes) = text-passes net plan is (taken-network (files file) net gives) in
     let given : certificate_under net (files name) ≡ Ok c = ap (certificate_under net) (holds ∙ ap Some same) ∙ reads in
-    subst (λ (found : Verdict). OrRanOut before after s (status_of found) (verdict_line net found)) passes
-    (completes (check_file file name) net asks (files, told, gives) (record { files = λ names. no_file; stream = λ takes. absurd takes; output = no_sink }) files c told given)
+    by net c given passes (completes (check_file file name) net asks (files, told, gives) (record { files = λ names. no_file; stream = λ takes. absurd takes; output = no_sink }))
+  where
+    by : (net : NetworkValue) (c : Certificate) → certificate_under net (files name) ≡ Ok c → verdict_on (opening_program net) c ≡ Optimal
+        → IsDone (check_file file name) net before after s → OrRanOut before after s status.Done (verdict_line net Optimal)
+    by net c given passes (inl (inl (text, is, wrote))) =
+        let (done, same) = optimal-told net before.files files told name c given passes s text is in
+        inl (done, subst (λ (t : List ℕ). Wrote before after t) same wrote)
+    by net c given passes (inl (inr out)) = inr out
+    by net c given passes (inr never) = absurd never

@@ -4,11 +4,8 @@ use Rattle.nrm_outside.specs.Outside.{NothingFailed, Outside, Wrote, LeftStream}
 use Rattle.nrm_outside.specs.Puts.{PutsLine}
 use Rattle.nrm_cli.specs.Ends.{Ends, Failures}
 use Rattle.nrm_model.specs.Network.{NetworkValue}
-use Rattle.nrm_cli.specs.Jobs.{Job, cut_leg, value_leg}
-use Rattle.nrm_cli.specs.LegThresholds.{CutsTold, cut, unused}
-use Rattle.nrm_cli.specs.LegValues.{ValuesTold, valued, no_classes}
-use Rattle.nrm_cli.specs.Tells.{Tells, Told, Opens, usage, refused, lacking, optimal, wrong, planned, overflow, summed, printed}
-use Rattle.nrm_cli.specs.Tells.{cuts_told, values_told, file_fault}
+use Rattle.nrm_cli.specs.Jobs.{Job}
+use Rattle.nrm_cli.specs.Tells.{IsOfNetwork, Opens, Tells, TellsOf, Told, usage, refused, of_network, file_fault}
 use Rattle.nrm_cli.specs.declared.status.Status.{Status}
 use Rattle.nrm_cli.specs.declared.status.Status.TheVariants as status
 use Rattle.nrm_cli.specs.declared.status.TheConstants.{STATUSES}
@@ -18,31 +15,27 @@ module _ (asked : Option Job) (before after : Outside) where
       → Told asked before after s
   told s text tells wrote left = record { text = text; tells = tells; wrote = wrote; left = left }
 
-  cuts-whole : (file leg : List ℕ) (groups : ℕ) (net : NetworkValue) (s : Status) (text : List ℕ)
-      → Opens asked (cut_leg file leg groups) before net → CutsTold net leg groups s text → Wrote before after text → LeftStream before after
-      → Ends asked before after s
-  cuts-whole file leg groups net s text opens (cut found is) wrote left = inr (told s text (cuts_told file leg groups net opens (cut found is)) wrote left)
-  cuts-whole file leg groups net s text opens (unused is) wrote left = told s text (cuts_told file leg groups net opens (unused is)) wrote left
-
-  values-whole : (file leg : List ℕ) (net : NetworkValue) (s : Status) (text : List ℕ)
-      → Opens asked (value_leg file leg) before net → ValuesTold net leg s text → Wrote before after text → LeftStream before after
-      → Ends asked before after s
-  values-whole file leg net s text opens (valued found is) wrote left = inr (told s text (values_told file leg net opens (valued found is)) wrote left)
-  values-whole file leg net s text opens (no_classes is) wrote left = told s text (values_told file leg net opens (no_classes is)) wrote left
+  -- what a job tells of its network
+  of-network-whole : (s : Status) (text : List ℕ) (job : Job) (net : NetworkValue) → Opens asked job before net → IsOfNetwork s
+      → TellsOf job net before.files s text → Wrote before after text → LeftStream before after → Ends asked before after s
+  of-network-whole status.Done text job net opens fits is wrote left = inr (told status.Done text (of_network job net opens fits is) wrote left)
+  of-network-whole status.Wrong text job net opens fits is wrote left = told status.Wrong text (of_network job net opens fits is) wrote left
+  of-network-whole status.Refused text job net opens fits is wrote left = told status.Refused text (of_network job net opens fits is) wrote left
+  of-network-whole status.Overflow text job net opens fits is wrote left = told status.Overflow text (of_network job net opens fits is) wrote left
+  of-network-whole status.NoLeg text job net opens fits is wrote left = told status.NoLeg text (of_network job net opens fits is) wrote left
+  of-network-whole status.NoClass text job net opens fits is wrote left = told status.NoClass text (of_network job net opens fits is) wrote left
+  of-network-whole status.Usage text job net opens fits is wrote left = absurd fits
+  of-network-whole status.ReadFault text job net opens fits is wrote left = absurd fits
+  of-network-whole status.WriteFault text job net opens fits is wrote left = absurd fits
+  of-network-whole status.NoMemory text job net opens fits is wrote left = absurd fits
+  of-network-whole status.TooLong text job net opens fits is wrote left = absurd fits
+  of-network-whole status.FileFault text job net opens fits is wrote left = absurd fits
 
   whole : (s : Status) (text : List ℕ) → Tells asked before after s text → Wrote before after text → LeftStream before after
       → Ends asked before after s
   whole s text (usage none) wrote left = told s text (usage none) wrote left
   whole s text (refused refusal why) wrote left = told s text (refused refusal why) wrote left
-  whole s text (lacking net reason why) wrote left = told s text (lacking net reason why) wrote left
-  whole s text (optimal net given gives is shows) wrote left = inr (told s text (optimal net given gives is shows) wrote left)
-  whole s text (wrong net given found gives is other shaped) wrote left = told s text (wrong net given found gives is other shaped) wrote left
-  whole s text (planned m file net plan opens is) wrote left = inr (told s text (planned m file net plan opens is) wrote left)
-  whole s text (overflow job m net n number has opens large) wrote left = told s text (overflow job m net n number has opens large) wrote left
-  whole s text (summed m number plan sum asks is runs) wrote left = inr (told s text (summed m number plan sum asks is runs) wrote left)
-  whole s text (printed file net opens) wrote left = inr (told s text (printed file net opens) wrote left)
-  whole s text (cuts_told file leg groups net opens is) wrote left = cuts-whole file leg groups net s text opens is wrote left
-  whole s text (values_told file leg net opens is) wrote left = values-whole file leg net s text opens is wrote left
+  whole s text (of_network job net opens fits is) wrote left = of-network-whole s text job net opens fits is wrote left
   whole s text (file_fault job is names rose) wrote left = told s text (file_fault job is names rose) wrote left
 
   pub told-ends : (goes s : Status) (text : List ℕ) → Tells asked before after goes text
@@ -60,3 +53,18 @@ pub told-done : (before after : Outside) (s : Status) (text : List ℕ) → afte
     → after.source_faults ≡ before.source_faults
     → PutsLine STATUSES text status.Done before.held after.held before.sink_faults after.sink_faults s → Failures s before after
 told-done before after s text files source puts = told-counts None before after status.Done s text files source puts (λ quiet. quiet)
+
+-- nothing failed where what a job tells of its network is put whole
+pub quiet-of-network : (before after : Outside) (s : Status) → IsOfNetwork s → NothingFailed before after → Failures s before after
+quiet-of-network before after status.Done fits quiet = quiet
+quiet-of-network before after status.Wrong fits quiet = quiet
+quiet-of-network before after status.Refused fits quiet = quiet
+quiet-of-network before after status.Overflow fits quiet = quiet
+quiet-of-network before after status.NoLeg fits quiet = quiet
+quiet-of-network before after status.NoClass fits quiet = quiet
+quiet-of-network before after status.Usage fits quiet = absurd fits
+quiet-of-network before after status.ReadFault fits quiet = absurd fits
+quiet-of-network before after status.WriteFault fits quiet = absurd fits
+quiet-of-network before after status.NoMemory fits quiet = absurd fits
+quiet-of-network before after status.TooLong fits quiet = absurd fits
+quiet-of-network before after status.FileFault fits quiet = absurd fits

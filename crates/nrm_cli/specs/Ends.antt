@@ -1,34 +1,22 @@
 -- How the program ends: what each status says of the words, the files, the stream and what was written.
-use Rattle.std.specs.Prelude.{ℕ, ℤ, ◌≡◌, ◌+◌, ◌≤◌, ◌⊎◌, List, length, take, Option, Some, None, Ok}
+use Rattle.std.specs.Prelude.{ℕ, ◌≡◌, ◌+◌, ◌≤◌, ◌⊎◌, List, length, take, Option, Some, None}
 use Rattle.std.specs.Io.KnownBytes.{Consumes, IsAtEnd}
-use Rattle.nrm_edge.specs.Fetch.{Folder}
 use Rattle.nrm_model.specs.declared.mode.Mode.{Mode}
 use Rattle.nrm_model.specs.Network.{NetworkValue}
 use Rattle.nrm_model.specs.declared.limits.TheConstants.{MOST_STREAM_BYTES}
-use Rattle.nrm_network.specs.Canonical.{canonical_file}
 use Rattle.nrm_control.specs.State.{SeatState, opening}
 use Rattle.nrm_stream.specs.Commands.{commands_of, whole_commands}
 use Rattle.nrm_stream.specs.declared.command.Command.{Command}
 use Rattle.nrm_session.specs.Run.{Writes}
 use Rattle.nrm_session.specs.Serving.{WritesCut}
-use Rattle.nrm_lp.specs.declared.certificate.Certificate.{Certificate}
-use Rattle.nrm_dlp.specs.Programs.{opening_program}
-use Rattle.nrm_dual.specs.Conditions.{verdict_on}
 use Rattle.nrm_dual.specs.declared.verdict.Verdict.{Verdict}
 use Rattle.nrm_dual.specs.declared.verdict.Verdict.TheVariants as verdict
-use Rattle.nrm_plan.specs.Plans.{IsOpeningPlan, OpeningOverflows, PlanValue}
-use Rattle.nrm_report.specs.Texts.{plan_text}
+use Rattle.nrm_plan.specs.Plans.{IsOpeningPlan, PlanValue}
 use Rattle.nrm_outside.specs.Outside.{Outside, FilesFailed, SourceFailed, SinkFailed, NothingFailed, Wrote, WroteCut, WroteNothing}
 use Rattle.nrm_outside.specs.Outside.{LeftStream}
 use Rattle.nrm_outside.specs.Refusals.{file_fault_line}
-use Rattle.nrm_outside.specs.Words.{overflow_line, told_pivots}
-use Rattle.nrm_cli.specs.Certificates.{certificate_under, verdict_line}
-use Rattle.nrm_cli.specs.Jobs.{Job, run_file, plan_file, check_file, print_file, run_made, cut_leg, value_leg}
-use Rattle.nrm_cli.specs.Jobs.{HasNetwork, NamesFile, TakesStream}
-use Rattle.nrm_cli.specs.LegThresholds.{CutsTold}
-use Rattle.nrm_cli.specs.LegValues.{ValuesTold}
-use Rattle.nrm_cli.specs.Made.{MadeRun}
-use Rattle.nrm_cli.specs.Tells.{Opens, Told, ToldCut}
+use Rattle.nrm_cli.specs.Jobs.{Job, run_file, HasNetwork, NamesFile, TakesStream}
+use Rattle.nrm_cli.specs.Tells.{Opens, TellsOf, Told, ToldCut}
 use Rattle.nrm_cli.specs.declared.status.Status.{Status}
 use Rattle.nrm_cli.specs.declared.status.Status.TheVariants as status
 
@@ -140,38 +128,23 @@ status_of verdict.WrongValue = status.Wrong
 abbrev pub OrRanOut : Outside → Outside → Status → Status → List ℕ → Type 0
 OrRanOut before after s wanted output = ((s ≡ wanted) × Wrote before after output) ⊎ ((s ≡ status.NoMemory) × WroteNothing before after)
 
--- where the opening program is Large the line that says so is written
-abbrev pub TellsOverflow : NetworkValue → Mode → Outside → Outside → Status → Type 0
-TellsOverflow net m before after s =
-    (n : ℕ) (number : ℤ) → OpeningOverflows net m n number → OrRanOut before after s status.Overflow (overflow_line (told_pivots n) number)
-
 -- what is told is written whole with its status, or memory ran out and nothing was written
 abbrev pub OrRanOutTelling : (Status → List ℕ → Type 0) → Outside → Outside → Status → Type 0
 OrRanOutTelling told before after s =
     ((text : List ℕ) × told s text × Wrote before after text) ⊎ ((s ≡ status.NoMemory) × WroteNothing before after)
 
--- what is written of a job that has a network: of a run, where the network has an opening plan in the mode, and the stream is told
--- and short, the replies to all its lines; of a plan, the opening plan, where there is one; of a check, where the second file is told and
--- gives a certificate, the verdict on it; of a print, the canonical file; of a made run, where there is an opening plan, its summary; of a
--- leg its thresholds or its values, or why there are none
-abbrev pub CompletesJob : Job → NetworkValue → Outside → Outside → Status → Type 0
-CompletesJob (run_file m file) net before after s =
-    TellsOverflow net m before after s
-    × ((plan : PlanValue) (stream : List ℕ) → IsOpeningPlan net m plan → before.coming ≡ Some stream → length stream ≤ stream_limit
-    → (output : List ℕ) × RunWrites net plan (commands_of stream) output × OrRanOut before after s status.Done output)
-CompletesJob (plan_file m file) net before after s =
-    TellsOverflow net m before after s
-    × ((plan : PlanValue) → IsOpeningPlan net m plan → OrRanOut before after s status.Done (plan_text net plan))
-CompletesJob (check_file file certificate) net before after s =
-    (files : Folder) (given : Certificate) → before.files ≡ Some files → certificate_under net (files certificate) ≡ Ok given
-    → let found = verdict_on (opening_program net) given in OrRanOut before after s (status_of found) (verdict_line net found)
-CompletesJob (print_file file) net before after s = OrRanOut before after s status.Done (canonical_file net)
-CompletesJob (run_made m number) net before after s =
-    TellsOverflow net m before after s
-    × ((plan : PlanValue) → IsOpeningPlan net m plan → (text : List ℕ) × MadeRun net plan number text
-    × OrRanOut before after s status.Done text)
-CompletesJob (cut_leg file leg groups) net before after s = OrRanOutTelling (CutsTold net leg groups) before after s
-CompletesJob (value_leg file leg) net before after s = OrRanOutTelling (ValuesTold net leg) before after s
+-- a job that takes the stream was done: the network has an opening plan, and where the stream is told and short, the replies to all its
+-- lines are written
+abbrev pub RunsThrough : Job → NetworkValue → Outside → Outside → Status → Type 0
+RunsThrough (run_file m file) net before after s =
+    (plan : PlanValue) × IsOpeningPlan net m plan
+    × ((stream : List ℕ) → before.coming ≡ Some stream → length stream ≤ stream_limit
+    → (s ≡ status.Done) × (output : List ℕ) × RunWrites net plan (commands_of stream) output × Wrote before after output)
+RunsThrough _ net before after s = ⊥
+
+-- a job that has a network was done: what it tells of it is written, or memory ran out; or it answered the stream
+abbrev pub IsDone : Job → NetworkValue → Outside → Outside → Status → Type 0
+IsDone job net before after s = OrRanOutTelling (TellsOf job net before.files) before after s ⊎ RunsThrough job net before after s
 
 -- nothing failed that the job uses: the files if it names one, the stream if it takes it, the output
 pub record NothingHinders (job : Job) (before after : Outside) : Type 0 where
@@ -183,4 +156,4 @@ pub record NothingHinders (job : Job) (before after : Outside) : Type 0 where
 abbrev pub Completes : Option Job → Outside → Outside → Status → Type 0
 Completes asked before after s =
     (job : Job) (net : NetworkValue) → asked ≡ Some job → HasNetwork job before.files net → NothingHinders job before after
-    → CompletesJob job net before after s
+    → IsDone job net before after s

@@ -1,6 +1,7 @@
 -- What the words of the command line ask for.
 use Rattle.std.specs.Prelude.{ℕ, ⊤, ◌≡◌, List, [], ◌∷◌, bytes_eq, codes, Option, Some, None, option_map}
 use Rattle.std.specs.Prelude.{Ok, if◌then◌else◌}
+use Rattle.std.specs.Int.{IsInRange}
 use Rattle.nrm_edge.specs.Fetch.{Folder}
 use Rattle.nrm_text.specs.Numbers.{whole_between}
 use Rattle.nrm_text.specs.Names.{name_in}
@@ -10,6 +11,8 @@ use Rattle.nrm_outside.specs.Refusals.{network_under}
 use Rattle.nrm_outside.specs.Words.{mode_of}
 use Rattle.nrm_cluster.specs.declared.limits.TheConstants.{MOST_GROUPS}
 use Rattle.nrm_gen.specs.MadeNetwork.{made_network}
+use Rattle.nrm_cli.specs.declared.words.Asked.{Asked}
+use Rattle.nrm_cli.specs.declared.words.Asked.TheVariants as asked
 use Rattle.nrm_cli.specs.declared.words.TheConstants.{LAST_MADE}
 
 -- to run the controller on a network file in a mode, to write its opening plan, to check a certificate against a network file, to print a
@@ -58,13 +61,6 @@ abbrev pub TakesStream : Job → Type 0
 TakesStream (run_file m file) = ⊤
 TakesStream _ = ⊥
 
--- the mode of a job that has an opening plan
-abbrev pub mode_of_job : Job → Option Mode
-mode_of_job (run_file m file) = Some m
-mode_of_job (plan_file m file) = Some m
-mode_of_job (run_made m number) = Some m
-mode_of_job _ = None
-
 -- a made run, where its mode and its number are good
 abbrev pub made_run_of : Option Mode → Option ℕ → Option Job
 made_run_of (Some m) (Some number) = Some (run_made m number)
@@ -96,6 +92,20 @@ job_of (verb ∷ second ∷ third ∷ []) =
 job_of (verb ∷ second ∷ third ∷ fourth ∷ []) =
     if bytes_eq verb (codes "cuts") then cut_of second (name_in third) (whole_between 1 MOST_GROUPS fourth) else None
 job_of (verb ∷ second ∷ third ∷ fourth ∷ fifth ∷ more) = None
+
+-- a job as the code holds it, whose number of groups lies within its limits
+abbrev pub job_in : Asked → Job
+job_in (asked.Run mode file) = run_file mode file.now
+job_in (asked.Plan mode file) = plan_file mode file.now
+job_in (asked.Check file certificate) = check_file file.now certificate.now
+job_in (asked.Print file) = print_file file.now
+job_in (asked.Made mode number) = run_made mode number
+job_in (asked.Cuts file leg groups) = cut_leg file.now leg groups
+job_in (asked.Values file leg) = value_leg file.now leg
+
+abbrev pub IsWithin : Asked → Type 0
+IsWithin (asked.Cuts file leg groups) = IsInRange 1 MOST_GROUPS groups
+IsWithin _ = ⊤
 
 -- the line that says how to call the program
 abbrev pub usage_line : List ℕ

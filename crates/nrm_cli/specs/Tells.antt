@@ -1,5 +1,5 @@
 -- The texts that the program tells, each with its status and its cause.
-use Rattle.std.specs.Prelude.{ℕ, ℤ, ◌≡◌, ◌≢◌, List, Option, Some, None, Ok, Err}
+use Rattle.std.specs.Prelude.{ℕ, ℤ, ⊤, ◌≡◌, ◌≢◌, ◌⊎◌, List, Option, Some, None, Ok, Err}
 use Rattle.nrm_model.specs.Network.{NetworkValue}
 use Rattle.nrm_model.specs.declared.mode.Mode.{Mode}
 use Rattle.nrm_network.specs.Canonical.{canonical_file}
@@ -18,7 +18,7 @@ use Rattle.nrm_outside.specs.Outside.{Outside, OnFile, FilesFailed, Wrote, Wrote
 use Rattle.nrm_outside.specs.Refusals.{Refusal, network_under, refusal_line, file_fault_line}
 use Rattle.nrm_outside.specs.Words.{overflow_line, told_pivots}
 use Rattle.nrm_cli.specs.Certificates.{LacksCertificate, certificate_under, lacking_line, verdict_line}
-use Rattle.nrm_cli.specs.Jobs.{Job, plan_file, check_file, print_file, run_made, cut_leg, value_leg, mode_of_job, NamesFile}
+use Rattle.nrm_cli.specs.Jobs.{Job, run_file, plan_file, check_file, print_file, run_made, cut_leg, value_leg, NamesFile}
 use Rattle.nrm_cli.specs.Jobs.{Origin, of_file, of_number, origin_of, usage_line}
 use Rattle.nrm_cli.specs.LegThresholds.{CutsTold}
 use Rattle.nrm_cli.specs.LegValues.{ValuesTold}
@@ -52,53 +52,55 @@ pub record Refuses (asked : Option Job) (before : Outside) (refusal : Refusal) :
   pub asks : asked ≡ Some job
   pub refused : RefusesNetwork job before.files refusal
 
--- the words ask for a certificate to be checked, the network file gives this network, and where the files are told, the second one
--- answers so
-pub record Reads (asked : Option Job) (before : Outside) (net : NetworkValue) (answers : Option (List ℕ) → Type 0) : Type 0 where
-  pub file : List ℕ
-  pub certificate : List ℕ
-  pub opens : Opens asked (check_file file certificate) before net
-  pub answered : OnFile before.files certificate answers
+-- what is told of a network that has no plan, since its opening program is too large for the solver's numbers
+abbrev pub TellsNoPlan : NetworkValue → Mode → Status → List ℕ → Type 0
+TellsNoPlan net m s text =
+    (n : ℕ) × (number : ℤ) × OpeningOverflows net m n number × (s ≡ status.Overflow) × (text ≡ overflow_line (told_pivots n) number)
 
--- it gives this certificate
-abbrev pub Gives : Option Job → Outside → NetworkValue → Certificate → Type 0
-Gives asked before net given = Reads asked before net (λ contents. certificate_under net contents ≡ Ok given)
+-- or of its opening plan, that of period 1 with every authorised seat left
+abbrev pub TellsPlanned : NetworkValue → Mode → (PlanValue → List ℕ → Type 0) → Status → List ℕ → Type 0
+TellsPlanned net m told s text =
+    ((plan : PlanValue) × IsOpeningPlan net m plan × told plan text × (s ≡ status.Done)) ⊎ TellsNoPlan net m s text
 
--- or there is none, and why
-abbrev pub Lacks : Option Job → Outside → NetworkValue → LacksCertificate → Type 0
-Lacks asked before net reason = Reads asked before net (λ contents. certificate_under net contents ≡ Err reason)
+-- what is told of a certificate for the opening program of a network, where the files are told: why there is none in the file of this
+-- name; `optimal` where allocation and bid prices are optimal, whoever made them; and else the first condition that fails
+pub data TellsVerdict (net : NetworkValue) (files : Option Folder) (certificate : List ℕ) : Status → List ℕ → Type 0 where
+  lacking : (reason : LacksCertificate) → OnFile files certificate (λ contents. certificate_under net contents ≡ Err reason)
+      → TellsVerdict net files certificate status.Refused (lacking_line net reason)
+  optimal : (given : Certificate) → OnFile files certificate (λ contents. certificate_under net contents ≡ Ok given)
+      → verdict_on (opening_program net) given ≡ verdict.Optimal → Certifies size_limit (opening_program net) given
+      → TellsVerdict net files certificate status.Done (verdict_line net verdict.Optimal)
+  wrong : (given : Certificate) (found : Verdict) → OnFile files certificate (λ contents. certificate_under net contents ≡ Ok given)
+      → verdict_on (opening_program net) given ≡ found → found ≢ verdict.Optimal → found ≢ verdict.WrongShape
+      → TellsVerdict net files certificate status.Wrong (verdict_line net found)
 
--- a text, the status that goes with it, and why it is told. A plan is that of period 1 with every authorised seat left. A verdict
--- is that on the certificate for the program of period 1 with every authorised seat left: `optimal` where allocation and bid
--- prices are optimal, whoever made them, and else the first condition that fails
+-- what each job tells of its network, and with which status; the replies of a run are beside this
+abbrev pub TellsOf : Job → NetworkValue → Option Folder → Status → List ℕ → Type 0
+TellsOf (run_file m file) net files = TellsNoPlan net m
+TellsOf (plan_file m file) net files = TellsPlanned net m (λ plan text. text ≡ plan_text net plan)
+TellsOf (check_file file certificate) net files = TellsVerdict net files certificate
+TellsOf (print_file file) net files = λ s text. (s ≡ status.Done) × (text ≡ canonical_file net)
+TellsOf (run_made m number) net files = TellsPlanned net m (λ plan text. MadeRun net plan number text)
+TellsOf (cut_leg file leg groups) net files = CutsTold net leg groups
+TellsOf (value_leg file leg) net files = ValuesTold net leg
+
+-- a status with which a job tells of its network
+abbrev pub IsOfNetwork : Status → Type 0
+IsOfNetwork status.Done = ⊤
+IsOfNetwork status.Wrong = ⊤
+IsOfNetwork status.Refused = ⊤
+IsOfNetwork status.Overflow = ⊤
+IsOfNetwork status.NoLeg = ⊤
+IsOfNetwork status.NoClass = ⊤
+IsOfNetwork _ = ⊥
+
+-- a text, the status that goes with it, and why it is told: the words ask for nothing; the file of their job is refused; it is what the
+-- job tells of its network; or the files failed
 pub data Tells (asked : Option Job) (before after : Outside) : Status → List ℕ → Type 0 where
   usage : asked ≡ None → Tells asked before after status.Usage usage_line
   refused : (refusal : Refusal) → Refuses asked before refusal → Tells asked before after status.Refused (refusal_line refusal)
-  lacking : (net : NetworkValue) (reason : LacksCertificate) → Lacks asked before net reason
-      → Tells asked before after status.Refused (lacking_line net reason)
-  optimal : (net : NetworkValue) (given : Certificate) → Gives asked before net given
-      → verdict_on (opening_program net) given ≡ verdict.Optimal
-      → Certifies size_limit (opening_program net) given → Tells asked before after status.Done (verdict_line net verdict.Optimal)
-  wrong : (net : NetworkValue) (given : Certificate) (found : Verdict) → Gives asked before net given
-      → verdict_on (opening_program net) given ≡ found
-      → found ≢ verdict.Optimal → found ≢ verdict.WrongShape → Tells asked before after status.Wrong (verdict_line net found)
-  planned : (m : Mode) (file : List ℕ) (net : NetworkValue) (plan : PlanValue) → Opens asked (plan_file m file) before net
-      → IsOpeningPlan net m plan
-      → Tells asked before after status.Done (plan_text net plan)
-  overflow : (job : Job) (m : Mode) (net : NetworkValue) (n : ℕ) (number : ℤ) → mode_of_job job ≡ Some m → Opens asked job before net
-      → OpeningOverflows net m n number
-      → Tells asked before after status.Overflow (overflow_line (told_pivots n) number)
-  summed : (m : Mode) (number : ℕ) (plan : PlanValue) (text : List ℕ) → asked ≡ Some (run_made m number)
-      → IsOpeningPlan (made_network number) m plan
-      → MadeRun (made_network number) plan number text → Tells asked before after status.Done text
-  printed : (file : List ℕ) (net : NetworkValue) → Opens asked (print_file file) before net
-      → Tells asked before after status.Done (canonical_file net)
-  cuts_told : {s : Status} {text : List ℕ} (file leg : List ℕ) (groups : ℕ) (net : NetworkValue)
-      → Opens asked (cut_leg file leg groups) before net → CutsTold net leg groups s text
-      → Tells asked before after s text
-  values_told : {s : Status} {text : List ℕ} (file leg : List ℕ) (net : NetworkValue) → Opens asked (value_leg file leg) before net
-      → ValuesTold net leg s text
-      → Tells asked before after s text
+  of_network : {s : Status} {text : List ℕ} (job : Job) (net : NetworkValue) → Opens asked job before net → IsOfNetwork s
+      → TellsOf job net before.files s text → Tells asked before after s text
   file_fault : (job : Job) → asked ≡ Some job → NamesFile job → FilesFailed before after
       → Tells asked before after status.FileFault file_fault_line
 

@@ -10,8 +10,6 @@ mod planned;
 mod printed;
 mod served;
 mod status;
-#[cfg(test)]
-mod tests;
 mod top;
 mod valued;
 mod words;

@@ -1,5 +1,5 @@
 //! The top call.
-ghost use Rattle.std.specs.Prelude.{IfSome, map, option_map, string_bytes};
+ghost use Rattle.std.specs.Prelude.{map, string_bytes};
 ghost use Rattle.nrm_session.specs.Headline.{RequestsAreAnswered};
 ghost use Rattle.nrm_session.specs.Hindsight.{HindsightBounds};
 ghost use Rattle.nrm_session.specs.LastPlan.{PrintedPricesAreOptimal};
@@ -16,52 +16,11 @@ ghost use Rattle.nrm_cli.specs.Jobs.{job_of};
 ghost use Rattle.nrm_cli.specs.LegMeans.{ValuesAreMeans};
 ghost use Rattle.nrm_cli.specs.LegTexts.{LegTextsAreDetermined};
 ghost use Rattle.nrm_cli.specs.Own.{OptimalCertificatesPass, OwnCertificatesPass};
-ghost use Rattle.nrm_cli.specs.Inner.Does.{Does};
-ghost use Rattle.nrm_cli.specs.Inner.Parts.{IsWithin, job_in};
 
 use crate::Status;
-use crate::checked::check_file;
-use crate::cut::cut_leg;
-use crate::made::run_made;
-use crate::planned::plan_file;
-use crate::printed::print_file;
-use crate::served::run_file;
-use crate::status::STATUSES;
-use crate::valued::value_leg;
-use crate::words::{Asked, asked_in};
+use crate::words::{asked_in, run_asked};
 use nrm_edge::{Files, Sink, Source};
 use std::alloc::Global;
-
-// What is written where the words ask for nothing that is known.
-const USAGE: &[u8] =
-    b"usage: nrm run MODE FILE, plan MODE FILE, check FILE CERT, print FILE, gen MODE NUMBER, cuts FILE LEG GROUPS, dp FILE LEG\n";
-
-// Does what the words ask for.
-fn run_asked<F: Files, S: Source, K: Sink>(
-    alloc: Global,
-    asked: &Option<Asked<'_>>,
-    files: &mut F,
-    source: &mut S,
-    sink: &mut K,
-) -> Status
-    requires { IfSome asked.now IsWithin }
-    ensures does { let at = outside F.contents F.faults S.coming S.faults K.held K.faults in
-        Does (option_map job_in asked.now) (at files.old source.old sink.old) (at files.new source.new sink.new) result }
-    ensures sent { SentOn Status.WriteFault result (K.unsent sink.old) (K.unsent sink.new) }
-{
-    match asked {
-        Some(Asked::Run(mode, name)) => run_file(alloc, *mode, name, files, source, sink),
-        Some(Asked::Plan(mode, name)) => plan_file(alloc, *mode, name, files, sink),
-        Some(Asked::Check(name, certificate)) => {
-            check_file(alloc, name, certificate, files, sink)
-        }
-        Some(Asked::Print(name)) => print_file(alloc, name, files, sink),
-        Some(Asked::Made(mode, number)) => run_made(alloc, *mode, *number, sink),
-        Some(Asked::Cuts(name, leg, groups)) => cut_leg(alloc, name, leg, *groups, files, sink),
-        Some(Asked::Values(name, leg)) => value_leg(alloc, name, leg, files, sink),
-        None => STATUSES.put_line(sink, USAGE, Status::Usage),
-    }
-}
 
 /// Does what the words (without the program's own name) ask for: `run MODE FILE` answers the lines of the stream on the
 /// network of the file, `plan MODE FILE` writes its opening plan, `check FILE CERT` checks a certificate against the program

@@ -1,19 +1,35 @@
-//! The words of the command line.
+//! The words of the command line, and what is done for each verb.
 ghost use Rattle.std.specs.Prelude.{◌≡◌, [], ◌∷◌, IfSome, is_some, map, option_map, string_bytes};
-ghost use Rattle.nrm_cli.specs.Inner.Parts.{IsWithin, job_in};
 ghost use Rattle.nrm_text.specs.Names.{name_in};
 ghost use Rattle.nrm_text.specs.Numbers.{whole_between};
 ghost use Rattle.nrm_cluster.specs.declared.limits.TheConstants.{MOST_GROUPS};
-ghost use Rattle.nrm_cli.specs.Jobs.{cut_of, job_of, made_run_of, valuing_of};
+ghost use Rattle.nrm_cli.specs.Inner.Does.{Does};
+ghost use Rattle.nrm_cli.specs.Jobs.{IsWithin, cut_of, job_in, job_of, made_run_of, valuing_of};
+ghost use Rattle.nrm_outside.specs.Outside.{SentOn, outside};
 ghost use Rattle.nrm_outside.specs.Words.{mode_of};
 
+use crate::Status;
+use crate::checked::check_file;
+use crate::cut::cut_leg;
+use crate::made::run_made;
+use crate::planned::plan_file;
+use crate::printed::print_file;
+use crate::served::run_file;
+use crate::status::STATUSES;
+use crate::valued::value_leg;
 use nrm_cluster::MOST_GROUPS;
+use nrm_edge::{Files, Sink, Source};
 use nrm_model::Mode;
 use nrm_outside::mode_in;
 use nrm_text::{Name, is_word, name_of, read_whole};
+use std::alloc::Global;
 
 // The last number that a network and its commands are made of.
 const LAST_MADE: u32 = u32::MAX;
+
+// What is written where the words ask for nothing that is known.
+const USAGE: &[u8] =
+    b"usage: nrm run MODE FILE, plan MODE FILE, check FILE CERT, print FILE, gen MODE NUMBER, cuts FILE LEG GROUPS, dp FILE LEG\n";
 
 /// What the words ask for.
 #[derive(Clone, Copy)]
@@ -136,5 +152,32 @@ pub(crate) fn asked_in(words: &[String]) -> Option<Asked<'_>>
         [verb, second, third] => asked_by_three(verb, second, third),
         [verb, second, third, fourth] => asked_by_four(verb, second, third, fourth),
         _ => None,
+    }
+}
+
+/// Does what the words ask for.
+pub(crate) fn run_asked<F: Files, S: Source, K: Sink>(
+    alloc: Global,
+    asked: &Option<Asked<'_>>,
+    files: &mut F,
+    source: &mut S,
+    sink: &mut K,
+) -> Status
+    requires { IfSome asked.now IsWithin }
+    ensures does { let at = outside F.contents F.faults S.coming S.faults K.held K.faults in
+        Does (option_map job_in asked.now) (at files.old source.old sink.old) (at files.new source.new sink.new) result }
+    ensures sent { SentOn Status.WriteFault result (K.unsent sink.old) (K.unsent sink.new) }
+{
+    match asked {
+        Some(Asked::Run(mode, name)) => run_file(alloc, *mode, name, files, source, sink),
+        Some(Asked::Plan(mode, name)) => plan_file(alloc, *mode, name, files, sink),
+        Some(Asked::Check(name, certificate)) => {
+            check_file(alloc, name, certificate, files, sink)
+        }
+        Some(Asked::Print(name)) => print_file(alloc, name, files, sink),
+        Some(Asked::Made(mode, number)) => run_made(alloc, *mode, *number, sink),
+        Some(Asked::Cuts(name, leg, groups)) => cut_leg(alloc, name, leg, *groups, files, sink),
+        Some(Asked::Values(name, leg)) => value_leg(alloc, name, leg, files, sink),
+        None => STATUSES.put_line(sink, USAGE, Status::Usage),
     }
 }

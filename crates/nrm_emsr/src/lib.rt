@@ -3,18 +3,12 @@
 #![tactic(auto)]
 
 mod basis;
-#[cfg(test)]
-mod basis_tests;
-#[cfg(test)]
-mod bucket_tests;
 mod compared;
 mod laws;
 mod levels;
 mod nest;
 mod ranked;
 mod sums;
-#[cfg(test)]
-mod tests;
 
 pub use basis::{Basis, basis_of};
 pub use laws::enough_is_least;

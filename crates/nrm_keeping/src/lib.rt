@@ -7,8 +7,6 @@ mod laws;
 mod loading;
 mod put;
 mod status;
-#[cfg(test)]
-mod tests;
 mod top;
 
 pub use laws::{

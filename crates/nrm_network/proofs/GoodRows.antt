@@ -14,7 +14,7 @@ use Rattle.nrm_text.specs.Numbers.{value_of}
 use Rattle.nrm_network.specs.Checks.{why_refused}
 use Rattle.nrm_network.specs.File.{leg_in}
 use Rattle.nrm_network.specs.Inner.Draft.{Accepts, names_of}
-use Rattle.nrm_network.proofs.CheckedRows.{FirstChecked, ProductFits, begins-as, leg-checked, product-checked, demand-checked, refund-checked}
+use Rattle.nrm_network.proofs.CheckedRows.{FirstChecked, ProductFits, begins-as, first-checked, leg-checked, product-checked, demand-checked, refund-checked}
 use Rattle.nrm_network.proofs.CheckedRows.{later-kinds}
 
 -- a product row whose legs are all there
@@ -209,3 +209,8 @@ good-first first is =
     from-parts (version_in (first ∷ [])) (periods_in (first ∷ [])) (first ∷ []) [] [] [] [] legs products demands refunds (omega arith)
     (omega arith) (All-nil (λ row. leg_fits (leg_in (version_in (first ∷ [])) row) ≡ true)) refl (All-nil ProductFits)
     (All-nil (LegsThere [])) refl (All-nil (DemandFits (periods_in (first ∷ [])))) (All-nil RefundFits)
+
+-- there are few periods
+pub few-periods : (taken : List Row) → Accepts why_refused [] taken → periods_in taken ≤ 16
+few-periods [] accepted = omega arith
+few-periods (first ∷ more) accepted = (first-checked first accepted.0).periods.1

@@ -2,6 +2,7 @@ pub mod CsvRows  -- the rows that a reader took one after another are the record
 pub mod LineRows  -- the records of a text without a quote are its lines
 pub mod Marks  -- a text after its byte order mark
 pub mod LineCuts  -- a line is cut at its commas, byte by byte
+pub mod FrontRows  -- fields at the front of a line, read off one after another
 pub mod RowFields  -- the fields of a row, read one after another
 pub mod NumberFields  -- numbers that are written in the fields of a row, and names that differ
 pub mod ChecksByName  -- the eleven checks of a row by their names

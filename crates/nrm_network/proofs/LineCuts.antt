@@ -1,13 +1,12 @@
 -- A line is cut at its commas, byte by byte.
-use Rattle.std.proofs.Common.{◌≡◌, ◌≢◌, ◌∙◌, ◌+◌, ◌-◌, ◌<◌, ◌≤◌, ℕ, zero, suc, Bool, true, false, ◌==◌, List, [], ◌∷◌, ◌++◌, length}
-use Rattle.std.proofs.Common.{get_or, take, drop, refl, sym, ap, arith, inl, inr, subst, append_assoc, length-append, add-one, length-take}
-use Rattle.std.specs.Prelude.{fold}
+use Rattle.std.proofs.Common.{◌≡◌, ◌≢◌, ◌∙◌, ◌+◌, ◌-◌, ◌<◌, ◌≤◌, ℕ, zero, suc, true, false, ◌==◌, List, [], ◌∷◌, ◌++◌, length}
+use Rattle.std.proofs.Common.{get_or, take, drop, refl, sym, ap, arith, inl, inr, append_assoc, length-append, length-take}
 use Rattle.std.proofs.lemmas.Bool.{cases_Bool, cases_lt, eqb-true}
 use Rattle.std.proofs.lemmas.List.{append-nil, drop_more, drop_all, get_or-drop, length-drop, take_more}
 use Rattle.std.proofs.lemmas.List.Sums.{fold-append}
 use Rattle.csv.proofs.ReadFacts.{part-of}
 use Rattle.nrm_network.specs.Rows.{Row, field}
-use Rattle.nrm_network.specs.Inner.Lines.{Cutting, Held, Marks, StandsAt, after_byte, cut_at_commas, ends_line, line_fields, line_of}
+use Rattle.nrm_network.specs.Inner.Lines.{Cutting, Held, Marks, after_byte, cut_at_commas, ends_line, line_of}
 
 -- the line goes on after a byte that doesn't end it, and stops before one that does
 pub line-more : (bytes : List ℕ) (end : ℕ) → end < length bytes → ends_line (get_or bytes end 0) ≡ false

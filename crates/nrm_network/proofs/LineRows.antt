@@ -1,18 +1,18 @@
 -- The records of a text without a quote are its lines that have a byte, each cut at its commas.
-use Rattle.std.proofs.Common.{◌≡◌, ◌∙◌, ◌+◌, ◌<◌, ◌≤◌, ℕ, zero, suc, Bool, true, false, not, ◌==◌, ◌||◌, ◌&&◌, List, [], ◌∷◌, ◌++◌, length}
-use Rattle.std.proofs.Common.{◌⊎◌, Some, None, refl, sym, arith, inl, inr, subst, take, drop, ap, length-drop}
+use Rattle.std.proofs.Common.{◌≡◌, ◌∙◌, ◌+◌, ◌<◌, ◌≤◌, ℕ, zero, suc, Bool, true, false, ◌==◌, List, [], ◌∷◌, ◌++◌, length}
+use Rattle.std.proofs.Common.{◌⊎◌, Some, None, refl, sym, arith, inl, inr, drop, ap, length-drop}
 use Rattle.std.specs.Prelude.{⊤, fold, Option}
 use Rattle.std.specs.List.{list_any}
 use Rattle.std.proofs.lemmas.Bool.{cases_Bool, eqb-true}
-use Rattle.csv.specs.Machine.{Read, step, next_record, after_end, ends_at_end}
+use Rattle.csv.specs.Machine.{Read, next_record, after_end, ends_at_end}
 use Rattle.csv.specs.Reading.{records, records_from, default_config}
 use Rattle.csv.specs.declared.parser.Config.{Config}
 use Rattle.csv.specs.declared.parser.State.{State}
 use Rattle.csv.specs.declared.parser.State.TheVariants as st
 use Rattle.csv.specs.declared.parser.Terminator.TheVariants as term
 use Rattle.nrm_network.specs.Rows.{Row}
-use Rattle.nrm_network.specs.Inner.Lines.{has_quote, ends_line, line_of, Cutting, after_byte, cut_at_commas, line_fields}
-use Rattle.nrm_network.proofs.CsvRows.{next-leaves, next-shortens, next-empty, Leaves}
+use Rattle.nrm_network.specs.Inner.Lines.{has_quote, ends_line, line_of, Cutting, after_byte, line_fields}
+use Rattle.nrm_network.proofs.CsvRows.{next-leaves, next-shortens, next-empty}
 
 -- a text whose first byte is no quote, and neither is any other
 first-none : (p : ℕ → Bool) (c : ℕ) (rest : List ℕ) → list_any p (c ∷ rest) ≡ false → (p c ≡ false) × (list_any p rest ≡ false)
@@ -55,10 +55,10 @@ closed : Cutting → Row
 closed cutting = cutting.0 ++ cutting.1 ∷ []
 
 -- a comma ends a field, and another byte belongs to it
-after_byte-comma : (fields : Row) (field : List ℕ) (c : ℕ) → (c == 44) ≡ true → after_byte (fields, field) c ≡ (fields ++ field ∷ [], [])
+pub after_byte-comma : (fields : Row) (field : List ℕ) (c : ℕ) → (c == 44) ≡ true → after_byte (fields, field) c ≡ (fields ++ field ∷ [], [])
 after_byte-comma fields field c comma = rw comma refl
 
-after_byte-other : (fields : Row) (field : List ℕ) (c : ℕ) → (c == 44) ≡ false → after_byte (fields, field) c ≡ (fields, field ++ c ∷ [])
+pub after_byte-other : (fields : Row) (field : List ℕ) (c : ℕ) → (c == 44) ≡ false → after_byte (fields, field) c ≡ (fields, field ++ c ∷ [])
 after_byte-other fields field c other = rw other refl
 
 -- the record that a line is from a place on, by what was cut before it

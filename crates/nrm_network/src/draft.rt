@@ -12,12 +12,14 @@ ghost use Rattle.nrm_network.specs.Answer.{AnswersFile};
 ghost use Rattle.nrm_network.specs.Checks.{why_refused};
 ghost use Rattle.nrm_network.specs.File.{lacks_a_kind, network_or_refusal, number_of_leg};
 ghost use Rattle.nrm_network.specs.declared.fault.Why.TheVariants as why;
-ghost use Rattle.nrm_network.specs.Inner.Draft.{AddsLeg, AddsProduct, Awaits, SetsDemand, SetsRefund, Stands, Takes, TakesSaid, names_of};
+ghost use Rattle.nrm_network.specs.Inner.Draft.{AddsLeg, AddsProduct, Awaits, SetsDemand, SetsRefund, Stands, Takes, TakesLine, TakesSaid, TakesRecent, names_of};
 ghost use Rattle.nrm_network.specs.Inner.Entries.{Counted};
 ghost use Rattle.nrm_network.specs.declared.entry.Entry.TheVariants as says;
 
 use crate::entry::{Counts, DemandEntry, Entry, ProductEntry, RefundEntry, read_row};
 use crate::fault::{NetFault, RowRefusal, Why};
+use crate::front::demand_at_front;
+use crate::line::first_line;
 use crate::row::RowFields;
 use nrm_model::{Leg, LegNumbers, MOST_DEMAND, MOST_REFUND, NameTable, Network, Product};
 use nrm_text::Name;
@@ -302,6 +304,46 @@ impl Draft {
             Entry::Demand(demand) => self.take_demand(&demand),
             Entry::Refund(refund) => self.take_refund(&refund),
         }
+    }
+
+    // Takes the row that is the first line of these bytes, and says how long it is, if it is one of the demand of the product whose demand was
+    // given last, with no number in it above 999; else nothing changes.
+    fn take_recent(&mut self, text: &[u8]) -> Result<Option<usize>, RowRefusal>
+        requires { (taken : List Row) × Stands self.old taken }
+        ensures { TakesRecent self.old self.new text.now result }
+    {
+        let counts = self.counts();
+        let Some(recent) = self.recent_name() else {
+            return Ok(None);
+        };
+        let product = *recent;
+        let mut places = [0; 16];
+        let Some((history, behind)) = demand_at_front(counts, &product, text, &mut places) else {
+            return Ok(None);
+        };
+        let seats = &places[..counts.periods as usize];
+        self.take_demand(&DemandEntry {
+            product,
+            history,
+            seats,
+        })?;
+        Ok(Some(text.len() - behind.len()))
+    }
+
+    /// Takes the next row, which is the first line of these bytes, and says how long the line is.
+    ///
+    /// # Errors
+    /// The first check that refuses the row against those before it, or memory ran out.
+    pub(crate) fn take_line(&mut self, alloc: Global, text: &[u8]) -> Result<usize, RowRefusal>
+        requires { (taken : List Row) × Stands self.old taken }
+        ensures { TakesLine self.old self.new text.now result }
+    {
+        if let Some(length) = self.take_recent(text)? {
+            return Ok(length);
+        }
+        let (line, length) = first_line(text);
+        self.take(alloc, &RowFields::Line(&line))?;
+        Ok(length)
     }
 
     // Whether there is no leg or no product.

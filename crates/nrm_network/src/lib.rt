@@ -4,13 +4,12 @@
 mod draft;
 mod entry;
 mod fault;
+mod front;
 mod laws;
 mod line;
 mod numbers;
 mod reading;
 mod row;
-#[cfg(test)]
-mod tests;
 mod writing;
 
 pub use fault::{NetFault, Why};

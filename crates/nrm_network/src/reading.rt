@@ -12,7 +12,7 @@ ghost use Rattle.nrm_network.specs.declared.fault.Why.TheVariants as why;
 
 use crate::draft::Draft;
 use crate::fault::{NetFault, Why};
-use crate::line::{ends_line, first_line};
+use crate::line::ends_line;
 use crate::row::RowFields;
 use csv::{ByteRecord, ReaderBuilder};
 use memchr::memchr;
@@ -54,12 +54,11 @@ fn read_lines(alloc: Global, text: &[u8]) -> Result<Network, NetFault>
         if ends_line(text[at]) {
             at += 1;
         } else {
-            let (line, length) = first_line(&text[at..]);
             taken += 1;
-            if let Err(fault) = draft.take(alloc, &RowFields::Line(&line)) {
-                return Err(fault.at(taken));
+            match draft.take_line(alloc, &text[at..]) {
+                Ok(length) => at += length,
+                Err(fault) => return Err(fault.at(taken)),
             }
-            at += length;
         }
     }
     draft.finish(alloc, taken)

@@ -176,31 +176,6 @@ fn numbers_in(
     Ok(within.then_some(numbers))
 }
 
-// The number of seats that a field writes, if it is one: 0 to [`nrm_model::MOST_DEMAND`]. The call keeps the loop over most fields short.
-#[inline(never)]
-fn long_seat_count_in(text: &[u8]) -> Result<Option<u16>, Why>
-    ensures { NumberIn (text.now, 0, MOST_DEMAND) result }
-{
-    match number_in(text, 0, MOST_DEMAND)? {
-        Some(number) => Ok(Some(number as u16)),
-        None => Ok(None),
-    }
-}
-
-// The same. Most have a digit or two, which are read at once.
-#[inline(always)]
-fn seat_count_in(text: &[u8]) -> Result<Option<u16>, Why>
-    ensures { NumberIn (text.now, 0, MOST_DEMAND) result }
-{
-    match text {
-        [ones @ b'0'..=b'9'] => Ok(Some(u16::from(*ones - b'0'))),
-        [tens @ b'1'..=b'9', ones @ b'0'..=b'9'] => {
-            Ok(Some(u16::from(*tens - b'0') * 10 + u16::from(*ones - b'0')))
-        }
-        _ => long_seat_count_in(text),
-    }
-}
-
 /// Writes the seats that the fields from the fourth on write, and says whether each number is one of seats: 0 to
 /// [`nrm_model::MOST_DEMAND`].
 pub(crate) fn seats_in(row: &RowFields<'_>, seats: &mut [u16]) -> Result<bool, Why>
@@ -210,8 +185,8 @@ pub(crate) fn seats_in(row: &RowFields<'_>, seats: &mut [u16]) -> Result<bool, W
 {
     let mut within = true;
     for i in 0..seats.len() {
-        match seat_count_in(field(row, i + 3))? {
-            Some(count) => seats[i] = count,
+        match number_in(field(row, i + 3), 0, MOST_DEMAND)? {
+            Some(count) => seats[i] = count as u16,
             None => within = false,
         }
     }

@@ -2,15 +2,13 @@
 //!
 //! `serve` answers the lines of a stream by a controller. It is `serve_by` with the clerk `Alone`, which answers a line by
 //! `answer_line`: `carry_out`, and then `put_reply`. Another clerk brings a `Clerk::answer` of its own.
-//! `tests::lines_are_answered_by_hand` runs a session.
+//! `lines_are_answered_by_hand` of `nrm_session_tests` runs a session.
 #![tactic(auto)]
 
 mod clerk;
 mod laws;
 mod reply;
 mod serving;
-#[cfg(test)]
-mod tests;
 
 pub use clerk::{Alone, Clerk};
 pub use laws::{

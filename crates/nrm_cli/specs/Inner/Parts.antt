@@ -1,7 +1,6 @@
 -- What the parts of the top call promise one another.
 use Rattle.std.specs.Prelude.{ℕ, ◌≡◌, ◌≢◌, ◌+◌, ◌-◌, ◌≤◌, ◌⊎◌, List, [], length, Option, Some, Result, Ok, Err, MatchResult, IfSome}
 use Rattle.std.specs.Prelude.{option_map, ⊤}
-use Rattle.std.specs.Int.{IsInRange}
 use Rattle.std.specs.Io.KnownBytes.{Keeps}
 use Rattle.nrm_edge.specs.Causes.{Rose}
 use Rattle.nrm_edge.specs.Fetch.{Folder}
@@ -17,7 +16,6 @@ use Rattle.nrm_fraction.specs.Large.{size_limit}
 use Rattle.nrm_lp.specs.declared.certificate.Certificate.{Certificate}
 use Rattle.nrm_lp.specs.Certified.{Certifies}
 use Rattle.nrm_dlp.specs.Programs.{opening_program}
-use Rattle.nrm_cluster.specs.declared.limits.TheConstants.{MOST_GROUPS}
 use Rattle.nrm_dual.specs.Conditions.{verdict_on}
 use Rattle.nrm_dual.specs.Named.{IsOfNetwork}
 use Rattle.nrm_dual.specs.Reading.{certificate_of}
@@ -44,29 +42,11 @@ use Rattle.nrm_session.specs.declared.serving.End.TheVariants as end
 use Rattle.nrm_cli.specs.Ends.{status_of}
 use Rattle.nrm_cli.specs.Made.{MadeRun, counts_from, last_of, nothing_counted}
 use Rattle.nrm_cli.specs.declared.counts.Counts.{Counts}
-use Rattle.nrm_cli.specs.Jobs.{Job, run_file, plan_file, check_file, print_file, run_made, cut_leg, value_leg}
 use Rattle.nrm_cli.specs.declared.status.Status.{Status}
 use Rattle.nrm_cli.specs.declared.status.Status.TheVariants as status
-use Rattle.nrm_cli.specs.declared.words.Asked.{Asked}
-use Rattle.nrm_cli.specs.declared.words.Asked.TheVariants as asked
 use Rattle.nrm_cli.specs.declared.certificate.NoCertificate.{NoCertificate}
 use Rattle.nrm_cli.specs.declared.certificate.NoCertificate.TheVariants as lacking
 use Rattle.nrm_cli.specs.declared.status.TheConstants.{STATUSES}
-
--- a job as the code holds it
-abbrev pub job_in : Asked → Job
-job_in (asked.Run mode file) = run_file mode file.now
-job_in (asked.Plan mode file) = plan_file mode file.now
-job_in (asked.Check file certificate) = check_file file.now certificate.now
-job_in (asked.Print file) = print_file file.now
-job_in (asked.Made mode number) = run_made mode number
-job_in (asked.Cuts file leg groups) = cut_leg file.now leg groups
-job_in (asked.Values file leg) = value_leg file.now leg
-
--- a number of groups lies within its limits
-abbrev pub IsWithin : Asked → Type 0
-IsWithin (asked.Cuts file leg groups) = IsInRange 1 MOST_GROUPS groups
-IsWithin _ = ⊤
 
 -- the certificate of the file of this name for a network, where the files are told, or why there is none; a fault of the files
 -- tells nothing of them, and running out of memory is free

@@ -8,6 +8,7 @@ use Rattle.nrm_network.specs.Rows.{further_numbers, gives_demand}
 use Rattle.nrm_network.specs.Checks.{why_refused}
 use Rattle.nrm_network.specs.Inner.Entries.{IsRead}
 use Rattle.nrm_network.specs.Inner.Faults.{Refuses}
+use Rattle.nrm_network.specs.Inner.Lines.{line_fields, line_of}
 use Rattle.nrm_network.specs.File.{leg_in, product_in}
 use Rattle.nrm_network.specs.declared.fault.Why.{Why}
 use Rattle.nrm_network.specs.declared.fault.RowRefusal.{RowRefusal}
@@ -70,6 +71,17 @@ TakesRow after taken row (Err fault) = Refuses taken row fault
 -- whatever rows the draft stands for, the row is taken or refused so
 abbrev pub Takes : Draft → Draft → Row → Result Unit RowRefusal → Type 0
 Takes before after row result = (taken : List Row) → Stands before taken → TakesRow after taken row result
+
+-- the row that is the first line of the bytes is taken or refused so, and the length of the line is given
+abbrev pub TakesLine : Draft → Draft → List ℕ → Result ℕ RowRefusal → Type 0
+TakesLine before after bytes (Ok size) = Takes before after (line_fields (line_of bytes)) (Ok tt) × (size ≡ length (line_of bytes))
+TakesLine before after bytes (Err fault) = Takes before after (line_fields (line_of bytes)) (Err fault)
+
+-- or nothing changes
+abbrev pub TakesRecent : Draft → Draft → List ℕ → Result (Option ℕ) RowRefusal → Type 0
+TakesRecent before after bytes (Ok None) = after ≡ before
+TakesRecent before after bytes (Ok (Some size)) = TakesLine before after bytes (Ok size)
+TakesRecent before after bytes (Err fault) = TakesLine before after bytes (Err fault)
 
 -- the draft stands for some rows, after which a row may say this
 abbrev pub Awaits : Draft → Entry → Type 0

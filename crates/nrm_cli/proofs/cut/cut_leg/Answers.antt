@@ -1,8 +1,6 @@
 use Rattle.std.proofs.Common.{refl}
 use Rattle.nrm_cli.specs.Jobs.{cut_leg as cut_job}
-use Rattle.nrm_cli.specs.LegThresholds.{CutsTold}
-use Rattle.nrm_cli.specs.Tells.{cuts_told}
-use Rattle.nrm_cli.proofs.LegEnds.{cuts-quiet, leg-ends, leg-failures}
+use Rattle.nrm_cli.proofs.LegEnds.{cuts-fit, network-ends, network-failures}
 use Rattle.nrm_outside.proofs.Opened.{opened-goes}
 use Rattle.nrm_cli.proofs.NoNetworkEnds.{without-opened}
 use Rattle.nrm_cli.proofs.cut.cut_leg.Goals as goal
@@ -18,8 +16,8 @@ returns-in-Ok-clause-does g c coming faults =
     let counts = rw is at c.open_network.ensures.counts in
     let puts = rw same at c.put_cuts.ensures.puts in
     record {
-      ends = leg-ends (cut_job file leg groups) _ _ (CutsTold net leg groups) (λ goes text is. cuts_told file leg groups net (refl, opens) is) refl c.put_cuts.result puts;
-      failures = leg-failures (cut_job file leg groups) _ _ (CutsTold net leg groups) (cuts-quiet _ _ net leg groups) counts refl c.put_cuts.result puts;
+      ends = network-ends (cut_job file leg groups) net _ _ (cuts-fit net leg groups) (refl, opens) refl c.put_cuts.result puts;
+      failures = network-failures (cut_job file leg groups) net _ _ (cuts-fit net leg groups) counts refl c.put_cuts.result puts;
       goes = opened-goes _ _ c.open_network.result c.open_network.ensures.counts c.open_network.ensures.stays refl (rw same at c.put_cuts.ensures.later);
     }
 

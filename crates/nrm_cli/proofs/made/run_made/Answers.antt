@@ -1,5 +1,5 @@
 -- The summary is put, or why there is no opening plan.
-use Rattle.std.proofs.Common.{◌∙◌, ap, arith, refl}
+use Rattle.std.proofs.Common.{◌∙◌, ap, arith, inr, refl}
 use Rattle.nrm_gen.proofs.OneByOne.{left-at-first}
 use Rattle.nrm_cli.specs.Inner.Parts.{rest_of}
 use Rattle.nrm_cli.specs.Jobs.{run_made as made_job}
@@ -28,7 +28,7 @@ returns-in-Ok-planned_or_told-clause-sent g c =
 
 pub returns-in-Err-clause-does : goal.returns-in-Err-clause-does
 returns-in-Err-clause-does g c files file_faults coming faults =
-    let (ends, failures) = without-plan (made_job c.args.mode c.args.number) c.args.mode c.in-Ok.net _ _ refl (refl, c.in-Ok.ensures.network) refl
+    let (ends, failures) = without-plan (made_job c.args.mode c.args.number) c.args.mode c.in-Ok.net _ _ (λ goes text none. inr none) (refl, c.in-Ok.ensures.network) refl
     refl refl c.start.result c.start.ensures.fault c.in-Err.told c.in-Err.ensures.told in
     record {
       ends = ends;

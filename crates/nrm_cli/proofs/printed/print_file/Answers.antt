@@ -3,7 +3,7 @@ use Rattle.std.proofs.Common.{ℕ, List, Some, refl, subst, ◌∙◌}
 use Rattle.nrm_network.specs.Canonical.{canonical_file}
 use Rattle.nrm_outside.specs.Puts.{PutsLine}
 use Rattle.nrm_cli.specs.Jobs.{print_file as print_job}
-use Rattle.nrm_cli.specs.Tells.{printed}
+use Rattle.nrm_cli.specs.Tells.{of_network}
 use Rattle.nrm_cli.specs.declared.status.Status.TheVariants as status
 use Rattle.nrm_cli.proofs.ToldEnds.{told-done, told-ends}
 use Rattle.nrm_outside.proofs.Opened.{opened-goes}
@@ -28,7 +28,7 @@ returns-in-Ok-print-clause-does g c coming faults =
     let puts = subst (λ (text : List ℕ). PutsLine STATUSES text status.Done (held c.args.sink.now) (held c.put_line.new.sink) (count c.args.sink.now) (count c.put_line.new.sink) c.put_line.result)
     (c.deref.ensures.value ∙ c.in-Ok-print.ensures.file) line in
     record {
-      ends = told-ends (Some (print_job c.args.name.now)) _ _ status.Done c.put_line.result (canonical_file c.in-Ok.net) (printed c.args.name.now c.in-Ok.net (refl, opens)) puts refl;
+      ends = told-ends (Some (print_job c.args.name.now)) _ _ status.Done c.put_line.result (canonical_file c.in-Ok.net) (of_network (print_job c.args.name.now) c.in-Ok.net (refl, opens) tt (refl, refl)) puts refl;
       failures = told-done _ _ c.put_line.result (canonical_file c.in-Ok.net) counts refl puts;
       goes = opened-goes _ _ c.open_network.result c.open_network.ensures.counts c.open_network.ensures.stays refl (rw same at c.put_line.ensures.later);
     }

@@ -42,7 +42,7 @@ returns-in-Err-planned_or_told-clause-does g c =
     let opens = rw is at c.open_network.ensures.opens in
     let counts = rw is at c.open_network.ensures.counts in
     let told = rw same at c.in-Err-planned_or_told.ensures.told in
-    let (ends, failures) = without-plan (run_job c.args.mode c.args.name.now) c.args.mode c.in-Ok.net _ _ refl (refl, opens) refl counts refl
+    let (ends, failures) = without-plan (run_job c.args.mode c.args.name.now) c.args.mode c.in-Ok.net _ _ (λ goes text none. none) (refl, opens) refl counts refl
     c.start.result c.start.ensures.fault c.in-Err-planned_or_told.told told in
     record {
       ends = ends;

@@ -1,8 +1,6 @@
 use Rattle.std.proofs.Common.{refl}
 use Rattle.nrm_cli.specs.Jobs.{value_leg as value_job}
-use Rattle.nrm_cli.specs.LegValues.{ValuesTold}
-use Rattle.nrm_cli.specs.Tells.{values_told}
-use Rattle.nrm_cli.proofs.LegEnds.{leg-ends, leg-failures, values-quiet}
+use Rattle.nrm_cli.proofs.LegEnds.{network-ends, network-failures, values-fit}
 use Rattle.nrm_outside.proofs.Opened.{opened-goes}
 use Rattle.nrm_cli.proofs.NoNetworkEnds.{without-opened}
 use Rattle.nrm_cli.proofs.valued.value_leg.Goals as goal
@@ -17,8 +15,8 @@ returns-in-Ok-clause-does g c coming faults =
     let counts = rw is at c.open_network.ensures.counts in
     let puts = rw same at c.put_values.ensures.puts in
     record {
-      ends = leg-ends (value_job file leg) _ _ (ValuesTold net leg) (λ goes text is. values_told file leg net (refl, opens) is) refl c.put_values.result puts;
-      failures = leg-failures (value_job file leg) _ _ (ValuesTold net leg) (values-quiet _ _ net leg) counts refl c.put_values.result puts;
+      ends = network-ends (value_job file leg) net _ _ (values-fit net leg) (refl, opens) refl c.put_values.result puts;
+      failures = network-failures (value_job file leg) net _ _ (values-fit net leg) counts refl c.put_values.result puts;
       goes = opened-goes _ _ c.open_network.result c.open_network.ensures.counts c.open_network.ensures.stays refl (rw same at c.put_values.ensures.later);
     }
 

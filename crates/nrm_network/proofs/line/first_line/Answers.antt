@@ -1,7 +1,7 @@
 -- Each byte of the line is cut as the definition cuts it, and its end ends the last field.
-use Rattle.std.proofs.Common.{◌≡◌, ◌∙◌, ◌+◌, ◌≤◌, ℕ, List, [], ◌∷◌, ◌++◌, arith, false, true, get_or, length, length-append, refl, subst, sym, take}
-use Rattle.nrm_network.specs.Inner.Lines.{Cutting, Held, Marks, after_byte, cut_at_commas, ends_line, line_fields, line_of}
-use Rattle.nrm_network.proofs.LineCuts.{CutTo, cut-comma, cut-next, cut-other, held-alone, held-more, line-ends, line-more, line-stops}
+use Rattle.std.proofs.Common.{◌+◌, ℕ, List, [], ◌∷◌, arith, get_or, length-append, refl, subst, take}
+use Rattle.nrm_network.specs.Inner.Lines.{Cutting, cut_at_commas, line_fields}
+use Rattle.nrm_network.proofs.LineCuts.{CutTo, cut-comma, cut-next, cut-other, held-alone, held-more, line-more}
 use Rattle.nrm_network.proofs.line.first_line.Goals as goal
 use Rattle.nrm_network.proofs.line.first_line.Goals.{then-bytes-end-eq44, else-bytes-end-eq44}
 

@@ -1,5 +1,5 @@
 -- Where no quote is found there is none.
-use Rattle.std.proofs.Common.{ℕ, ◌≡◌, ◌<◌, ◌==◌, suc, Bool, true, false, List, [], ◌∷◌, length, refl, arith, inl, inr, get_or, not, Option, Some, None}
+use Rattle.std.proofs.Common.{ℕ, ◌≡◌, ◌<◌, ◌==◌, suc, Bool, true, false, List, [], ◌∷◌, length, refl, arith, inl, inr, get_or, Option, Some, None}
 use Rattle.std.specs.Option.{is_some}
 use Rattle.std.proofs.lemmas.Bool.{cases_Bool}
 use Rattle.std.specs.List.{list_any}

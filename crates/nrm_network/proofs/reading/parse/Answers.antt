@@ -1,6 +1,5 @@
 -- The text after a byte order mark is as short, and has no quote either.
-use Rattle.std.proofs.Common.{◌≡◌, List, arith, false, subst, sym, ℕ}
-use Rattle.nrm_network.specs.Inner.Lines.{has_quote}
+use Rattle.std.proofs.Common.{arith}
 use Rattle.nrm_network.proofs.CsvRows.{strip-shortens}
 use Rattle.nrm_network.proofs.Marks.{strip-plain}
 use Rattle.nrm_network.proofs.reading.parse.Goals as goal

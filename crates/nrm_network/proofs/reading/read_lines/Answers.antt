@@ -1,8 +1,7 @@
 -- The rows before the place are the first of the text, and those behind it are the others.
 use Rattle.std.proofs.Common.{◌≡◌, ◌∙◌, ◌+◌, ◌≤◌, ◌<◌, ℕ, List, [], ◌∷◌, ◌++◌, append_assoc, ap, arith, drop, false, get_or, length, length-append, refl, subst, sym, true}
 use Rattle.std.proofs.lemmas.List.{append-nil, drop-drop, drop_all, drop_more, length-drop, take_rest}
-use Rattle.csv.specs.Machine.{next_record}
-use Rattle.csv.specs.Reading.{default_config, records, records_from}
+use Rattle.csv.specs.Reading.{default_config, records}
 use Rattle.nrm_network.specs.Answer.{AnswersFile}
 use Rattle.nrm_network.specs.Checks.{why_refused}
 use Rattle.nrm_network.specs.File.{network_or_refusal}
@@ -65,11 +64,11 @@ line-within text at length_of short is =
     let few = line-short (drop at text) in
     omega (arith, few, length-drop at text)
 
-pub overflow_add-at-else-ends_line : goal.overflow_add-at-else-ends_line
-overflow_add-at-else-ends_line c =
+pub overflow_add-at-in-Ok : goal.overflow_add-at-in-Ok
+overflow_add-at-in-Ok c =
     let small = c.requires.small in
-    let size = rw (take_rest c.args.text.now c.loop-at.at) at c.first_line-line.ensures.length in
-    let within = line-within c.args.text.now c.loop-at.at c.first_line-line.result.1 c.loop-at-test.true size in
+    let size = rw (take_rest c.args.text.now c.loop-at.at) at c.in-Ok.ensures.1 in
+    let within = line-within c.args.text.now c.loop-at.at c.in-Ok.length c.loop-at-test.true size in
     omega (arith, small, within)
 
 pub loop-at-preserved : goal.loop-at-preserved
@@ -77,20 +76,19 @@ loop-at-preserved c =
     let inv = c.loop-at.invariant in
     let text : List ℕ = c.args.text.now in
     let at : ℕ = c.loop-at.at in
-    let row : Row = c.first_line-line.result.0 in
-    let length_of : ℕ = c.first_line-line.result.1 in
+    let row : Row = line_fields (line_at text at) in
     let short = c.loop-at-test.true in
     let inside = sym c.ends_line.ensures ∙ c.if-ends_line.false in
-    let fields = rw (take_rest text at) at c.first_line-line.ensures.fields in
-    let size = rw (take_rest text at) at c.first_line-line.ensures.length in
+    let taken = rw (take_rest text at) at (c.in-Ok.ensures.0 inv.0 inv.1).1 in
+    let size = rw (take_rest text at) at c.in-Ok.ensures.1 in
     let some = line-at-some text at short inside in
-    let next = row-next text at length_of inv.0 row short c.requires.plain inside fields size inv.5 in (
+    let next = row-next text at c.in-Ok.length inv.0 row short c.requires.plain inside refl size inv.5 in (
       inv.0 ++ row ∷ [],
-      (c.in_default.ensures inv.0 inv.1).1,
+      taken,
       omega (arith, inv.2, length-append inv.0 (row ∷ [])),
       omega (arith, inv.3, some, size),
-      line-within text at length_of short size,
-      next ∙ sym (append_assoc inv.0 (row ∷ []) (left text (at + length_of))),
+      line-within text at c.in-Ok.length short size,
+      next ∙ sym (append_assoc inv.0 (row ∷ []) (left text (at + c.in-Ok.length))),
     )
 
 pub returns-in-Err : goal.returns-in-Err
@@ -98,14 +96,12 @@ returns-in-Err c =
     let inv = c.loop-at.invariant in
     let text : List ℕ = c.args.text.now in
     let at : ℕ = c.loop-at.at in
-    let row : Row = c.first_line-line.result.0 in
-    let length_of : ℕ = c.first_line-line.result.1 in
-    let fields = rw (take_rest text at) at c.first_line-line.ensures.fields in
-    let size = rw (take_rest text at) at c.first_line-line.ensures.length in
-    let next = row-next text at length_of inv.0 row c.loop-at-test.true c.requires.plain (sym c.ends_line.ensures ∙ c.if-ends_line.false)
-    fields size inv.5 in
-    rw c.at.ensures (refused-at c.take.new.self (records default_config text) inv.0 (left text (at + length_of)) row c.loop-at.taken
-    c.in-Err.fault inv.1.accepted next inv.2 (c.in-Err.ensures inv.0 inv.1))
+    let row : Row = line_fields (line_at text at) in
+    let refused = rw (take_rest text at) at (c.in-Err.ensures inv.0 inv.1) in
+    let next = row-next text at (length (line_at text at)) inv.0 row c.loop-at-test.true c.requires.plain
+    (sym c.ends_line.ensures ∙ c.if-ends_line.false) refl refl inv.5 in
+    rw c.at.ensures (refused-at c.take_line.new.self (records default_config text) inv.0 (left text (at + length (line_at text at))) row
+    c.loop-at.taken c.in-Err.fault inv.1.accepted next inv.2 refused)
 
 pub returns : goal.returns
 returns c =

@@ -1,8 +1,6 @@
 -- The rows that were read so far are the first of the file, and the draft stands for them.
-use Rattle.std.proofs.Common.{Bor, List, ℕ, ◌≡◌, ◌∙◌, ◌+◌, ◌++◌, ◌∷◌, [], ◌≤◌, sym, refl, ap, subst, arith, inl, inr, Some, Err, length}
+use Rattle.std.proofs.Common.{Bor, List, ℕ, ◌≡◌, ◌∙◌, ◌++◌, ◌∷◌, [], ◌≤◌, sym, refl, subst, arith, inl, inr, Some, length}
 use Rattle.std.proofs.Common.{append_assoc, length-append}
-use Rattle.std.specs.Prelude.{Option, Ok}
-use Rattle.std.specs.Option.{option_map_or}
 use Rattle.csv.specs.Reading.{Reached, default_config, strip_bom}
 use Rattle.csv.specs.Records.{fields_of}
 use Rattle.csv.specs.declared.parser.State.{State}
@@ -10,13 +8,8 @@ use Rattle.csv.specs.declared.parser.State.TheVariants as st
 use Rattle.csv.proofs.ReadFacts.{rows-end, rows-more}
 use Rattle.nrm_network.specs.Answer.{AnswersFile}
 use Rattle.nrm_network.specs.Checks.{why_refused}
-use Rattle.nrm_network.specs.Inner.Draft.{Accepts, TakesRow}
-use Rattle.nrm_network.specs.Inner.Faults.{fault_at}
-use Rattle.nrm_network.specs.File.{Refusal, network_of, network_or_refusal}
+use Rattle.nrm_network.specs.File.{network_or_refusal}
 use Rattle.nrm_network.specs.Rows.{Row, rows_of}
-use Rattle.nrm_network.specs.declared.draft.Draft.{Draft}
-use Rattle.nrm_network.specs.declared.fault.RowRefusal.{RowRefusal}
-use Rattle.nrm_network.specs.declared.fault.RowRefusal.TheVariants as fault
 use Rattle.nrm_network.specs.declared.fault.Why.TheVariants as why
 use Rattle.nrm_network.proofs.CsvRows.{records-front, records-read, strip-shortens}
 use Rattle.nrm_network.proofs.RefusalPlace.{refused-at}

@@ -1,18 +1,12 @@
 -- What a row says is taken by its kind, and the row is refused as it was read.
-use Rattle.std.proofs.Common.{List, [], ◌∷◌, ◌≤◌, ◌==◌, arith, inl, inr, length}
+use Rattle.std.proofs.Common.{List, [], ◌≤◌, ◌==◌, arith, inl, inr, length}
 use Rattle.std.specs.Prelude.{slice_get, unwrap_or}
 use Rattle.std.proofs.lemmas.Bool.{cases_Bool}
 use Rattle.std.proofs.lemmas.Result.{err_from_is_err_and}
 use Rattle.nrm_network.specs.Inner.RowFields.{fields_in}
-use Rattle.nrm_network.specs.Rows.{Row, periods_in, version_in}
-use Rattle.nrm_network.specs.Checks.{why_refused}
-use Rattle.nrm_network.specs.Inner.Draft.{Accepts}
-use Rattle.nrm_network.proofs.CheckedRows.{first-checked}
+use Rattle.nrm_network.specs.Rows.{Row, version_in}
+use Rattle.nrm_network.proofs.GoodRows.{few-periods}
 use Rattle.nrm_network.proofs.draft.Draft.take.Goals as goal
-
-few-periods : (taken : List Row) → Accepts why_refused [] taken → periods_in taken ≤ 16
-few-periods [] accepted = omega arith
-few-periods (first ∷ more) accepted = (first-checked first accepted.0).periods.1
 
 known-version : (taken : List Row) → version_in taken ≤ 2
 known-version taken =

@@ -2,11 +2,11 @@
 //! with 4 and 1 authorised seats, and a local product for 199 of which a third is given back.
 ghost use Rattle.std.specs.Prelude.{◌≡◌, ◌≤◌, ◌^◌, IfOk};
 
-use crate::{End, serve};
 use nrm_control::Controller;
 use nrm_edge::{MemSink, MemSource};
 use nrm_model::Mode;
 use nrm_samples::{two_legs, two_legs_authorised};
+use nrm_session::{End, serve};
 use nrm_simplex::SolveFault;
 use std::alloc::Global;
 use std::process::Abort;

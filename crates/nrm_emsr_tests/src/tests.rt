@@ -1,7 +1,7 @@
 //! Protections of small networks, worked by hand.
 
 use crate::bucket_tests::priced;
-use crate::protections;
+use nrm_emsr::protections;
 use nrm_model::Network;
 use nrm_network::parse;
 use nrm_samples::two_legs_five_products;

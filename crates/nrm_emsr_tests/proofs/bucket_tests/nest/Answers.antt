@@ -1,7 +1,7 @@
 use Rattle.std.proofs.Common.{◌∙◌, ◌<◌, length, sym, arith}
 use Rattle.nrm_virtual.proofs.Prices.{leg-within}
 use Rattle.nrm_virtual.proofs.Tables.{pair-in_table}
-use Rattle.nrm_emsr.proofs.bucket_tests.nest.Goals as goal
+use Rattle.nrm_emsr_tests.proofs.bucket_tests.nest.Goals as goal
 
 pub bucket_of-found-requires : goal.bucket_of-found-requires
 bucket_of-found-requires c =

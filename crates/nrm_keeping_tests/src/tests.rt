@@ -3,10 +3,10 @@
 ghost use Rattle.std.specs.Prelude.{◌≡◌, ◌<◌, ◌≤◌, true, IfOk};
 ghost use Rattle.nrm_keeper.specs.Rows.{rise};
 
-use crate::{KeptStatus, run_kept};
 use nrm_control::Controller;
 use nrm_edge::{MemFiles, MemSink, MemSource};
 use nrm_keeper::{KeepFault, Keeper, KeptRow, MemKeeper};
+use nrm_keeping::{KeptStatus, run_kept};
 use nrm_model::{Mode, Network};
 use nrm_outside::open_network;
 use nrm_session::{End, serve};

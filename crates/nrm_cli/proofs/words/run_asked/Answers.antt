@@ -1,14 +1,13 @@
 use Rattle.std.proofs.Common.{◌≡◌, Option, Some, None, ap, arith, option_map, refl, subst, sym}
 use Rattle.nrm_outside.specs.Outside.{Outside}
 use Rattle.nrm_cli.specs.Inner.Does.{Does}
-use Rattle.nrm_cli.specs.Inner.Parts.{job_in}
-use Rattle.nrm_cli.specs.Jobs.{usage_line}
+use Rattle.nrm_cli.specs.Jobs.{job_in, usage_line}
 use Rattle.nrm_cli.specs.Tells.{usage}
 use Rattle.nrm_cli.specs.declared.status.Status.{Status}
 use Rattle.nrm_cli.specs.declared.status.Status.TheVariants as status
 use Rattle.nrm_cli.specs.declared.words.Asked.{Asked}
 use Rattle.nrm_cli.proofs.ToldEnds.{told-counts, told-ends}
-use Rattle.nrm_cli.proofs.top.run_asked.Goals as goal
+use Rattle.nrm_cli.proofs.words.run_asked.Goals as goal
 
 -- what holds of a job holds of the words that ask for it
 of-words : (asked known : Option Asked) (before after : Outside) (s : Status) → asked ≡ known

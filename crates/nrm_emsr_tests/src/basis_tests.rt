@@ -1,7 +1,7 @@
 //! What numbers of seats that are enough are worked out from, on a small network, by hand.
 
 use crate::bucket_tests::priced;
-use crate::{Basis, basis_of};
+use nrm_emsr::{Basis, basis_of};
 use nrm_model::Network;
 use nrm_network::parse;
 use nrm_virtual::BucketTable;

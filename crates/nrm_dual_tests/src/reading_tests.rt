@@ -1,5 +1,5 @@
 //! Certificate files of a small network, worked by hand.
-use crate::{CertFault, Verdict, check, read_certificate};
+use nrm_dual::{CertFault, Verdict, check, read_certificate};
 use nrm_lp::Certificate;
 use nrm_model::Network;
 use nrm_samples::{two_legs_five_products, two_legs_five_products_program};

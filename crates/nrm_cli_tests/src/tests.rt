@@ -1,5 +1,5 @@
 //! Whole calls over files, a stream and a sink in memory, worked by hand: legs AB with 3 seats and BC with 2.
-use crate::{Status, run};
+use nrm_cli::{Status, run};
 use nrm_edge::{MemFiles, MemSink, MemSource};
 use std::alloc::{AllocError, Global};
 use std::test::Fail;

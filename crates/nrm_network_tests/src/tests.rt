@@ -1,5 +1,5 @@
 //! Files that are read, printed and refused.
-use crate::{NetFault, Why, parse, print};
+use nrm_network::{NetFault, Why, parse, print};
 use std::alloc::{AllocError, Global};
 use std::test::Fail;
 
@@ -87,6 +87,50 @@ fn each_cause_is_told_at_its_row(rt: HostRuntime) {
             "at {file:?}"
         );
     }
+}
+
+// Where a file has a quote `csv` reads it, and where it has none most rows of demand are read off the text: they say the same.
+#[test]
+fn demand_is_read_alike_with_a_quote(rt: HostRuntime) -> Result<(), Fail> {
+    let plain =
+        b"periods,3,2\nleg,AB,9\nproduct,P,5,AB\ndemand,P,1,0,9\r\ndemand,P,2,10,100\ndemand,P,3,0,998";
+    let quoted =
+        b"periods,3,2\nleg,\"AB\",9\nproduct,P,5,AB\ndemand,P,1,0,9\r\ndemand,P,2,10,100\ndemand,P,3,0,998";
+    let read = print(rt.alloc(), &parse(rt.alloc(), plain)?)?;
+    let by_csv = print(rt.alloc(), &parse(rt.alloc(), quoted)?)?;
+    assert_eq!(rt; read.as_slice(), by_csv.as_slice());
+    Ok(())
+}
+
+#[test]
+fn demand_out_of_order_is_refused(rt: HostRuntime) {
+    for (row, why) in [
+        ("demand,P,1,01\n", Why::Number),
+        ("demand,P,1,1000\n", Why::Range),
+        ("demand,P,1,1,1\n", Why::Fields),
+        ("demand,P,2,1\n", Why::Twice),
+        ("demand,P,3,1\n", Why::Range),
+        ("demand,Q,1,1\n", Why::Missing),
+    ] {
+        let Ok(file) = after_a_demand(rt.alloc(), row) else {
+            panic!(rt; "memory ran out");
+        };
+        assert_eq!(rt;
+            refusal(rt.alloc(), file.as_bytes()),
+            Some((5, why)),
+            "at {row:?}"
+        );
+    }
+}
+
+// A file whose fourth row gives the demand of the product `P` in the second of two histories, with a row behind it.
+fn after_a_demand(alloc: Global, row: &str) -> Result<String, AllocError> {
+    let mut file = String::from_str(
+        alloc,
+        "periods,2,1\nleg,AB,9\nproduct,P,5,AB\ndemand,P,2,1\n",
+    )?;
+    write!(file, "{row}")?;
+    Ok(file)
 }
 
 fn many_legs(alloc: Global) -> Result<String, AllocError> {

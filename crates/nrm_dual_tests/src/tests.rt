@@ -1,6 +1,6 @@
 //! The sample program of two legs of 40 seats and five products at 400, 150, 500, 80 and 229, and its certificate, worked by
 //! hand, then changed in one place at a time.
-use crate::{Verdict, check};
+use nrm_dual::{Verdict, check};
 use nrm_lp::{Certificate, Numbers, Program};
 use nrm_samples::two_legs_five_products_program;
 use std::alloc::{AllocError, Global};

@@ -1,6 +1,6 @@
 use Rattle.std.proofs.Common.{◌≡◌, All, length, pos, ◌≤ℤ◌, ◌<ℤ◌}
 use Rattle.nrm_fraction.specs.Large.{size_limit}
-use Rattle.nrm_emsr.proofs.bucket_tests.priced.Given as goal
+use Rattle.nrm_emsr_tests.proofs.bucket_tests.priced.Given as goal
 
 abbrev pub invariant-loop-price : goal.invariant-loop-price
 invariant-loop-price l = record {

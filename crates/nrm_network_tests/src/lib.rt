@@ -1,0 +1,5 @@
+//! The tests of network files: what is read, printed and refused.
+#![tactic(auto)]
+
+#[cfg(test)]
+mod tests;
