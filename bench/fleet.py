@@ -49,7 +49,8 @@ LENGTHS = "0,100000,1000000"
 SECONDS = 120  # for which something is waited for
 SETTLED = 600  # and that no network moves any more: servers move few at a time
 IDLE = 10  # seconds in which nobody asks
-QUIET = 6  # seconds after which a server that has begun takes networks, and one that follows has what there is
+QUIET = 6  # seconds after which a server that has begun takes networks and follows some
+FOLLOWED = 20_000  # lines a second, at least, that are given to a program which follows
 COPIED = 10_000  # rows at once
 PLAIN = "INSERT INTO plain (network, desk, line, reply) VALUES (:client_id, 'COUNTER-7', 'book HJ-Q 2', 'ok 17');\n"
 TABLE = """CREATE TABLE IF NOT EXISTS plain (network int, number bigserial, desk text, line text, reply text,
@@ -59,13 +60,6 @@ COPIES = """INSERT INTO network (name, mode, file, program, begun)
             INSERT INTO head (network, lines, epoch) SELECT network, 0, 0 FROM network WHERE name <> 'n0'"""
 
 
-def free_ports(count):
-    """Ports of the loopback that nobody has now."""
-    with contextlib.ExitStack() as stack:
-        made = [stack.enter_context(socket.create_server(("127.0.0.1", 0))) for _ in range(count)]
-        return [it.getsockname()[1] for it in made]
-
-
 class Fleet:
     """A journal in a database of its own, and its servers."""
 
@@ -73,7 +67,7 @@ class Fleet:
         self.bench, self.folder, self.options = bench, bench.folder, options
         bench.ask(f"CREATE DATABASE {name}")
         self.uri, self.name = bench.databases.uri(database=name), name
-        self.ports = free_ports(bench.given.servers)
+        self.ports = databases.free_ports(bench.given.servers)
         self.running = {}
         self.tools("begin")
         self.tools("open", "n0", "bid", bench.network, "--program", bench.program[1])
@@ -165,7 +159,7 @@ class Bench:
         self.databases = databases.Databases(folder / "databases")
 
     def __enter__(self):
-        self.databases.make(free_ports(3))
+        self.databases.make(databases.free_ports(3))
         return self
 
     def __exit__(self, *_):
@@ -239,7 +233,7 @@ class Bench:
                 for number in range(self.given.rounds):
                     fleet.settled()
                     fleet.first_reply(f"B{number}")
-                    time.sleep(QUIET)
+                    time.sleep(QUIET + count / FOLLOWED)
                     owner, begun = fleet.owner(), time.perf_counter()
                     fleet.kill(owner)
                     fleet.first_reply(f"A{number}", but=owner)

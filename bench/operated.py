@@ -28,7 +28,7 @@ import networks
 import serve
 from nrm import Stop
 from nrm.desks.access import RIGHTS, add_desk
-from nrm.desks.journals.tables import change, using
+from nrm.desks.journals.tables import using
 from nrm.desks.journals.times.said import Times, set_times
 from nrm.telling.libraries import is_there, lacks
 from running import built, end, words_of
@@ -107,7 +107,7 @@ class Operated(Bare):
     def begin(self, program, network):
         words = super().begin(program, network)
         now = int(1000 * time.time())
-        with using(self.journal, is_to_write=True) as connection, change(connection):
+        with using(self.journal, is_to_write=True) as connection, connection.change():
             set_times(connection, 1, Times(now + 9 * DAY, ((2, now + DAY), (3, now + 2 * DAY))))
         return words
 
@@ -166,10 +166,9 @@ def end_of(told):
     raise Stop(f"the connection has ended behind {told}")
 
 
-def work_of(process):
-    """The seconds that a process and those that it has begun have been at work."""
-    below = Path(f"/proc/{process}/task/{process}/children").read_text().split()
-    return serve.processor_time(process) + sum(serve.processor_time(int(it)) for it in below)
+def work_of(processes):
+    """The seconds that processes and those that they have begun have been at work."""
+    return serve.times_of(processes)[1]
 
 
 def turn(way, crowd, lines, program, network, folder):
@@ -182,9 +181,9 @@ def turn(way, crowd, lines, program, network, folder):
         with way.beside(path) as beside:
             made = way.connected(path, clients)
             crowd_of = [Client(it, way.greeting(at), lines[:count][at::clients], ahead) for at, it in enumerate(made)]
-            before = work_of(process), sum(map(work_of, beside))
+            before = work_of([process]), work_of(beside)
             seconds, took = all_asked(crowd_of, count)
-            server, others = work_of(process) - before[0], sum(map(work_of, beside)) - before[1]
+            server, others = work_of([process]) - before[0], work_of(beside) - before[1]
             for it in made:
                 it.close()
     return Measured(count / seconds, 1e3 * took[count // 2], 1e3 * took[count * 99 // 100], 1e6 * server / count,

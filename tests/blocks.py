@@ -13,9 +13,10 @@ from dataclasses import dataclass, field
 from pathlib import Path
 
 SECONDS = 300  # that the commands of a page may take in all
-COMMANDS = """nrm nrm-tools nrm_kept nrm_why nrm_desks ./nrm ./nrm_kept ./nrm_why ./nrm_desks ./nrm-tools .ci/run tools/release.sh awk
-    cat cc cmp coproc curl echo esolver export for git glpsol grep head install kill mkdir openssl printf python3 /usr/bin/python3 rm
-    sed sender socat sqlite3 systemctl tail tests/databases.py until useradd { """.split()
+COMMANDS = """nrm nrm-tools nrm_kept nrm_why nrm_desks ./nrm ./nrm_kept ./nrm_why ./nrm_desks ./nrm-tools
+    .ci/run tools/release.sh apt-get awk cat cc cmp coproc createuser curl echo esolver export for git glpsol
+    grep head install kill mkdir openssl patronictl printf python3 /usr/bin/python3 rm sed sender socat sqlite3
+    systemctl tail tests/databases.py until useradd {""".split()
 ASSIGNED = re.compile(r"[a-z]+=")
 TOLD = re.compile(r"nrm-tools [a-z]+: ")  # what a command tells on standard error
 ELIDED = re.compile(r"\s*\.\.+\s*")  # a line that stands for several

@@ -1,6 +1,7 @@
 """What the tests have in common: what one wants, the tests of a file, and the programs that they run."""
 import argparse
 import os
+import shlex
 import subprocess
 import tempfile
 
@@ -50,13 +51,19 @@ class Tests:
         return [it for it in self.all if pattern in it.__name__]
 
 
-def words_of(manual):
-    """The words of the command line: which tests, and the program, else the script `nrm` at the top."""
+def words_of(manual, others=None, **numbers):
+    """The words of the command line: which tests; other programs, each with the one that it is if neither the line nor
+    the environment names another; numbers likewise; and the program, else the script `nrm` at the top."""
     words = argparse.ArgumentParser(usage=manual)
     words.add_argument("pattern", nargs="?", default="")
+    for name, path in (others or {}).items():
+        words.add_argument(f"--{name}", nargs="+", default=named(f"NRM_{name.upper()}", path))
+    for name, number in numbers.items():
+        words.add_argument(f"--{name}", type=int, default=number)
     add_program(words)
     given = words.parse_args()
-    given.program = placed(given.program)
+    for name in ("program", *(others or ())):
+        setattr(given, name, placed(getattr(given, name)))
     return given
 
 
@@ -69,6 +76,11 @@ def program_of(manual):
 
 def add_program(words):
     words.add_argument("--program", nargs="+", default=[os.path.join(TOP, "nrm")])
+
+
+def named(variable, path):
+    """The words of the program that a variable of the environment names, or else the one at a path."""
+    return placed(shlex.split(os.environ.get(variable, "")) or [path])
 
 
 def placed(words):

@@ -23,6 +23,7 @@ import os
 import pwd
 import shutil
 import signal
+import socket
 import subprocess
 import sys
 import time
@@ -60,6 +61,13 @@ primary_conninfo = '{primary}'
 
 class Fault(Exception):
     """Why something can't be done with the servers."""
+
+
+def free_ports(count: int) -> List[int]:
+    """Ports of the loopback that nobody has now."""
+    with contextlib.ExitStack() as stack:
+        made = [stack.enter_context(socket.create_server((LOOPBACK, 0))) for _ in range(count)]
+        return [int(it.getsockname()[1]) for it in made]
 
 
 def is_there() -> bool:
@@ -117,6 +125,7 @@ def send(processes: Sequence[int], what: signal.Signals) -> None:
 
 class Databases:
     """The servers of a folder, of which one is the primary and the others are standbys."""
+    patience = SECONDS  # for what is waited for
 
     def __init__(self, folder: Path | str) -> None:
         self.folder = Path(folder).resolve()
@@ -313,7 +322,7 @@ class Databases:
 
     def wait(self, condition: Callable[[], object], what: str) -> None:
         """Waits for something; a Fault if it doesn't come."""
-        deadline = time.monotonic() + SECONDS
+        deadline = time.monotonic() + self.patience
         while not condition():
             if time.monotonic() > deadline:
                 raise Fault(f"{what} doesn't come: {self.state()}")

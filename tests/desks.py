@@ -21,10 +21,8 @@ other are given at once; of those that are wanted those of each place must come 
 In TEXT `\n` is a line feed, `\t` a tab, `\r` a carriage return and `\xNN` a byte. A line that ends in `\` goes on in
 the next, behind its blanks.
 """
-import argparse
 import os
 import re
-import shlex
 import shutil
 import subprocess
 import sys
@@ -1099,21 +1097,8 @@ def crowds_beside_the_second_account(place):
     crowds.crowds(place.given)
 
 
-def words_given():
-    words = argparse.ArgumentParser(usage=__doc__)
-    words.add_argument("pattern", nargs="?", default="")
-    words.add_argument("--desks", nargs="+",
-                       default=shlex.split(os.environ.get("NRM_DESKS", "")) or [os.path.join(TOP, "nrm_desks")])
-    words.add_argument("--tries", type=int, default=crowds.TRIES)
-    words.add_argument("--seed", type=int, default=1)
-    checks.add_program(words)
-    given = words.parse_args()
-    given.program, given.desks = checks.placed(given.program), checks.placed(given.desks)
-    return given
-
-
 def main():
-    given = words_given()
+    given = checks.words_of(__doc__, {"desks": os.path.join(TOP, "nrm_desks")}, tries=crowds.TRIES, seed=1)
     if not shutil.which(given.desks[0]) or not checks.is_built(given.desks):
         print(f"{given.desks[0]} isn't there or can't be built, and --desks or NRM_DESKS name another program")
         return 1

@@ -27,6 +27,7 @@ PAGES = [TOP / "README.md", *sorted((TOP / "docs").glob("*.md"))]
 USERS_OWN = "it is of files that the user has"
 SERVERS = "it is of a server, whose tests run it"
 MINUTES = "it needs Dask, and may take a minute and more"
+THREE_MACHINES = "it is of three machines, for which the tests of the fleet have others"
 NOT_RUN = {  # by the beginning of the commands; the reason
     ".ci/run": "it is this gate",
     "nrm plan bid network.csv > plan.new": USERS_OWN, "nrm print network.csv > canonical.new": USERS_OWN,
@@ -37,12 +38,15 @@ NOT_RUN = {  # by the beginning of the commands; the reason
     "nrm-tools thresholds mine/train.csv 5 --search": MINUTES,
     "nrm-tools thresholds examples/season/network.csv 5 --search": MINUTES,
     "nrm-tools averaged examples/season/network.csv --seasons": MINUTES,
+    "apt-get": "it installs into the system", "install -o": "it installs into the system",
+    "patronictl": THREE_MACHINES, "createuser": THREE_MACHINES,
     "useradd": "it needs root and systemd", "systemctl": "it needs root and systemd",
     "git clone": "it proves all crates again", "install -m 755": "it installs into the system",
     "sqlite3 mine/bookings.db 'SELECT * FROM kept WHERE number = N'": "N stands for a number that was told",
 }
-# commands of Debian's packages glpk-utils, qsopt-ex, sqlite3, socat, gcc, nodejs, openssl and curl: not run without them
-NEEDS = ("glpsol", "esolver", "sqlite3", "socat", "cc", "node", "openssl", "curl")
+# commands of Debian's packages glpk-utils, qsopt-ex, sqlite3, gcc, nodejs, openssl and curl: not run without them
+NEEDS = ("glpsol", "esolver", "sqlite3", "cc", "node", "openssl", "curl")
+TYPED = Path(__file__).with_name("typed.py")  # in the place of `socat` where it isn't installed
 WITH_DATABASE = "fleet.md"  # the page whose commands need a database
 ENDS = {  # by the beginning of the commands that end with another status than 0 on purpose: the status
     "python3 examples/line/make.py trains": 1, "python3 examples/line/make.py line": 1, "sed 's/AB 120/AB 119/'": 1,
@@ -78,12 +82,13 @@ def copied(top, program):
             (top / name).parent.mkdir(parents=True, exist_ok=True)
             shutil.copy2(TOP / name, top / name, follow_symlinks=False)
     lay_programs(top, program)
+    if not shutil.which("socat"):
+        (top / "socat").symlink_to(TYPED)
 
 
 def lay_programs(top, program):
     """Lays the program, `nrm_kept`, `nrm_why` and `nrm_desks` in the place of the built ones of a folder."""
-    why, desks = (checks.placed(shlex.split(os.environ.get(variable, ""))) or [str(TOP / name)]
-                  for variable, name in (("NRM_WHY", "nrm_why"), ("NRM_DESKS", "nrm_desks")))
+    why, desks = (checks.named(name.upper(), str(TOP / name)) for name in ("nrm_why", "nrm_desks"))
     kept = [str(TOP / "nrm_kept")]
     for name, words in (("nrm", program), ("nrm_kept", kept), ("nrm_why", why), ("nrm_desks", desks)):
         built = top / "crates" / name / "out" / name
@@ -123,6 +128,8 @@ def main():
     if (why := lacks_a_database()) and (without := [it for it in pages if it.name == WITH_DATABASE]):
         print(f"{WITH_DATABASE}: its commands aren't run: {why}")
         pages = [it for it in pages if it not in without]
+    if not shutil.which("socat"):
+        print("socat isn't installed (Debian has socat): tests/typed.py types the lines of desks in its place")
     failed, met = bool(faults), set()
     with concurrent.futures.ThreadPoolExecutor(4) as pool:
         tried = pool.map(lambda it: page_tried(it, given.program), pages)

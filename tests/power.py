@@ -7,7 +7,6 @@ written to a file since it was last forced to the disk, each write may be there,
 import os
 import re
 import shutil
-import subprocess
 
 WANTING = "that needs `strace`, and there is none here"
 CALLS = "openat,close,pwrite64,fsync,fdatasync,ftruncate,write"

@@ -87,8 +87,8 @@ def has_what_one_begins_with(release):
               "SHA256SUMS",
               "docs/nrm.1", "docs/nrm_kept.1", "docs/nrm_why.1", "docs/nrm_desks.1",
               "docs/analyst.md", "docs/operating.md", "docs/auditor.md", "examples/log/network.csv",
-              "python/src/nrm/audit.py",
-              "python/src/nrm/telling/page.html", "bench/misses.py", "bench/nrm/__init__.py", "tests/databases.py"}
+              "python/src/nrm/audit.py", "python/src/nrm/telling/static/page.html",
+              "bench/misses.py", "bench/nrm/__init__.py", "tests/databases.py"}
     want(wanted - files, set(), "files")
     want([it for it in files if "__pycache__" in it
           or it.startswith(("python/tests", "python/src/nrm.egg", "crates", "build"))], [])

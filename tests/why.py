@@ -9,12 +9,10 @@ those of `tests/reference.py`; and of each request among them that isn't for an 
 for by `nrm run`, which must sell it, and then one seat more, which must be answered as the account says. With no
 --program `nrm` is the script at the top. What fails is told; the last line is `N passed, M failed`.
 """
-import argparse
 import concurrent.futures
 import os
 import random
 import re
-import shlex
 import subprocess
 import sys
 
@@ -375,19 +373,8 @@ def made_lines_agree(place, count):
         raise Wrong(f"{differences} differences in {done} lines")
 
 
-def words_given():
-    words = argparse.ArgumentParser(usage=__doc__)
-    words.add_argument("pattern", nargs="?", default="")
-    words.add_argument("--why", nargs="+", default=shlex.split(os.environ.get("NRM_WHY", "")) or [BUILT])
-    words.add_argument("--lines", type=int, default=10_000)
-    checks.add_program(words)
-    given = words.parse_args()
-    given.program, given.why = checks.placed(given.program), checks.placed(given.why)
-    return given
-
-
 def main():
-    given = words_given()
+    given = checks.words_of(__doc__, {"why": BUILT}, lines=10_000)
     if os.path.isabs(given.why[0]) and not os.access(given.why[0], os.X_OK):
         print(f"{given.why[0]} isn't built, and nothing is built here: `./nrm_why --build` proves and builds it, and "
               "--why or NRM_WHY name another program")

@@ -14,6 +14,7 @@ import shlex
 import subprocess
 import sys
 import tempfile
+import threading
 import time
 import unittest
 from pathlib import Path
@@ -29,6 +30,7 @@ EXAMPLES, SOURCES = TOP / "examples", TOP / "python" / "src"
 SECONDS = 60
 MOST_SHOWN = 600
 BLINDED = ("matplotlib", "jinja2")
+IS_LONG = bool(os.environ.get("NRM_LONG"))  # whether what takes a minute is tested too
 Test = TypeVar("Test")
 
 
@@ -58,6 +60,13 @@ def wait_for(condition: Callable[[], object], what: str, seconds: float = SECOND
         if time.monotonic() > until:
             raise AssertionError(f"{what} doesn't come")
         time.sleep(0.01)
+
+
+def meanwhile(call: Callable[..., object], *values: object) -> threading.Thread:
+    """A thread that makes a call while the test goes on, which it doesn't keep from ending."""
+    thread = threading.Thread(target=call, args=values, daemon=True)
+    thread.start()
+    return thread
 
 
 class Done(NamedTuple):

@@ -3,11 +3,10 @@ from __future__ import annotations
 
 import os
 import re
-import threading
 from pathlib import Path
 from unittest import mock
 
-from harness import WithinTest
+from harness import WithinTest, meanwhile
 from nrm import Stop
 from nrm.desks import access
 from nrm.desks.access import CLOCK, RIGHTS, Right, add_desk, hash_of, read_access
@@ -137,9 +136,6 @@ class Made(WithinTest):
         with mock.patch.object(os, "fsync", side_effect=OSError(28, "No space left")):
             self.stopped("token", "desks", "D2", "look", says="No space left")
         self.assertEqual((Path("desks").read_text(), os.listdir()), (entry(), ["desks"]))
-        threads = [threading.Thread(target=add_desk, args=("desks", f"N{at}", ["look"], False)) for at in range(8)]
-        for it in threads:
-            it.start()
-        for it in threads:
+        for it in [meanwhile(add_desk, "desks", f"N{at}", ["look"], False) for at in range(8)]:
             it.join()
         self.assertEqual(sorted(self.rights()), ["D1", *(f"N{at}" for at in range(8))])

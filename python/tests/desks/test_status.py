@@ -10,20 +10,15 @@ import unittest
 from dataclasses import replace
 from typing import Sequence
 
-from harness import WithinTest
-from nrm.desks.status import (Clients, Commits, Network, NoStatus, Programs, Server, Status, StrangeStatus, ask_status,
-                              status_of)
+from desks.servers import STATUS as MADE
+from harness import WithinTest, meanwhile
+from nrm.desks.status import NoStatus, StrangeStatus, ask_status, status_of
 
-MADE = Status(
-    Server("2.1.0", "ab12", "2026-12-01T09:30:00.123Z", 3, 4096, 5, False),
-    Clients(12, 1000, 512, 1, 2, 3456, 7890), {"idle": 3, "program-137": 1}, Commits(812, 1.93, 0.021, 9000, 3, 0),
-    ((0.001, 400), (0.5, 811), (float("inf"), 812)), Programs(3, 5, 2),
-    (Network("hub-0612", "bid", "answers", 4, 812, False, 0), Network("old", "first", "rests", 0, 7, True, 9)))
 TEXT = """server version 2.1.0 program ab12 started 2026-12-01T09:30:00.123Z epoch 3 journal-bytes 4096 time-jumps 5 stopping no
-clients now 12 most 1000 ever 512 turned-away 1 unread 2 bytes-in 3456 bytes-out 7890
+clients now 12 most 1000 ever 512 turned-away 7 unread 2 bytes-in 3456 bytes-out 7890
 closed idle 3
-closed program-137 1
-commits count 812 seconds 1.930000 longest 0.021000 rows 9000 waiting 3 failed 0
+closed program-137 4
+commits count 812 seconds 1.930000 longest 0.021000 rows 9000 waiting 3 failed 1
 commit-times 0.001 400 0.5 811 inf 812
 programs now 3 begun 5 ended 2
 network hub-0612 mode bid state answers clients 4 lines 812 halted no memory 0
@@ -71,7 +66,7 @@ class Asked(WithinTest):
                     if is_late:
                         over.wait(60)
 
-        threading.Thread(target=answer, daemon=True).start()
+        meanwhile(answer)
         self.addCleanup(over.set)
         return path
 

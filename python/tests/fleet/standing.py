@@ -13,14 +13,13 @@ import tempfile
 import time
 import unittest
 from pathlib import Path
-from typing import Any, Iterable, Iterator, Sequence
+from typing import Any, Iterable, Iterator
 
-from databases import WANTING, Databases, is_there  # of the folder tests at the top
-from desks.relay.serves import PATIENT, Serve
+from databases import LOOPBACK, WANTING, Databases, free_ports, is_there  # of the folder tests at the top
+from desks.relay.serves import ONE, PATIENT, Server
 from harness import SOURCES, PlaceTest, needs, program, wait_for
 from nrm.program import Program
 
-LOOPBACK = "127.0.0.1"
 LEASE = 3.0  # seconds after which a server that tells nothing is taken for gone
 NEW = 5.0  # seconds for which a server that has begun takes nothing from others
 OWNER = "SELECT server.name FROM head JOIN server USING (server)"
@@ -28,18 +27,6 @@ LINES = "SELECT number, desk, sequence, line, reply FROM line ORDER BY network, 
 COUNT = "SELECT count(*) FROM line"
 HALTED = "SELECT halted FROM network WHERE halted IS NOT NULL"
 PASSES = (b"wait", b"moved", b"gone", b"idle", b"journal", b"stopping", b"memory", b"program", b"clients", b"half")
-ONE = "periods,1,1\nleg,AB,300\nproduct,LOC,200,AB\n"  # a network of one leg
-
-
-def free_ports(count: int) -> list[int]:
-    """Ports of the loopback that nobody has now."""
-    some = [socket.socket() for _ in range(count)]
-    for it in some:
-        it.bind((LOOPBACK, 0))
-    ports = [int(it.getsockname()[1]) for it in some]
-    for it in some:
-        it.close()
-    return ports
 
 
 def tools(*words: object) -> None:
@@ -74,30 +61,6 @@ def change(uri: str, *statements: str) -> None:
             connection.execute(it)
 
 
-class Server(Serve):
-    """A run of `nrm-tools serve` over a database, which listens on a port."""
-
-    def __init__(self, folder: Path, uri: str, answering: Program, name: str, run: int, *options: str,
-                 address: str = LOOPBACK, port: int = 0, before: Sequence[str] = (), is_awaited: bool = True) -> None:
-        self.address, self.port, self.name = address, port or free_ports(1)[0], name
-        super().__init__(folder, uri, answering, "--listen", f"{address}:{self.port}", "--name", name, *options,
-                         name=f"{name}-{run}", before=before, status=None if is_awaited else 0)
-
-    def connect(self) -> socket.socket:
-        made = socket.create_connection((self.address, self.port), 10)
-        made.setsockopt(socket.IPPROTO_TCP, socket.TCP_NODELAY, 1)
-        return made
-
-    def kill(self) -> None:
-        """Ends it at once, and leaves its programs alone: their input ends, and they with it."""
-        self.process.kill()
-        self.process.wait()
-
-    def is_there(self) -> bool:
-        """Whether it hasn't ended."""
-        return self.process.poll() is None
-
-
 class Fleet:
     """A journal in a database, and its servers, of which each has a place and was perhaps begun several times."""
 
@@ -113,12 +76,16 @@ class Fleet:
         """Puts a network into the journal."""
         tools("journal", "open", self.uri, name, mode, path, "--program", *self.answering.words)
 
-    def start(self, at: int, *options: str, answering: Program | None = None, is_awaited: bool = True) -> Server:
+    def start(self, at: int, *options: str, answering: Program | None = None, uri: str = "", **more: Any) -> Server:
         """Begins a server at a place, and waits until it listens."""
-        made = Server(self.folder, self.uri, answering or self.answering, f"server-{at}", next(self.runs), *options,
-                      port=self.ports[at], is_awaited=is_awaited)
-        self.servers[at] = made
-        return made
+        self.servers[at] = Server(self.folder, uri or self.uri, answering or self.answering, f"server-{at}",
+                                  next(self.runs), *options, port=self.ports[at], **more)
+        return self.servers[at]
+
+    def place_of(self, server: Server) -> int:
+        """The place of a server."""
+        [at] = [at for at, it in self.servers.items() if it is server]
+        return at
 
     def rows(self, query: str = LINES) -> list[tuple[Any, ...]]:
         """What a query of the journal gives."""
@@ -232,9 +199,23 @@ class FleetTest(PlaceTest):
         made.open("net", mode, Path(self.file("net.csv", file or ONE)))
         return made
 
+    def begun(self, count: int = 1, *options: str) -> tuple[Fleet, list[Server]]:
+        """A journal and so many servers, by one of which a seat of its network was booked."""
+        fleet = self.fleet()
+        servers = [fleet.start(at, *options) for at in range(count)]
+        self.assertEqual(asked(servers, b"book LOC 1\n", 1), [b"ok 1"])
+        return fleet, servers
+
     def same_rows(self, fleet: Fleet, *wanted: tuple[object, ...]) -> None:
         """Sees that these are the lines of the journal."""
         self.assertEqual(fleet.rows(), [*wanted])
+
+    def see_that_nothing_is_told(self, servers: Iterable[Server], lines: bytes, seconds: float, why: str) -> None:
+        """No server takes a desk's lines within some seconds, however often it comes."""
+        some, deadline = [*servers], time.monotonic() + seconds
+        while time.monotonic() < deadline:
+            for it in some:
+                self.assertNotIn(b"ok", silent(it, lines, 1), why)
 
     def until(self, fleet: Fleet, query: str, seconds: float = PATIENT) -> None:
         """Waits until a query gives a row."""

@@ -14,7 +14,7 @@ from pathlib import Path
 from typing import Iterator, Mapping, Sequence
 
 import harness
-from harness import EXAMPLES, PlaceTest
+from harness import EXAMPLES, IS_LONG, PlaceTest
 from nrm import bytes_in
 from nrm.network import Network
 from nrm.program import Program
@@ -26,7 +26,7 @@ SECONDS = 240  # in which what takes some seconds ends on a machine that does mu
 NO_DASK = "there is no Dask (Debian's package is python3-distributed, for /usr/bin/python3)"
 NOT_NAMED = "it takes a minute, and is run where NRM_LONG is set"
 needs_dask = unittest.skipUnless(importlib.util.find_spec("distributed"), NO_DASK)
-takes_long = unittest.skipUnless(os.environ.get("NRM_LONG"), NOT_NAMED)
+takes_long = unittest.skipUnless(IS_LONG, NOT_NAMED)
 
 
 def by_one_process(program: Program, network: str, settings: Settings, count: int) -> str:

@@ -1,11 +1,12 @@
-"""A desk of the crowd: it books, cancels and looks, sends again what has no reply, and writes down what it was told."""
+"""A desk of the crowd: it books, cancels and looks, sends again what has no reply, and writes down what it was told.
+And what is around desks, as far as each trial has it."""
 from __future__ import annotations
 
 import asyncio
 import random
 import re
 import time
-from typing import Protocol, Sequence, Tuple
+from typing import Sequence, Tuple
 
 from nrm.network import Network
 from trials.judging import LOOKS, Case, Heard, Told
@@ -17,20 +18,31 @@ Streams = Tuple[asyncio.StreamReader, asyncio.StreamWriter]
 ENDED = re.compile("closed (sequence|old|network|elsewhere|long|window)")  # as no desk of a crowd may be turned away
 
 
-class Around(Protocol):
-    """What a desk needs of its crowd."""
-    final: re.Pattern[str]  # as no desk may be turned away
+class Around:
+    """What is around the desks of a crowd: the servers, and what happens to them."""
+    final = ENDED
     seed: int
     pause: float
-    is_over: bool
-    may_ask: asyncio.Event
-    changed: str | None
+
+    def __init__(self) -> None:
+        self.askers: list[Asker] = []
+        self.told: list[str] = []
+        self.may_ask = asyncio.Event()
+        self.changed: str | None = None  # the network that is to be halted
+        self.is_over = False
 
     def now(self) -> float:
         """The time by which is judged what came first."""
+        return time.monotonic()
 
     async def connected(self, place: str) -> Streams:
         """A connection to a server: to the one at a place, if one is named."""
+        raise NotImplementedError
+
+    def begun(self, cases: Sequence[Case], count: int) -> list[asyncio.Future[None]]:
+        """So many desks that have begun to ask, at networks in turn, each until it is over."""
+        self.askers = [Asker(self, cases[at % len(cases)], at) for at in range(count)]
+        return [asyncio.ensure_future(desk.run()) for desk in self.askers]
 
 
 class Lost(Exception):

@@ -7,7 +7,7 @@ import re
 from collections import Counter, defaultdict
 from dataclasses import dataclass, field
 from pathlib import Path
-from typing import Callable, Iterator, Mapping, Sequence, Tuple
+from typing import Callable, Iterator, Mapping, NamedTuple, Sequence, Tuple
 
 from nrm.network import Network
 from nrm.program import Program
@@ -41,16 +41,14 @@ class Heard:
     looks: list[Told] = field(default_factory=list)
 
 
-@dataclass(frozen=True)
-class Case:
+class Case(NamedTuple):
     """A network as it was opened: its name, mode and file."""
     name: str
     mode: str
     path: Path
 
 
-@dataclass(frozen=True)
-class Copied:
+class Copied(NamedTuple):
     """A copy of the journal, and when that began."""
     name: str
     journal: Journal
@@ -85,15 +83,15 @@ def faults_of_copies(journal: Journal, copies: Sequence[Copied], cases: Sequence
     before it was begun."""
     faults = []
     whole = rows_by_network(journal)
-    for copy in copies:
-        if copy.journal("PRAGMA integrity_check") != [("ok",)]:
-            faults.append(f"{copy.name} is damaged")
+    for copy, of_copy, began in copies:
+        if of_copy("PRAGMA integrity_check") != [("ok",)]:
+            faults.append(f"{copy} is damaged")
             continue
-        before = [Heard(it.network, it.desk, [told for told in it.replies if told.told < copy.began]) for it in heard]
-        faults += [f"{copy.name}: {it}" for it in faults_of(copy.journal, cases, before, program)]
-        for name, rows in rows_by_network(copy.journal).items():
+        before = [Heard(it.network, it.desk, [told for told in it.replies if told.told < began]) for it in heard]
+        faults += [f"{copy}: {it}" for it in faults_of(of_copy, cases, before, program)]
+        for name, rows in rows_by_network(of_copy).items():
             if rows != whole[name][:len(rows)]:
-                faults.append(f"{copy.name} hasn't the first {len(rows)} lines of {name}")
+                faults.append(f"{copy} hasn't the first {len(rows)} lines of {name}")
     return faults
 
 

@@ -11,7 +11,7 @@ from dataclasses import dataclass
 from pathlib import Path
 from typing import Mapping, Sequence, Tuple
 
-from harness import TOP, program
+from harness import TOP, PlaceTest, program
 
 Edit = Tuple[str, str, str]  # the file, and a text in it with what stands in its place
 LOST, TWICE = r"was told '.*' to '.*', and the journal has", r"line \d+: D\d+ \d+ after \d+"
@@ -95,6 +95,15 @@ def found_in(form: Form, folder: Path) -> tuple[bool, str]:
     faults = [it for it in lines if it.startswith(TOLD) or "Error" in it]
     meant = [it for it in faults if re.search(form.told, it)]
     return bool(meant and done.returncode), (meant or faults or lines or ["nothing was told"])[0]
+
+
+def see_that_each_is_found(test: PlaceTest, forms: Mapping[str, Form]) -> None:
+    """Sees as a test that each of some wrong forms is found."""
+    test.assertTrue(test.program and test.desks_program)
+    for name, form in forms.items():
+        with test.subTest(name):
+            is_found, why = found_in(form, test.folder)
+            test.assertTrue(is_found, why)
 
 
 def tried(forms: Mapping[str, Form], folder: Path, pattern: str = "") -> int:

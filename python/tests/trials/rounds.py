@@ -4,12 +4,16 @@ from __future__ import annotations
 
 import argparse
 import asyncio
+import contextlib
 import random
+import shutil
+from collections import Counter
+from dataclasses import dataclass
 from pathlib import Path
-from typing import Awaitable, Callable, Mapping, Sequence, TypeVar
+from typing import AsyncIterator, Callable, Mapping, Sequence, TypeVar
 
 from nrm.replies import MODES
-from trials.asking import Asker
+from trials.asking import TOO_LONG, Around, Asker
 from trials.judging import Case
 
 MOST_SHOWN = 200  # faults of a round
@@ -46,21 +50,59 @@ def words_of(manual: str | None, usual: Mapping[str, object], given: Sequence[st
     return words.parse_args(given)
 
 
-def judged_rounds(asked: argparse.Namespace, a_round: Callable[[int], Awaitable[list[str]]]) -> list[str]:
-    """What doesn't hold after as many rounds as are asked for, each with a seed of its own."""
-    found: list[str] = []
-    for seed in range(asked.seed, asked.seed + asked.rounds):
-        faults = asyncio.run(waited(a_round(seed)))
-        for it in faults[:MOST_SHOWN]:
-            print(f"FAULT seed {seed}: {it}", flush=True)
-        print(f"seed {seed}: {len(faults)} faults", flush=True)
-        found += [f"seed {seed}: {it}" for it in faults]
-    return found
+class Crowd:
+    """A round of a trial, in a folder that is made anew: the desks, and what happens to them."""
+
+    def __init__(self, asked: argparse.Namespace, seed: int) -> None:
+        self.asked, self.seed, self.folder = asked, seed, Path(asked.folder).resolve()
+        shutil.rmtree(self.folder, ignore_errors=True)
+        self.folder.mkdir(parents=True)
+        self.draw, self.events = random.Random(seed), Counter[str]()
+
+    async def run(self) -> list[str]:
+        """All from the first line to the last trouble; gives what doesn't hold."""
+        raise NotImplementedError
 
 
-async def waited(awaited: Awaitable[Given]) -> Given:
-    """What something gives that is waited for."""
-    return await awaited
+@dataclass(frozen=True)
+class Trial:
+    """A trial: its manual, its options with what they are if nothing is said, and its rounds."""
+    manual: str | None
+    usual: Mapping[str, object]
+    crowd: type[Crowd]
+
+    def judged(self, *given: object) -> list[str]:
+        """What doesn't hold after as many rounds as the words ask for, each with a seed of its own."""
+        asked = words_of(self.manual, self.usual, [*map(str, given)])
+        found: list[str] = []
+        for seed in range(asked.seed, asked.seed + asked.rounds):
+            faults = asyncio.run(self.crowd(asked, seed).run())
+            for it in faults[:MOST_SHOWN]:
+                print(f"FAULT seed {seed}: {it}", flush=True)
+            print(f"seed {seed}: {len(faults)} faults", flush=True)
+            found += [f"seed {seed}: {it}" for it in faults]
+        return found
+
+    def main(self, given: Sequence[str]) -> int:
+        """The trial as a command; gives its status."""
+        told = self.judged(*given)
+        print(f"{len(told)} faults")
+        return bool(told)
+
+
+@contextlib.asynccontextmanager
+async def watched(around: Around, tasks: Sequence[asyncio.Future[None]], *faults: type[Exception],
+                  ) -> AsyncIterator[None]:
+    """Notes what must not be, if that comes up, and ends the desks and all else that is at work."""
+    try:
+        yield
+    except (AssertionError, asyncio.TimeoutError, *faults) as fault:
+        around.told.append(str(fault) or f"a desk has no replies in {TOO_LONG} seconds")
+    finally:
+        around.is_over = True  # for a desk that got its reply just when it was to end
+        for it in tasks:
+            it.cancel()
+        await asyncio.gather(*tasks, return_exceptions=True)
 
 
 def see_that_none_failed(running: Sequence[asyncio.Future[None]]) -> None:

@@ -2,11 +2,10 @@
 from __future__ import annotations
 
 import signal
-import threading
 from typing import Callable
 
 from desks.relay.serves import rows_in, talk
-from harness import wait_for
+from harness import meanwhile, wait_for
 from nrm.desks.desk import Desk
 from web.webs import WebTest
 
@@ -221,10 +220,7 @@ class DoorTest(WebTest):
 
             def ask(number: int) -> None:
                 told[number] = web.post(f"{AT}/{number}", "ask HJ-Q").text
-            threads = [threading.Thread(target=ask, args=(it,)) for it in range(1, 9)]
-            for it in threads:
-                it.start()
-            for it in threads:
+            for it in [meanwhile(ask, number) for number in range(1, 9)]:
                 it.join()
             self.assertEqual(set(told.values()), {"ask HJ-Q 60 leg HAM-FRA\n"})
 

@@ -2,12 +2,15 @@
 from __future__ import annotations
 
 import random
+import shutil
+import threading
 from collections import Counter
 from pathlib import Path
 
 from desks.relay.serves import ONE
 from desks.servers import HUB
 from made import SECOND
+from nrm.desks.journals.looking import copy
 from nrm.desks.journals.tables import using
 from nrm.network import Network, rows_of
 from nrm.replies import Hindsight, Leg, answer_of, replies_of
@@ -43,6 +46,22 @@ class FollowingTest(WebTest):
             while following.is_behind:
                 following.look(connection)
         return following
+
+    def test_a_journal_that_has_lost_lines(self) -> None:
+        """A backup was put in its place: who reads it anew begins anew."""
+        journal = self.journal("one", file=ONE.encode())
+        self.write(journal, [("book LOC 3", "ok 1")])
+        copy(str(journal), f"{journal}-before")
+        self.write(journal, [("book LOC 7", "ok 2")])
+        following, found = Following(str(journal)), []
+        for _ in range(2):
+            is_over = threading.Event()
+            following.follow(is_over, is_over.set)
+            found.append((following.networks["one"].seen.lines, following.networks["one"].seen.revenue))
+            for it in "-wal", "-shm":
+                Path(f"{journal}{it}").unlink(missing_ok=True)
+            shutil.copy(f"{journal}-before", journal)
+        self.assertEqual(found, [(2, 2000), (1, 600)])
 
     def test_counts_are_those_of_a_run(self) -> None:
         """Seats, revenue and what was withheld, on drawn lines, in each mode, with refunds and without."""

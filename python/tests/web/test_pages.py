@@ -7,7 +7,6 @@ import socket
 import time
 from fractions import Fraction
 from html.parser import HTMLParser
-from pathlib import Path
 from typing import Iterator
 
 from desks.relay.serves import ONE, rows_in, talk

@@ -8,26 +8,20 @@ import json
 import socket
 import threading
 import time
+from dataclasses import replace
 from pathlib import Path
 from typing import Callable, Iterator, Mapping, NamedTuple, Sequence
 
+from desks import servers
 from desks.relay.serves import ServeTest
-from harness import SECONDS, wait_for
+from harness import SECONDS, meanwhile, wait_for
 from nrm.desks.journals.tables import using
 from nrm.desks.journals.writing import Given, Writer
+from nrm.desks.status import Network
 from nrm.web.routes import Settings, Web
 from nrm.web.serving import Listening, Site
 
-STATUS = """server version 2.1.0 program 5ca1ab1e started 2026-12-01T09:30:00.500Z epoch 3 journal-bytes 96 time-jumps 2 stopping no
-clients now 12 most 1000 ever 512 turned-away 7 unread 2 bytes-in 10 bytes-out 20
-closed idle 3
-closed program-137 4
-commits count 812 seconds 1.930000 longest 0.021000 rows 9000 waiting 3 failed 1
-commit-times 0.001 400 0.002 700 inf 812
-programs now 3 begun 5 ended 2
-network hub mode bid state answers clients 4 lines 812 halted no memory 6
-
-"""
+STATUS = replace(servers.STATUS, networks=(Network("hub", "bid", "answers", 4, 812, False, 6),)).text()
 
 
 class Told(NamedTuple):
@@ -80,16 +74,13 @@ class WebTest(ServeTest):
     """A test of the web in a folder of its own."""
 
     @contextlib.contextmanager
-    def web(self, journal: Path, place: object = "none", listening: Mapping[str, object] | None = None,
+    def web(self, journal: Path | str, place: object = "none", listening: Mapping[str, object] | None = None,
             **settings: object) -> Iterator[Running]:
         """A web of a journal and of the server at a socket, with all that can be on."""
         made = Web(Settings(str(journal), str(place), **{"has_page": True, "has_door": True, "seconds": 5, **settings}))
         is_over = threading.Event()
         with Site(Listening("127.0.0.1:0", **(listening or {})), made.answer) as site:
-            threads = [threading.Thread(target=made.following.follow, args=(is_over, made.tidy)),
-                       threading.Thread(target=site.serve_forever, args=(0.02,))]
-            for it in threads:
-                it.start()
+            threads = [meanwhile(made.following.follow, is_over, made.tidy), meanwhile(site.serve_forever, 0.02)]
             try:
                 wait_for(lambda: made.following.round, "the first look at the journal")
                 yield Running(made, site)
@@ -118,8 +109,7 @@ class WebTest(ServeTest):
             listener.listen()
             ends = threading.Event()
             listener.settimeout(0.05)
-            thread = threading.Thread(target=self.take, args=(listener, answer, ends), daemon=True)
-            thread.start()
+            thread = meanwhile(self.take, listener, answer, ends)
             try:
                 yield path
             finally:
@@ -130,7 +120,7 @@ class WebTest(ServeTest):
         while not ends.is_set():
             with contextlib.suppress(socket.timeout):
                 connection, _ = listener.accept()
-                threading.Thread(target=self.speak, args=(connection, answer), daemon=True).start()
+                meanwhile(self.speak, connection, answer)
 
     def speak(self, connection: socket.socket, answer: Callable[[str], str | None]) -> None:
         connection.settimeout(SECONDS)

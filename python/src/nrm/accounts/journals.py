@@ -17,9 +17,9 @@ from typing import Sequence
 from nrm import Stop
 from nrm.accounts.asking import Asked, Why
 from nrm.desks.journals.answered import Line, ended_at, given_back_by, lay, line_in, sold_by
-from nrm.desks.journals.networks import Opened, file_of, known
-from nrm.desks.journals.stores.choosing import using
-from nrm.desks.journals.stores.kinds import NoJournal, Tables
+from nrm.desks.journals.networks import file_of, known
+from nrm.desks.journals.stores.choosing import shown, using
+from nrm.desks.journals.stores.kinds import NoJournal, Opened, Tables
 from nrm.program import Program, is_program
 
 ANSWERS = "nrm_desks"  # the program whose checksum a journal has
@@ -91,11 +91,12 @@ class AskedOfJournal:
         try:
             why = Asked(str(file), network.mode, str(stream), line.number).why(words, program, str(replies))
         except Stop as stop:
-            raise Stop(f"{network.name} of {self.journal}: {str(stop).replace(f'{folder}/', '')}", stop.status)
+            raise Stop(f"{network.name} of {shown(self.journal)}: {str(stop).replace(f'{folder}/', '')}", stop.status)
         programs = Programs(network.program, checksum_here(words), Program(tuple(words)).checksum(), program.checksum())
         sale = why.course.sales.get(numbered(line.line, "cancel "))
-        return Kept(self.journal, network, ended_at(connection, network), hashlib.sha256(file.read_bytes()).hexdigest(),
-                    line, line_in(connection, network, sale.line) if sale else None,
+        return Kept(shown(self.journal), network, ended_at(connection, network),
+                    hashlib.sha256(file.read_bytes()).hexdigest(), line,
+                    line_in(connection, network, sale.line) if sale else None,
                     cancelled_by(connection, network, line), programs), why
 
 

@@ -8,6 +8,7 @@ from __future__ import annotations
 
 import argparse
 import re
+from typing import Callable
 
 from nrm import Stop, bytes_in
 from nrm.desks.desk import TOKEN
@@ -73,6 +74,15 @@ def token_in(path: str) -> str:
     return token
 
 
+OF_LIMITS: tuple[tuple[str, Callable[[str], float], str, str], ...] = (
+    ("clients", count, "N", "the most clients at a time"),
+    ("unsent", count, "BYTES", "of replies that a client hasn't taken"),
+    ("slow", seconds, "SECONDS", "for the rest of a line, for taking replies, and for the end"),
+    ("idle", seconds, "SECONDS", "for a next line"),
+    ("answer", seconds, "SECONDS", "for a program's next answer before it is ended"),
+    ("linger", seconds, "SECONDS", "for which a program without clients stays"))  # each a field of `Limits`
+
+
 def add_places(words: argparse.ArgumentParser) -> None:
     """The options for where clients come, and for the program."""
     words.add_argument("--socket", metavar="PATH", help="the Unix socket")
@@ -93,18 +103,9 @@ def add_guard(words: argparse.ArgumentParser) -> None:
 
 def add_limits(words: argparse.ArgumentParser) -> None:
     """The options that end waiting and bound memory."""
-    words.add_argument("--clients", type=count, default=Limits.clients, metavar="N",
-                       help="the most clients at a time; %(default)s")
-    words.add_argument("--unsent", type=count, default=Limits.unsent, metavar="BYTES",
-                       help="of replies that a client hasn't taken; %(default)s")
-    words.add_argument("--slow", type=seconds, default=Limits.slow, metavar="SECONDS",
-                       help="for the rest of a line, for taking replies, and for the end; %(default)s")
-    words.add_argument("--idle", type=seconds, default=Limits.idle, metavar="SECONDS",
-                       help="for a next line; %(default)s")
-    words.add_argument("--answer", type=seconds, default=Limits.answer, metavar="SECONDS",
-                       help="for a program's next answer before it is ended; %(default)s")
-    words.add_argument("--linger", type=seconds, default=Limits.linger, metavar="SECONDS",
-                       help="for which a program without clients stays; %(default)s")
+    for name, kind, value, what in OF_LIMITS:
+        words.add_argument(f"--{name}", type=kind, default=getattr(Limits, name), metavar=value,
+                           help=f"{what}; %(default)s")
 
 
 def add_clock(words: argparse.ArgumentParser) -> None:
@@ -174,4 +175,4 @@ def limits_in(words: argparse.ArgumentParser, asked: argparse.Namespace) -> Limi
     """What ends waiting and bounds memory, as the words say; an end with the usage where that can't be."""
     if asked.unsent < PIECE:
         words.error(f"--unsent is at least {PIECE}")
-    return Limits(asked.clients, asked.unsent, asked.slow, asked.idle, asked.answer, asked.linger)
+    return Limits(**{name: getattr(asked, name) for name, *_ in OF_LIMITS})

@@ -1,6 +1,6 @@
 """A search with its workers: the seasons that it sees, others to judge by, and what was tried, all played by Dask.
 
-It needs Dask: who begins one asks for `distributed` first. May use: nrm.network, nrm.program, nrm.searches.fields,
+It needs Dask: who begins one asks for `distributed` first. May use: nrm.program, nrm.searches.fields,
 nrm.searches.judging, nrm.seasons.cluster, nrm.seasons.drawing, nrm.seasons.rows.
 """
 from __future__ import annotations
@@ -10,7 +10,6 @@ import os
 from dataclasses import dataclass
 from typing import Callable, Iterator, Mapping, Sequence
 
-from nrm.network import text_of
 from nrm.program import Program
 from nrm.searches.fields import Earned, Field, Line, Play, Rows, Tried, Tries, made_by
 from nrm.searches.judging import Judged

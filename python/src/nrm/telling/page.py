@@ -2,8 +2,8 @@
 
 It is made for a wide and a narrow screen, light or dark, for paper and for a reader that speaks: tables have heads and
 a caption, pictures a title and a description, and what is wider than the screen moves in a box of its own. jinja2 makes
-it of page.html and escapes each name and text; what is put in as it stands is the pictures, which matplotlib has
-escaped.
+it of the templates in `static` and escapes each name and text; what is put in as it stands is the pictures, which
+matplotlib has escaped.
 May use: nrm.telling.tables.
 """
 from __future__ import annotations
@@ -12,11 +12,11 @@ import itertools
 import re
 from dataclasses import dataclass
 from pathlib import Path
-from typing import Sequence, Union
+from typing import Any, Sequence, Union
 
 from nrm.telling.tables import Table
 
-TEMPLATE = Path(__file__).with_name("page.html")
+STATIC = Path(__file__).with_name("static")
 COLOURS = {"#000000": "var(--ink)", "#ffffff": "var(--paper)", "#eeeeee": "var(--soft)"}  # light or dark, as the page
 STYLE = re.compile(r'style="[^"]*"')
 OF_TITLE = re.compile(r"<(title|desc|metadata)\b.*?</\1>", re.S)
@@ -71,10 +71,14 @@ class Page:
 
     def html(self) -> str:
         """The page as text."""
-        import jinja2  # here, since who makes no page needs none
-        environment = jinja2.Environment(autoescape=True, trim_blocks=True, lstrip_blocks=True,
-                                         keep_trailing_newline=True)
-        return environment.from_string(TEMPLATE.read_text(encoding="utf-8")).render(page=self)
+        return f"{templates().get_template('page.html').render(page=self)}\n"
+
+
+def templates(*folders: Path) -> Any:
+    """What makes pages of templates, those of some folders too, with each name and text escaped."""
+    import jinja2  # here, since who makes no page needs none
+    return jinja2.Environment(loader=jinja2.FileSystemLoader([*folders, STATIC]), autoescape=True, trim_blocks=True,
+                              lstrip_blocks=True, undefined=jinja2.StrictUndefined)
 
 
 def write(path: str, text: str) -> str:

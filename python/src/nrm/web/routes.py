@@ -11,7 +11,7 @@ import threading
 from dataclasses import dataclass
 from functools import partial
 from pathlib import Path
-from typing import Callable
+from typing import Callable, NamedTuple
 from urllib.parse import unquote
 
 from nrm.desks.journals.networks import NAME
@@ -44,8 +44,7 @@ class Settings:
     has_accounts: bool = False
 
 
-@dataclass(frozen=True)
-class Route:
+class Route(NamedTuple):
     """A method and a path, in which a word in braces is any, for the part that it belongs to."""
     method: str
     path: str

@@ -11,7 +11,7 @@ from pathlib import Path
 
 from desks.relay.serves import ONE, ServeTest, all_told, journal_of, rows_in, talk
 from desks.servers import answers, child_of
-from harness import EXAMPLES, wait_for
+from harness import EXAMPLES, meanwhile, wait_for
 from nrm.program import Program
 
 CLOSES = """import os, sys, time
@@ -28,9 +28,7 @@ def sent_by_a_thread(connection: socket.socket, lines: bytes) -> threading.Threa
         with contextlib.suppress(OSError):
             connection.sendall(lines)
 
-    thread = threading.Thread(target=send, daemon=True)
-    thread.start()
-    return thread
+    return meanwhile(send)
 
 
 class Lines(ServeTest):

@@ -8,7 +8,7 @@ import stat
 from pathlib import Path
 
 from desks.relay.serves import ONE, ServeTest, rows_in
-from nrm.desks.journals.tables import begin, change, using
+from nrm.desks.journals.tables import begin, using
 from nrm.desks.journals.writing import Fenced, Given, Writer
 
 
@@ -31,7 +31,7 @@ class Journals(ServeTest):
         """A journal with a network of one leg, without a program."""
         journal = self.folder / "journal"
         begin(str(journal))
-        with using(str(journal), is_to_write=True) as connection, change(connection):
+        with using(str(journal), is_to_write=True) as connection, connection.change():
             connection.execute("INSERT INTO network (name, mode, file, program, begun) VALUES "
                                "('one', 'first', ?, 'p', 0)", [ONE.encode()])
             connection.execute("INSERT INTO head VALUES (1, 0, 0)")
@@ -119,7 +119,7 @@ class Journals(ServeTest):
 
     def test_a_row_that_isnt_the_next_halts_its_network_and_no_other(self) -> None:
         journal = self.one()
-        with using(str(journal), is_to_write=True) as connection, change(connection):
+        with using(str(journal), is_to_write=True) as connection, connection.change():
             connection.execute("INSERT INTO network SELECT 2, 'two', mode, file, program, begun, ended, halted "
                                "FROM network")
             connection.execute("INSERT INTO head VALUES (2, 0, 0)")

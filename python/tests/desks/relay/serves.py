@@ -12,6 +12,7 @@ import sys
 from pathlib import Path
 from typing import Iterator, Mapping, Sequence
 
+from databases import LOOPBACK, free_ports  # of the folder tests at the top
 from desks.servers import HUB, ServerTest, child_of
 from harness import SECONDS, SOURCES, wait_for
 from nrm.desks.journals.networks import open_network
@@ -22,6 +23,17 @@ TOLD = "nrm-tools serve: "
 LISTENS = "event=listening"
 PATIENT = 3 * SECONDS  # for what takes long where much else is at work, as that a server begins or ends
 ONE = "periods,1,1\nleg,AB,300\nproduct,LOC,200,AB\n"  # a network of one leg
+# in the place of a program: a client is told some text once its lines have come
+INSTEAD = """import sys
+
+given, told, used, text = sys.stdin.buffer, sys.stdout.buffer, 0, {text}
+while (words := given.readline().split()) and words != [b"end"]:
+    data = given.read(int(words[-1])) if words[0] in (b"again", b"came") else b""
+    used += len(data)
+    told.write(b"send 0 %d %d\\n%b" % (used, len(text), text) if words == [b"kept"] else
+               {{b"again": b"ready 0\\n", b"came": b"keep 0\\n", b"gone": b"close 0 gone\\n"}}.get(words[0], b""))
+    told.flush()
+"""
 
 
 def journal_of(path: Path, program: Program, networks: Mapping[str, tuple[str, bytes]]) -> Path:
@@ -81,7 +93,7 @@ class Serve:
         """Ends it, and waits for it."""
         if sent:
             self.process.send_signal(sent)
-        ended = self.process.wait(SECONDS)
+        ended = self.process.wait(PATIENT)
         assert ended == status, f"the status {ended}, and not {status}, with {self.told()!r}"
 
     def __enter__(self) -> Serve:
@@ -91,6 +103,31 @@ class Serve:
         self.process.send_signal(signal.SIGCONT)
         self.process.kill()
         self.process.wait()
+
+
+class Server(Serve):
+    """A run among others over a journal in a database, which listens on a port."""
+    patience = 10.0  # of a client
+
+    def __init__(self, folder: Path, uri: str, answering: Program, name: str, run: int, *options: str,
+                 address: str = LOOPBACK, port: int = 0, before: Sequence[str] = (), is_awaited: bool = True) -> None:
+        self.address, self.port, self.name = address, port or free_ports(1)[0], name
+        super().__init__(folder, uri, answering, "--listen", f"{address}:{self.port}", "--name", name, *options,
+                         name=f"{name}-{run}", before=before, status=None if is_awaited else 0)
+
+    def connect(self) -> socket.socket:
+        made = socket.create_connection((self.address, self.port), self.patience)
+        made.setsockopt(socket.IPPROTO_TCP, socket.TCP_NODELAY, 1)
+        return made
+
+    def kill(self) -> None:
+        """Ends it at once, and leaves its programs alone: their input ends, and they with it."""
+        self.process.kill()
+        self.process.wait()
+
+    def is_there(self) -> bool:
+        """Whether it hasn't ended."""
+        return self.process.poll() is None
 
 
 def talk(serve: Serve, lines: bytes) -> bytes:
@@ -120,6 +157,10 @@ class ServeTest(ServerTest):
 
     def serve(self, journal: Path, *options: str, **more: object) -> Serve:
         return Serve(self.folder, journal, more.pop("program", self.desks_program), *options, **more)
+
+    def instead(self, name: str, text: str) -> Program:
+        """A program that tells a client some text, and no more, whatever it asks."""
+        return Program((self.script(name, INSTEAD.format(text=text.encode())),))
 
     @contextlib.contextmanager
     def served(self, journal: Path, *options: str, **more: object) -> Iterator[Serve]:

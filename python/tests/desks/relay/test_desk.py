@@ -15,7 +15,7 @@ from unittest import mock
 from desks.old_sockets import OldSocket, OldTimeout
 from desks.relay.serves import ONE, ServeTest, rows_in
 from desks.servers import HUB
-from harness import EXAMPLES, SECONDS, wait_for
+from harness import EXAMPLES, SECONDS, meanwhile, wait_for
 from nrm.desks import desk as of
 from nrm.desks.desk import Desk, Ended, Late, Sold, Strange
 from nrm.replies import Nest
@@ -35,9 +35,7 @@ def answering(path: Path, *replies: bytes) -> threading.Thread:
                         made.recv(1000)
                         made.sendall(part)
 
-    thread = threading.Thread(target=serve, daemon=True)
-    thread.start()
-    return thread
+    return meanwhile(serve)
 
 
 class Desks(ServeTest):

@@ -4,7 +4,6 @@ from __future__ import annotations
 
 import os
 import signal
-import sys
 import unittest
 from contextlib import ExitStack
 from pathlib import Path
@@ -28,20 +27,6 @@ if [ "$1" = bid ]; then
     while [ -e {file} ]; do sleep 0.05; done
 fi
 exec {words} "$@"
-"""
-
-
-# in the place of a program: memory runs out for each line behind a greeting
-LACKS_MEMORY = """#!{python}
-import sys
-
-given, told, used = sys.stdin.buffer, sys.stdout.buffer, 0
-while (words := given.readline().split()) and words != [b"end"]:
-    data = given.read(int(words[-1])) if words[0] in (b"again", b"came") else b""
-    used += len(data)
-    told.write(b"send 0 %d 12\\nat 1\\nmemory\\n" % used if words == [b"kept"] else
-               {{b"again": b"ready 0\\n", b"came": b"keep 0\\n", b"gone": b"close 0 gone\\n"}}.get(words[0], b""))
-    told.flush()
 """
 
 
@@ -85,9 +70,7 @@ class Moments(ServeTest):
         self.same(rows_in(journal, "SELECT halted, lines FROM network JOIN head USING (network)"), (None, MANY + 5))
 
     def test_a_line_answered_memory_isnt_in_the_journal(self) -> None:
-        path = self.file("lacks", LACKS_MEMORY.format(python=sys.executable))
-        os.chmod(path, 0o755)
-        program = Program((path,))
+        program = self.instead("lacks", "at 1\nmemory\n")
         journal = journal_of(self.folder / "journal", program, {"net": ("first", ONE.encode())})
         with self.served(journal, program=program) as serve:
             self.assertEqual(talk(serve, b"desk D1 1\nbook LOC 1\n"), b"at 1\nmemory\n")

@@ -25,21 +25,18 @@ from __future__ import annotations
 
 import argparse
 import asyncio
-import random
-import shutil
 import sys
 import time
-from collections import Counter
-from pathlib import Path
 from typing import Any, Sequence
 
 import databases  # of the folder tests at the top
 from fleet.crowds.troubles import Troubles
 from fleet.standing import Fleet, free_ports
 from harness import program, wait_for
-from trials.asking import TOO_LONG, Asker
+from trials import rounds
+from trials.asking import TOO_LONG
 from trials.judging import faults_of
-from trials.rounds import in_thread, judged_rounds, made_cases, see_that_none_failed, told_of, words_of
+from trials.rounds import Trial, in_thread, made_cases, see_that_none_failed, told_of, watched
 
 USUAL = {"networks": 20, "desks": 200, "servers": 3, "kills": 100, "stops": 20, "failovers": 10, "rounds": 1,
          "pause": 0.2, "between": 2.0, "seed": 1}
@@ -48,15 +45,12 @@ ASKED = """SELECT pid FROM pg_stat_activity WHERE datname = current_database() A
 CALM = 2.0  # seconds in which nothing goes wrong yet
 
 
-class Crowd:
+class Crowd(rounds.Crowd):
     """The databases, the servers, the desks, and what happens to them."""
 
     def __init__(self, asked: argparse.Namespace, seed: int) -> None:
-        self.asked, self.seed, self.folder = asked, seed, Path(asked.folder).resolve()
-        shutil.rmtree(self.folder, ignore_errors=True)
-        self.folder.mkdir(parents=True)
+        super().__init__(asked, seed)
         self.folder.chmod(0o755)
-        self.draw, self.events = random.Random(seed), Counter[str]()
         self.databases = databases.Databases(self.folder / "databases")
         self.cases = made_cases(self.draw, self.folder, asked.networks)
 
@@ -73,17 +67,16 @@ class Crowd:
         """A journal with its networks."""
         made = Fleet(self.folder, self.databases.uri(), self.asked.servers)
         for it in self.cases:
-            made.open(it.name, it.mode, it.path)
+            made.open(*it)
         return made
 
     async def tried(self, fleet: Fleet) -> list[str]:
         """All from the first line to the last trouble; gives what doesn't hold."""
         it, began = Troubles(fleet, self.databases, self.asked, self.draw, self.events), time.monotonic()
         it.seed = self.seed
-        it.askers = [Asker(it, self.cases[at % len(self.cases)], at) for at in range(self.asked.desks)]
         try:
             await in_thread(it.begin)
-            running = [asyncio.ensure_future(desk.run()) for desk in it.askers]
+            running = it.begun(self.cases, self.asked.desks)
             tasks = [asyncio.ensure_future(some) for some in (it.trouble_servers(), it.trouble_databases(),
                                                               it.keep_servers())]
             await self.until_over(it, running, tasks)
@@ -104,7 +97,7 @@ class Crowd:
     async def until_over(self, it: Troubles, running: Sequence[asyncio.Future[None]],
                          tasks: Sequence[asyncio.Future[None]]) -> None:
         """Waits for the last trouble, and then for the replies of all desks."""
-        try:
+        async with watched(it, [*running, *tasks], databases.Fault):
             await asyncio.sleep(CALM)
             it.may_trouble.set()
             while not all(some.done() for some in tasks[:2]):
@@ -113,13 +106,6 @@ class Crowd:
             see_that_none_failed(tasks)
             it.is_over = True
             await asyncio.wait_for(asyncio.gather(*running), TOO_LONG)
-        except (AssertionError, databases.Fault, asyncio.TimeoutError) as fault:
-            it.told.append(str(fault) or f"a desk has no replies in {TOO_LONG} seconds")
-        finally:
-            it.is_over = True  # for a desk that got its reply just when it was to end
-            for some in [*running, *tasks]:
-                some.cancel()
-            await asyncio.gather(*running, *tasks, return_exceptions=True)
 
     def report(self, fleet: Fleet, it: Troubles, seconds: float) -> None:
         lines, takings, starts = (fleet.value(f"SELECT count(*) FROM {it}") for it in ("line", "tenure", "server"))
@@ -128,13 +114,7 @@ class Crowd:
               f"{takings} takings by {starts} starts of servers, troubles {events}", flush=True)
 
 
-def judged(*given: object) -> list[str]:
-    """What doesn't hold after a trial, or after several."""
-    asked = words_of(__doc__, USUAL, [*map(str, given)])
-    return judged_rounds(asked, lambda seed: Crowd(asked, seed).run())
-
+TRIAL = Trial(__doc__, USUAL, Crowd)
 
 if __name__ == "__main__":
-    told = judged(*sys.argv[1:])
-    print(f"{len(told)} faults")
-    sys.exit(bool(told))
+    sys.exit(TRIAL.main(sys.argv[1:]))

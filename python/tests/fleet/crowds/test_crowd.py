@@ -5,19 +5,18 @@ import os
 import unittest
 
 import databases  # of the folder tests at the top
-from fleet.crowds.crowd import judged
+from fleet.crowds.crowd import TRIAL
 from fleet.crowds.wrong_forms import FORMS
-from harness import PlaceTest, needs
-from trials.mistakes import found_in, not_there
+from harness import IS_LONG, PlaceTest, needs
+from trials.mistakes import not_there, see_that_each_is_found
 
-IS_LONG = bool(os.environ.get("NRM_LONG"))
 A_MINUTE = ("--networks", 8, "--desks", 80, "--kills", 6, "--stops", 2, "--failovers", 2)
 
 
 class Mistakes(unittest.TestCase):
     def test_each_is_one_of_the_code(self) -> None:
         """Where there is no database too."""
-        self.assertEqual(len(FORMS), 10)
+        self.assertEqual(len(FORMS), 11)
         for name, form in FORMS.items():
             self.assertEqual(not_there(form), [], name)
 
@@ -29,13 +28,9 @@ class Crowds(PlaceTest):
         """At length 200 desks at 20 networks, with 100 kills of servers, 20 stops and 10 losses of the primary."""
         self.assertTrue(self.program and self.desks_program)
         os.chmod(self.folder, 0o755)
-        self.assertEqual(judged(self.folder / "crowd", *(() if IS_LONG else A_MINUTE)), [])
+        self.assertEqual(TRIAL.judged(self.folder / "crowd", *(() if IS_LONG else A_MINUTE)), [])
 
     @unittest.skipUnless(IS_LONG, "mistakes that the trial of a fleet must find take some minutes: NRM_LONG=1")
     def test_mistakes_are_found(self) -> None:
-        self.assertTrue(self.program and self.desks_program)
         os.chmod(self.folder, 0o755)
-        for name, form in FORMS.items():
-            with self.subTest(name):
-                is_found, why = found_in(form, self.folder)
-                self.assertTrue(is_found, why)
+        see_that_each_is_found(self, FORMS)

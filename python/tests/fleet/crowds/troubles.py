@@ -7,12 +7,11 @@ import asyncio
 import random
 import re
 import signal
-import time
 from collections import Counter
 
 from databases import Databases  # of the folder tests at the top
 from fleet.standing import LEASE, Fleet
-from trials.asking import Asker, Streams
+from trials.asking import Around, Streams
 from trials.rounds import in_thread
 
 BEHIND = 0.4  # seconds by which the standbys are behind when the primary is lost
@@ -22,26 +21,18 @@ ENDED_HERE = re.compile("closed (sequence|old|network|long|window)")
 AGAIN = 0.5  # seconds before a server that has ended by itself is begun anew
 
 
-class Troubles:
+class Troubles(Around):
     """The servers of a fleet and of its database, and what happens to both while desks ask."""
     final = ENDED_HERE
-    seed: int
 
     def __init__(self, fleet: Fleet, databases: Databases, asked: argparse.Namespace, draw: random.Random,
                  events: Counter[str]) -> None:
+        super().__init__()
         self.fleet, self.databases, self.asked, self.draw, self.events = fleet, databases, asked, draw, events
-        self.pause: float = asked.pause
-        self.may_ask, self.may_trouble = asyncio.Event(), asyncio.Event()
+        self.pause = asked.pause
+        self.may_trouble = asyncio.Event()
         self.may_ask.set()
-        self.askers: list[Asker] = []
-        self.told: list[str] = []
-        self.changed: str | None = None  # no network is to be halted
-        self.is_over = False
         self.is_down: set[int] = set()  # the servers that were killed and are to stay so for now
-
-    def now(self) -> float:
-        """The time by which is judged what came first."""
-        return time.monotonic()
 
     async def connected(self, place: str) -> Streams:
         """A connection to a server: to the one where a desk was sent, or to any."""

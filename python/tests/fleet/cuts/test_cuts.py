@@ -1,11 +1,10 @@
 """What a fleet does when the network between a server and the database, or between desks and a server, is cut."""
 from __future__ import annotations
 
-import itertools
 import unittest
 
 from fleet.cuts.spaces import FIRST, Spaces, why_not
-from fleet.standing import COUNT, LEASE, LOOPBACK, Fleet, FleetTest, Server, asked, heard, silent
+from fleet.standing import COUNT, LEASE, LOOPBACK, Fleet, FleetTest, asked, heard, silent
 
 
 class Cuts(FleetTest):
@@ -24,26 +23,19 @@ class Cuts(FleetTest):
     def served(self) -> Fleet:
         """A journal, and a server on each machine, of which one has the network."""
         fleet = self.fleet(count=2)
-        name = fleet.uri.rpartition("/")[2]
-        uri, numbers = self.databases.uri(FIRST, database=name), itertools.count(1)
-        for at, port in enumerate(fleet.ports):
-            fleet.servers[at] = Server(self.folder, uri, fleet.answering, f"server-{at}", next(numbers),
-                                       "--beyond-this-machine", address=self.spaces.address(at), port=port,
-                                       before=self.spaces.within(at))
+        uri = self.databases.uri(FIRST, database=fleet.uri.rpartition("/")[2])
+        for at in range(2):
+            fleet.start(at, "--beyond-this-machine", uri=uri, address=self.spaces.address(at),
+                        before=self.spaces.within(at))
         self.assertEqual(asked(fleet.servers.values(), b"book LOC 1\n", 1), [b"ok 1"])
         return fleet
-
-    def place_of(self, fleet: Fleet, server: Server) -> int:
-        """The machine of a server."""
-        [at] = [at for at, it in fleet.servers.items() if it is server]
-        return at
 
     def test_between_an_owner_and_the_database(self) -> None:
         """The owner answers nothing; the other takes the network; and when all comes through again, the first tells
         nothing from what was, and serves on."""
         fleet = self.served()
         owner, [other] = fleet.owner(), fleet.others()
-        at = self.place_of(fleet, owner)
+        at = fleet.place_of(owner)
         with owner.connect() as buyer, owner.connect() as looker:
             for made, name in (buyer, b"D2"), (looker, b"D3"):
                 made.sendall(b"desk net %s 1\nask LOC\n" % name)
@@ -78,7 +70,7 @@ class Cuts(FleetTest):
         out once, and the owner stays."""
         fleet = self.served()
         owner, [other] = fleet.owner(), fleet.others()
-        at = self.place_of(fleet, owner)
+        at = fleet.place_of(owner)
         with owner.connect() as made:
             made.sendall(b"desk net D2 1\nbook LOC 1\n")
             self.assertEqual(heard(made, 2), b"at 1\nok 2\n")
@@ -93,7 +85,7 @@ class Cuts(FleetTest):
         """Who hasn't the network can't pass a desk on; the owner itself goes on."""
         fleet = self.served()
         owner, [other] = fleet.owner(), fleet.others()
-        at = self.place_of(fleet, owner)
+        at = fleet.place_of(owner)
         self.spaces.cut(at, [owner.port], other.address)
         told = silent(other, b"desk net D2 1\nbook LOC 1\n", 2 * LEASE)
         self.assertNotIn(b"ok", told)

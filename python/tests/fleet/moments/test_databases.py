@@ -2,9 +2,9 @@
 from __future__ import annotations
 
 import signal
-import time
 
-from fleet.standing import COUNT, HALTED, FleetTest, asked, heard, rows_of, silent
+from desks.relay.serves import Server
+from fleet.standing import COUNT, HALTED, LEASE, Fleet, FleetTest, asked, heard, rows_of, silent
 from harness import wait_for
 
 NO_WAITING = "ALTER SYSTEM SET synchronous_standby_names = ''"
@@ -16,9 +16,7 @@ class Databases(FleetTest):
     def test_a_line_that_is_on_the_primary_alone_is_not_told(self) -> None:
         """The standbys are lost, a line is committed on the primary alone, and the primary begins anew, so that all see
         the line. Nobody may answer from it: then the primary is lost too, and a standby goes on without it."""
-        fleet, servers = self.fleet(), self.databases
-        one, two = fleet.start(0), fleet.start(1)
-        self.assertEqual(asked([one, two], b"book LOC 1\n", 1), [b"ok 1"])
+        (fleet, _), servers = self.begun(2), self.databases
         lost, primary = servers.standbys(), servers.primary()
         for it in lost:
             servers.kill(it)
@@ -29,9 +27,7 @@ class Databases(FleetTest):
         self.assertEqual(fleet.value(COUNT), 2, "lines that are seen on the primary")
         owner, [left] = fleet.owner(), fleet.others()
         owner.kill()
-        deadline = time.monotonic() + 8
-        while time.monotonic() < deadline:
-            self.assertNotIn(b"ok", silent(left, line, 1), "another answers from what it sees")
+        self.see_that_nothing_is_told([left], line, 8, "another answers from what it sees")
         servers.kill(primary)
         for it in lost:
             servers.start(it)
@@ -44,9 +40,7 @@ class Databases(FleetTest):
     def test_a_cancelled_wait_is_no_commit(self) -> None:
         """A commit that waits for a standby is cancelled by an administrator: the database calls that a success, with a
         warning."""
-        fleet, servers = self.fleet(), self.databases
-        one = fleet.start(0)
-        self.assertEqual(asked([one], b"book LOC 1\n", 1), [b"ok 1"])
+        (fleet, [one]), servers = self.begun(), self.databases
         lost = servers.standbys()
         with one.connect() as made:
             made.sendall(b"desk net D1 2\n")
@@ -59,18 +53,43 @@ class Databases(FleetTest):
             self.assertEqual(fleet.rows(f"SELECT pg_cancel_backend(pid) {WAITS}"), [(True,)])
             told = heard(made, 1)
             self.assertFalse(told.startswith(b"ok"), f"a line is told that no standby has: {told!r}")
+        self.see_that_it_goes_on(fleet, one, lost)
+
+    def test_waiting_that_is_switched_off_is_no_commit(self) -> None:
+        """While a commit waits for a standby somebody has the database wait for none: it calls that a success, without
+        a warning. As long as it waits for none nothing is answered, and the server goes on when it does again."""
+        fleet, servers = self.fleet(), self.databases
+        one, primary, lost = fleet.start(0), servers.primary(), servers.standbys()
+        self.assertEqual(asked([one], b"book LOC 1\n", 1), [b"ok 1"])
+        with one.connect() as made:
+            made.sendall(b"desk net D1 2\n")
+            self.assertEqual(heard(made, 1), b"at 2\n")
+            for it in lost:
+                servers.kill(it)
+            made.sendall(b"book LOC 2\n")
+            self.until(fleet, f"SELECT 1 {WAITS}")
+            servers.asked(primary, NO_WAITING)
+            servers.asked(primary, RELOAD)
+            self.assertNotIn(b"ok", heard(made, 1), "a line is told that no standby has")
+        line, why = b"desk net D1 2\nbook LOC 2\n", "a line is told that no standby has"
+        self.see_that_nothing_is_told([one], line, 2 * LEASE, why)
+        self.want_in(one.told(), "event=database why=\"the database waits for no other machine")
+        servers.asked(primary, "ALTER SYSTEM RESET synchronous_standby_names")
+        servers.asked(primary, RELOAD)
+        self.see_that_it_goes_on(fleet, one, lost)
+
+    def see_that_it_goes_on(self, fleet: Fleet, one: Server, lost: list[str]) -> None:
+        """With the standbys that were lost a second line is answered, which was sent before, and a third."""
         for it in lost:
-            servers.start(it)
-        servers.wait_until_whole()
+            self.databases.start(it)
+        self.databases.wait_until_whole()
         self.assertEqual(asked([one], b"book LOC 2\nbook LOC 1\n", 2, sequence=2), [b"ok 2", b"ok 3"])
         self.assertEqual(fleet.value(COUNT), 3)
 
     def test_lines_that_a_database_has_lost_are_missed(self) -> None:
         """Somebody has switched the waiting for a standby off, and the primary is lost: a server that has answered
         lines which are gone has nobody answer any more."""
-        fleet, servers = self.fleet(), self.databases
-        one = fleet.start(0, "--alone")
-        self.assertEqual(asked([one], b"book LOC 1\n", 1), [b"ok 1"])
+        (fleet, [one]), servers = self.begun(1, "--alone"), self.databases
         lost, primary = servers.standbys(), servers.primary()
         servers.asked(primary, NO_WAITING)
         servers.asked(primary, RELOAD)

@@ -18,9 +18,9 @@ class Desks(FleetTest):
         for number in range(1, 41):
             self.assertEqual(asked(fleet.servers.values(), b"book LOC 1\n", 1, sequence=number), [b"ok %d" % number])
             if number % 10 == 0:
-                [at] = [at for at, it in fleet.servers.items() if it is fleet.owner()]
-                fleet.servers[at].kill()
-                fleet.start(at)
+                owner = fleet.owner()
+                owner.kill()
+                fleet.start(fleet.place_of(owner))
         self.assertEqual(asked(fleet.servers.values(), b"ask LOC\n", 1, sequence=41), [b"ask LOC 260 leg AB"])
         self.assertEqual(fleet.value(COUNT), 40)
         self.assertGreaterEqual(fleet.value("SELECT count(DISTINCT server) FROM tenure"), 4)
@@ -54,10 +54,7 @@ class Desks(FleetTest):
         self.assertEqual(fleet.value(COUNT), 3)
 
     def test_any_server_passes_a_desk_on(self) -> None:
-        fleet = self.fleet()
-        for at in range(2):
-            fleet.start(at)
-        self.assertEqual(asked(fleet.servers.values(), b"book LOC 1\n", 1), [b"ok 1"])
+        fleet, _ = self.begun(2)
         [other] = fleet.others()
         with other.connect() as made:
             made.sendall(b"desk net D2\nbook LOC 1\n")
@@ -71,20 +68,14 @@ class Desks(FleetTest):
 
     def test_a_server_says_who_has_a_network(self) -> None:
         """With --send-on."""
-        fleet = self.fleet()
-        for at in range(2):
-            fleet.start(at, "--send-on")
-        self.assertEqual(asked(fleet.servers.values(), b"book LOC 1\n", 1), [b"ok 1"])
+        fleet, _ = self.begun(2, "--send-on")
         [other], owner = fleet.others(), fleet.owner()
         self.assertEqual(silent(other, b"desk net D2\n", 2), f"closed moved {owner.address}:{owner.port}\n".encode())
 
     def test_who_leaves_hands_over_first(self) -> None:
         """A desk that asks all the while waits for no longer than a taking, and the one that leaves ends with status
         0."""
-        fleet = self.fleet()
-        for at in range(2):
-            fleet.start(at)
-        self.assertEqual(asked(fleet.servers.values(), b"book LOC 1\n", 1), [b"ok 1"])
+        fleet, _ = self.begun(2)
         wait_for(lambda: fleet.rows(f"SELECT 1 {NOT_NEW} HAVING count(*) = 2"), "servers that aren't new")
         leaving, [left] = fleet.owner(), fleet.others()
         leaving.process.send_signal(signal.SIGTERM)

@@ -18,9 +18,7 @@ OTHER = '#!/bin/sh\nexec {words} "$@"\n'  # the same program, by another file
 class Owners(FleetTest):
     def test_who_was_stopped_for_longer_than_its_lease_writes_and_tells_nothing(self) -> None:
         """Others have answered meanwhile: neither a line nor a look is answered from what was."""
-        fleet = self.fleet()
-        stopped = fleet.start(0)
-        self.assertEqual(asked([stopped], b"book LOC 1\n", 1), [b"ok 1"])
+        fleet, [stopped] = self.begun()
         with stopped.connect() as buyer, stopped.connect() as looker:
             for made, lines, wanted in ((buyer, b"desk net D2 1\nbook LOC 1\n", b"at 1\nok 2\n"),
                                         (looker, b"desk net D3 1\nask LOC\n", b"at 1\nask LOC 298 leg AB\n")):
@@ -41,9 +39,7 @@ class Owners(FleetTest):
     def test_nothing_is_told_before_the_fence_is_passed(self) -> None:
         """While somebody else holds the row of the network nobody can know whose it is: neither a booking nor a look is
         answered."""
-        fleet = self.fleet()
-        one = fleet.start(0)
-        self.assertEqual(asked([one], b"book LOC 1\n", 1), [b"ok 1"])
+        fleet, [one] = self.begun()
         with holding(fleet.uri, "SELECT * FROM head FOR UPDATE"):
             for line in b"desk net D2 1\nask LOC\n", b"desk net D3 1\nleg AB\n", b"desk net D4 1\nbook LOC 1\n":
                 told = silent(one, line, 2)

@@ -1,7 +1,8 @@
 """What a page says of where its line stands: in a plain stream, or in a journal.
 
 May use: nrm.accounts.asking, nrm.accounts.course, nrm.accounts.journals, nrm.accounts.reading,
-nrm.accounts.telling.pages, nrm.accounts.telling.sentences, nrm.desks.journals.answered.
+nrm.accounts.telling.pages, nrm.accounts.telling.sentences, nrm.desks.journals.answered,
+nrm.desks.journals.stores.choosing.
 """
 from __future__ import annotations
 
@@ -15,6 +16,7 @@ from nrm.accounts.reading import Request
 from nrm.accounts.telling.pages import Told
 from nrm.accounts.telling.sentences import sentence_of
 from nrm.desks.journals.answered import Line
+from nrm.desks.journals.stores.choosing import is_file
 
 FOLDER = "by-hand"  # where the commands of a page write files
 BY_HAND = ("Of the programs nothing, where each step is done by hand: then the arithmetic alone. Who relies on the "
@@ -118,8 +120,12 @@ def laying(kept: Kept) -> Iterator[str]:
     """What has the network file, the lines and the replies written out of a journal, and the replies compared."""
     journal, name = shlex.quote(kept.journal), kept.network.name
     yield f"mkdir -p {FOLDER}"
-    yield (f"sqlite3 -readonly {journal} \"SELECT writefile('{FOLDER}/network.csv', file) FROM network "
-           f"WHERE name = '{name}'\"")
+    if is_file(kept.journal):
+        yield (f"sqlite3 -readonly {journal} \"SELECT writefile('{FOLDER}/network.csv', file) FROM network "
+               f"WHERE name = '{name}'\"")
+    else:
+        yield (f"psql -XAtq -d {journal} -c \"SELECT encode(file, 'base64') FROM network WHERE name = '{name}'\" "
+               f"| base64 -d > {FOLDER}/network.csv")
     yield f"nrm-tools journal look {journal} {name} | awk '$1 <= {kept.line.number}' > {FOLDER}/rows"
     yield f"cut -f5 {FOLDER}/rows > {FOLDER}/stream"
     yield f"cut -f6 {FOLDER}/rows > {FOLDER}/replies"

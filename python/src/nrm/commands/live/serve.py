@@ -75,7 +75,7 @@ def run(given: Sequence[str]) -> int:
     asked = words.parse_args(given)
     places, guard, limits = places_in(words, asked), guard_in(words, asked), limits_in(words, asked)
     log = Log(asked.log, asked.log_level)
-    store = store_of(asked.journal)
+    store = store_of(asked.journal, asked.alone)
     sharing = sharing_in(words, asked, store.is_shared)
     program = Program.found(asked.program, "nrm_desks")
     answering = Answering(program, program.checksum(), bool(asked.program))

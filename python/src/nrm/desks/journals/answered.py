@@ -1,7 +1,7 @@
 """A line of a journal as it was answered: who asked it and when, which line sold a booking and which gave it back, and
 all lines and replies up to one, laid into files.
 
-May use: nrm, nrm.desks.journals.networks, nrm.desks.journals.stores.kinds.
+May use: nrm, nrm.desks.journals.stores.kinds.
 """
 from __future__ import annotations
 
@@ -9,8 +9,7 @@ from dataclasses import dataclass
 from pathlib import Path
 
 from nrm import Stop
-from nrm.desks.journals.networks import Opened
-from nrm.desks.journals.stores.kinds import Tables
+from nrm.desks.journals.stores.kinds import Opened, Tables
 
 FIELDS = "desk", "sequence", "line", "reply"
 

@@ -1,34 +1,19 @@
 """The networks of a journal: how one is put into it, what it tells of each, and the rows of one as the program takes
 them.
 
-May use: nrm, nrm.desks.journals.stores.kinds, nrm.desks.journals.tables.
+May use: nrm, nrm.desks.journals.stores.kinds.
 """
 from __future__ import annotations
 
 import re
-from dataclasses import dataclass
 from typing import Iterator
 
 from nrm import Stop
-from nrm.desks.journals.stores.kinds import Tables
-from nrm.desks.journals.tables import now
+from nrm.desks.journals.stores.kinds import Opened, Tables, now
 
 NAME = re.compile(r"[a-z][a-z0-9._-]{0,39}")  # no desk has such a name
 COLUMNS = "network, name, mode, program, ended IS NOT NULL, halted, lines, epoch"
 MOST_NAMED = 20  # networks in a sentence
-
-
-@dataclass(frozen=True)
-class Opened:
-    """A network of a journal, with the SHA-256 of its program, why it is halted, its lines, and whose it is."""
-    number: int
-    name: str
-    mode: str
-    program: str
-    is_ended: bool
-    halted: str | None
-    lines: int
-    epoch: int
 
 
 def opened_of(row: tuple[int, str, str, str, int, str | None, int, int]) -> Opened:

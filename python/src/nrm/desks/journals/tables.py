@@ -7,13 +7,12 @@ from __future__ import annotations
 import contextlib
 import os
 import sqlite3
-import time
 from pathlib import Path
 from typing import ContextManager, Iterator
 
 from nrm import Stop
 from nrm.desks.frames import pieces_of
-from nrm.desks.journals.stores.kinds import Lines, NoJournal
+from nrm.desks.journals.stores.kinds import Lines, NoJournal, closed_at_the_end
 
 APPLICATION, VERSION = 0x6E726D6A, 1  # `nrmj`, and the version of the tables: both are in the head of the file
 LOGS = ("-wal", "-shm", "-journal")  # what SQLite has beside a file
@@ -101,11 +100,6 @@ CREATE TABLE IF NOT EXISTS departure (
 CREATE INDEX IF NOT EXISTS plan_by_number ON line (network, number) WHERE {ASKS_FOR_A_PLAN};
 CREATE INDEX IF NOT EXISTS plan_by_period ON line (network, {PERIOD}) WHERE {ASKS_FOR_A_PLAN};
 """  # which a journal of an earlier release gets when it is next opened to be written
-
-
-def now() -> int:
-    """The milliseconds since 1970 began, by the clock of this machine."""
-    return time.time_ns() // 1_000_000
 
 
 class Connection(sqlite3.Connection):
@@ -197,16 +191,9 @@ def add_later_tables(path: str, connection: sqlite3.Connection) -> None:
         raise Stop(f"{path}: {fault}")
 
 
-@contextlib.contextmanager
-def using(path: str, is_to_write: bool = False) -> Iterator[Connection]:
+def using(path: str, is_to_write: bool = False) -> ContextManager[Connection]:
     """A connection to the journal at a path, closed at the end. What goes wrong with the file is a Stop."""
-    connection = opened(path, is_to_write)
-    try:
-        yield connection
-    except sqlite3.Error as fault:
-        raise Stop(f"{path}: {fault}")
-    finally:
-        connection.close()
+    return closed_at_the_end(opened(path, is_to_write), path)
 
 
 @contextlib.contextmanager
@@ -235,8 +222,3 @@ def begin(path: str) -> None:
         connection.execute("PRAGMA journal_mode = WAL")
         connection.executescript(f"BEGIN; {TABLES}{LATER_TABLES} PRAGMA application_id = {APPLICATION}; "
                                  f"PRAGMA user_version = {VERSION}; COMMIT")
-
-
-def change(connection: Connection) -> ContextManager[None]:
-    """A change that happens as a whole or not at all."""
-    return connection.change()

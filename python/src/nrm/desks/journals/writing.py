@@ -12,8 +12,8 @@ from typing import Iterator, Sequence
 
 from nrm import Stop
 from nrm.desks.journals.networks import head_of
-from nrm.desks.journals.stores.kinds import Busy, Fenced, Given, Refused
-from nrm.desks.journals.tables import change, now, opened, using
+from nrm.desks.journals.stores.kinds import Busy, Fenced, Given, Refused, now
+from nrm.desks.journals.tables import opened, using
 
 FENCE = "UPDATE head SET lines = lines + ? WHERE network = ? AND epoch = ? AND lines = ?"
 HALT = "UPDATE network SET halted = ? WHERE network = ? AND halted IS NULL"
@@ -58,7 +58,7 @@ class Writer:
 
     def take(self, program: str) -> int:
         """Begins a tenure, and takes all networks. Gives its epoch."""
-        with change(self.connection):
+        with self.connection.change():
             [epoch] = self.connection.execute("SELECT coalesce(max(epoch), 0) + 1 FROM tenure").fetchone()
             self.connection.execute("INSERT INTO tenure VALUES (?, ?, ?)", [epoch, now(), program])
             self.connection.execute("UPDATE head SET epoch = ?", [epoch])
@@ -68,11 +68,11 @@ class Writer:
         """Writes the rows of several networks in one commit. Gives why those of a network were refused, which halts it;
         those of the others are written."""
         try:
-            with change(self.connection):
+            with self.connection.change():
                 self.put_rows(given)
             return {}
         except Refused:
-            with change(self.connection):
+            with self.connection.change():
                 return {it.network: why for it in given if (why := self.put(it))}
         except sqlite3.OperationalError as fault:
             if str(fault) in LOCKED:
@@ -102,7 +102,7 @@ class Writer:
             for text, some in statements(values):
                 self.connection.execute(text, some)
         except sqlite3.IntegrityError as why:
-            raise Refused(f"a row of {given[0].before + 1} to {given[0].before + given[0].count()} is refused: {why}")
+            raise Refused(given[0].refused(why))
 
     def pass_the_fence(self, given: Given) -> None:
         """Counts up the lines of a network, if it is still this server's and has the lines that the program knew."""
@@ -161,12 +161,12 @@ def statements(values: list[object]) -> Iterator[tuple[str, list[object]]]:
 
 def halt(path: str, network: int, why: str) -> None:
     """Has nobody answer for a network of the journal at a path any more."""
-    with using(path, is_to_write=True) as connection, change(connection):
+    with using(path, is_to_write=True) as connection, connection.change():
         connection.execute(HALT, [why, network])
 
 
 def answer_by(path: str, network: int, program: str) -> None:
     """Has a network of the journal at a path, if it has no lines, answered by another program than it began with."""
-    with using(path, is_to_write=True) as connection, change(connection):
+    with using(path, is_to_write=True) as connection, connection.change():
         connection.execute("UPDATE network SET program = ? WHERE network = ? AND "
                            "NOT EXISTS (SELECT * FROM line WHERE network = ?)", [program, network, network])

@@ -19,8 +19,8 @@ from typing import Iterator, Sequence
 from nrm import Stop
 from nrm.desks.access import Access
 from nrm.desks.journals.commits import Commits, Written, tried
-from nrm.desks.journals.networks import Opened, file_of, head_of, network_in
-from nrm.desks.journals.stores.kinds import Fenced, Given, Named, Store, Tables, Unknown
+from nrm.desks.journals.networks import file_of, head_of, network_in
+from nrm.desks.journals.stores.kinds import Fenced, Given, Named, Opened, Store, Tables, Unknown
 from nrm.desks.relay.clients import Client, Limits
 from nrm.desks.relay.doors.tokens import Tokens
 from nrm.desks.relay.fleet.asking import Asker, AtOnce, ByThread

@@ -1,6 +1,6 @@
 """The run of a network's program: the journal is given again, clients have places, and its frames are carried out.
 
-May use: nrm.desks.access, nrm.desks.frames, nrm.desks.journals.networks, nrm.desks.relay.clients,
+May use: nrm.desks.access, nrm.desks.frames, nrm.desks.journals.stores.kinds, nrm.desks.relay.clients,
 nrm.desks.relay.loop, nrm.desks.relay.programs, nrm.desks.relay.telling.events.
 """
 from __future__ import annotations
@@ -14,7 +14,7 @@ from typing import Iterator, Protocol, Sequence
 from nrm.desks import frames
 from nrm.desks.access import RIGHTS
 from nrm.desks.frames import Frames
-from nrm.desks.journals.networks import Opened
+from nrm.desks.journals.stores.kinds import Opened
 from nrm.desks.relay.clients import Client
 from nrm.desks.relay.loop import READ, WRITE, Loop
 from nrm.desks.relay.programs import begun

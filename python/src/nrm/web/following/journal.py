@@ -12,9 +12,9 @@ from dataclasses import dataclass, field, replace
 from typing import Callable, Mapping
 
 from nrm import Stop
-from nrm.desks.journals.networks import Opened, file_of, network_in, networks_in
+from nrm.desks.journals.networks import file_of, network_in, networks_in
 from nrm.desks.journals.stores.choosing import using
-from nrm.desks.journals.stores.kinds import Tables
+from nrm.desks.journals.stores.kinds import Opened, Tables
 from nrm.network import Network, rows_of
 from nrm.web.following.counts import Booking, Counts, Row, Seen, StrangeRow
 
@@ -55,6 +55,7 @@ class Following:
         self.turns = 0  # how often the thread that reads has come round, or to a network
         self.networks: Mapping[str, Followed] = {}
         self.counts: dict[int, Counts] = {}
+        self.begun: set[int] = set()  # the networks that are read by this connection
         self.fault: str | None = None  # why the journal can't be read
         self.version = -1
         self.read_at = float("-inf")
@@ -68,7 +69,7 @@ class Following:
             self.turns += 1
             try:
                 with using(self.path) as connection:
-                    self.version = -1
+                    self.begin_anew()
                     while not is_over.wait(LOOKS_EVERY):
                         self.turns += 1
                         self.look(connection)
@@ -76,6 +77,10 @@ class Following:
             except Stop as stop:
                 self.show(self.networks, str(stop))
                 is_over.wait(READS_EVERY)
+
+    def begin_anew(self) -> None:
+        """Counts nothing that was read by an earlier connection: the journal may have lost lines since."""
+        self.version, self.counts, self.begun, self.read_at = -1, {}, set(), float("-inf")
 
     def look(self, connection: Tables, now: float | None = None) -> None:
         """Reads what is new, if the file has changed and the last time is a second ago."""
@@ -93,7 +98,8 @@ class Following:
         before, made = self.networks, {}
         self.is_behind = False
         for it in networks_in(connection):
-            old = before.get(it.name)
+            old = before.get(it.name) if it.number in self.begun else None
+            self.begun.add(it.number)
             made[it.name] = old if old and is_same(old, it) else self.further(connection, it, old)
             self.is_behind |= not made[it.name].fault and made[it.name].seen.lines < it.lines
         self.show(made, None)

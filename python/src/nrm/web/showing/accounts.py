@@ -1,6 +1,6 @@
 """The account of a line, as `nrm-tools why` prints it: that command is run when somebody asks, one at a time.
 
-May use: nrm.web.messages.
+May use: nrm.desks.journals.stores.choosing, nrm.web.messages.
 """
 from __future__ import annotations
 
@@ -11,6 +11,7 @@ import sys
 import threading
 from pathlib import Path
 
+from nrm.desks.journals.stores.choosing import word_of
 from nrm.web.messages import PASSES, Refusal
 
 SECONDS = 30.0  # that the command may take
@@ -22,7 +23,7 @@ class Accounts:
     """What the command prints of lines of a journal, if it may be run."""
 
     def __init__(self, journal: str, is_on: bool, seconds: float = SECONDS) -> None:
-        self.journal, self.is_on, self.seconds = os.path.abspath(journal), is_on, seconds
+        self.journal, self.is_on, self.seconds = word_of(journal), is_on, seconds
         self.lock = threading.Lock()
 
     def text(self, network: str, number: int) -> str:

@@ -1,15 +1,15 @@
 """The pages as HTML, made of the templates in `static` by jinja2, which escapes each name and text.
 
 May use: nrm, nrm.desks.journals.answered, nrm.desks.journals.networks, nrm.desks.journals.stores.choosing,
-nrm.telling.libraries, nrm.web.asking.looks, nrm.web.following.journal, nrm.web.messages, nrm.web.showing.accounts,
-nrm.web.showing.events, nrm.web.showing.views, nrm.web.showing.words.
+nrm.desks.journals.stores.kinds, nrm.telling.libraries, nrm.telling.page, nrm.web.asking.looks,
+nrm.web.following.journal, nrm.web.messages, nrm.web.showing.accounts, nrm.web.showing.events, nrm.web.showing.views,
+nrm.web.showing.words.
 """
 from __future__ import annotations
 
 import re
 import shlex
 import threading
-import time
 from functools import cached_property
 from pathlib import Path
 from typing import Any
@@ -17,8 +17,10 @@ from typing import Any
 from nrm import Stop
 from nrm.desks.journals.answered import Line, line_in
 from nrm.desks.journals.networks import known
-from nrm.desks.journals.stores.choosing import using
+from nrm.desks.journals.stores.choosing import shown, using
+from nrm.desks.journals.stores.kinds import now
 from nrm.telling.libraries import is_there, lacks
+from nrm.telling.page import templates
 from nrm.web.asking.looks import Looks
 from nrm.web.following.journal import Followed, Following
 from nrm.web.messages import HTML, Refusal, Request, Response, Stream
@@ -32,11 +34,6 @@ CATCHES_UP = 3.0  # seconds for which what is in the journal already is waited f
 PARTS = ("summary", "legs", "money", "products", "refusals")  # of the page of a network, in their order
 
 
-def now() -> int:
-    """The milliseconds since 1970 began."""
-    return time.time_ns() // 1_000_000
-
-
 class Pages:
     """The pages, and the streams that keep them up to date."""
 
@@ -48,9 +45,7 @@ class Pages:
     @cached_property
     def templates(self) -> Any:
         """What makes the pages of templates."""
-        import jinja2  # here, since who has no page needs none
-        made = jinja2.Environment(loader=jinja2.FileSystemLoader(STATIC), autoescape=True, trim_blocks=True,
-                                  lstrip_blocks=True, undefined=jinja2.StrictUndefined)
+        made = templates(STATIC)
         made.filters["amount"] = amount
         return made
 
@@ -83,7 +78,7 @@ class Pages:
     def line(self, asked: Request, name: str, number: str) -> Response:
         """The page of a line."""
         line = self.line_of(name, number)
-        command = f"nrm-tools why {shlex.quote(self.journal)} {name} {line.number}"
+        command = f"nrm-tools why {shlex.quote(shown(self.journal))} {name} {line.number}"
         return self.page("line.html", name=name, line=line, why=why(line.line, line.reply), command=command,
                          has_accounts=self.accounts.is_on)
 

@@ -13,34 +13,28 @@ from __future__ import annotations
 
 import argparse
 import asyncio
-import random
-import shutil
 import sys
 import time
-from collections import Counter
-from pathlib import Path
 from typing import Sequence
 
 import preload  # of the folder tests at the top
 from desks.relay.crowds.troubles import KILLS, OTHERS, PERIODS, WITH_LIBRARY, Troubles
 from desks.relay.serves import PATIENT, rows_in
 from harness import program
-from trials.asking import TOO_LONG, Asker
+from trials import rounds
+from trials.asking import TOO_LONG
 from trials.judging import CLOCK, faults_of, faults_of_copies
-from trials.rounds import judged_rounds, made_cases, see_that_none_failed, told_of, words_of
+from trials.rounds import Trial, made_cases, see_that_none_failed, told_of, watched
 
 USUAL = {"networks": 20, "desks": 200, "kills": 6, "troubles": 11, "copies": 5, "rounds": 1, "pause": 0.5,
          "between": 1.0, "seed": 1, "only": ""}
 
 
-class Crowd:
+class Crowd(rounds.Crowd):
     """The desks, and what happens to them."""
 
     def __init__(self, asked: argparse.Namespace, seed: int) -> None:
-        self.asked, self.seed, self.folder = asked, seed, Path(asked.folder).resolve()
-        shutil.rmtree(self.folder, ignore_errors=True)
-        self.folder.mkdir(parents=True)
-        self.draw, self.events = random.Random(seed), Counter[str]()
+        super().__init__(asked, seed)
         self.troubles = Troubles(self.folder, made_cases(self.draw, self.folder, asked.networks, PERIODS), self.draw)
         self.troubles.seed, self.troubles.pause = seed, asked.pause
 
@@ -48,29 +42,23 @@ class Crowd:
         """All from the first line to the last trouble; gives what doesn't hold."""
         it, began = self.troubles, time.monotonic()
         it.may_ask.set()
-        it.askers = [Asker(it, it.cases[at % len(it.cases)], at) for at in range(self.asked.desks)]
-        running = it.running = [asyncio.ensure_future(desk.run()) for desk in it.askers]
+        running = it.running = it.begun(it.cases, self.asked.desks)
         copying = asyncio.ensure_future(self.copy_now_and_then())
         try:
-            await self.until_each_has_lines(running)
-            for kind in self.kinds():
-                await asyncio.sleep(self.draw.expovariate(1 / self.asked.between))
-                await it.trouble(kind)
-                self.events[kind] += 1
-                see_that_none_failed(running)
-                if it.told:
-                    break
-            await self.until_copied(copying, running)
-            it.is_over = True
-            await asyncio.wait_for(asyncio.gather(*running), TOO_LONG)
-            it.server.end()
-        except (AssertionError, asyncio.TimeoutError) as fault:
-            it.told.append(str(fault) or f"a desk has no replies in {TOO_LONG} seconds")
+            async with watched(it, [*running, copying]):
+                await self.until_each_has_lines(running)
+                for kind in self.kinds():
+                    await asyncio.sleep(self.draw.expovariate(1 / self.asked.between))
+                    await it.trouble(kind)
+                    self.events[kind] += 1
+                    see_that_none_failed(running)
+                    if it.told:
+                        break
+                await self.until_copied(copying, running)
+                it.is_over = True
+                await asyncio.wait_for(asyncio.gather(*running), TOO_LONG)
+                it.server.end()
         finally:
-            it.is_over = True  # for a desk that got its reply just when it was to end
-            for desk in [*running, copying]:
-                desk.cancel()
-            await asyncio.gather(*running, copying, return_exceptions=True)
             it.server.__exit__()
         self.report(time.monotonic() - began)
         heard = [*[desk.heard for desk in it.askers], *it.heard]
@@ -124,13 +112,7 @@ class Crowd:
               f"troubles {dict(sorted(self.events.items()))}", flush=True)
 
 
-def judged(*given: object) -> list[str]:
-    """What doesn't hold after a crowd, or after several."""
-    asked = words_of(__doc__, USUAL, [*map(str, given)])
-    return judged_rounds(asked, lambda seed: Crowd(asked, seed).run())
-
+TRIAL = Trial(__doc__, USUAL, Crowd)
 
 if __name__ == "__main__":
-    told = judged(*sys.argv[1:])
-    print(f"{len(told)} faults")
-    sys.exit(bool(told))
+    sys.exit(TRIAL.main(sys.argv[1:]))

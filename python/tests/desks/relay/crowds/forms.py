@@ -4,7 +4,9 @@ from __future__ import annotations
 
 from trials.mistakes import BLIND, LOST, TWICE, Edit, Form
 
-DESKS = "nrm/desks"
+COMMITS, LOOKING, TABLES, STANDING, WRITING = (
+    f"nrm/desks/journals/{it}.py" for it in ("commits", "looking", "tables", "times/standing", "writing"))
+HALL, SERVING, SESSIONS = (f"nrm/desks/relay/{it}.py" for it in ("hall", "serving", "sessions"))
 OF_MOMENTS, OF_PROMISES = "desks.relay.test_moments.Moments", "desks.relay.test_promises.Promises"
 OF_SERVING, OF_JOURNALS = "desks.relay.test_serving.Serving", "desks.journals.test_journal.Journals"
 SMALL = ("--networks", "3", "--desks", "30", "--pause", "0.3", "--copies", "0", "--kills", "4", "--troubles", "4")
@@ -24,150 +26,135 @@ os.execvp(words[0], words)
 '''
 
 
-def form(edits: tuple[Edit, ...], place: str, told: str, program: str = "", more: tuple[str, ...] = ()) -> Form:
-    """A mistake: what is edited, or a program in the place of the right one; the troubles in which the crowd must find
-    it, or a test; the pattern of what the check tells that is meant for it; other words for the crowd."""
+def form(place: str, told: str, *edits: Edit, program: str = "", more: tuple[str, ...] = ()) -> Form:
+    """A mistake: the troubles in which the crowd must find it, or a test; the pattern of what the check tells that is
+    meant for it; what is edited, or a program in the place of the right one; other words for the crowd."""
     if place.startswith("desks."):
         return Form(edits, ("unittest", place), told, program)
     return Form(edits, ("desks.relay.crowds.crowd", "{folder}", *SMALL, "--only", place, *more), told, program)
 
 
 FORMS = {
-    "the reply goes out before the commit": form((
-        (f"{DESKS}/relay/hall.py", """        if not self.in_writing:
+    "the reply goes out before the commit": form("force,full", LOST, (HALL, """        if not self.in_writing:
             self.loop""", """        session.kept(rows.count(b"\\n"))
         if not self.in_writing:
-            self.loop"""),
-        (f"{DESKS}/relay/hall.py", """                session.kept(given.rows.count(b"\\n"))
+            self.loop"""), (HALL, """                session.kept(given.rows.count(b"\\n"))
 """, """                pass
-""")), "force,full", LOST),
-    "a commit isn't forced to the disk": form((
-        (f"{DESKS}/journals/tables.py", "PRAGMA synchronous = FULL", "PRAGMA synchronous = NORMAL"),), "power", LOST),
-    "what is read is told before it is forced": form((
-        (f"{DESKS}/journals/writing.py", """self.connection.execute("PRAGMA wal_checkpoint(TRUNCATE)").fetchone()
+""")),
+    "a commit isn't forced to the disk": form("power", LOST,
+        (TABLES, "PRAGMA synchronous = FULL", "PRAGMA synchronous = NORMAL")),
+    "what is read is told before it is forced": form("unforced", LOST,
+        (WRITING, """self.connection.execute("PRAGMA wal_checkpoint(TRUNCATE)").fetchone()
             self.epoch = self.take(program)
 """, """self.connection.execute("PRAGMA synchronous = OFF")
             self.epoch = self.take(program)
             self.connection.execute("PRAGMA synchronous = FULL")
-"""),), "unforced", LOST),
-    "what can't be written is taken for written": form((
-        (f"{DESKS}/journals/commits.py", "        return Written(given, fault=fault)\n",
-         "        return Written(given)\n"),), "full,force", LOST),
-    "there is no fence": form((
-        (f"{DESKS}/journals/writing.py", """WHERE network = ? AND epoch = ? AND lines = ?"
+""")),
+    "what can't be written is taken for written": form("full,force", LOST,
+        (COMMITS, "        return Written(given, fault=fault)\n", "        return Written(given)\n")),
+    "there is no fence": form("stopped", TWICE, (WRITING, """WHERE network = ? AND epoch = ? AND lines = ?"
 """, """WHERE network = ? OR ? = ?"
-"""),
-        (f"{DESKS}/journals/writing.py", """            values += values_of(it, self.epoch, at)
+"""), (WRITING, """            values += values_of(it, self.epoch, at)
 """, """            [[lines]] = self.connection.execute("SELECT lines FROM head WHERE network = ?", [it.network])
             some = values_of(it, self.epoch, at)
             some[::VALUES] = range(lines - it.count() + 1, lines + 1)
             values += some
-""")), "stopped", TWICE),
-    "there is no lock": form((
-        (f"{DESKS}/journals/writing.py", "        fcntl.flock(file, fcntl.LOCK_EX | fcntl.LOCK_NB)\n", ""),), "second",
-        "a second server wasn't refused"),
-    "a look is answered by who has lost the journal": form((
-        (f"{DESKS}/relay/hall.py",
-         "if not rows and self.writer.is_still(network.number, network.epoch, session.lines):",
-         "if not rows:"),), "asleep", UNTRUE),
-    "who has lost the journal halts a network": form((
-        (f"{DESKS}/relay/hall.py", "            if head_of(tables, number)[0] != epoch:\n",
-         "            if False:\n"),), f"{OF_MOMENTS}.test_one_that_reads_while_another_writes_halts_nothing",
-        "AssertionError: .*halted"),
-    "sent again is carried out again": form((
-        (f"{DESKS}/journals/tables.py", "number || char(9) || desk || char(9) || sequence || char(9)",
-         "number || char(9) || 'AGAIN' || char(9) || number || char(9)"),), "server", TWICE),
-    "the journal isn't given again": form((
-        (f"{DESKS}/relay/hall.py", "        self.run_program(session, file, rows, BEGINS)\n",
+""")),
+    "there is no lock": form("second", "a second server wasn't refused",
+        (WRITING, "        fcntl.flock(file, fcntl.LOCK_EX | fcntl.LOCK_NB)\n", "")),
+    "a look is answered by who has lost the journal": form("asleep", UNTRUE,
+        (HALL, "if not rows and self.writer.is_still(network.number, network.epoch, session.lines):", "if not rows:")),
+    "who has lost the journal halts a network": form(
+        f"{OF_MOMENTS}.test_one_that_reads_while_another_writes_halts_nothing", "AssertionError: .*halted",
+        (HALL, "            if head_of(tables, number)[0] != epoch:\n", "            if False:\n")),
+    "sent again is carried out again": form("server", TWICE,
+        (TABLES, "number || char(9) || desk || char(9) || sequence || char(9)",
+         "number || char(9) || 'AGAIN' || char(9) || number || char(9)")),
+    "the journal isn't given again": form("server", r"halted: .* was given out|closed halted",
+        (HALL, "        self.run_program(session, file, rows, BEGINS)\n",
          "        self.run_program(session, file, iter(()), BEGINS)\n"),
-        (f"{DESKS}/relay/sessions.py", "        if rows != self.lines:\n", "        if False:\n")), "server",
-        r"halted: .* was given out|closed halted"),
-    "replies aren't compared when the journal is given again": form((), "changed", NOT_HALTED, BLIND),
-    "what differs halts nothing": form((
-        (f"{DESKS}/relay/sessions.py", 'elif kind in (b"differs", b"no"):', 'elif kind == b"no":'),), "changed",
-        NOT_HALTED),
-    "lines that are gone aren't missed": form((
-        (f"{DESKS}/relay/sessions.py", "        if rows != self.lines:\n", "        if False:\n"),), "changed",
-        NOT_HALTED),
-    "another program isn't told from the one that it began with": form((
-        (f"{DESKS}/relay/hall.py", "return network.program == self.answering.checksum or is_free",
-         "return True or is_free"),), "version", r"another version of the program has written|closed halted|halted: "),
-    "rows are given again in the order of their times": form((
-        (f"{DESKS}/journals/tables.py", "ORDER BY number LIMIT ?", "ORDER BY at, number LIMIT ?"),), "clock",
-        "closed halted|halted: "),
-    "a plan that was made isn't looked for in the journal": form((
-        (f"{DESKS}/journals/times/standing.py", "planned or 1, last_at", "1, last_at"),), "server",
-        r"CLOCK asks for period \d after"),
-    "rows are counted in a commit of their own": form((
-        (f"{DESKS}/journals/writing.py", """        try:
+        (SESSIONS, "        if rows != self.lines:\n", "        if False:\n")),
+    "replies aren't compared when the journal is given again": form("changed", NOT_HALTED, program=BLIND),
+    "what differs halts nothing": form("changed", NOT_HALTED,
+        (SESSIONS, 'elif kind in (b"differs", b"no"):', 'elif kind == b"no":')),
+    "lines that are gone aren't missed": form("changed", NOT_HALTED,
+        (SESSIONS, "        if rows != self.lines:\n", "        if False:\n")),
+    "another program isn't told from the one that it began with": form("version",
+        r"another version of the program has written|closed halted|halted: ",
+        (HALL, "return network.program == self.answering.checksum or is_free", "return True or is_free")),
+    "rows are given again in the order of their times": form("clock", "closed halted|halted: ",
+        (TABLES, "ORDER BY number LIMIT ?", "ORDER BY at, number LIMIT ?")),
+    "a plan that was made isn't looked for in the journal": form("server", r"CLOCK asks for period \d after",
+        (STANDING, "planned or 1, last_at", "1, last_at")),
+    "rows are counted in a commit of their own": form("full", "the numbers have gaps, or aren't the",
+        (WRITING, """        try:
             for text, some in statements(values):
 """, """        self.connection.execute("COMMIT")
         self.connection.execute("BEGIN IMMEDIATE")
         try:
             for text, some in statements(values):
-"""),), "full", "the numbers have gaps, or aren't the"),
-    "more is sold than is authorised": form((), "program", r"line \d+: [IO]\d is oversold", GENEROUS, BUSY),
-    "a program answers otherwise than `nrm run`": form(
-        (), "program", "has the reply '.*', and `nrm run` answers b'", GENEROUS, BUSY),
-    "the copy is one of the file alone": form((
-        (f"{DESKS}/journals/looking.py", "connection.backup(new, pages=PAGES_AT_ONCE)\n", """import shutil
+""")),
+    "more is sold than is authorised": form("program", r"line \d+: [IO]\d is oversold", program=GENEROUS, more=BUSY),
+    "a program answers otherwise than `nrm run`": form("program", "has the reply '.*', and `nrm run` answers b'",
+        program=GENEROUS, more=BUSY),
+    "the copy is one of the file alone": form("program", rf"copy-\d: net-\d: D\d+ \d+ {LOST}",
+        (LOOKING, "connection.backup(new, pages=PAGES_AT_ONCE)\n", """import shutil
         new.close()
         shutil.copy(path, place)
-"""),), "program", rf"copy-\d: net-\d: D\d+ \d+ {LOST}", more=("--copies", "3")),
-    "lines that were taken aren't answered at the end": form((
-        (f"{DESKS}/relay/hall.py", """                client.leave("stopping")
+"""), more=("--copies", "3")),
+    "lines that were taken aren't answered at the end": form(f"{OF_MOMENTS}.test_what_was_taken_is_answered_at_the_end",
+        "AssertionError: .* != ", (HALL, """                client.leave("stopping")
 """, """                client.finish("stopping")
-"""),), f"{OF_MOMENTS}.test_what_was_taken_is_answered_at_the_end", "AssertionError: .* != "),
-    "a program that is slow keeps others waiting": form((
-        (f"{DESKS}/relay/hall.py", "BEGIN_AT_ONCE = 2", "BEGIN_AT_ONCE = 1"),),
-        f"{OF_MOMENTS}.test_a_network_that_is_slow_keeps_no_other_waiting", "timed out"),
-    "a refused row is counted all the same": form((
-        (f"{DESKS}/journals/writing.py", """            self.connection.execute("ROLLBACK TO network")
-""", ""),), f"{OF_JOURNALS}.test_a_row_that_isnt_the_next_halts_its_network_and_no_other",
-        r"Lists differ: \[\(1, 4\)"),
-    "who has an older epoch may write": form((
-        (f"{DESKS}/journals/writing.py", "AND epoch = ? AND lines = ?", "AND epoch >= ? AND lines = ?"),),
-        f"{OF_JOURNALS}.test_who_has_an_older_epoch_writes_nothing", "Fenced not raised"),
-    "rows are put behind lines that the program wasn't given": form((
-        (f"{DESKS}/journals/writing.py", "AND epoch = ? AND lines = ?", "AND epoch = ? AND lines <= ?"),),
-        f"{OF_PROMISES}.test_lines_that_are_gone_while_it_serves_halt_a_network", r"!= \[b'closed halted"),
-    "two may answer under one number": form((
-        (f"{DESKS}/journals/tables.py", "PRIMARY KEY (network, number)", "PRIMARY KEY (network, number, epoch)"),),
-        f"{OF_JOURNALS}.test_a_row_that_isnt_the_next_halts_its_network_and_no_other", "KeyError: 1"),
-    "the file isn't kept byte for byte": form((
-        ("nrm/commands/live/journal.py", "    text = bytes_in(file)\n", "    text = bytes_in(file).rstrip()\n"),),
-        f"{OF_JOURNALS}.test_a_network_is_put_into_it_byte_for_byte", r"00,AB', .* != .*00,AB\\n',"),
-    "the program is looked at only when the server begins": form((
-        (f"{DESKS}/relay/hall.py", "        return now == self.answering.checksum\n", "        return True\n"),),
-        f"{OF_PROMISES}.test_another_program_in_its_place_answers_nothing", "!= b'closed version"),
-    "what the log has isn't written anew": form((
-        (f"{DESKS}/journals/writing.py", """self.connection.execute("PRAGMA wal_checkpoint(TRUNCATE)").fetchone()
-""", "pass\n"),), f"{OF_SERVING}.test_what_another_server_left_in_the_log_is_written_anew", "AssertionError: 0 != 2"),
-    "a row that is none halts nothing": form((
-        (f"{DESKS}/relay/sessions.py", 'elif kind in (b"differs", b"no"):', 'elif kind == b"differs":'),),
-        f"{OF_PROMISES}.test_a_row_that_repeats_a_number_halts_a_network", "closed program 11.* != b'closed halted"),
-    "why a network is halted isn't written": form((
-        (f"{DESKS}/relay/hall.py", "            self.store.halt(number, epoch, told)\n", ""),),
-        f"{OF_SERVING}.test_a_changed_journal_halts_its_network_and_no_other", r"\('one', None\).* != .*row 2"),
-    "a network stays halted whatever a person says": form((
-        (f"{DESKS}/relay/hall.py", """            session.network = network
+""")),
+    "a program that is slow keeps others waiting": form(
+        f"{OF_MOMENTS}.test_a_network_that_is_slow_keeps_no_other_waiting", "timed out",
+        (HALL, "BEGIN_AT_ONCE = 2", "BEGIN_AT_ONCE = 1")),
+    "a refused row is counted all the same": form(
+        f"{OF_JOURNALS}.test_a_row_that_isnt_the_next_halts_its_network_and_no_other", r"Lists differ: \[\(1, 4\)",
+        (WRITING, """            self.connection.execute("ROLLBACK TO network")
+""", "")),
+    "who has an older epoch may write": form(f"{OF_JOURNALS}.test_who_has_an_older_epoch_writes_nothing",
+        "Fenced not raised", (WRITING, "AND epoch = ? AND lines = ?", "AND epoch >= ? AND lines = ?")),
+    "rows are put behind lines that the program wasn't given": form(
+        f"{OF_PROMISES}.test_lines_that_are_gone_while_it_serves_halt_a_network", r"!= \[b'closed halted",
+        (WRITING, "AND epoch = ? AND lines = ?", "AND epoch = ? AND lines <= ?")),
+    "two may answer under one number": form(
+        f"{OF_JOURNALS}.test_a_row_that_isnt_the_next_halts_its_network_and_no_other", "KeyError: 1",
+        (TABLES, "PRIMARY KEY (network, number)", "PRIMARY KEY (network, number, epoch)")),
+    "the file isn't kept byte for byte": form(f"{OF_JOURNALS}.test_a_network_is_put_into_it_byte_for_byte",
+        r"00,AB', .* != .*00,AB\\n',",
+        ("nrm/commands/live/journal.py", "    text = bytes_in(file)\n", "    text = bytes_in(file).rstrip()\n")),
+    "the program is looked at only when the server begins": form(
+        f"{OF_PROMISES}.test_another_program_in_its_place_answers_nothing", "!= b'closed version",
+        (HALL, "        return now == self.answering.checksum\n", "        return True\n")),
+    "what the log has isn't written anew": form(
+        f"{OF_SERVING}.test_what_another_server_left_in_the_log_is_written_anew", "AssertionError: 0 != 2",
+        (WRITING, """self.connection.execute("PRAGMA wal_checkpoint(TRUNCATE)").fetchone()
+""", "pass\n")),
+    "a row that is none halts nothing": form(f"{OF_PROMISES}.test_a_row_that_repeats_a_number_halts_a_network",
+        "closed program 11.* != b'closed halted",
+        (SESSIONS, 'elif kind in (b"differs", b"no"):', 'elif kind == b"differs":')),
+    "why a network is halted isn't written": form(f"{OF_SERVING}.test_a_changed_journal_halts_its_network_and_no_other",
+        r"\('one', None\).* != .*row 2", (HALL, "            self.store.halt(number, epoch, told)\n", "")),
+    "a network stays halted whatever a person says": form(
+        f"{OF_PROMISES}.test_what_was_halted_is_tried_again_once_a_person_says_so", "b'closed halted.* != b'at 1",
+        (HALL, """            session.network = network
         if session.network.halted:
 """, """        if session.network.halted:
-"""),), f"{OF_PROMISES}.test_what_was_halted_is_tried_again_once_a_person_says_so", "b'closed halted.* != b'at 1"),
-    "too little memory is taken for a fault of the journal": form((
-        (f"{DESKS}/relay/sessions.py", "        status, was = self.wait(), self.state\n",
-         """        status, was = self.wait(), self.state
+""")),
+    "too little memory is taken for a fault of the journal": form(
+        f"{OF_PROMISES}.test_a_machine_with_too_little_memory_halts_nothing", "closed halted.* != b'closed program 6",
+        (SESSIONS, "        status, was = self.wait(), self.state\n", """        status, was = self.wait(), self.state
         if status == 6:
             self.keeper.halt(self, self.lines + 1, "isn't answered")
-"""),), f"{OF_PROMISES}.test_a_machine_with_too_little_memory_halts_nothing", "closed halted.* != b'closed program 6"),
-    "each network has a commit of its own": form((
-        (f"{DESKS}/relay/hall.py", "self.in_writing, self.waiting, self.writes_since = self.waiting, [], self.loop.now",
-         "self.in_writing, self.waiting, self.writes_since = self.waiting[:1], self.waiting[1:], self.loop.now"),),
-        f"{OF_PROMISES}.test_rows_of_all_that_wait_are_written_by_one_commit", r"\(5, 5\) != \(5, 2\)"),
-    "lines are looked up in the order of their times": form((
-        (f"{DESKS}/journals/looking.py", "{condition} ORDER BY number", "{condition} ORDER BY at"),),
-        f"{OF_PROMISES}.test_a_clock_that_jumps_back_changes_no_order", "Lists differ"),
-    "the files of programs aren't asked for": form((
-        (f"{DESKS}/relay/serving.py", "FILES_OF_A_PROGRAM = 2", "FILES_OF_A_PROGRAM = 0"),),
-        f"{OF_PROMISES}.test_each_of_many_networks_has_its_files", "closed program 1.* != "),
+""")),
+    "each network has a commit of its own": form(f"{OF_PROMISES}.test_rows_of_all_that_wait_are_written_by_one_commit",
+        r"\(5, 5\) != \(5, 2\)",
+        (HALL, "self.in_writing, self.waiting, self.writes_since = self.waiting, [], self.loop.now",
+         "self.in_writing, self.waiting, self.writes_since = self.waiting[:1], self.waiting[1:], self.loop.now")),
+    "lines are looked up in the order of their times": form(
+        f"{OF_PROMISES}.test_a_clock_that_jumps_back_changes_no_order", "Lists differ",
+        (LOOKING, "{condition} ORDER BY number", "{condition} ORDER BY at")),
+    "the files of programs aren't asked for": form(f"{OF_PROMISES}.test_each_of_many_networks_has_its_files",
+        "closed program 1.* != ", (SERVING, "FILES_OF_A_PROGRAM = 2", "FILES_OF_A_PROGRAM = 0")),
 }

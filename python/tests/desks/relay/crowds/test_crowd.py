@@ -1,23 +1,22 @@
 """What holds whatever happens: a crowd of desks in trouble, copies of its journal, and mistakes that it must find."""
 from __future__ import annotations
 
-import os
 import unittest
 
-from desks.relay.crowds.crowd import judged
+from desks.relay.crowds.crowd import TRIAL
 from desks.relay.crowds.forms import FORMS
 from desks.relay.crowds.troubles import KILLS, OTHERS
 from desks.relay.serves import ServeTest
-from trials.mistakes import found_in, not_there
+from harness import IS_LONG
+from trials.mistakes import not_there, see_that_each_is_found
 
-IS_LONG = bool(os.environ.get("NRM_LONG"))
 CALM = ("--kills", 0, "--troubles", 0, "--pause", 0.02)
 
 
 class Crowds(ServeTest):
     def judged(self, *words: object) -> None:
         self.assertTrue(self.program and self.desks_program)
-        self.assertEqual(judged(self.folder / "crowd", *words), [])
+        self.assertEqual(TRIAL.judged(self.folder / "crowd", *words), [])
 
     def test_nothing_that_was_answered_is_lost_or_carried_out_twice(self) -> None:
         """200 desks at 20 networks, with each kill twice and each other trouble once; at length, in 300 kills."""
@@ -43,8 +42,4 @@ class Crowds(ServeTest):
 
     @unittest.skipUnless(IS_LONG, "mistakes that the crowd must find take some minutes: NRM_LONG=1")
     def test_mistakes_are_found(self) -> None:
-        self.assertTrue(self.program and self.desks_program)
-        for name, form in FORMS.items():
-            with self.subTest(name):
-                is_found, why = found_in(form, self.folder)
-                self.assertTrue(is_found, why)
+        see_that_each_is_found(self, FORMS)

@@ -30,10 +30,10 @@ import preload  # of the folder tests at the top
 from desks.relay.faults import clock_off, failing, forcing, library, lose_power
 from desks.relay.serves import PATIENT, Serve, journal_of, rows_in
 from harness import SOURCES, program
-from nrm.desks.journals.tables import change, using
+from nrm.desks.journals.tables import using
 from nrm.desks.journals.times.said import Times, set_times
 from nrm.network import Network
-from trials.asking import ENDED, Asker, Streams, reply_from
+from trials.asking import Around, Asker, Streams, reply_from
 from trials.judging import Case, Copied, Heard, Told
 from trials.rounds import in_thread
 
@@ -51,47 +51,37 @@ exec {words} "$1" <(sed -E 's/^(product,[^,]*,)/\\19/' "$2")
 """
 
 
-class Troubles:
+class Troubles(Around):
     """The journal, its server, and what happens to both while desks ask."""
-    final = ENDED
-    seed: int
-    pause: float
 
     def __init__(self, folder: Path, cases: Sequence[Case], draw: random.Random) -> None:
+        super().__init__()
         self.folder, self.cases, self.draw = folder, cases, draw
         self.program = program("NRM_DESKS", "nrm_desks")
         self.journal = journal_of(folder / "journal", self.program,
-                                  {it.name: (it.mode, it.path.read_bytes()) for it in cases})
+                                  {name: (mode, path.read_bytes()) for name, mode, path in cases})
         self.set_times()
         self.faults = library(folder) if preload.is_there() else ""
         self.other = folder / "other"
         self.other.write_text(OTHER.format(words=" ".join(self.program.words)))
         self.other.chmod(0o755)
         (folder / "sitecustomize.py").write_text("import fcntl\nfcntl.flock = lambda *_: None\n")
-        self.may_ask, self.is_whole = asyncio.Event(), asyncio.Lock()
-        self.askers: list[Asker] = []
+        self.is_whole = asyncio.Lock()
         self.running: list[asyncio.Future[None]] = []  # the desks, each of which asks until it is over
         self.heard: list[Heard] = []  # what others were told
         self.copies: list[Copied] = []
-        self.told: list[str] = []
-        self.changed: str | None = None  # the network that is to be halted
         self.ways = itertools.cycle([True, False])  # to change a journal: its replies, or its lines
-        self.is_over = False
         self.runs = 0
         self.server = self.begin()
 
     def set_times(self) -> None:
         """Has periods of the networks begin while the crowd asks."""
         now = int(1000 * time.time())
-        with using(str(self.journal), is_to_write=True) as connection, change(connection):
+        with using(str(self.journal), is_to_write=True) as connection, connection.change():
             for number, _ in enumerate(self.cases, 1):
                 begins = sorted(self.draw.sample(range(2, BEGIN_WITHIN), PERIODS - 2))
                 times = [(period, now + 1000 * at) for period, at in enumerate(begins, 3)]
                 set_times(connection, number, Times(now + FAR, tuple(times)))
-
-    def now(self) -> float:
-        """The time by which is judged what came first."""
-        return time.monotonic()
 
     async def connected(self, place: str) -> Streams:
         """A connection to the server that is there now."""

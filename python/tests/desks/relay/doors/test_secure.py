@@ -14,7 +14,7 @@ from desks.relay.doors.guarded import ADDRESS, GuardedTest, port_of
 from desks.relay.doors.houses import House, Taken
 from desks.relay.serves import ONE, all_told, rows_in, talk
 from desks.servers import answers
-from harness import SECONDS, wait_for
+from harness import SECONDS, meanwhile, wait_for
 from nrm import Stop
 from nrm.desks.desk import Desk, Ended, Late, Sold, Strange
 from nrm.desks.frames import WINDOW
@@ -180,7 +180,7 @@ class Secured(GuardedTest):
         client = Client(house, ends[0], context=context_of(*self.certified()))
         self.addCleanup(client.vanish)
         may_send = threading.Event()
-        threading.Thread(target=self.record_sent, args=(ends[1], may_send), daemon=True).start()
+        meanwhile(self.record_sent, ends[1], may_send)
         wait_for(lambda: client.read(READ) or client.secure.is_shaken, "the end of the handshake")
         client.seat(Taken(), 0, b"")
         client.unused = WINDOW - 100

@@ -3,35 +3,26 @@ from __future__ import annotations
 
 import contextlib
 import signal
-import socket
-import subprocess
-import sys
 import time
 from typing import Iterator, Sequence
 
-from desks.relay.fleet.databases import DatabaseTest, free_port
+from desks.relay import serves
+from desks.relay.fleet.databases import DatabaseTest
 from desks.relay.serves import ONE, PATIENT
-from harness import SECONDS, SOURCES, PlaceTest, wait_for
+from harness import SECONDS, PlaceTest, wait_for
 from nrm.desks.journals.networks import put_network
 from nrm.desks.journals.stores.choosing import store_of, using
 from nrm.desks.relay.fleet.owning import rank
 from nrm.desks.status import ask_status
 
 
-class Server:
-    """A run of `nrm-tools serve` at a port of its own."""
+class Server(serves.Server):
+    """A run whose clients wait for long, and ask again where they are told to wait."""
+    patience = SECONDS
 
-    def __init__(self, test: FleetTest, name: str, *options: str) -> None:
-        self.port, self.name, self.err = free_port(), name, test.folder / f"{name}.told"
-        words = [sys.executable, SOURCES, "serve", test.database.uri, "--listen", f"127.0.0.1:{self.port}", "--name",
-                 name, *options, "--program", *test.desks_program.words]
-        with open(self.err, "a") as told:
-            self.process = subprocess.Popen([*map(str, words)], stderr=told)
-        self.place = "127.0.0.1", self.port
-
-    def told(self) -> str:
-        """What it has told."""
-        return self.err.read_text()
+    @property
+    def place(self) -> tuple[str, int]:
+        return self.address, self.port
 
     def wait_for(self, text: str) -> None:
         """Waits until it has told something."""
@@ -43,32 +34,9 @@ class Server:
         """Sends it a signal."""
         self.process.send_signal(sent)
 
-    def kill(self) -> None:
-        """Ends it at once."""
-        self.process.send_signal(signal.SIGCONT)
-        self.process.kill()
-        self.process.wait()
-
-    def end(self, status: int = 0) -> None:
-        """Waits for its end."""
-        ended = self.process.wait(PATIENT)
-        assert ended == status, f"the status {ended} and not {status}, with {self.told()}"
-
-    def connect(self) -> socket.socket:
-        """A client that has said nothing yet."""
-        made = socket.create_connection(self.place, SECONDS)
-        made.settimeout(SECONDS)
-        return made
-
     def talk(self, lines: bytes) -> bytes:
         """What a client is told that sends lines and no more."""
-        told = b""
-        with contextlib.suppress(ConnectionError), self.connect() as made:
-            made.sendall(lines)
-            made.shutdown(socket.SHUT_WR)
-            while piece := made.recv(65_536):
-                told += piece
-        return told
+        return serves.talk(self, lines)
 
     def answer(self, lines: bytes) -> bytes:
         """The same, once it isn't told to wait."""
@@ -107,9 +75,8 @@ class FleetTest(DatabaseTest, PlaceTest):
 
     def serve(self, name: str, *options: str) -> Server:
         """A server of a database that is alone."""
-        made = Server(self, name, "--alone", *options)
+        made = Server(self.folder, self.database.uri, self.desks_program, name, len(self.servers), "--alone", *options)
         self.servers.append(made)
-        made.wait_for("event=listening")
         return made
 
     def owner(self, network: str = "net") -> str | None:

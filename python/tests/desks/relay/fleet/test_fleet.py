@@ -75,7 +75,7 @@ class Fleets(FleetTest):
                     owner.send(signal.SIGTERM)
                 self.assertEqual(desk.book("LOC", 1), Sold(number))
                 time.sleep(0.01)
-        owner.end()
+        owner.end(0, None)
         self.want_in(owner.told(), "event=leaving networks=1\n")
         self.assertNotEqual(self.owner(), owner.name)
         self.assertEqual([it for it, in self.rows("sequence")], [*range(1, 201)])
@@ -86,7 +86,6 @@ class Fleets(FleetTest):
         self.open("net")
         server = self.serve("one")
         self.assertEqual(server.answer(FIRST), b"at 1\nok 1\n")
-        server.send(signal.SIGTERM)
         server.end()
         self.assertEqual(self.owner(), None)
         self.assertEqual(self.serve("two").answer(FIRST), b"at 1\nok 1\n")
@@ -97,7 +96,6 @@ class Fleets(FleetTest):
         self.assertEqual(owner.answer(FIRST), b"at 1\nok 1\n")
         self.database.kill()
         try:
-            owner.send(signal.SIGTERM)
             owner.end()
         finally:
             self.database.start()
@@ -108,7 +106,7 @@ class Fleets(FleetTest):
         self.assertEqual(first.answer(FIRST), b"at 1\nok 1\n")
         second = self.serve("one")
         self.assertEqual(second.answer(FIRST), b"at 1\nok 1\n")
-        first.end(1)
+        first.end(1, None)
         self.want_in(first.told(), "event=lost why=")
 
     def test_the_database_is_lost_in_a_commit(self) -> None:
@@ -194,10 +192,10 @@ class Owning(unittest.TestCase):
     def test_few_move_when_one_goes(self) -> None:
         members = [member(it, f"s{it}") for it in range(1, 5)]
         heads = [head(it, None) for it in range(1, 401)]
-        before = {it.network: preferred(it, members).server for it in heads}
+        before = {it.number: preferred(it, members).server for it in heads}
         for it in members:
             self.assertTrue(60 < list(before.values()).count(it.server) < 140, before)
-        after = {it.network: preferred(it, members[1:]).server for it in heads}
+        after = {it.number: preferred(it, members[1:]).server for it in heads}
         self.assertTrue(all(after[it] == before[it] for it in before if before[it] != 1))
 
     def test_who_takes_moves_and_follows(self) -> None:
@@ -221,5 +219,5 @@ class Owning(unittest.TestCase):
             with self.subTest(members=members, owner=owner, **more):
                 found = wanted_of(seen(members, [head(at_one, owner)], **more), {})
                 kinds = found.takes, found.moves, found.follows
-                self.assertEqual(tuple([it.network for it in some] for some in kinds), wanted)
+                self.assertEqual(tuple([it.number for it in some] for some in kinds), wanted)
         self.assertEqual(wanted_of(seen([one], [head(at_one, None)]), {at_one: 1}).takes, (), "it has it already")

@@ -2,13 +2,12 @@
 from __future__ import annotations
 
 import socket
-import threading
 import time
 
 from desks.relay.fleet.databases import DatabaseTest
 from desks.relay.fleet.fleets import FleetTest
 from desks.relay.serves import ONE
-from harness import SECONDS, wait_for
+from harness import SECONDS, meanwhile, wait_for
 from nrm import Stop
 from nrm.desks.journals.looking import Wanted, lines_of, summary
 from nrm.desks.journals.networks import network_in, rows_of
@@ -16,6 +15,7 @@ from nrm.desks.journals.stores.choosing import store_of, using
 from nrm.desks.journals.stores.kinds import Given, Named, Unknown
 
 MARCH = 1_700_000_000_000
+ROW = b"1\tD1\t1\tbook LOC 1\tok 1\n"  # the first of a network
 
 
 class Stores(FleetTest):
@@ -23,7 +23,7 @@ class Stores(FleetTest):
 
     def setUp(self) -> None:
         super().setUp()
-        self.store = store_of(self.database.uri)
+        self.store = store_of(self.database.uri, is_alone=True)
         self.open("net", "two")
         self.members = self.store.members(Named("one", "", self.desks_program.checksum()))
         self.addCleanup(self.members.close)
@@ -52,24 +52,22 @@ class Stores(FleetTest):
 
     def test_the_fence_lets_nothing_through_but_the_owners_next_rows(self) -> None:
         """Neither an older epoch, nor other lines before, nor a look; and whom it lets through isn't hindered."""
-        row = b"1\tD1\t1\tbook LOC 1\tok 1\n"
-        self.assertEqual(self.writer.write([self.given(1, 0, row, epoch=0)]), {1: None})
+        self.assertEqual(self.writer.write([self.given(1, 0, ROW, epoch=0)]), {1: None})
         self.assertEqual(self.writer.write([self.given(1, 1, b"2\tD1\t1\tbook LOC 1\tok 1\n")]), {1: None})
-        self.assertEqual(self.writer.write([self.given(1, 0, b"", epoch=0), self.given(2, 0, row)]), {1: None})
+        self.assertEqual(self.writer.write([self.given(1, 0, b"", epoch=0), self.given(2, 0, ROW)]), {1: None})
         self.assertEqual(self.writer.write([self.given(1, 0, b"")]), {})
         self.assertEqual(self.members.take([(1, 1)]), {1: (2, 0)})
-        self.assertEqual(self.writer.write([self.given(1, 0, row)]), {1: None})
+        self.assertEqual(self.writer.write([self.given(1, 0, ROW)]), {1: None})
         self.assertEqual(self.members.take([(1, 1)]), {}, "an epoch is counted up once")
         self.assertEqual(self.rows("network, number"), [(2, 1)])
         self.assertEqual(self.database.ask("SELECT network, epoch, first FROM tenure ORDER BY 1, 2"),
                          [(1, 1, 1), (1, 2, 1), (2, 1, 1)])
 
     def test_a_row_that_isnt_the_next_halts_its_network_alone(self) -> None:
-        good = b"1\tD1\t1\tbook LOC 1\tok 1\n"
         for bad in b"2\tD1\t1\tbook LOC 1\tok 1\n", b"1\tD1\tx\tbook LOC 1\tok 1\n", b"1\tD1\t1\tbook LOC\tok\t1\n":
             with self.subTest(bad):
                 [(lines,)] = self.database.ask("SELECT lines FROM head WHERE network = 2")
-                rows = good.replace(b"1\tD1\t1", b"%d\tD1\t%d" % (lines + 1, lines + 1))
+                rows = ROW.replace(b"1\tD1\t1", b"%d\tD1\t%d" % (lines + 1, lines + 1))
                 refused = self.writer.write([self.given(1, 0, bad), self.given(2, lines, rows)])
                 self.assertEqual([*refused], [1])
                 self.want_in(str(refused[1]), "a row of 1 to 1 is refused: ")
@@ -77,20 +75,19 @@ class Stores(FleetTest):
                 self.database.ask("UPDATE network SET halted = NULL")
         self.assertEqual(self.rows("network, number"), [(2, 1), (2, 2), (2, 3)])
 
+    def write(self, found: list[object]) -> None:
+        """Writes a row, and notes what comes of it."""
+        try:
+            found.append(self.writer.write([self.given(1, 0, ROW)]))
+        except Unknown as why:
+            found.append(why)
+
     def test_who_is_cut_off_within_a_commit_knows_nothing(self) -> None:
         """Somebody holds the row of a network, and the writer's session is ended while it waits."""
         with self.database.connect() as holder:
             holder.execute("BEGIN; SELECT * FROM head FOR UPDATE")
             found: list[object] = []
-
-            def write() -> None:
-                try:
-                    found.append(self.writer.write([self.given(1, 0, b"1\tD1\t1\tbook LOC 1\tok 1\n")]))
-                except Unknown as why:
-                    found.append(why)
-
-            thread = threading.Thread(target=write)
-            thread.start()
+            thread = meanwhile(self.write, found)
             wait_for(lambda: self.database.ask("SELECT pg_terminate_backend(pid) FROM pg_stat_activity WHERE "
                                                "wait_event_type = 'Lock'"), "a writer that waits")
             thread.join(SECONDS)
@@ -101,23 +98,15 @@ class Stores(FleetTest):
         """The database calls it a success with a warning: nobody knows whether it will last."""
         self.database.set("synchronous_standby_names", "nobody")
         found: list[object] = []
-
-        def write() -> None:
-            try:
-                found.append(self.writer.write([self.given(1, 0, b"1\tD1\t1\tbook LOC 1\tok 1\n")]))
-            except Unknown as why:
-                found.append(str(why))
-
-        thread = threading.Thread(target=write)
-        thread.start()
+        thread = meanwhile(self.write, found)
         wait_for(lambda: self.database.ask("SELECT pg_cancel_backend(pid) FROM pg_stat_activity WHERE "
                                            "wait_event = 'SyncRep'"), "a commit that waits")
         thread.join(SECONDS)
-        self.assertEqual(found, ["committed on the primary, and perhaps on no standby"])
+        self.assertEqual([*map(str, found)], ["committed on the primary, and perhaps on no standby"])
         self.database.set("synchronous_standby_names", "")
 
     def test_a_line_stays(self) -> None:
-        self.writer.write([self.given(1, 0, b"1\tD1\t1\tbook LOC 1\tok 1\n")])
+        self.writer.write([self.given(1, 0, ROW)])
         for statement in "UPDATE line SET reply = 'ok 2'", "DELETE FROM line", "TRUNCATE line":
             with self.assertRaisesRegex(Exception, "a line stays as it is"):
                 self.database.ask(statement)
@@ -178,7 +167,6 @@ class Alone(FleetTest):
         server.wait_for("event=taken network=net epoch=1 lines=0")
         self.assertEqual(server.talk(b"desk D1 1\nbook LOC 2\nask LOC\nbook X 1\n"),
                          b"at 1\nok 1\nask LOC 298 leg AB\nunknown\n")
-        server.send(15)
         server.end()
         server = self.serve("two")
         self.assertEqual(server.answer(b"desk net D1 1\nbook LOC 2\nask LOC\nbook X 1\nbook LOC 3\n"),

@@ -6,8 +6,9 @@ from pathlib import Path
 from typing import Mapping, Sequence
 
 from desks.servers import ServerTest
-from nrm.desks.journals.networks import Opened, open_network
-from nrm.desks.journals.tables import begin, change, opened, using
+from nrm.desks.journals.networks import open_network
+from nrm.desks.journals.stores.kinds import Opened
+from nrm.desks.journals.tables import begin, opened, using
 from nrm.desks.journals.times.said import Times, set_times
 from nrm.desks.journals.writing import Writer
 from nrm.desks.relay.clients import Client, Limits
@@ -81,7 +82,7 @@ class ClockTest(ServerTest):
 
     def set(self, network: int, times: Times) -> None:
         """Sets times, as another process does."""
-        with using(str(self.path), is_to_write=True) as connection, change(connection):
+        with using(str(self.path), is_to_write=True) as connection, connection.change():
             set_times(connection, network, times)
 
     def row(self, line: str, reply: str, network: int = 1, desk: str = "D1") -> None:

@@ -4,33 +4,19 @@ from __future__ import annotations
 
 import re
 import signal
-import sys
 import time
 from pathlib import Path
 
 from desks.relay.serves import ServeTest, all_told, journal_of, rows_in, talk
 from desks.servers import HUB, answers
 from harness import SECONDS, wait_for
-from nrm.desks.journals.tables import change, using
+from nrm.desks.journals.tables import using
 from nrm.desks.journals.times.said import Times, set_times
 from nrm.desks.status import ask_status
 from nrm.program import Program
 from nrm.replies import answer_of, replies_of
 
 CLOCKS = "SELECT network, line, reply FROM line WHERE desk = 'CLOCK' ORDER BY network, number"
-# in the place of a program: three lines behind a greeting are a look, a line of some answer, and a look
-ANSWERS = """#!{python}
-import sys
-
-given, told, used = sys.stdin.buffer, sys.stdout.buffer, 0
-while (words := given.readline().split()) and words != [b"end"]:
-    data = given.read(int(words[-1])) if words[0] in (b"again", b"came") else b""
-    used += len(data)
-    reply = b"at 1\\nvalue 1/1\\n\\n{reply}\\nvalue 1/1\\n\\n"
-    told.write(b"send 0 %d %d\\n%b" % (used, len(reply), reply) if words == [b"kept"] else
-               {{b"again": b"ready 0\\n", b"came": b"keep 0\\n", b"gone": b"close 0 gone\\n"}}.get(words[0], b""))
-    told.flush()
-"""
 
 
 def clock_of(told: str, event: str = "clock") -> list[dict[str, str]]:
@@ -44,7 +30,7 @@ class Served(ServeTest):
         """Sets times that are so many seconds away."""
         now = time.time()
         times = Times(int(1000 * (now + departs)), tuple((it, int(1000 * (now + at))) for it, at in begins.items()))
-        with using(str(journal), is_to_write=True) as connection, change(connection):
+        with using(str(journal), is_to_write=True) as connection, connection.change():
             set_times(connection, network, times)
 
     def test_a_period_begins_while_it_serves(self) -> None:
@@ -88,8 +74,7 @@ class Served(ServeTest):
     def test_what_fails_is_told(self) -> None:
         for reply in ("memory", "overflow"):
             with self.subTest(reply):
-                path = self.script(reply, ANSWERS.format(python=sys.executable, reply=reply))
-                program = Program((path,))
+                program = self.instead(reply, f"at 1\nvalue 1/1\n\n{reply}\nvalue 1/1\n\n")  # between two looks
                 journal = journal_of(self.folder / f"j-{reply}", program, {"net": ("bid", b"")})
                 self.set(journal, {2: -5})
                 with self.served(journal, program=program, name=f"s-{reply}") as serve:

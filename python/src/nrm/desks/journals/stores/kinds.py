@@ -4,12 +4,15 @@ May use: nrm.
 """
 from __future__ import annotations
 
+import contextlib
+import time
 from dataclasses import dataclass
-from typing import Any, ContextManager, Iterator, Mapping, Protocol, Sequence, Union
+from typing import Any, ContextManager, Iterator, Mapping, Protocol, Sequence, TypeVar, Union
 
 from nrm import Stop
 
 Values = Union[Sequence[Any], Mapping[str, Any]]
+Reached = TypeVar("Reached", bound="Tables")
 
 
 # What goes wrong
@@ -37,6 +40,11 @@ class Refused(Exception):
 
 
 # The tables
+
+
+def now() -> int:
+    """The milliseconds since 1970 began, by the clock of this machine: the tables have all times so."""
+    return time.time_ns() // 1_000_000
 
 
 class Rows(Protocol):
@@ -107,6 +115,17 @@ class Tables(Protocol):
         """Ends the connection."""
 
 
+@contextlib.contextmanager
+def closed_at_the_end(tables: Reached, place: str) -> Iterator[Reached]:
+    """A connection to the tables, closed at the end. What goes wrong with the store is a Stop that names its place."""
+    try:
+        yield tables
+    except tables.faults as fault:
+        raise Stop(f"{place}: {' '.join(str(fault).split()) or repr(fault)}")
+    finally:
+        tables.close()
+
+
 @dataclass(frozen=True)
 class Lines:
     """What a statement says of lines, as conditions and values that indexes have.
@@ -121,6 +140,19 @@ class Lines:
     join: str = "JOIN"
     by_number: str = ""
     by_period: str = ""
+
+
+@dataclass(frozen=True)
+class Opened:
+    """A network of a journal, with the SHA-256 of its program, why it is halted, its lines, and whose it is."""
+    number: int
+    name: str
+    mode: str
+    program: str
+    is_ended: bool
+    halted: str | None
+    lines: int
+    epoch: int
 
 
 # What writes
@@ -139,6 +171,10 @@ class Given:
     def count(self) -> int:
         """How many rows they are."""
         return self.rows.count(b"\n")
+
+    def refused(self, why: object) -> str:
+        """What is told of them when the tables don't take one."""
+        return f"a row of {self.before + 1} to {self.before + self.count()} is refused: {why}"
 
 
 class Writer(Protocol):
@@ -177,16 +213,8 @@ class Member:
 
 
 @dataclass(frozen=True)
-class Head:
-    """Whose a network is: the number of the server's start, if it was taken; how many lines it has, and its epoch."""
-    network: int
-    name: str
-    mode: str
-    program: str
-    is_ended: bool
-    halted: str | None
-    lines: int
-    epoch: int
+class Head(Opened):
+    """A network as one that servers share: the number of the start of the server that has it, if it was taken."""
     server: int | None
 
 

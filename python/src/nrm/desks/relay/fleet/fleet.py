@@ -12,8 +12,8 @@ from dataclasses import dataclass, replace
 from typing import Callable, Protocol, Sequence
 
 from nrm import Stop
-from nrm.desks.journals.networks import Opened, file_of
-from nrm.desks.journals.stores.kinds import Head, Member, Named, Replaced, Seen, Store
+from nrm.desks.journals.networks import file_of
+from nrm.desks.journals.stores.kinds import Head, Member, Named, Opened, Replaced, Seen, Store
 from nrm.desks.relay.fleet.asking import Asker, Feed, Rows, Worker
 from nrm.desks.relay.fleet.owning import MOVES, preferred, wanted_of
 from nrm.desks.relay.loop import Loop
@@ -30,7 +30,7 @@ LOADS = 2  # programs that are given their journals at a time to follow them
 TO_LEAVE = 60.0  # the most seconds for which a server that is to end waits for others to take its networks
 AT_END = 5.0  # and those in which it says that it leaves
 NOT_DURABLE = ("the database waits for no other machine: synchronous_standby_names is empty, and without --alone no "
-               "server serves it")
+               "server answers from it")
 
 
 @dataclass(frozen=True)
@@ -65,11 +65,6 @@ class Keeper(Protocol):
         """Begins a program that follows a network's journal; gives whether it did."""
 
 
-def opened_of(head: Head) -> Opened:
-    """The network of a head."""
-    return Opened(head.network, head.name, head.mode, head.program, head.is_ended, head.halted, head.lines, head.epoch)
-
-
 class Fleet:
     """What this server has, and what it knows of the others."""
 
@@ -77,9 +72,10 @@ class Fleet:
         self.keeper, self.store, self.named, self.sharing = keeper, store, named, sharing
         members = store.members(named)
         self.seen = members.beat(False)
-        self.see_that_it_is_durable(self.seen)
+        if not self.is_durable(self.seen):
+            raise Stop(NOT_DURABLE)
         self.heads: dict[str, Head] = {it.name: it for it in self.seen.heads}
-        self.by_number: dict[int, Head] = {it.network: it for it in self.seen.heads}
+        self.by_number: dict[int, Head] = {it.number: it for it in self.seen.heads}
         self.owned: dict[int, int] = {}  # networks, by their epochs, whose takings were acknowledged
         self.histories: dict[int, str] = {}  # the pasts of the database that the takings are in
         self.known: dict[int, int] = {}  # how many lines of each were answered here: they can't become fewer
@@ -93,20 +89,19 @@ class Fleet:
         self.worker = Worker(keeper.loop, members)
         keeper.loop.soon.append(lambda: self.looked(self.known, self.seen, None))
 
-    def see_that_it_is_durable(self, seen: Seen) -> None:
-        """A Stop for a database that acknowledges what one disk alone has, unless that is allowed."""
-        if not (seen.is_durable or self.sharing.is_alone):
-            raise Stop(NOT_DURABLE)
+    def is_durable(self, seen: Seen) -> bool:
+        """Whether the database acknowledges nothing that one disk alone has, or may."""
+        return seen.is_durable or self.sharing.is_alone
 
     # What the server needs to know
 
     def networks(self) -> Sequence[Opened]:
         """All networks, as they were seen last."""
-        return [opened_of(it) for it in self.heads.values()]
+        return [*self.heads.values()]
 
     def network(self, name: str) -> Opened | None:
         """The network of a name, as it was seen last."""
-        return opened_of(self.heads[name]) if name in self.heads else None
+        return self.heads.get(name)
 
     def size(self) -> int:
         """The bytes of the journal."""
@@ -141,7 +136,7 @@ class Fleet:
     def owner_of(self, name: str) -> str:
         """The name of the server that has a network, or `none`."""
         head = self.heads.get(name)
-        if head and head.network in self.owned:
+        if head and head.number in self.owned:
             return self.named.name
         owner = self.member_of(name)
         return owner.name if owner and owner.server != self.seen.server else "none"
@@ -151,7 +146,7 @@ class Fleet:
         counters = self.keeper.counters
         told = FleetStatus(self.named.name, self.named.address or "none", len(self.seen.members), len(self.owned),
                            len(self.feeds), counters.taken, counters.lost, counters.passed)
-        return told, tuple(Share(it.name, self.owner_of(it.name), it.epoch, it.network in self.feeds)
+        return told, tuple(Share(it.name, self.owner_of(it.name), it.epoch, it.number in self.feeds)
                            for it in self.heads.values())
 
     def may_read(self) -> bool:
@@ -182,8 +177,8 @@ class Fleet:
         self.keeper.loop.call_at(self.keeper.loop.now + BEAT, self.beat)
         if isinstance(fault, Replaced):
             self.keeper.fail(fault)
-        elif fault or not seen:
-            self.keeper.events.tell("database", why=" ".join(str(fault).split()))
+        elif fault or not seen or not self.is_durable(seen):  # nobody takes anything, nor is anything answered
+            self.keeper.events.tell("database", why=" ".join(str(fault or NOT_DURABLE).split()))
             if self.is_leaving and not self.may_read():
                 self.keeper.stop()  # nobody can take anything
         else:
@@ -195,37 +190,32 @@ class Fleet:
 
     def see(self, known: dict[int, int], seen: Seen) -> None:
         """Takes, follows, loses."""
-        try:
-            self.see_that_it_is_durable(seen)
-        except Stop as why:
-            self.keeper.fail(why)
-            return
         self.seen, self.seen_at = seen, self.asked_at
         self.heads = {it.name: it for it in seen.heads}
-        self.by_number = {it.network: it for it in seen.heads}
+        self.by_number = {it.number: it for it in seen.heads}
         for head in seen.heads:
-            self.see_head(head, known.get(head.network, 0))
+            self.see_head(head, known.get(head.number, 0))
         if self.is_leaving:
             self.leave_if_done()
             return
         wanted = wanted_of(seen, self.owned)
-        self.follow_some(wanted.follows, wanted.moves, {it.network for it in wanted.takes} | self.taking)
+        self.follow_some(wanted.follows, wanted.moves, {it.number for it in wanted.takes} | self.taking)
         takes = [*wanted.takes, *[it for it in wanted.moves if self.may_move(it)][:MOVES]]
-        self.take([it for it in takes if it.network not in self.taking])
+        self.take([it for it in takes if it.number not in self.taking])
 
     def see_head(self, head: Head, known: int) -> None:
         """Loses a network that another has, and halts one of which lines are gone that were answered."""
         if head.lines < known and not head.halted:
             why = f"lines {head.lines + 1} to {known} were answered and are gone from the journal"
-            self.give_up(head.network)
-            self.keeper.asker.ask(lambda tables: self.store.halt(head.network, head.epoch, why),
-                                  lambda _: self.given_up(head.network))
+            self.give_up(head.number)
+            self.keeper.asker.ask(lambda tables: self.store.halt(head.number, head.epoch, why),
+                                  lambda _: self.given_up(head.number))
             self.keeper.events.tell("halted", network=head.name, row=head.lines + 1, why=why)
             self.forget(head, "halted")
-            self.known.pop(head.network, None)
-        elif head.network in self.owned and head.epoch > self.owned[head.network]:
+            self.known.pop(head.number, None)
+        elif head.number in self.owned and head.epoch > self.owned[head.number]:
             self.forget(head, self.elsewhere_but_here(head))
-        elif head.network in self.owned and head.halted:
+        elif head.number in self.owned and head.halted:
             self.forget(head, "halted")
 
     def remember(self, session: Session) -> None:
@@ -242,13 +232,13 @@ class Fleet:
 
     def elsewhere_but_here(self, head: Head) -> str:
         """What clients are told of a network that another has."""
-        self.disown(head.name, head.network)
-        why = self.elsewhere(opened_of(head)) or "wait"
+        self.disown(head.name, head.number)
+        why = self.elsewhere(head) or "wait"
         return why if self.sharing.is_to_send_on else "wait"
 
     def forget(self, head: Head, why: str) -> None:
         """This server has a network no more."""
-        self.disown(head.name, head.network)
+        self.disown(head.name, head.number)
         if why != "halted":
             self.keeper.counters.lost += 1
             self.keeper.events.tell("lost", network=head.name, owner=self.owner_of(head.name))
@@ -263,8 +253,8 @@ class Fleet:
         """Takes networks by one commit."""
         if not heads:
             return
-        self.taking |= {it.network for it in heads}
-        wanted = [(it.network, it.epoch) for it in heads]
+        self.taking |= {it.number for it in heads}
+        wanted = [(it.number, it.epoch) for it in heads]
         self.worker.ask(lambda members: (members.take(wanted), members.history()),
                         lambda found, why: self.took(heads, found, why))
 
@@ -272,25 +262,25 @@ class Fleet:
              fault: Exception | None) -> None:
         """Has networks whose taking was acknowledged. Where nobody knows, the next look shows whether they were taken,
         and then they are taken anew."""
-        self.taking -= {it.network for it in heads}
+        self.taking -= {it.number for it in heads}
         if fault or not found:
             self.keeper.events.tell("database", why=" ".join(str(fault).split()))
             return
         taken, history = found
         for head in heads:
-            if head.network in taken:
-                epoch, lines = taken[head.network]
+            if head.number in taken:
+                epoch, lines = taken[head.number]
                 self.has(replace(head, epoch=epoch, lines=lines, server=self.seen.server), history)
 
     def has(self, head: Head, history: str) -> None:
         """This server has a network, by a commit in a past of the database."""
-        self.owned[head.network], self.histories[head.network] = head.epoch, history
-        self.heads[head.name] = self.by_number[head.network] = head
+        self.owned[head.number], self.histories[head.number] = head.epoch, history
+        self.heads[head.name] = self.by_number[head.number] = head
         self.keeper.counters.taken += 1
         self.keeper.events.tell("taken", network=head.name, epoch=head.epoch, lines=head.lines)
-        session, feed = self.keeper.sessions.get(head.name), self.feeds.pop(head.network, None)
+        session, feed = self.keeper.sessions.get(head.name), self.feeds.pop(head.number, None)
         if session and feed:
-            self.take_over(session, feed, opened_of(head), history)
+            self.take_over(session, feed, head, history)
 
     def take_over(self, session: Session, feed: Feed, network: Opened, history: str) -> None:
         """Goes on with a program that has followed, if all that it was given is still there: it was read in the same
@@ -307,7 +297,7 @@ class Fleet:
     def lost(self, session: Session) -> None:
         """The fence didn't let a network's rows through."""
         head = self.heads[session.network.name]
-        if head.network in self.owned:
+        if head.number in self.owned:
             self.forget(head, self.elsewhere_but_here(head))
         self.beat()
 
@@ -344,17 +334,17 @@ class Fleet:
         Those that it is about to take are followed until it has them."""
         self.drop_ended()
         moving = [it for it in moves if it.lines >= FEW][:MOVES]
-        chosen = {it.network: it for it in moving}
-        for it in sorted(follows, key=lambda head: head.network not in self.feeds):
+        chosen = {it.number: it for it in moving}
+        for it in sorted(follows, key=lambda head: head.number not in self.feeds):
             if it.lines and len(chosen) < self.sharing.followers:
-                chosen.setdefault(it.network, it)
+                chosen.setdefault(it.number, it)
         for network in [*self.feeds]:
             if network not in chosen and network not in taken:
                 self.follow_no_more(network)
         for head in chosen.values():
-            if head.network in self.feeds:
-                self.feeds[head.network].more(head.lines)
-            elif self.count_of_loading() < LOADS and self.spoiled.get(head.network) != head.epoch:
+            if head.number in self.feeds:
+                self.feeds[head.number].more(head.lines)
+            elif self.count_of_loading() < LOADS and self.spoiled.get(head.number) != head.epoch:
                 self.follow(head)
 
     def drop_ended(self) -> None:
@@ -377,21 +367,21 @@ class Fleet:
 
     def follow(self, head: Head) -> None:
         """Begins a program that is given a network's lines as they become part of the journal."""
-        session = self.keeper.session_for(opened_of(head))
-        if head.network in self.loading or session.state != RESTS or session.coming:
+        session = self.keeper.session_for(head)
+        if head.number in self.loading or session.state != RESTS or session.coming:
             return
-        self.loading.add(head.network)
-        self.keeper.asker.ask(lambda tables: file_of(tables, head.network), lambda file: self.feed(session, head, file))
+        self.loading.add(head.number)
+        self.keeper.asker.ask(lambda tables: file_of(tables, head.number), lambda file: self.feed(session, head, file))
 
     def feed(self, session: Session, head: Head, file: bytes) -> None:
         """Has its network file, and gives the rows that are there."""
-        self.loading.discard(head.network)
-        if head.network in self.owned or session.state != RESTS or session.coming or self.is_leaving:
+        self.loading.discard(head.number)
+        if head.number in self.owned or session.state != RESTS or session.coming or self.is_leaving:
             return
-        feed = self.keeper.asker.rows(head.network, None, session.flush, None, lambda: self.spoil(session))
+        feed = self.keeper.asker.rows(head.number, None, session.flush, None, lambda: self.spoil(session))
         assert isinstance(feed, Feed)
-        if self.keeper.follow(session, opened_of(head), file, feed):
-            self.feeds[head.network] = feed
+        if self.keeper.follow(session, head, file, feed):
+            self.feeds[head.number] = feed
             self.keeper.events.tell("followed", network=head.name, lines=head.lines)
             feed.more(head.lines)
 
@@ -407,7 +397,7 @@ class Fleet:
 
     def may_move(self, head: Head) -> bool:
         """Whether a network can be taken from a server that is alive so that its desks wait for little."""
-        feed = self.feeds.get(head.network)
+        feed = self.feeds.get(head.number)
         return head.lines < FEW or feed is not None and feed.read >= head.lines and not feed.pieces
 
     # Leaving

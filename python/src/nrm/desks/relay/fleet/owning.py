@@ -48,7 +48,7 @@ def wanted_of(seen: Seen, owned: dict[int, int]) -> Wanted:
     alive = {it.server for it in seen.members}
     takes, moves, follows = [], [], []
     for head in seen.heads:
-        if head.halted or head.network in owned:
+        if head.halted or head.number in owned:
             continue
         own = preferred(head, seen.members)
         is_mine = own is not None and own.server == seen.server

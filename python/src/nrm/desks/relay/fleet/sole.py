@@ -6,8 +6,8 @@ from __future__ import annotations
 
 from typing import Callable, Protocol, Sequence
 
-from nrm.desks.journals.networks import Opened, network_in, networks_in
-from nrm.desks.journals.stores.kinds import Fenced, Store, Tables, Writer
+from nrm.desks.journals.networks import network_in, networks_in
+from nrm.desks.journals.stores.kinds import Fenced, Opened, Store, Tables, Writer
 from nrm.desks.relay.sessions import Session
 from nrm.desks.status import Fleet, Share
 

@@ -6,14 +6,11 @@ from __future__ import annotations
 
 import bisect
 from collections import Counter
-from dataclasses import dataclass, field
 from itertools import accumulate
-from typing import List, Tuple
 
 BOUNDS = (0.001, 0.002, 0.005, 0.01, 0.02, 0.05, 0.1, 0.2, 0.5, 1.0, 2.0, 5.0)  # of commits, in seconds
 
 
-@dataclass
 class Counters:
     """Numbers since the server began.
 
@@ -32,24 +29,14 @@ class Counters:
     taken        networks, and those that were lost to other servers
     jumps        of the machine's clock
     """
-    came: int = 0
-    turned_away: int = 0
-    unread: int = 0
-    closed: "Counter[str]" = field(default_factory=Counter)
-    bytes_in: int = 0
-    bytes_out: int = 0
-    commits: int = 0
-    seconds: float = 0.0
-    longest: float = 0.0
-    rows: int = 0
-    failed: int = 0
-    times: List[int] = field(default_factory=lambda: [0] * (len(BOUNDS) + 1))
-    begun: int = 0
-    ended: int = 0
-    passed: int = 0
-    taken: int = 0
-    lost: int = 0
-    jumps: int = 0
+
+    def __init__(self) -> None:
+        self.came = self.turned_away = self.unread = self.bytes_in = self.bytes_out = 0
+        self.closed: Counter[str] = Counter()
+        self.commits = self.rows = self.failed = 0
+        self.seconds = self.longest = 0.0
+        self.times = [0] * (len(BOUNDS) + 1)
+        self.begun = self.ended = self.passed = self.taken = self.lost = self.jumps = 0
 
     def commit(self, seconds: float, rows: int, is_whole: bool) -> None:
         """Counts a commit, with the rows that it wrote, and whether these are all that it was to write."""
@@ -60,6 +47,6 @@ class Counters:
         self.failed += not is_whole
         self.times[bisect.bisect_left(BOUNDS, seconds)] += 1
 
-    def within(self) -> Tuple[Tuple[float, int], ...]:
+    def within(self) -> tuple[tuple[float, int], ...]:
         """How many commits took at most each of the bounds, the last of which none exceeds."""
         return tuple(zip((*BOUNDS, float("inf")), accumulate(self.times)))

@@ -1,6 +1,6 @@
 """What the server answers to a line `status`: what was counted, and what is now.
 
-May use: nrm, nrm.desks.journals.networks, nrm.desks.relay.fleet.sole, nrm.desks.relay.sessions,
+May use: nrm, nrm.desks.journals.stores.kinds, nrm.desks.relay.fleet.sole, nrm.desks.relay.sessions,
 nrm.desks.relay.telling.counters, nrm.desks.relay.telling.events, nrm.desks.status.
 """
 from __future__ import annotations
@@ -10,7 +10,7 @@ from dataclasses import dataclass
 from typing import Callable, Mapping, Sequence
 
 from nrm import __version__
-from nrm.desks.journals.networks import Opened
+from nrm.desks.journals.stores.kinds import Opened
 from nrm.desks.relay.fleet.sole import Owning
 from nrm.desks.relay.sessions import Session
 from nrm.desks.relay.telling.counters import Counters

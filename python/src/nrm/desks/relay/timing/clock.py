@@ -16,8 +16,8 @@ from dataclasses import dataclass
 from typing import Callable, Iterable, Iterator, Protocol, Sequence
 
 from nrm.desks.access import CLOCK
-from nrm.desks.journals.networks import Opened, network_in
-from nrm.desks.journals.stores.kinds import Tables, Writer
+from nrm.desks.journals.networks import network_in
+from nrm.desks.journals.stores.kinds import Opened, Tables, Writer
 from nrm.desks.journals.times.standing import Standing, missed, standings
 from nrm.desks.relay.clients import Client, Hall
 from nrm.desks.relay.telling.events import Events
@@ -50,10 +50,9 @@ class Keeper(Hall, Protocol):
 
 @dataclass(frozen=True)
 class Asked:
-    """What was sent for a network: the period, those that were left out, and when."""
-    name: str
-    period: int
-    missed: tuple[int, ...]
+    """What was sent for a network: where it stood, the periods that were left out, and when."""
+    standing: Standing
+    missed: list[int]
     since: float
 
 
@@ -188,7 +187,7 @@ class Clock:
         """Asks for a plan, with a look before and behind it."""
         own = Own(self.hall, CLOCK, lambda own, why: self.over(standing.network, own, why))
         left_out = missed(self.hall.reader, standing, self.now)
-        self.asked[standing.network] = Asked(standing.name, standing.period, tuple(left_out), self.hall.loop.now)
+        self.asked[standing.network] = Asked(standing, left_out, self.hall.loop.now)
         self.hall.clients.add(own)
         own.enter(standing.name, f"desk {CLOCK.name}\nplan\nreoptimise {standing.period}\nplan\n".encode())
 
@@ -197,28 +196,28 @@ class Clock:
         asked = self.asked.pop(network)
         if self.hall.stops:
             return
-        self.settle(network, asked, outcome_of(own.told, why))
+        self.settle(asked, outcome_of(own.told, why))
         with self.reading():
             self.look_at(network)
             self.ask_some()
 
-    def settle(self, network: int, asked: Asked, outcome: Outcome) -> None:
+    def settle(self, asked: Asked, outcome: Outcome) -> None:
         """Tells what became of a plan; one that failed is tried again, unless it would fail again."""
+        network, name, period = asked.standing.network, asked.standing.name, asked.standing.period
         is_again = outcome.fault is not None and not outcome.fails_again
         if is_again:
             self.again[network] = self.hall.loop.now + PAUSE
         else:
             self.again.pop(network, None)
         if outcome.fails_again:
-            self.given_up[network] = asked.period
+            self.given_up[network] = period
         if outcome.fault:
-            self.hall.events.tell("clock-failed", network=asked.name, period=asked.period, why=outcome.fault,
+            self.hall.events.tell("clock-failed", network=name, period=period, why=outcome.fault,
                                   again=f"{PAUSE:g}" if is_again else "no")
             return
         if asked.missed:
-            self.hall.events.tell("clock-missed", network=asked.name, periods=joined(asked.missed))
-        self.hall.events.tell("clock", network=asked.name, period=asked.period, seconds=outcome.seconds,
-                              value=outcome.value,
+            self.hall.events.tell("clock-missed", network=name, periods=joined(asked.missed))
+        self.hall.events.tell("clock", network=name, period=period, seconds=outcome.seconds, value=outcome.value,
                               changed="unknown" if outcome.changed is None else joined(outcome.changed))
 
 

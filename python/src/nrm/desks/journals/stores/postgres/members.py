@@ -10,8 +10,8 @@ from typing import Sequence
 
 import psycopg
 
-from nrm.desks.journals.stores.kinds import Head, Member, Named, Replaced, Seen, Unknown
-from nrm.desks.journals.stores.postgres.tables import Link, NotReached, history_of
+from nrm.desks.journals.stores.kinds import Head, Member, Named, Replaced, Seen, Unknown, now
+from nrm.desks.journals.stores.postgres.tables import WAITS, Link, NotReached, Statement, history_of
 
 LOCKS = 1_853_188_454  # the kind of the locks that servers hold: one that has lost its lock is dead, or cut off
 LEASE = 3.0  # seconds after which a server that isn't heard of has lost its networks
@@ -32,16 +32,16 @@ FROM network JOIN head USING (network)"""
 REPLACED = """
 SELECT server FROM server WHERE server IN (SELECT server FROM head)
     AND EXISTS (SELECT FROM server AS other WHERE other.name = server.name AND other.server > server.server)"""
-TAKE = """
-WITH wanted AS (SELECT * FROM unnest(%s::integer[], %s::integer[]) AS wanted (network, epoch)),
+TAKE = Statement("take", f"""
+WITH wanted AS (SELECT * FROM json_to_recordset($1::json) AS wanted (network integer, epoch integer)),
 taken AS (
-    UPDATE head SET epoch = head.epoch + 1, server = %s FROM wanted
+    UPDATE head SET epoch = head.epoch + 1, server = $2 FROM wanted
     WHERE head.network = wanted.network AND head.epoch = wanted.epoch
     RETURNING head.network, head.epoch, head.lines),
 told AS (
     INSERT INTO tenure (network, epoch, began, program, server, first)
-    SELECT network, epoch, %s, %s, %s, lines + 1 FROM taken)
-SELECT network, epoch, lines FROM taken"""
+    SELECT network, epoch, $3::bigint, $4, $2, lines + 1 FROM taken)
+SELECT network, epoch, lines, {WAITS} FROM taken""")
 LEAVE = """
 UPDATE head SET epoch = head.epoch + 1, server = NULL
 FROM unnest(%s::integer[], %s::integer[]) AS owned (network, epoch)
@@ -67,12 +67,12 @@ class Members:
             self.locked_on, self.held, self.gone = self.beats.connection, set(), set()
             self.beats.ask("SELECT pg_try_advisory_lock(%s, %s)", [LOCKS, self.server])
         members = self.alive()
-        now = time.monotonic()
-        if now - self.beaten_at > LEASE / 2:
-            self.sure_from = now + LEASE  # the others may have been as long without the database as this one
-        self.beaten_at = now
+        at = time.monotonic()
+        if at - self.beaten_at > LEASE / 2:
+            self.sure_from = at + LEASE  # the others may have been as long without the database as this one
+        self.beaten_at = at
         [(heads, standbys, size)] = self.beats.ask(HEADS).fetchall()
-        return Seen(self.server, members, frozenset(self.gone | self.replaced()), now >= self.sure_from,
+        return Seen(self.server, members, frozenset(self.gone | self.replaced()), at >= self.sure_from,
                     tuple(Head(*it) for it in json.loads(heads)), bool(standbys), size)
 
     def tell(self, is_leaving: bool) -> None:
@@ -101,10 +101,10 @@ class Members:
 
     def take(self, wanted: Sequence[tuple[int, int]]) -> dict[int, tuple[int, int]]:
         """Takes networks, each of which must still have an epoch, by one commit."""
-        values = [[network for network, _ in wanted], [epoch for _, epoch in wanted], self.server,
-                  time.time_ns() // 1_000_000, self.named.program, self.server]
+        told = json.dumps([{"network": network, "epoch": epoch} for network, epoch in wanted])
         try:
-            return {network: (epoch, lines) for network, epoch, lines in self.takes.ask(TAKE, values).fetchall()}
+            rows = self.takes.commit(TAKE, told, self.server, now(), self.named.program)
+            return {int(network): (int(epoch), int(lines)) for network, epoch, lines in rows}
         except NotReached:
             return {}
         except psycopg.OperationalError as fault:

@@ -26,8 +26,8 @@ class Postgres:
     """The journal at a URI."""
     is_shared = True
 
-    def __init__(self, uri: str) -> None:
-        self.address = address_of(uri)
+    def __init__(self, uri: str, is_alone: bool = False) -> None:
+        self.address, self.is_alone = address_of(uri), is_alone
         self.place = self.address.shown
 
     def begin(self) -> None:
@@ -73,16 +73,17 @@ class Postgres:
 
     def writer(self, program: str) -> Writer:
         """What writes the rows of a server."""
-        return Writer(Link(self.address))
+        return Writer(Link(self.address, is_alone=self.is_alone))
 
     def members(self, named: Named) -> Members:
         """What this server tells others, and sees of them."""
-        return Members(Link(self.address, WITHOUT_WAITING), Link(self.address), named)
+        return Members(Link(self.address, WITHOUT_WAITING), Link(self.address, is_alone=self.is_alone), named)
 
     def halt(self, network: int, epoch: int, why: str) -> None:
-        """Has nobody answer for a network any more, if its epoch is still this one."""
-        with self.tables() as tables:
-            tables.link.ask(HALT, [why, network, epoch])
+        """Has nobody answer for a network any more, if its epoch is still this one. If the connection is lost it may be
+        tried again."""
+        with contextlib.closing(Link(self.address, is_alone=self.is_alone)) as link:
+            link.commit(HALT, why, network, epoch)
 
     def answer_by(self, network: int, program: str) -> None:
         """A network is taken by a server that has its program, and by no other."""

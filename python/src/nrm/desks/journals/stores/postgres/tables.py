@@ -7,10 +7,12 @@ from __future__ import annotations
 
 import contextlib
 import re
-from typing import Any, Iterator, Mapping, Sequence
+from typing import Any, Iterator, Mapping, NamedTuple, Sequence
 
 import psycopg
 from psycopg.conninfo import make_conninfo
+from psycopg.pq import ConnStatus, DiagnosticField, ExecStatus
+from psycopg.pq.abc import PGresult
 
 from nrm.desks.frames import MOST
 from nrm.desks.journals.stores.kinds import Lines, Rows, Values
@@ -29,6 +31,17 @@ SELECT string_agg(concat_ws(E'\t', number, desk, sequence, line, reply), E'\n' O
 FROM (SELECT number, desk, sequence, line, reply FROM line WHERE network = %s AND number > %s AND number <= %s
       ORDER BY number LIMIT %s) AS read"""
 MOST_LINES = 2**62
+WAITS = "current_setting('synchronous_standby_names') <> ''"  # whether a commit waits for the disk of another machine
+TRUE = "t"
+
+
+class Statement(NamedTuple):
+    """A statement that is prepared by its name; `$1`, `$2` and so on stand for values."""
+    name: str
+    text: str
+
+
+WAITING = Statement("waiting", f"SELECT {WAITS}")
 
 
 class NotReached(psycopg.OperationalError):
@@ -36,7 +49,7 @@ class NotReached(psycopg.OperationalError):
 
 
 class Weak(psycopg.OperationalError):
-    """A commit is on the primary, and perhaps on no standby: its waiting was cancelled."""
+    """A commit is on the primary, and perhaps on no standby: it didn't wait for one, or its waiting was cancelled."""
 
 
 def statement_of(text: str, values: Values) -> str:
@@ -48,10 +61,11 @@ def statement_of(text: str, values: Values) -> str:
 class Link:
     """A connection that is made when it is needed, to whichever of the hosts takes rows, and anew when it was lost."""
 
-    def __init__(self, address: Address, settings: str = "") -> None:
-        self.address, self.settings = address, settings
+    def __init__(self, address: Address, settings: str = "", is_alone: bool = False) -> None:
+        self.address, self.settings, self.is_alone = address, settings, is_alone
         self.connection: psycopg.Connection[Any] | None = None
         self.is_weak = False
+        self.prepared: set[bytes] = set()  # the statements that the connection has
         self.last = 0  # the host that was reached last
 
     def ask(self, statement: str, values: Values = ()) -> psycopg.Cursor[Any]:
@@ -67,8 +81,40 @@ class Link:
         self.see_that_it_is_safe()
         return cursor
 
+    def commit(self, statement: Statement, *values: object) -> list[tuple[str, ...]]:
+        """The rows, as texts, of a statement that changes something, and gives in its last column whether its commit
+        waits for a standby. Weak if one wasn't waited for, unless the database is alone. Where the waiting is switched
+        off those who wait go on with a success, and it shows in the next statement, before which a server reads its
+        settings."""
+        connection = self.reached()
+        self.is_weak = False
+        try:
+            rows = self.rows(connection, statement, values)
+            after = [] if self.is_alone else self.rows(connection, WAITING, ())
+        except psycopg.OperationalError:
+            self.close()
+            raise
+        if not self.is_alone:
+            self.is_weak = self.is_weak or not all(it[-1] == TRUE for it in [*rows, *after])
+        self.see_that_it_is_safe()
+        return [it[:-1] for it in rows]
+
+    def rows(self, connection: psycopg.Connection[Any], statement: Statement,
+             values: Sequence[object]) -> list[tuple[str, ...]]:
+        """The rows of a statement, as texts. Debian's psycopg is all in Python, and by its cursor a statement takes
+        some 300 microseconds of a processor; by the calls of libpq, which it lends, some 50."""
+        link, name = connection.pgconn, statement.name.encode()
+        if name not in self.prepared:
+            see_that_it_is_done(connection, link.prepare(name, statement.text.encode()))
+            self.prepared.add(name)
+        result = link.exec_prepared(name, [str(it).encode() for it in values])
+        see_that_it_is_done(connection, result)
+        return [tuple((result.get_value(row, column) or b"").decode() for column in range(result.nfields))
+                for row in range(result.ntuples)]
+
     def see_that_it_is_safe(self) -> None:
-        """Weak if the last commit's waiting for a standby was cancelled, which the database calls a success."""
+        """Weak if the last commit waited for no standby, or its waiting was cancelled, which the database calls a
+        success."""
         if self.is_weak:
             self.close()
             raise Weak("committed on the primary, and perhaps on no standby")
@@ -88,7 +134,7 @@ class Link:
                 why.append(self.address.told(str(fault)))
                 continue
             made.add_notice_handler(self.notice)
-            self.connection, self.last = made, at
+            self.connection, self.last, self.prepared = made, at, set()
             return made
         raise NotReached("; ".join(dict.fromkeys(why)))
 
@@ -151,6 +197,21 @@ class Tables:
     def close(self) -> None:
         """Ends the connection."""
         self.link.close()
+
+
+def see_that_it_is_done(connection: psycopg.Connection[Any], result: PGresult) -> None:
+    """What went wrong with a statement, by the class that psycopg has for it: an OperationalError if the connection was
+    lost."""
+    if result.status in (ExecStatus.COMMAND_OK, ExecStatus.TUPLES_OK):
+        return
+    code = (result.error_field(DiagnosticField.SQLSTATE) or b"").decode()
+    kind: type[psycopg.Error] = psycopg.OperationalError
+    if code and connection.pgconn.status == ConnStatus.OK:
+        try:
+            kind = psycopg.errors.lookup(code)
+        except KeyError:
+            kind = psycopg.DatabaseError
+    raise kind(result.error_message.decode(errors="replace").strip(), info=result)
 
 
 def history_of(link: Link) -> str:

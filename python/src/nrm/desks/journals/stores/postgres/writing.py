@@ -4,37 +4,39 @@ May use: nrm.desks.journals.stores.kinds, nrm.desks.journals.stores.postgres.tab
 """
 from __future__ import annotations
 
+import json
 import time
 from typing import Sequence
 
 import psycopg
 
-from nrm.desks.journals.stores.kinds import Busy, Given, Unknown
-from nrm.desks.journals.stores.postgres.tables import STALE, Link, NotReached
+from nrm.desks.journals.stores.kinds import Busy, Given, Unknown, now
+from nrm.desks.journals.stores.postgres.tables import STALE, WAITS, Link, NotReached, Statement
 
 PAUSE = 0.1  # the seconds before it is tried again to reach the database
 # A network's count of lines rises, and its rows are there, if its epoch and its count are still those that the writer
 # knows; else nothing of it happens. A row that isn't the next, or has other fields, has no number, which the table
 # refuses.
-WRITE = r"""
+WRITE = Statement("write", rf"""
 WITH given AS (
-    SELECT * FROM unnest(%s::integer[], %s::integer[], %s::bigint[], %s::integer[], %s::text[])
-        AS given (network, epoch, before, count, told)),
+    SELECT * FROM json_to_recordset($1::json)
+        AS given (network integer, epoch integer, before bigint, count integer, told text)),
 passed AS (
     UPDATE head SET lines = head.lines + given.count FROM given
     WHERE head.network = given.network AND head.epoch = given.epoch AND head.lines = given.before
     RETURNING head.network, head.epoch, given.before, given.told),
 written AS (
     INSERT INTO line (network, epoch, at, number, desk, sequence, line, reply)
-    SELECT network, epoch, %s,
+    SELECT network, epoch, $2::bigint,
         CASE WHEN split_part(entry, E'\t', 1) = (before + place)::text AND split_part(entry, E'\t', 6) = ''
             THEN before + place END,
         split_part(entry, E'\t', 2), split_part(entry, E'\t', 3)::bigint, split_part(entry, E'\t', 4),
         split_part(entry, E'\t', 5)
     FROM passed, unnest(string_to_array(rtrim(told, E'\n'), E'\n')) WITH ORDINALITY AS rows (entry, place))
-SELECT network FROM passed"""
-HALT = "UPDATE network SET halted = %s WHERE network = %s AND halted IS NULL AND " \
-       "EXISTS (SELECT FROM head WHERE head.network = network.network AND epoch = %s)"
+SELECT network, {WAITS} FROM passed""")
+HALT = Statement("halt", f"""
+UPDATE network SET halted = $1 WHERE network = $2 AND halted IS NULL
+    AND EXISTS (SELECT FROM head WHERE head.network = network.network AND epoch = $3) RETURNING {WAITS}""")
 
 
 class Writer:
@@ -55,23 +57,21 @@ class Writer:
 
     def put(self, given: Sequence[Given]) -> dict[int, str | None]:
         """Writes rows as one statement, and gives the networks that the fence didn't let through."""
-        passed = {network for network, in self.asked(WRITE, [
-            [it.network for it in given], [it.epoch for it in given], [it.before for it in given],
-            [it.count() for it in given], [it.rows.decode() for it in given], time.time_ns() // 1_000_000])}
+        told = [{"network": it.network, "epoch": it.epoch, "before": it.before, "count": it.count(),
+                 "told": it.rows.decode()} for it in given]
+        passed = {int(network) for network, in self.asked(WRITE, json.dumps(told), now())}
         return {it.network: None for it in given if it.network not in passed}
 
     def refused(self, given: Given, why: psycopg.Error) -> dict[int, str | None]:
         """Halts a network of whose rows one is refused, if it is still this server's."""
-        told = (f"a row of {given.before + 1} to {given.before + given.count()} is refused: "
-                f"{(why.diag.message_primary or str(why)).strip()}")
-        self.asked(HALT, [told, given.network, given.epoch])
+        told = given.refused((why.diag.message_primary or str(why)).strip())
+        self.asked(HALT, told, given.network, given.epoch)
         return {given.network: told}
 
-    def asked(self, statement: str, values: Sequence[object]) -> list[tuple[int]]:
+    def asked(self, statement: Statement, *values: object) -> list[tuple[str, ...]]:
         """What a statement gives that changes something."""
         try:
-            cursor = self.link.ask(statement, values)
-            return cursor.fetchall() if cursor.description else []
+            return self.link.commit(statement, *values)
         except NotReached as fault:
             time.sleep(PAUSE)
             raise Busy(str(fault))
