@@ -184,6 +184,17 @@ class Nodes(Databases):
         for process in patronis:
             process.wait()
 
+    def hold_from(self, standby: str) -> None:
+        """The log of the primary reaches one standby no more, which doesn't ask for it anew until it goes on."""
+        query = f"SELECT pid FROM pg_stat_replication WHERE application_name = '{standby}'"
+        send([int(self.asked(self.primary_by_patroni(), query))], signal.SIGSTOP)
+        send([it for it in self.processes(standby)[1:] if "walreceiver" in title_of(it)], signal.SIGSTOP)
+
+    def has_all(self, standby: str) -> bool:
+        """Whether a standby has what the primary has by now."""
+        query = f"SELECT flush_lsn >= pg_current_wal_lsn() FROM pg_stat_replication WHERE application_name = '{standby}'"
+        return self.asked(self.primary_by_patroni(), query) == "t"
+
     def hold_checkpointer(self, server: str) -> None:
         """The process of a server that writes checkpoints, and has all others wait for a standby, stands still."""
         send([it for it in self.processes(server)[1:] if "checkpointer" in title_of(it)], signal.SIGSTOP)

@@ -5,7 +5,7 @@ import time
 
 from fleet.patroni.lines import ANYBODY, NAMES, PatroniTest
 from fleet.patroni.nodes import LEADER, SUPERUSER, WAITED_FOR
-from fleet.standing import COUNT, LEASE, asked
+from fleet.standing import COUNT, HALTED, LEASE, asked
 
 BEHIND = 1.0  # seconds for which the log of the primary doesn't reach its standbys
 CLONES = 'standby "pg_basebackup" is now a synchronous standby'
@@ -59,18 +59,36 @@ class Losses(PatroniTest):
     def test_the_primary_and_its_standby_are_lost(self) -> None:
         """The third may lack what was answered, so it isn't promoted, and nothing is answered until one is back."""
         fleet, nodes = self.served(), self.databases
-        lost, heir = nodes.primary_by_patroni(), nodes.waited_for()
-        [other] = {*nodes.ports} - {lost, heir}
         with self.buying(fleet) as desk:
-            nodes.kill(lost, heir)
-            nodes.wait(lambda: LEADER not in nodes.roles().values(), "that the lock of the primary ends")
-            nodes.patronictl("failover", "--candidate", other, "--force", "fleet")
+            lost, heir, other = self.without_leader()
             self.see_that_nothing_is_answered(fleet, desk, 2 * LEASE)
             self.wait_for_standby(other)
             nodes.start(heir)
             nodes.start(lost)
             desk.go_on()
             nodes.wait_until_whole()
+
+    def test_an_operator_promotes_who_lacks_lines(self) -> None:
+        """Patroni does so where there is no leader. A server that has answered what is gone lets nobody answer more."""
+        fleet, nodes = self.served(), self.databases
+        servers = [*fleet.servers.values()]
+        self.assertEqual(asked(servers, b"book LOC 1\n", 1), [b"ok 1"])
+        [third] = {*nodes.ports} - {nodes.primary_by_patroni(), nodes.waited_for()}
+        nodes.wait(lambda: nodes.has_all(third), f"that {third} has all")
+        nodes.hold_from(third)
+        self.assertEqual(asked(servers, b"book LOC 2\n" * 2, 2, sequence=2), [b"ok 2", b"ok 3"])
+        lost, heir, other = self.without_leader()
+        self.assertEqual(other, third)
+        nodes.go_on(third)
+        nodes.patronictl("failover", "--candidate", other, "--force", "fleet")
+        self.wait_for_primary(other)
+        nodes.start(heir)
+        nodes.start(lost)
+        self.until(fleet, HALTED)
+        self.want_in(fleet.value(HALTED), "lines 2 to 3 were answered and are gone from the journal")
+        self.assertEqual(asked(servers, b"book LOC 4\n", 1, sequence=4), [b"closed halted"])
+        self.same_rows(fleet, (1, "D1", 1, "book LOC 1", "ok 1"))
+        nodes.wait_until_whole()
 
     def test_waiting_that_an_operator_switches_off_answers_nothing(self) -> None:
         """Without `synchronous_mode` commits wait all the same; where they don't PostgreSQL lets those who wait go on
@@ -114,6 +132,16 @@ class Losses(PatroniTest):
         self.assertEqual(asked(servers, b"book LOC 2\n", 1, sequence=2), [b"ok 2"])
         self.assertEqual(fleet.value(COUNT), 2)
         nodes.wait_until_whole()
+
+    def without_leader(self) -> tuple[str, str, str]:
+        """Loses the primary and the standby that is waited for at one moment, and waits until the lock has ended; gives
+        their names, and the third's."""
+        nodes = self.databases
+        lost, heir = nodes.primary_by_patroni(), nodes.waited_for()
+        [other] = {*nodes.ports} - {lost, heir}
+        nodes.kill(lost, heir)
+        nodes.wait(lambda: LEADER not in nodes.roles().values(), "that the lock of the primary ends")
+        return lost, heir, other
 
     def without_standbys(self) -> tuple[str, list[str]]:
         """Loses the standbys, one after the other; gives the primary, which waits for any, and who was lost."""
