@@ -12,7 +12,7 @@ use Rattle.nrm_dual.specs.declared.verdict.Verdict.TheVariants as verdict
 use Rattle.nrm_outside.specs.Outside.{LeftStream, OnFile, Outside, WroteCut}
 use Rattle.nrm_outside.specs.Refusals.{file_fault_line}
 use Rattle.nrm_outside.specs.Puts.{PutsIfSome, PutsLine}
-use Rattle.nrm_cli.specs.Certificates.{LacksCertificate, certificate_under, lacking_line, no_certificate, refused_for, verdict_line}
+use Rattle.nrm_findings.specs.Certificates.{LacksCertificate, certificate_under, lacking_line, no_certificate, refused_for, verdict_line}
 use Rattle.nrm_cli.specs.Ends.{Ends, Failures, FilesFailedBefore, status_of}
 use Rattle.nrm_cli.specs.Jobs.{check_file}
 use Rattle.nrm_cli.specs.Inner.Parts.{ChecksFile, CountsCertificate, OpensCertificate, PutsVerdict, lack_line}

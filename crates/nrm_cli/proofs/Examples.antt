@@ -3,9 +3,7 @@ use Rattle.std.specs.Prelude.{◌≡◌, ◌≢◌, ◌<◌, ◌≤◌, ℕ, ℤ
 use Rattle.std.proofs.Common.{◌∙◌, ap, arith, inl, inr, subst, take}
 use Rattle.nrm_gen.specs.MadeNetwork.{made_network}
 use Rattle.std.specs.Fmt.{digits}
-use Rattle.nrm_text.specs.Words.{text_line}
 use Rattle.nrm_fraction.specs.Fraction.{whole}
-use Rattle.nrm_fraction.specs.Fraction as fraction
 use Rattle.nrm_model.specs.Network.{NetworkValue, leg_of}
 use Rattle.nrm_model.specs.Inventory.{inventory_of}
 use Rattle.nrm_model.specs.declared.mode.Mode.{Mode}
@@ -19,17 +17,14 @@ use Rattle.nrm_report.specs.Texts.{plan_text}
 use Rattle.nrm_control.specs.State.{SeatState, opening, after_request, after_cancellation}
 use Rattle.nrm_stream.specs.Commands.{commands_of}
 use Rattle.nrm_session.specs.Replies.{Reply, bad, unknown, sold, no_leg, no_fare, cancelled, optimised_none, overflow, hindsight_told, leg_told, plan_told}
-use Rattle.nrm_dual.specs.Refusals.{too_long, bad_line, large_line, no_value, no_product, no_leg, too_fine}
 use Rattle.nrm_dual.specs.declared.verdict.Verdict.TheVariants as verdict
 use Rattle.nrm_outside.specs.Outside.{Outside, FilesFailed, SourceFailed, SinkFailed, Wrote}
-use Rattle.nrm_cli.specs.Certificates.{lacking_line, no_certificate, refused_for, verdict_line}
 use Rattle.nrm_cli.specs.Ends.{Completes, Ends, Failures, IsDone, OrRanOut, OrRanOutTelling, RunWrites, status_of, stream_limit}
 use Rattle.nrm_cli.specs.Jobs.{job_of, run_file, plan_file, check_file, print_file, run_made, cut_leg, value_leg}
 use Rattle.nrm_cli.specs.Tells.{IsOfNetwork, Tells, usage as tells_usage, refused as tells_refused, of_network as tells_of_network, file_fault as tells_file_fault}
-use Rattle.nrm_cli.specs.LegThresholds.{cuts_text}
-use Rattle.nrm_cli.specs.LegValues.{class_count, no_classes_line, values_text}
-use Rattle.nrm_cli.specs.Made.{counts_from, hindsight_word, last_of, nothing_counted, summary_words}
-use Rattle.nrm_cli.specs.declared.counts.Counts.{Counts}
+use Rattle.nrm_findings.specs.Summary.{nothing_counted}
+use Rattle.nrm_cli.specs.Made.{counts_from, hindsight_in, last_of}
+use Rattle.nrm_findings.specs.declared.summary.Counts.{Counts}
 use Rattle.nrm_cli.specs.Numbers.{number_of}
 use Rattle.nrm_cli.specs.declared.status.Status.{Status}
 use Rattle.nrm_cli.specs.declared.status.Status.TheVariants as status
@@ -181,27 +176,18 @@ their_counts = record { sold = 2; no_leg = 1; no_fare = 1; cancelled = 1; unknow
 counts : counts_from nothing_counted some_replies ≡ their_counts
 counts = refl
 
-last_told : last_of some_replies ≡ hindsight_told (whole (pos 1200)) 1000 0
+last_told : hindsight_in (last_of some_replies) ≡ Some (whole (pos 1200))
 last_told = refl
 
-summed_up : text_line (summary_words their_counts 1000 (codes "1200/1")) ≡ codes "made lines 10000 ok 2 no 1 fare 1 cancelled 1 unknown 1 legs 2 optimised 1 overflow 1 revenue 1000 hindsight 1200/1\n"
-unfolding digits
-summed_up = refl
+no_value : hindsight_in overflow ≡ None
+no_value = refl
 
--- each kind of reply has a count of its own, and each count its own word
+-- each kind of reply has a count of its own
 counted_apart : counts_from nothing_counted
     (no_leg (codes "AB") ∷ no_leg (codes "AB") ∷ no_fare ∷ cancelled 2 200 ∷ cancelled 3 200 ∷ cancelled 4 200 ∷ unknown ∷ unknown ∷ unknown ∷ unknown
     ∷ overflow ∷ bad ∷ [])
     ≡ record { sold = 0; no_leg = 2; no_fare = 1; cancelled = 3; unknown = 4; legs = 0; optimised = 0; overflow = 1 }
 counted_apart = refl
-
-told_apart : text_line (summary_words (record { sold = 1; no_leg = 2; no_fare = 3; cancelled = 4; unknown = 5; legs = 6; optimised = 7; overflow = 8 }) 9 (codes "10/1"))
-    ≡ codes "made lines 10000 ok 1 no 2 fare 3 cancelled 4 unknown 5 legs 6 optimised 7 overflow 8 revenue 9 hindsight 10/1\n"
-unfolding digits
-told_apart = refl
-
-without_a_value : hindsight_word overflow ≡ codes "overflow"
-without_a_value = refl
 
 other_mode : job_of (codes "run" ∷ codes "fast" ∷ codes "F" ∷ []) ≡ None
 other_mode = refl
@@ -218,17 +204,6 @@ numbers = refl
 statuses : map status_of (verdict.Optimal ∷ verdict.WrongShape ∷ verdict.WrongProduct 0 ∷ verdict.WrongLeg 0 ∷ verdict.WrongValue ∷ [])
     ≡ status.Done ∷ status.Wrong ∷ status.Wrong ∷ status.Wrong ∷ status.Wrong ∷ []
 statuses = refl
-
-verdicts : map (verdict_line two_legs) (verdict.Optimal ∷ verdict.WrongShape ∷ verdict.WrongProduct 1 ∷ verdict.WrongLeg 1 ∷ verdict.WrongValue ∷ [])
-    ≡ codes "optimal\n" ∷ codes "wrong shape\n" ∷ codes "wrong product LOC\n" ∷ codes "wrong leg BC\n" ∷ codes "wrong value\n" ∷ []
-verdicts = refl
-
--- each refusal of a certificate by its line
-lackings : map (lacking_line two_legs) (no_certificate ∷ refused_for too_long ∷ refused_for (bad_line 9) ∷ refused_for (large_line 1) ∷ refused_for no_value ∷ refused_for (no_product 0) ∷ refused_for (no_leg 1) ∷ refused_for too_fine ∷ [])
-    ≡ codes "refused certificate no file\n" ∷ codes "refused certificate long\n" ∷ codes "refused certificate line 9\n" ∷ codes "refused certificate line 1 large\n"
-    ∷ codes "refused certificate no value\n" ∷ codes "refused certificate no product THRU\n" ∷ codes "refused certificate no leg BC\n" ∷ codes "refused certificate too fine\n" ∷ []
-unfolding digits
-lackings = refl
 
 words_of_a_check : job_of (codes "check" ∷ codes "F" ∷ codes "C" ∷ []) ≡ Some (check_file (codes "F") (codes "C"))
 words_of_a_check = refl
@@ -250,44 +225,6 @@ words_of_values = refl
 
 values_of_no_name : job_of (codes "dp" ∷ codes "F" ∷ [] ∷ []) ≡ None
 values_of_no_name = refl
-
--- ---- what is told of a leg
-lines_of_cuts : cuts_text (codes "AB") (record { cost = 1200; cuts = 400 ∷ []; centres = 500 ∷ 150 ∷ [] })
-    ≡ codes "cuts AB 400\ncentres AB 500 150\ncost AB 1200\n"
-unfolding digits
-lines_of_cuts = refl
-
-lines_of_one_group : cuts_text (codes "AB") (record { cost = 8600; cuts = []; centres = 400 ∷ [] })
-    ≡ codes "cuts AB\ncentres AB 400\ncost AB 8600\n"
-unfolding digits
-lines_of_one_group = refl
-
--- LOC is the one class of AB; nothing is to come of it
-lines_of_values : values_text two_legs (codes "AB") 3 (1 ∷ []) (record { histories = 1; fares = 200 ∷ []; demands = 0 ∷ [] })
-    ≡ codes "class LOC 200\nvalue AB 0/1\nprotect AB\n"
-unfolding digits fraction.◌over◌
-lines_of_values = refl
-
--- two classes of two histories, on three seats: 2200 over four combinations is 550, and two seats are protected for the dearer one
-abbrev high_and_low : NetworkValue
-high_and_low = record two_legs {
-  histories = 2;
-  products = record { name = codes "LO"; fare = 100; refund = 100; legs = 0 ∷ [] } ∷ record { name = codes "HI"; fare = 300; refund = 100; legs = 0 ∷ [] } ∷ [];
-  demand = 2 ∷ 3 ∷ 1 ∷ 2 ∷ [];
-}
-
-lines_of_two_classes : values_text high_and_low (codes "AB") 3 (1 ∷ 0 ∷ []) (record { histories = 2; fares = 300 ∷ 100 ∷ []; demands = 1 ∷ 2 ∷ 2 ∷ 3 ∷ [] })
-    ≡ codes "class HI 300\nclass LO 100\nvalue AB 550/1\nprotect AB 2\n"
-unfolding digits fraction.◌over◌
-lines_of_two_classes = refl
-
--- THRU uses both legs, so BC has no class, and nor has a leg that isn't there
-counts_of_classes : map (class_count two_legs) (codes "AB" ∷ codes "BC" ∷ codes "CD" ∷ []) ≡ 1 ∷ 0 ∷ 0 ∷ []
-counts_of_classes = refl
-
-line_of_no_classes : no_classes_line 11 ≡ codes "classes 11\n"
-unfolding digits
-line_of_no_classes = refl
 
 -- 4 GiB
 limit : stream_limit ≡ 4294967296

@@ -5,8 +5,7 @@ use Rattle.nrm_outside.specs.Outside.{LeftStream, Outside}
 use Rattle.nrm_cli.specs.Ends.{Ends, Failures}
 use Rattle.nrm_cli.specs.Inner.Parts.{PutsTold}
 use Rattle.nrm_cli.specs.Jobs.{Job}
-use Rattle.nrm_cli.specs.LegThresholds.{CutsTold, cut, unused}
-use Rattle.nrm_cli.specs.LegValues.{ValuesTold, valued, no_classes}
+use Rattle.nrm_cli.specs.LegTexts.{CutsTold, ValuesTold, cut, no_classes, unused, valued}
 use Rattle.nrm_cli.specs.Tells.{IsOfNetwork, Opens, TellsOf, of_network}
 use Rattle.nrm_cli.specs.declared.status.Status.{Status}
 use Rattle.nrm_cli.proofs.ToldEnds.{quiet-of-network, told-counts, told-ends}

@@ -1,11 +1,9 @@
 -- The commands of a maker are answered one after another, and their replies counted.
-use Rattle.std.proofs.Common.{ℕ, suc, ◌≡◌, ◌≢◌, ◌∙◌, ◌+◌, ◌-◌, ◌≤◌, ◌<◌, ◌++◌, ◌∷◌, [], List, Option, Some, None, Bool, codes, decimal}
-use Rattle.std.proofs.Common.{drop, if◌then◌else◌, length, refl, sym, ap, subst, arith, inl, inr, append-nil, append_assoc, length-append}
+use Rattle.std.proofs.Common.{ℕ, suc, ◌≡◌, ◌≢◌, ◌∙◌, ◌+◌, ◌-◌, ◌≤◌, ◌<◌, ◌++◌, ◌∷◌, [], List, Option, Some, None, Bool}
+use Rattle.std.proofs.Common.{if◌then◌else◌, length, refl, sym, ap, subst, arith, inl, inr, append-nil, append_assoc, length-append}
 use Rattle.std.proofs.lemmas.Bool.{cases_lt, le-ltb, lt-ltb}
 use Rattle.std.proofs.lemmas.List.Elements.{All-nil, All-cons, All-append}
-use Rattle.std.specs.Fmt.{digits}
-use Rattle.std.specs.List.{join_with_byte}
-use Rattle.nrm_text.specs.Words.{spaced, text_line}
+use Rattle.nrm_text.specs.Words.{text_line}
 use Rattle.nrm_model.specs.Inventory.{inventory_of}
 use Rattle.nrm_model.specs.declared.mode.Mode.{Mode}
 use Rattle.nrm_model.specs.Network.{NetworkValue}
@@ -26,7 +24,8 @@ use Rattle.nrm_outside.specs.Outside.{LeftStream, Outside}
 use Rattle.nrm_gen.specs.MadeNetwork.{made_network}
 use Rattle.nrm_gen.specs.MadeCommands.{Making, after_next, command_at, command_count, made_commands, next_of}
 use Rattle.nrm_gen.proofs.OneByOne.{given-first, given-none}
-use Rattle.nrm_cli.specs.Made.{MadeRun, count_words, counted, counts_from, hindsight_word, last_of, nothing_counted, summary_words}
+use Rattle.nrm_findings.specs.Summary.{hindsight_word, nothing_counted, summary_words}
+use Rattle.nrm_cli.specs.Made.{MadeRun, counted, counts_from, hindsight_in, last_of}
 use Rattle.nrm_cli.specs.Ends.{Ends, Failures}
 use Rattle.nrm_cli.specs.Jobs.{run_made}
 use Rattle.nrm_cli.specs.Tells.{of_network}
@@ -35,7 +34,7 @@ use Rattle.nrm_cli.specs.declared.status.Status.{Status}
 use Rattle.nrm_cli.specs.declared.status.Status.TheVariants as status
 use Rattle.nrm_session.proofs.ServedBy.{opened}
 use Rattle.nrm_cli.proofs.ToldEnds.{told-ends}
-use Rattle.nrm_cli.specs.declared.counts.Counts.{Counts}
+use Rattle.nrm_findings.specs.declared.summary.Counts.{Counts}
 
 -- ---- one reply more
 counts-more : (c : Counts) (replies : List Reply) (reply : Reply)
@@ -145,11 +144,11 @@ fewer-left left after command gives goes =
 -- from the opening it is the run over the commands that are made of a number
 pub made-run : (old new : ControlValue) (net : NetworkValue) (number : ℕ) (at_first : Making) (counts : Counts) (last : Answered) (text : List ℕ)
     → HasBegun net old → rest_of at_first ≡ made_commands number → AnswersMade old new (rest_of at_first) counts last
-    → text ≡ text_line (summary_words counts (revenue_of (inventory_of new.net) new.bookings) (hindsight_word (reply_in new last))) → MadeRun net old.plan number text
+    → text ≡ text_line (summary_words counts (revenue_of (inventory_of new.net) new.bookings) (hindsight_word (hindsight_in (reply_in new last)))) → MadeRun net old.plan number text
 made-run old new net number at_first counts last text begun all answers is =
     let (s, replies, stands, run, suffices, counts_are, last_is) = answers.run (opening old.plan) (opened old net begun) in
     let same : old.net ≡ net = ap (λ (c : ControlValue). c.net) begun in
-    let line : Counts → NetworkValue → List Booking → Reply → List ℕ = λ c n bookings reply. text_line (summary_words c (revenue_of (inventory_of n) bookings) (hindsight_word reply)) in
+    let line : Counts → NetworkValue → List Booking → Reply → List ℕ = λ c n bookings reply. text_line (summary_words c (revenue_of (inventory_of n) bookings) (hindsight_word (hindsight_in reply))) in
     record {
       replies = replies;
       last = s;
@@ -157,45 +156,6 @@ made-run old new net number at_first counts last text begun all answers is =
       suffices = suffices;
       summary = is ∙ (λ i. line (counts_are i) ((answers.network ∙ same) i) (sym stands.bookings i) (sym last_is i));
     }
-
--- ---- a word more and its number
-joined-more : (first : List ℕ) (words : List (List ℕ)) (word digits : List ℕ)
-    → (join_with_byte 32 (first ∷ words) ++ 32 ∷ word) ++ 32 ∷ digits ≡ join_with_byte 32 ((first ∷ words) ++ word ∷ digits ∷ [])
-joined-more first [] word digits = append_assoc first (32 ∷ word) (32 ∷ digits)
-joined-more first (second ∷ more) word digits =
-    let rest : List ℕ = join_with_byte 32 (second ∷ more) in
-    ap (λ (line : List ℕ). line ++ 32 ∷ digits) (append_assoc first (32 ∷ rest) (32 ∷ word))
-    ∙ append_assoc first (32 ∷ (rest ++ 32 ∷ word)) (32 ∷ digits)
-    ∙ ap (λ (line : List ℕ). first ++ 32 ∷ line) (joined-more second more word digits)
-
-pub count-more : (first : List ℕ) (words : List (List ℕ)) (word : List ℕ) (count pushed : ℕ) (line line' : List ℕ)
-    → line ≡ join_with_byte 32 (first ∷ words)
-    → line' ≡ line ++ spaced word ++ spaced (decimal pushed) → pushed ≡ count → line' ≡ join_with_byte 32 ((first ∷ words) ++ word ∷ decimal count ∷ [])
-count-more first words word count pushed line line' is goes same =
-    goes ∙ (λ i. is i ++ spaced word ++ spaced (decimal (same i))) ∙ joined-more first words word (decimal count)
-
--- and a word more after the word for it, which is put with the space behind it
-word-more : (first : List ℕ) (words : List (List ℕ)) (word next line line' : List ℕ) → line ≡ join_with_byte 32 (first ∷ words)
-    → line' ≡ (line ++ (32 ∷ word ++ 32 ∷ [])) ++ next
-    → line' ≡ join_with_byte 32 ((first ∷ words) ++ word ∷ next ∷ [])
-word-more first words word next line line' is goes =
-    goes ∙ append_assoc line (32 ∷ word ++ 32 ∷ []) next ∙ ap (λ (l : List ℕ). line ++ 32 ∷ l) (append_assoc word (32 ∷ []) next) ∙ sym (append_assoc line (32 ∷ word) (32 ∷ next))
-    ∙ ap (λ (l : List ℕ). (l ++ 32 ∷ word) ++ 32 ∷ next) is ∙ joined-more first words word next
-
--- the first words
-pub first-words : join_with_byte 32 (codes "made" ∷ codes "lines" ∷ decimal command_count ∷ []) ≡ codes "made lines 10000"
-unfolding digits
-first-words = refl
-
--- and the whole line, piece by piece
-pub line-is : (counts : Counts) (revenue : ℕ) (hindsight a b d e line : List ℕ) → a ≡ join_with_byte 32 (count_words counts)
-    → b ≡ a ++ spaced (codes "revenue") ++ spaced (decimal revenue) → d ≡ b ++ codes " hindsight " → e ≡ d ++ hindsight → line ≡ e ++ 10 ∷ []
-    → line ≡ text_line (summary_words counts revenue hindsight)
-line-is counts revenue hindsight a b d e line counted_is b_is d_is e_is line_is =
-    let rest : List (List ℕ) = drop 1 (count_words counts) in
-    let first : b ≡ join_with_byte 32 (count_words counts ++ codes "revenue" ∷ decimal revenue ∷ []) = count-more (codes "made") rest (codes "revenue") revenue revenue a b counted_is b_is refl in
-    line_is ∙ ap (λ (l : List ℕ). l ++ 10 ∷ [])
-    (word-more (codes "made") (rest ++ codes "revenue" ∷ decimal revenue ∷ []) (codes "hindsight") hindsight b e first (e_is ∙ ap (λ (l : List ℕ). l ++ hindsight) d_is))
 
 -- ---- how a made run ends
 pub summary-ends : (m : Mode) (number : ℕ) (net : NetworkValue) (plan : PlanValue) (before after : Outside) (s : Status)

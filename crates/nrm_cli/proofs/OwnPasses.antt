@@ -10,9 +10,9 @@ use Rattle.nrm_dlp.proofs.Limited.{opening-limited}
 use Rattle.nrm_dual.proofs.ClosingLowest.{closings_read}
 use Rattle.nrm_dual.proofs.PassesCertify.{certified_passes, optimal_passes}
 use Rattle.nrm_dual.proofs.WrittenRead.{written_read}
-use Rattle.nrm_cli.specs.Certificates.{certificate_in}
+use Rattle.nrm_findings.specs.Certificates.{certificate_in}
 use Rattle.nrm_cli.specs.Own.{OptimalCertificatesPass, OwnCertificatesPass}
-use Rattle.nrm_cli.proofs.ProgramOfNetwork.{legs-of, products-of, shape-of-program}
+use Rattle.nrm_findings.proofs.ProgramOfNetwork.{legs-of, products-of, shape-of-program}
 
 pub own-passes : OwnCertificatesPass
 own-passes net is n t closes =

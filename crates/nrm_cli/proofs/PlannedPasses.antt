@@ -19,7 +19,7 @@ use Rattle.nrm_plan.specs.Plans.{HasCertificate, IsOpeningPlan, IsSolved, PlanVa
 use Rattle.nrm_report.specs.Texts.{plan_text, text_of_plan}
 use Rattle.nrm_outside.specs.Outside.{OnFile, Outside, Wrote}
 use Rattle.nrm_outside.specs.Refusals.{network_under}
-use Rattle.nrm_cli.specs.Certificates.{LacksCertificate, certificate_under, verdict_line}
+use Rattle.nrm_findings.specs.Certificates.{LacksCertificate, certificate_under, verdict_line}
 use Rattle.nrm_cli.specs.Ends.{Completes, Ends, IsDone, OrRanOut}
 use Rattle.nrm_cli.specs.Jobs.{Job, run_file, plan_file, check_file}
 use Rattle.nrm_cli.specs.Own.{PlannedPasses, WasPlanned}

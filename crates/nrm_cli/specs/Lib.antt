@@ -1,12 +1,8 @@
 pub mod Call
-pub mod Certificates
 pub mod Ends
 pub mod Inner
 pub mod Jobs
-pub mod LegMeans
 pub mod LegTexts
-pub mod LegThresholds
-pub mod LegValues
 pub mod Made
 pub mod Numbers
 pub mod Own

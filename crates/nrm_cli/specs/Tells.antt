@@ -17,11 +17,10 @@ use Rattle.nrm_gen.specs.MadeNetwork.{made_network}
 use Rattle.nrm_outside.specs.Outside.{Outside, OnFile, FilesFailed, Wrote, WroteCut, LeftStream}
 use Rattle.nrm_outside.specs.Refusals.{Refusal, network_under, refusal_line, file_fault_line}
 use Rattle.nrm_outside.specs.Words.{overflow_line, told_pivots}
-use Rattle.nrm_cli.specs.Certificates.{LacksCertificate, certificate_under, lacking_line, verdict_line}
+use Rattle.nrm_findings.specs.Certificates.{LacksCertificate, certificate_under, lacking_line, verdict_line}
 use Rattle.nrm_cli.specs.Jobs.{Job, run_file, plan_file, check_file, print_file, run_made, cut_leg, value_leg, NamesFile}
 use Rattle.nrm_cli.specs.Jobs.{Origin, of_file, of_number, origin_of, usage_line}
-use Rattle.nrm_cli.specs.LegThresholds.{CutsTold}
-use Rattle.nrm_cli.specs.LegValues.{ValuesTold}
+use Rattle.nrm_cli.specs.LegTexts.{CutsTold, ValuesTold}
 use Rattle.nrm_cli.specs.Made.{MadeRun}
 use Rattle.nrm_cli.specs.declared.status.Status.{Status}
 use Rattle.nrm_cli.specs.declared.status.Status.TheVariants as status

@@ -1,19 +1,16 @@
-//! From a file's name to the certificate that it gives for a network, and the lines about certificates.
-ghost use Rattle.std.specs.Prelude.{◌≡◌, ◌≤◌, ◌≢◌, ◌++◌, ◌∷◌, [], decimal, IfErr, IfOk, length, option_map};
+//! From a file's name to the certificate that it gives for a network, or why there is none.
+ghost use Rattle.std.specs.Prelude.{◌≡◌, IfErr, IfOk, length};
 ghost use Rattle.nrm_fraction.specs.Large.{size_limit};
 ghost use Rattle.nrm_lp.specs.Shape.{HasShape};
-ghost use Rattle.nrm_dlp.specs.Programs.{opening_program};
-ghost use Rattle.nrm_dual.specs.Named.{IsOfNetwork, IsOfProgram};
-ghost use Rattle.nrm_dual.specs.Refusals.{refusal_of};
-ghost use Rattle.nrm_cli.specs.Certificates.{lacking_line, refused_for, verdict_line};
 ghost use Rattle.nrm_cli.specs.Inner.Parts.{CountsCertificate, IsLackOf, OpensCertificate, ReadsCertificate, lack_line, lack_status};
 
 use crate::Status;
-use nrm_dual::{CertFault, Verdict, read_certificate};
+use nrm_dual::{CertFault, read_certificate};
 use nrm_edge::{Fetched, FileFault, Files};
+use nrm_findings::line_of_fault;
 use nrm_lp::Certificate;
 use nrm_model::{MOST_CERTIFICATE_BYTES, Network};
-use nrm_text::{Line, Name};
+use nrm_text::Line;
 use std::alloc::Global;
 
 /// Why there is no certificate.
@@ -89,55 +86,6 @@ pub(crate) fn open_certificate<F: Files>(
     )
 }
 
-// A line of this text, a name and the end of the line.
-fn line_naming(text: &[u8], name: &Name) -> Line
-    requires { length text.now ≤ 100 }
-    ensures { result ≡ text.now ++ name.now ++ 10 ∷ [] }
-{
-    let mut line = Line::of_bytes(text);
-    line.push_name(name);
-    line.push_bytes(b"\n");
-    line
-}
-
-// A line of this text, a number and what follows it.
-#[tactic(auto, using(nrm_text::proofs::Decimals::short_decimal))]
-fn line_numbering(text: &[u8], number: u32, end: &[u8]) -> Line
-    requires text { length text.now ≤ 100 }
-    requires end { length end.now ≤ 100 }
-    ensures { result ≡ text.now ++ decimal number ++ end.now }
-{
-    let mut line = Line::of_bytes(text);
-    line.push_u64(u64::from(number));
-    line.push_bytes(end);
-    line
-}
-
-// The line that says why a certificate is refused. `None` exactly if memory runs out.
-fn line_of_fault(net: &Network, fault: CertFault) -> Option<Line>
-    requires { IsOfNetwork net.now fault }
-    ensures { result ≡ option_map (λ cause. lacking_line net.now (refused_for cause)) (refusal_of fault) }
-{
-    let line = match fault {
-        CertFault::Long => Line::of_bytes(b"refused certificate long\n"),
-        CertFault::Line(number) => line_numbering(b"refused certificate line ", number, b"\n"),
-        CertFault::Large(number) => {
-            line_numbering(b"refused certificate line ", number, b" large\n")
-        }
-        CertFault::NoValue => Line::of_bytes(b"refused certificate no value\n"),
-        CertFault::NoProduct(product) => {
-            line_naming(
-                b"refused certificate no product ",
-                &net.product_at(product).name,
-            )
-        }
-        CertFault::NoLeg(leg) => line_naming(b"refused certificate no leg ", &net.leg_at(leg).name),
-        CertFault::TooFine => Line::of_bytes(b"refused certificate too fine\n"),
-        CertFault::NoMemory => return None,
-    };
-    Some(line)
-}
-
 impl NoCertificate {
     /// The line that says why there is no certificate. `None` exactly if memory runs out.
     pub(crate) fn line(self, net: &Network) -> Option<Line>
@@ -159,21 +107,5 @@ impl NoCertificate {
             NoCertificate::Absent | NoCertificate::Unread(_) => Status::Refused,
             NoCertificate::Fault => Status::FileFault,
         }
-    }
-}
-
-/// The line of a verdict.
-pub(crate) fn line_of_verdict(net: &Network, verdict: Verdict) -> Line
-    requires { IsOfProgram (opening_program net.now) verdict }
-    ensures { result ≡ verdict_line net.now verdict }
-{
-    match verdict {
-        Verdict::Optimal => Line::of_bytes(b"optimal\n"),
-        Verdict::WrongShape => Line::of_bytes(b"wrong shape\n"),
-        Verdict::WrongProduct(product) => {
-            line_naming(b"wrong product ", &net.product_at(product).name)
-        }
-        Verdict::WrongLeg(leg) => line_naming(b"wrong leg ", &net.leg_at(leg).name),
-        Verdict::WrongValue => Line::of_bytes(b"wrong value\n"),
     }
 }

@@ -10,11 +10,12 @@ ghost use Rattle.nrm_cli.specs.Jobs.{check_file as check_job};
 ghost use Rattle.nrm_cli.specs.Inner.Parts.{ChecksFile, PutsCompared, PutsVerdict};
 
 use crate::Status;
-use crate::certificate::{line_of_verdict, open_certificate};
+use crate::certificate::open_certificate;
 use crate::status::STATUSES;
 use nrm_dlp::opening_program;
 use nrm_dual::{Verdict, check};
 use nrm_edge::{Files, Sink};
+use nrm_findings::line_of_verdict;
 use nrm_lp::{Certificate, Program};
 use nrm_model::Network;
 use nrm_outside::open_network;

@@ -3,7 +3,6 @@
 
 mod certificate;
 mod checked;
-mod counts;
 mod cut;
 mod made;
 mod planned;

@@ -1,29 +1,27 @@
 //! A made run: the controller of the network that is made of a number answers the commands that are made of it, and one line
 //! sums its replies up.
-ghost use Rattle.std.specs.Prelude.{ℕ, Option, IfSome, MatchOption, ◌≡◌, ◌≢◌, ◌≤◌, ◌+◌, ◌++◌, ◌∷◌, length, decimal};
-ghost use Rattle.std.specs.List.{join_with_byte};
+ghost use Rattle.std.specs.Prelude.{ℕ, Option, IfSome, MatchOption, ◌≡◌, ◌≢◌, ◌<◌, ◌≤◌, ◌+◌, ◌-◌, ◌^◌};
 ghost use Rattle.nrm_edge.specs.Fetch.{Folder};
-ghost use Rattle.nrm_text.specs.Words.{text_line};
 ghost use Rattle.nrm_model.specs.Network.{NetworkValue};
 ghost use Rattle.nrm_control.specs.Standing.{ControlValue, IsControl};
 ghost use Rattle.nrm_session.specs.Answering.{IsTellable, reply_in};
 ghost use Rattle.nrm_session.specs.declared.reply.Reply.TheVariants as answered;
+ghost use Rattle.nrm_findings.specs.Summary.{fraction_of};
 ghost use Rattle.nrm_gen.specs.MadeCommands.{command_count, made_commands};
 ghost use Rattle.nrm_outside.specs.Outside.{SentOn};
 ghost use Rattle.nrm_cli.specs.Jobs.{run_made as made_job};
-ghost use Rattle.nrm_cli.specs.Made.{count_words, hindsight_word, summary_words};
+ghost use Rattle.nrm_cli.specs.Made.{counted, hindsight_in};
 ghost use Rattle.nrm_cli.specs.Inner.Does.{DoesBeside, sink_beside};
-ghost use Rattle.nrm_cli.specs.Inner.Parts.{AnswersMade, HasBegun, PutsSummary, rest_of};
+ghost use Rattle.nrm_cli.specs.Inner.Parts.{AnswersMade, HasBegun, PutsSummary, rest_of, total_of};
 
 use crate::Status;
-use crate::counts::Counts;
 use crate::status::STATUSES;
 use nrm_control::Controller;
 use nrm_edge::Sink;
+use nrm_findings::{Counts, line_of_summary};
 use nrm_gen::{Maker, made};
 use nrm_model::Mode;
 use nrm_session::{Reply, carry_out};
-use nrm_text::Line;
 use std::alloc::Global;
 
 // A reply. `None` exactly if memory runs out.
@@ -33,6 +31,25 @@ fn with_memory(reply: Reply) -> Option<Reply>
     match reply {
         Reply::Memory => None,
         reply => Some(reply),
+    }
+}
+
+// Counts one reply more. A plan for which nothing was solved counts among those that were optimised.
+fn count(counts: &mut Counts, reply: Reply)
+    requires { total_of counts.old < 2 ^ 32 - 1 }
+    ensures counted { (control : ControlValue) → counts.new ≡ counted counts.old (reply_in control reply) }
+    ensures total { total_of counts.new ≤ total_of counts.old + 1 }
+{
+    match reply {
+        Reply::Sold { .. } => counts.sold += 1,
+        Reply::NoLeg(_) => counts.no_leg += 1,
+        Reply::NoFare => counts.no_fare += 1,
+        Reply::Cancelled { .. } => counts.cancelled += 1,
+        Reply::Unknown => counts.unknown += 1,
+        Reply::Leg(_) => counts.legs += 1,
+        Reply::Optimised { .. } | Reply::OptimisedNone => counts.optimised += 1,
+        Reply::Overflow => counts.overflow += 1,
+        Reply::Bad | Reply::Memory | Reply::Hindsight { .. } | Reply::Plan => {}
     }
 }
 
@@ -50,55 +67,22 @@ fn answer_all(
     let mut counts = Counts::new();
     let mut last = Reply::Bad;
     while let Some(command) = maker.next() {
-        counts.count(last);
+        count(&mut counts, last);
         last = with_memory(carry_out(alloc, controller, &command))?;
     }
     Some((counts, last))
 }
 
-// The words of the counts.
-fn line_of_counts(counts: &Counts) -> Line
-    ensures text { result ≡ join_with_byte 32 (count_words counts.now) }
-    ensures length { length result ≤ 280 }
+// The value of hindsight that a reply tells, if it does.
+fn hindsight_of(reply: Reply) -> Option<(u64, u64)>
+    requires { (net : NetworkValue) × IsTellable net reply }
+    ensures some { IfSome result (λ value. 0 < value.1) }
+    ensures value { (control : ControlValue) → fraction_of result ≡ hindsight_in (reply_in control reply) }
 {
-    let mut line = Line::of_bytes(b"made lines 10000");
-    line.push_count(b"ok", u64::from(counts.sold));
-    line.push_count(b"no", u64::from(counts.no_leg));
-    line.push_count(b"fare", u64::from(counts.no_fare));
-    line.push_count(b"cancelled", u64::from(counts.cancelled));
-    line.push_count(b"unknown", u64::from(counts.unknown));
-    line.push_count(b"legs", u64::from(counts.legs));
-    line.push_count(b"optimised", u64::from(counts.optimised));
-    line.push_count(b"overflow", u64::from(counts.overflow));
-    line
-}
-
-// Appends the value that hindsight told, or that its program is Large.
-#[tactic(auto, using(nrm_text::proofs::Fractions::short_fraction))]
-fn push_hindsight(line: &mut Line, hindsight: Reply)
-    requires room { length line.old ≤ 400 }
-    requires tellable { (net : NetworkValue) × IsTellable net hindsight }
-    ensures text { (control : ControlValue) → line.new ≡ line.old ++ hindsight_word (reply_in control hindsight) }
-    ensures length { length line.new ≤ length line.old + 78 }
-{
-    match hindsight {
-        Reply::Hindsight { num, den, .. } => line.push_fraction(i128::from(num), u128::from(den)),
-        _ => line.push_bytes(b"overflow"),
+    match reply {
+        Reply::Hindsight { num, den, .. } => Some((num, den)),
+        _ => None,
     }
-}
-
-// The line that sums a made run up.
-fn line_of_summary(counts: &Counts, revenue: u64, hindsight: Reply) -> Line
-    requires { (net : NetworkValue) × IsTellable net hindsight }
-    ensures { (control : ControlValue)
-        → result ≡ text_line (summary_words counts.now revenue (hindsight_word (reply_in control hindsight))) }
-{
-    let mut line = line_of_counts(counts);
-    line.push_count(b"revenue", revenue);
-    line.push_bytes(b" hindsight ");
-    push_hindsight(&mut line, hindsight);
-    line.push_bytes(b"\n");
-    line
 }
 
 // Answers the commands of a maker and puts the summary, or memory is wanting.
@@ -121,7 +105,7 @@ fn put_summary<K: Sink>(
             let revenue = controller.book().revenue();
             STATUSES.put_line(
                 sink,
-                line_of_summary(&counts, revenue, last).bytes(),
+                line_of_summary(&counts, revenue, hindsight_of(last)).bytes(),
                 Status::Done,
             )
         }

@@ -13,7 +13,7 @@ ghost use Rattle.nrm_outside.specs.NetworkFile.{FilesGiveNetworks};
 ghost use Rattle.nrm_outside.specs.Outside.{SentOn, outside};
 ghost use Rattle.nrm_cli.specs.Call.{Call};
 ghost use Rattle.nrm_cli.specs.Jobs.{job_of};
-ghost use Rattle.nrm_cli.specs.LegMeans.{ValuesAreMeans};
+ghost use Rattle.nrm_findings.specs.LegMeans.{ValuesAreMeans};
 ghost use Rattle.nrm_cli.specs.LegTexts.{LegTextsAreDetermined};
 ghost use Rattle.nrm_cli.specs.Own.{OptimalCertificatesPass, OwnCertificatesPass};
 

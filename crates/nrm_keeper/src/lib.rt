@@ -14,8 +14,6 @@ mod shut;
 mod sql_keeper;
 mod statements;
 mod table;
-#[cfg(test)]
-mod tests;
 
 pub use file_keeper::{FileKeeper, StoreKeeper};
 pub use keeper::Keeper;

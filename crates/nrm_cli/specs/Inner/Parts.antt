@@ -26,7 +26,7 @@ use Rattle.nrm_dual.specs.declared.verdict.Verdict.TheVariants as verdict
 use Rattle.nrm_outside.specs.Outside.{OnFile}
 use Rattle.nrm_outside.specs.Refusals.{file_fault_line}
 use Rattle.nrm_outside.specs.Puts.{PutsIfSome, PutsLine, PutsUnplanned}
-use Rattle.nrm_cli.specs.Certificates.{certificate_under, lacking_line, no_certificate, refused_for, verdict_line}
+use Rattle.nrm_findings.specs.Certificates.{certificate_under, lacking_line, no_certificate, refused_for, verdict_line}
 use Rattle.nrm_hindsight.specs.Requests.{tallies_of}
 use Rattle.nrm_control.specs.Standing.{ControlValue, IsControl, StandsFor}
 use Rattle.nrm_control.specs.State.{SeatState}
@@ -40,8 +40,9 @@ use Rattle.nrm_session.specs.declared.reply.Reply.{Reply as Answered}
 use Rattle.nrm_session.specs.declared.serving.End.{End}
 use Rattle.nrm_session.specs.declared.serving.End.TheVariants as end
 use Rattle.nrm_cli.specs.Ends.{status_of}
-use Rattle.nrm_cli.specs.Made.{MadeRun, counts_from, last_of, nothing_counted}
-use Rattle.nrm_cli.specs.declared.counts.Counts.{Counts}
+use Rattle.nrm_findings.specs.Summary.{nothing_counted}
+use Rattle.nrm_cli.specs.Made.{MadeRun, counts_from, last_of}
+use Rattle.nrm_findings.specs.declared.summary.Counts.{Counts}
 use Rattle.nrm_cli.specs.declared.status.Status.{Status}
 use Rattle.nrm_cli.specs.declared.status.Status.TheVariants as status
 use Rattle.nrm_cli.specs.declared.certificate.NoCertificate.{NoCertificate}

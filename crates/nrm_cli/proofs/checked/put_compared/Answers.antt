@@ -8,7 +8,7 @@ use Rattle.nrm_outside.specs.Puts.{PutsLine}
 use Rattle.nrm_cli.specs.Ends.{status_of}
 use Rattle.nrm_cli.specs.Inner.Parts.{PutsCompared}
 use Rattle.nrm_cli.specs.declared.status.Status.{Status}
-use Rattle.nrm_cli.proofs.ProgramOfNetwork.{shape-of-program}
+use Rattle.nrm_findings.proofs.ProgramOfNetwork.{shape-of-program}
 use Rattle.nrm_cli.proofs.checked.put_compared.Goals as goal
 use Rattle.nrm_cli.specs.declared.status.TheConstants.{STATUSES}
 

@@ -1,5 +1,5 @@
 use Rattle.std.proofs.Common.{inr, subst, sym}
-use Rattle.nrm_cli.specs.LegThresholds.{CutsTold, cut, no_leg_line, unused}
+use Rattle.nrm_cli.specs.LegTexts.{CutsTold, cut, no_leg_line, unused}
 use Rattle.nrm_cli.specs.declared.status.Status.TheVariants as status
 use Rattle.nrm_cli.proofs.cut.put_cuts.Goals as goal
 

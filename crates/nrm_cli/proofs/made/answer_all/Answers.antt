@@ -7,7 +7,7 @@ loop-command-preserved c =
     let l = c.loop-command in
     let carried = c.carry_out in
     let (is, other) = c.in_ok-last.ensures in
-    rw is (made-more c.args.controller.now l.controller carried.new.controller c.args.maker.now l.maker c.next.new.self l.counts c.count.new.self l.last carried.result c.in-Some.command l.invariant
+    rw is (made-more c.args.controller.now l.controller carried.new.controller c.args.maker.now l.maker c.next.new.self l.counts c.count.new.counts l.last carried.result c.in-Some.command l.invariant
     (sym c.next.ensures.command ∙ c.in-Some.is) c.next.ensures.state c.count.ensures.counted c.count.ensures.total carried.ensures.step carried.ensures.tellable carried.ensures.sound other)
 
 pub loop-command-smaller : goal.loop-command-smaller

@@ -11,7 +11,7 @@ use Rattle.nrm_session.proofs.PrintedPlans.{printed-optimal}
 use Rattle.nrm_session.proofs.Runs.{runs}
 use Rattle.nrm_session.proofs.Seats.{kept}
 use Rattle.nrm_session.proofs.Verdicts.{requests-answered}
-use Rattle.nrm_cli.proofs.LegMeans.{values-are-means}
+use Rattle.nrm_findings.proofs.LegMeans.{values-are-means}
 use Rattle.nrm_cli.proofs.OneLegText.{leg-texts-determined}
 use Rattle.nrm_cli.proofs.OwnPasses.{optimal-pass, own-passes}
 use Rattle.nrm_cli.proofs.CompleteJobs.{completes, same-job-ends}

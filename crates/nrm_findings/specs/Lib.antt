@@ -1,0 +1,5 @@
+pub mod Certificates
+pub mod LegMeans
+pub mod LegThresholds
+pub mod LegValues
+pub mod Summary

@@ -1,0 +1,5 @@
+//! The tests of rows that outlive a run.
+#![tactic(auto)]
+
+#[cfg(test)]
+mod tests;

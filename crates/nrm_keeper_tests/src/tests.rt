@@ -1,0 +1,478 @@
+//! What no clause tells: that the calls succeed with ample memory, what the store keeps, and what a file does. And what each keeper
+//! tells through its trait alone: one that tells or shows no rows, that is never trusted, or whose count stands, is refused here.
+ghost use Rattle.std.specs.Prelude.{◌≡◌, ◌<◌, ◌^◌, [], ◌∷◌, Some, IfOk, OnOk, OnErr};
+ghost use Rattle.nrm_edge.specs.Causes.{counted};
+ghost use Rattle.nrm_keeper.specs.File.{IsTrusted, shown_in};
+ghost use Rattle.nrm_keeper.specs.Rows.{Adds, has_failed, told_if_rising};
+
+use nrm_keeper::{
+    Beginning, FileKeeper, KeepFault, Keeper, KeptRow, MemKeeper, Opener, PathOpener, SqlKeeper,
+    StoreKeeper,
+};
+use nrm_text::{Name, name_of};
+use sqlite::{Alter, Connection, FileFrom, FileStore, Unknown};
+use std::alloc::{AllocError, Global};
+use std::rt::HostRuntime;
+use std::test::Fail;
+use std::{env, fs};
+
+// A call, and the rows that are kept after it.
+#[derive(Clone, Copy)]
+struct Step<'a> {
+    call: Call<'a>,
+    kept: &'a [Line<'a>],
+}
+
+#[derive(Clone, Copy)]
+enum Call<'a> {
+    Add(Line<'a>),
+    Drop(u16),
+}
+
+// The number, the product and the party of a row.
+type Line<'a> = (u16, &'a [u8], u16);
+
+fn named(bytes: &[u8]) -> Result<Name, Fail> {
+    match name_of(bytes) {
+        Some(name) => Ok(name),
+        None => Err(Fail::from("no name")),
+    }
+}
+
+fn row(line: Line<'_>) -> Result<KeptRow, Fail>
+    ensures { IfOk result (λ row. row.number < 10 ^ 12) }
+{
+    Ok(KeptRow {
+        number: u64::from(line.0),
+        product: named(line.1)?,
+        party: line.2,
+    })
+}
+
+fn keeps<P: Keeper>(keeper: &mut P, alloc: Global, wanted: &[Line<'_>]) -> bool {
+    let Ok(rows) = keeper.all(alloc) else {
+        return false;
+    };
+    if rows.len() != wanted.len() {
+        return false;
+    }
+    for (row, want) in rows.iter().zip(wanted) {
+        if row.number != u64::from(want.0) || row.product.bytes() != want.1 || row.party != want.2 {
+            return false;
+        }
+    }
+    true
+}
+
+// Whether each call is done, and leaves the rows that it should.
+fn runs<P: Keeper>(keeper: &mut P, alloc: Global, steps: &[Step<'_>]) -> Result<bool, Fail> {
+    for step in steps {
+        let done = match step.call {
+            Call::Add(line) => keeper.add(alloc, row(line)?),
+            Call::Drop(number) => keeper.drop_row(alloc, u64::from(number)),
+        };
+        if done.is_err() || !keeps(keeper, alloc, step.kept) {
+            return Ok(false);
+        }
+    }
+    Ok(true)
+}
+
+// The same calls and answers over each keeper.
+fn first_run<P: Keeper>(keeper: &mut P, alloc: Global) -> Result<bool, Fail> {
+    let one = (1, b"THRU".as_slice(), 2);
+    let two = (2, b"LOC".as_slice(), 1);
+    let five = (5, b"THRU".as_slice(), 65535);
+    let steps = [
+        Step {
+            call: Call::Add(one),
+            kept: &[one],
+        },
+        Step {
+            call: Call::Add(two),
+            kept: &[one, two],
+        },
+        Step {
+            call: Call::Add(five),
+            kept: &[one, two, five],
+        },
+        Step {
+            call: Call::Drop(2),
+            kept: &[one, five],
+        },
+        Step {
+            call: Call::Drop(1),
+            kept: &[five],
+        },
+    ];
+    Ok(keeps(keeper, alloc, &[]) && runs(keeper, alloc, &steps)?)
+}
+
+fn second_run<P: Keeper>(keeper: &mut P, alloc: Global) -> Result<bool, Fail> {
+    let five = (5, b"THRU".as_slice(), 65535);
+    let six = (6, b"LOC".as_slice(), 1);
+    let steps = [
+        Step {
+            call: Call::Add(six),
+            kept: &[five, six],
+        },
+        Step {
+            call: Call::Drop(5),
+            kept: &[six],
+        },
+    ];
+    Ok(keeps(keeper, alloc, &[five]) && runs(keeper, alloc, &steps)?)
+}
+
+// A new store tells the empty list, and a row that was added to it.
+fn new_keeper(alloc: Global) -> Result<SqlKeeper, AllocError>
+    ensures { IfOk result (λ keeper. keeper.rows ≡ Some []) }
+{
+    let connection = Connection::open_in_memory(alloc)?;
+    Ok(SqlKeeper::over(connection))
+}
+
+fn with_row(alloc: Global, row: KeptRow) -> Result<SqlKeeper, KeepFault>
+    requires { row.number < 10 ^ 12 }
+    ensures { IfOk result (λ keeper. keeper.rows ≡ Some (row ∷ [])) }
+{
+    let Ok(mut keeper) = new_keeper(alloc) else {
+        return Err(KeepFault::NoMemory);
+    };
+    keeper.add(alloc, row)?;
+    Ok(keeper)
+}
+
+// Adds a row to any keeper: what it tells of its rows, and what it shows of them and counts.
+fn add_told<P: Keeper>(keeper: &mut P, alloc: Global, row: KeptRow) -> Result<(), KeepFault>
+    requires { row.number < 10 ^ 12 }
+    ensures added { OnOk result (Adds row (P.rows keeper.old) (P.rows keeper.new)) }
+    ensures same { OnErr result (P.rows keeper.new ≡ P.rows keeper.old) }
+{
+    keeper.add(alloc, row)
+}
+
+fn add_shown<P: Keeper>(keeper: &mut P, alloc: Global, row: KeptRow) -> Result<(), KeepFault>
+    requires { row.number < 10 ^ 12 }
+    ensures shows { P.trusted keeper.new → P.trusted keeper.old × OnOk result (Adds row (P.shown keeper.old) (P.shown keeper.new))
+        × OnErr result (P.shown keeper.new ≡ P.shown keeper.old) }
+    ensures counts { P.faults keeper.new ≡ counted (has_failed result) (P.faults keeper.old) }
+{
+    keeper.add(alloc, row)
+}
+
+// The same of each keeper: of a file that is trusted, and of rows in memory outright.
+fn add_shown_in_store<T: Alter + Drop, O: Opener<T>>(
+    keeper: &mut StoreKeeper<T, O>,
+    alloc: Global,
+    row: KeptRow,
+) -> Result<(), KeepFault>
+    requires { row.number < 10 ^ 12 }
+    ensures trusted { IsTrusted keeper.new → IsTrusted keeper.old }
+    ensures added { IsTrusted keeper.new → OnOk result (Adds row (shown_in O.first keeper.old) (shown_in O.first keeper.new)) }
+    ensures same { IsTrusted keeper.new → OnErr result (shown_in O.first keeper.new ≡ shown_in O.first keeper.old) }
+    ensures counts { keeper.new.faults ≡ counted (has_failed result) keeper.old.faults }
+{
+    add_shown(keeper, alloc, row)
+}
+
+fn add_shown_in_table(keeper: &mut SqlKeeper, alloc: Global, row: KeptRow) -> Result<(), KeepFault>
+    requires { row.number < 10 ^ 12 }
+    ensures added { OnOk result (Adds row keeper.old.rows keeper.new.rows) }
+    ensures same { OnErr result (keeper.new.rows ≡ keeper.old.rows) }
+    ensures counts { keeper.new.faults ≡ counted (has_failed result) keeper.old.faults }
+{
+    add_shown(keeper, alloc, row)
+}
+
+fn add_shown_in_memory(keeper: &mut MemKeeper, alloc: Global, row: KeptRow) -> Result<(), KeepFault>
+    requires { row.number < 10 ^ 12 }
+    ensures added { OnOk result (Adds row (told_if_rising keeper.old.rows) (told_if_rising keeper.new.rows)) }
+    ensures same { OnErr result (told_if_rising keeper.new.rows ≡ told_if_rising keeper.old.rows) }
+    ensures counts { keeper.new.faults ≡ counted (has_failed result) keeper.old.faults }
+{
+    add_shown(keeper, alloc, row)
+}
+
+fn add_told_in_memory(keeper: &mut MemKeeper, alloc: Global, row: KeptRow) -> Result<(), KeepFault>
+    requires { row.number < 10 ^ 12 }
+    ensures added { OnOk result (Adds row (told_if_rising keeper.old.rows) (told_if_rising keeper.new.rows)) }
+    ensures same { OnErr result (told_if_rising keeper.new.rows ≡ told_if_rising keeper.old.rows) }
+{
+    add_told(keeper, alloc, row)
+}
+
+// Opens a store: what any opener counts, and the opener of a path.
+fn open_counted<T: Alter + Drop, O: Opener<T>>(opener: &mut O) -> Result<(), KeepFault>
+    ensures { O.faults opener.new ≡ counted (has_failed result) (O.faults opener.old) }
+{
+    match opener.open() {
+        Ok(_) => Ok(()),
+        Err(fault) => Err(fault),
+    }
+}
+
+fn open_path<S: Beginning>(opener: &mut PathOpener<'_, S>) -> Result<(), KeepFault>
+    ensures { opener.new.faults ≡ counted (has_failed result) opener.old.faults }
+{
+    open_counted::<FileStore<FileFrom<S>>, PathOpener<'_, S>>(opener)
+}
+
+// A keeper of a file is trusted before it is opened, and shows the rows that are assumed.
+fn new_in_file<'a, S: Beginning>(rt: &'a HostRuntime, path: &'a str) -> FileKeeper<'a, S>
+    ensures trusted { IsTrusted result }
+    ensures shows { shown_in S.rows result ≡ S.rows }
+{
+    FileKeeper::new(rt, path)
+}
+
+#[test]
+fn rows_are_kept_in_memory(rt: HostRuntime) -> Result<(), Fail> {
+    let mut keeper = MemKeeper::new(Vec::new(rt.alloc()), Vec::new(rt.alloc()));
+    assert!(rt; first_run(&mut keeper, rt.alloc())?);
+    assert!(rt; second_run(&mut keeper, rt.alloc())?);
+    assert!(rt;
+        keeper.drop_row(rt.alloc(), 9).is_ok(),
+        "no row has the number"
+    );
+    Ok(())
+}
+
+#[test]
+fn the_third_call_fails(rt: HostRuntime) -> Result<(), Fail> {
+    let failing = Vec::from_array(rt.alloc(), [3])?;
+    let mut keeper = MemKeeper::new(Vec::new(rt.alloc()), failing);
+    assert!(rt; keeps(&mut keeper, rt.alloc(), &[]));
+    assert!(rt; add_told_in_memory(&mut keeper, rt.alloc(), row((1, b"THRU", 2))?).is_ok());
+    assert!(rt;
+        matches!(
+            add_shown_in_memory(&mut keeper, rt.alloc(), row((2, b"LOC", 1))?),
+            Err(KeepFault::Failed)
+        )
+    );
+    assert!(rt; keeps(&mut keeper, rt.alloc(), &[(1, b"THRU", 2)]));
+    Ok(())
+}
+
+#[test]
+fn rows_are_kept_in_a_table(rt: HostRuntime) -> Result<(), Fail> {
+    let mut keeper = new_keeper(rt.alloc())?;
+    assert!(rt; first_run(&mut keeper, rt.alloc())?);
+    assert!(rt; second_run(&mut keeper, rt.alloc())?);
+    assert!(rt;
+        matches!(keeper.drop_row(rt.alloc(), 9), Err(KeepFault::Failed)),
+        "no row has the number"
+    );
+    Ok(())
+}
+
+#[test]
+fn a_row_is_added_before_any_other_call(rt: HostRuntime) -> Result<(), Fail> {
+    let Ok(mut keeper) = with_row(rt.alloc(), row((2, b"LOC", 1))?) else {
+        return Err(Fail::from("not added"));
+    };
+    assert!(rt; add_shown_in_table(&mut keeper, rt.alloc(), row((3, b"LOC", 2))?).is_ok());
+    assert!(rt; keeps(&mut keeper, rt.alloc(), &[(2, b"LOC", 1), (3, b"LOC", 2)]));
+    Ok(())
+}
+
+#[test]
+fn a_row_that_is_no_kept_row_is_a_fault(rt: HostRuntime) -> Result<(), Fail> {
+    let mut connection = Connection::open_in_memory(rt.alloc())?;
+    let made = connection.execute(
+        "CREATE TABLE kept (number INTEGER PRIMARY KEY, product TEXT NOT NULL, party INTEGER NOT NULL) STRICT",
+        &[],
+    );
+    assert!(rt; made.is_ok());
+    assert!(rt;
+        connection
+            .execute("INSERT INTO kept VALUES (1, 'none', 1)", &[])
+            .is_ok()
+    );
+    if !connection.is_autocommit() {
+        return Err(Fail::from("a transaction"));
+    }
+    let mut keeper = SqlKeeper::over(connection);
+    assert!(rt; matches!(keeper.all(rt.alloc()), Err(KeepFault::Failed)));
+    Ok(())
+}
+
+// A new folder, and the names of a store in it and of its log.
+#[derive(Drop)]
+struct Place {
+    folder: String,
+    store: String,
+    log: String,
+}
+
+fn new_place(rt: &HostRuntime, name: &str) -> Result<Place, Fail> {
+    let temp = env::temp_dir(rt)?;
+    let temp = temp.as_path().to_str().ok_or("a folder that is text")?;
+    let folder = format!(in rt.alloc(); "{temp}/{name}")?;
+    let store = format!(in rt.alloc(); "{folder}/store")?;
+    let log = format!(in rt.alloc(); "{store}-wal")?;
+    let _ = fs::remove_dir_all(rt, &folder);
+    fs::create_dir(rt, &folder)?;
+    Ok(Place { folder, store, log })
+}
+
+fn holds(so: bool, what: &'static str) -> Result<(), Fail> {
+    if so { Ok(()) } else { Err(Fail::from(what)) }
+}
+
+// A call that fails, and after which a keeper lets its connection go: no row has the number.
+fn lets_go<S: Beginning>(keeper: &mut FileKeeper<'_, S>, alloc: Global) -> Result<(), Fail> {
+    holds(
+        matches!(keeper.drop_row(alloc, 9), Err(KeepFault::Failed)),
+        "no row has the number",
+    )
+}
+
+fn rows_in_a_file<S: Beginning>(rt: &HostRuntime, place: &Place) -> Result<(), Fail> {
+    let mut keeper = FileKeeper::<S>::new(rt, &place.store);
+    holds(first_run(&mut keeper, rt.alloc())?, "the first run")?;
+    drop(keeper);
+    let mut keeper = FileKeeper::<S>::new(rt, &place.store);
+    holds(second_run(&mut keeper, rt.alloc())?, "the second run")?;
+    lets_go(&mut keeper, rt.alloc())?;
+    holds(
+        keeper.all(rt.alloc()).is_ok(),
+        "after a failed call the file is opened again",
+    )
+}
+
+#[test]
+fn rows_are_kept_in_a_file(rt: HostRuntime) -> Result<(), Fail> {
+    let place = new_place(&rt, "nrm_keeper_rows")?;
+    rows_in_a_file::<Unknown>(&rt, &place)?;
+    fs::remove_dir_all(&rt, &place.folder)?;
+    Ok(())
+}
+
+fn opened_late<S: Beginning>(rt: &HostRuntime, place: &Place) -> Result<(), Fail> {
+    let beyond = format!(in rt.alloc(); "{}/store", place.store)?;
+    let mut keeper = FileKeeper::<S>::new(rt, &beyond);
+    holds(
+        matches!(keeper.all(rt.alloc()), Err(KeepFault::Failed)),
+        "there is no folder",
+    )?;
+    fs::create_dir(rt, &place.store)?;
+    holds(keeps(&mut keeper, rt.alloc(), &[]), "now there is one")
+}
+
+#[test]
+fn a_file_that_cannot_be_opened_is_a_fault(rt: HostRuntime) -> Result<(), Fail> {
+    let place = new_place(&rt, "nrm_keeper_folder")?;
+    opened_late::<Unknown>(&rt, &place)?;
+    fs::remove_dir_all(&rt, &place.folder)?;
+    Ok(())
+}
+
+fn two_keepers<S: Beginning>(rt: &HostRuntime, place: &Place) -> Result<(), Fail> {
+    let one = (1, b"THRU".as_slice(), 2);
+    let mut first = FileKeeper::<S>::new(rt, &place.store);
+    holds(first.add(rt.alloc(), row(one)?).is_ok(), "a row is added")?;
+    lets_go(&mut first, rt.alloc())?;
+    let mut second = FileKeeper::<S>::new(rt, &place.store);
+    holds(
+        matches!(second.all(rt.alloc()), Err(KeepFault::Failed)),
+        "the first has the store, though it has let its connection go",
+    )?;
+    holds(keeps(&mut first, rt.alloc(), &[one]), "the first goes on")?;
+    holds(first.close().is_ok(), "the first is closed")?;
+    holds(keeps(&mut second, rt.alloc(), &[one]), "the second has it")
+}
+
+#[test]
+fn a_store_belongs_to_one_keeper_until_it_is_closed(rt: HostRuntime) -> Result<(), Fail> {
+    let place = new_place(&rt, "nrm_keeper_owner")?;
+    two_keepers::<Unknown>(&rt, &place)?;
+    fs::remove_dir_all(&rt, &place.folder)?;
+    Ok(())
+}
+
+fn gone_and_back<S: Beginning>(rt: &HostRuntime, place: &Place) -> Result<(), Fail> {
+    let away = format!(in rt.alloc(); "{}-away", place.store)?;
+    let one = (1, b"THRU".as_slice(), 2);
+    let mut keeper = FileKeeper::<S>::new(rt, &place.store);
+    holds(keeper.add(rt.alloc(), row(one)?).is_ok(), "a row is added")?;
+    lets_go(&mut keeper, rt.alloc())?;
+    fs::rename(rt, &place.store, &away)?;
+    holds(keeper.all(rt.alloc()).is_err(), "the file is gone")?;
+    holds(fs::metadata(rt, &place.store).is_err(), "nothing is made")?;
+    fs::write(rt, &place.store, b"".as_slice())?;
+    holds(keeper.all(rt.alloc()).is_err(), "another file")?;
+    holds(fs::metadata(rt, &place.store)?.len() == 0, "it stays empty")?;
+    fs::rename(rt, &away, &place.store)?;
+    holds(keeps(&mut keeper, rt.alloc(), &[one]), "the file is back")
+}
+
+#[test]
+fn a_store_that_is_gone_is_not_made_again(rt: HostRuntime) -> Result<(), Fail> {
+    let place = new_place(&rt, "nrm_keeper_gone")?;
+    gone_and_back::<Unknown>(&rt, &place)?;
+    fs::remove_dir_all(&rt, &place.folder)?;
+    Ok(())
+}
+
+fn closed_and_opened<S: Beginning>(rt: &HostRuntime, place: &Place) -> Result<(), Fail> {
+    let one = (1, b"THRU".as_slice(), 2);
+    let mut keeper = new_in_file::<S>(rt, &place.store);
+    holds(
+        add_shown_in_store(&mut keeper, rt.alloc(), row(one)?).is_ok(),
+        "a row is added",
+    )?;
+    holds(keeper.close().is_ok(), "it is closed")?;
+    fs::remove_file(rt, &place.log)?;
+    let mut keeper = FileKeeper::<S>::new(rt, &place.store);
+    holds(keeps(&mut keeper, rt.alloc(), &[one]), "the row is there")
+}
+
+// A path without its folder is a fault of each opening, and then it can be opened.
+fn path_opened_late<S: Beginning>(rt: &HostRuntime, place: &Place) -> Result<(), Fail> {
+    let beyond = format!(in rt.alloc(); "{}/store", place.store)?;
+    let mut opener = PathOpener::<S>::new(rt, &beyond);
+    holds(open_path(&mut opener).is_err(), "there is no folder")?;
+    fs::create_dir(rt, &place.store)?;
+    holds(open_path(&mut opener).is_ok(), "now there is one")
+}
+
+#[test]
+fn an_opener_may_succeed_after_a_fault(rt: HostRuntime) -> Result<(), Fail> {
+    let place = new_place(&rt, "nrm_keeper_opener")?;
+    path_opened_late::<Unknown>(&rt, &place)?;
+    fs::remove_dir_all(&rt, &place.folder)?;
+    Ok(())
+}
+
+#[test]
+fn a_closed_store_needs_no_log(rt: HostRuntime) -> Result<(), Fail> {
+    let place = new_place(&rt, "nrm_keeper_closed")?;
+    closed_and_opened::<Unknown>(&rt, &place)?;
+    fs::remove_dir_all(&rt, &place.folder)?;
+    Ok(())
+}
+
+// A view `kept` that has no end.
+const ENDLESS: &str =
+    "CREATE VIEW kept AS WITH RECURSIVE c(n) AS (SELECT 1 UNION ALL SELECT n + 1 FROM c)
+    SELECT n AS number, 'LOC' AS product, 1 AS party FROM c";
+
+fn endless_listing<S: Beginning>(rt: &HostRuntime, place: &Place) -> Result<(), Fail> {
+    let mut keeper = FileKeeper::<S>::new(rt, &place.store);
+    holds(
+        matches!(keeper.all(rt.alloc()), Err(KeepFault::Failed)),
+        "a listing without end",
+    )
+}
+
+#[test]
+fn a_listing_without_end_is_a_fault(rt: HostRuntime) -> Result<(), Fail> {
+    let place = new_place(&rt, "nrm_keeper_endless")?;
+    let mut connection = Connection::open(&rt, &place.store)?;
+    assert!(rt; connection.execute(ENDLESS, &[]).is_ok());
+    drop(connection);
+    endless_listing::<Unknown>(&rt, &place)?;
+    fs::remove_dir_all(&rt, &place.folder)?;
+    Ok(())
+}
