@@ -218,5 +218,12 @@ class FleetTest(PlaceTest):
                 self.assertNotIn(b"ok", silent(it, lines, 1), why)
 
     def until(self, fleet: Fleet, query: str, seconds: float = PATIENT) -> None:
-        """Waits until a query gives a row."""
-        wait_for(lambda: fleet.rows(query), f"a row by {query!r}", seconds)
+        """Waits until a query gives a row, which may fail while the database servers change."""
+        import psycopg
+
+        def gives() -> bool:
+            with contextlib.suppress(psycopg.OperationalError):
+                return bool(fleet.rows(query))
+            return False
+
+        wait_for(gives, f"a row by {query!r}", seconds)

@@ -88,6 +88,7 @@ class Losses(PatroniTest):
         self.want_in(fleet.value(HALTED), "lines 2 to 3 were answered and are gone from the journal")
         self.assertEqual(asked(servers, b"book LOC 4\n", 1, sequence=4), [b"closed halted"])
         self.same_rows(fleet, (1, "D1", 1, "book LOC 1", "ok 1"))
+        nodes.patronictl("reinit", "fleet", heir, "--force")  # it has more than the primary, and may not see that
         nodes.wait_until_whole()
 
     def test_waiting_that_an_operator_switches_off_answers_nothing(self) -> None:
