@@ -23,21 +23,13 @@ use Rattle.nrm_cli.specs.Ends.{Completes, Ends, Failures, IsDone, OrRanOut, OrRa
 use Rattle.nrm_cli.specs.Jobs.{job_of, run_file, plan_file, check_file, print_file, run_made, cut_leg, value_leg}
 use Rattle.nrm_cli.specs.Tells.{IsOfNetwork, Tells, usage as tells_usage, refused as tells_refused, of_network as tells_of_network, file_fault as tells_file_fault}
 use Rattle.nrm_findings.specs.Summary.{nothing_counted}
+use Rattle.nrm_findings.proofs.Examples.{two_legs}
 use Rattle.nrm_cli.specs.Made.{counts_from, hindsight_in, last_of}
 use Rattle.nrm_findings.specs.declared.summary.Counts.{Counts}
 use Rattle.nrm_cli.specs.Numbers.{number_of}
 use Rattle.nrm_cli.specs.declared.status.Status.{Status}
 use Rattle.nrm_cli.specs.declared.status.Status.TheVariants as status
 use Rattle.nrm_outside.specs.Refusals.{network_under, refusal_line, no_file, at_row, file_fault_line}
-
-abbrev pub two_legs : NetworkValue
-two_legs = record {
-  histories = 1;
-  periods = 1;
-  legs = record { name = codes "AB"; seats = 3; authorised = 3; cuts = [] } ∷ record { name = codes "BC"; seats = 2; authorised = 2; cuts = [] } ∷ [];
-  products = record { name = codes "THRU"; fare = 500; refund = 100; legs = 0 ∷ 1 ∷ [] } ∷ record { name = codes "LOC"; fare = 200; refund = 100; legs = 0 ∷ [] } ∷ [];
-  demand = 0 ∷ 0 ∷ [];
-}
 
 -- as a file of the first version, and as it is printed
 abbrev two_legs_file : List ℕ

@@ -12,7 +12,7 @@ use Rattle.nrm_findings.specs.LegThresholds.{cuts_text}
 use Rattle.nrm_findings.specs.LegValues.{class_count, no_classes_line, values_text}
 use Rattle.nrm_findings.specs.Summary.{hindsight_word, summary_words}
 
-abbrev two_legs : NetworkValue
+abbrev pub two_legs : NetworkValue
 two_legs = record {
   histories = 1;
   periods = 1;

@@ -9,13 +9,21 @@ use nrm_text::Line;
 /// How many replies there were of each kind, of those that a summary counts.
 #[derive(Clone, Copy, Debug, PartialEq, Eq)]
 pub struct Counts {
+    /// Requests that were sold.
     pub sold: u32,
+    /// Requests that a leg refused.
     pub no_leg: u32,
+    /// Requests that the fare refused.
     pub no_fare: u32,
+    /// Cancellations.
     pub cancelled: u32,
+    /// Lines that name a product, a leg, a booking or a period that isn't there.
     pub unknown: u32,
+    /// Legs that were told.
     pub legs: u32,
+    /// New plans, those for which nothing was solved too.
     pub optimised: u32,
+    /// Linear programs that were too large.
     pub overflow: u32,
 }
 
