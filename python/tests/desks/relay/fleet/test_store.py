@@ -112,13 +112,15 @@ class Stores(FleetTest):
                 self.database.ask(statement)
 
     def test_who_is_alive(self) -> None:
-        """By heartbeats; a later start of a name is the one that counts, and an end of a lock is missed at once."""
+        """By heartbeats; a later start of a name is the one that counts, and an end of a lock is missed as the database
+        tells of it."""
         other = self.store.members(Named("other", "b:1", "p"))
         other.beat(False)
         seen = self.members.beat(False)
         self.assertEqual([(it.name, it.address, it.is_leaving, it.is_young) for it in seen.members],
                          [("one", "", False, True), ("other", "b:1", False, True)])
         other.close()
+        wait_for(lambda: self.members.beat(False).dead, "the end of a lock")
         seen = self.members.beat(False)
         self.assertEqual(([it.name for it in seen.members], len(seen.dead)), (["one"], 1))
         again = self.store.members(Named("one", "c:1", "p"))
