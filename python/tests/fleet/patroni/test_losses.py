@@ -84,7 +84,7 @@ class Losses(PatroniTest):
         self.wait_for_primary(other)
         nodes.start(heir)
         nodes.start(lost)
-        self.until(fleet, HALTED)
+        self.until(fleet, HALTED, nodes.patience)
         self.want_in(fleet.value(HALTED), "lines 2 to 3 were answered and are gone from the journal")
         self.assertEqual(asked(servers, b"book LOC 4\n", 1, sequence=4), [b"closed halted"])
         self.same_rows(fleet, (1, "D1", 1, "book LOC 1", "ok 1"))
