@@ -192,8 +192,8 @@ class Nodes(Databases):
 
     def has_all(self, standby: str) -> bool:
         """Whether a standby has what the primary has by now."""
-        query = f"SELECT flush_lsn >= pg_current_wal_lsn() FROM pg_stat_replication WHERE application_name = '{standby}'"
-        return self.asked(self.primary_by_patroni(), query) == "t"
+        query = "SELECT flush_lsn >= pg_current_wal_lsn() FROM pg_stat_replication WHERE application_name = "
+        return self.asked(self.primary_by_patroni(), f"{query}'{standby}'") == "t"
 
     def hold_checkpointer(self, server: str) -> None:
         """The process of a server that writes checkpoints, and has all others wait for a standby, stands still."""
