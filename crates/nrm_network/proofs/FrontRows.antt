@@ -11,6 +11,7 @@ use Rattle.std.proofs.lemmas.List.Sums.{fold-append}
 use Rattle.std.proofs.lemmas.List.{append-nil, length-map, map-append, take-append-drop}
 use Rattle.nrm_text.specs.Names.{is_name, is_name_byte}
 use Rattle.nrm_text.specs.Numbers.{is_whole, value_of}
+use Rattle.nrm_text.proofs.Decimals.{whole-digits}
 use Rattle.nrm_network.specs.Rows.{Row, demand_kind, field, further_numbers, periods_in}
 use Rattle.nrm_network.proofs.LineRows.{after_byte-comma, after_byte-other}
 use Rattle.nrm_network.specs.Checks.{NumberField, is_within, out_of_order}
@@ -109,14 +110,6 @@ all-inside p each [] all = refl
 all-inside p each (c ∷ text) all =
     let (first, others) = and_parts (p c) (list_all p text) all in
     and_from (is_inside c) (list_all is_inside text) (each c first) (all-inside p each text others)
-
-whole-digits : (xs : List ℕ) → is_whole xs ≡ true → list_all is_ascii_digit xs ≡ true
-whole-digits [] whole = refl
-whole-digits (c ∷ []) whole = let digit : is_ascii_digit c ≡ true = whole in rw digit refl
-whole-digits (c ∷ d ∷ more) whole =
-    let (front, others) = and_parts (is_ascii_digit c && not (c == 48)) (list_all is_ascii_digit (d ∷ more)) whole in
-    let digit = (and_parts (is_ascii_digit c) (not (c == 48)) front).0 in
-    rw (digit, others) refl
 
 pub number-inside : (text : List ℕ) → is_whole text ≡ true → list_all is_inside text ≡ true
 number-inside text whole = all-inside is_ascii_digit digit-inside text (whole-digits text whole)

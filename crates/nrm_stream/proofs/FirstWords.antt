@@ -1,6 +1,6 @@
 -- What more than three words ask for, and the words after `book` and after `cancel`. A number has no space in it: where its bytes
 -- have one, the line is bad as a line of too many words.
-use Rattle.std.proofs.Common.{ℕ, suc, ◌≡◌, ◌≤◌, ◌+◌, ◌-◌, ◌∙◌, Bool, true, false, ◌&&◌, ◌==◌, not, List, [], ◌∷◌, length, take, drop}
+use Rattle.std.proofs.Common.{ℕ, suc, ◌≡◌, ◌≤◌, ◌+◌, ◌-◌, ◌∙◌, Bool, true, false, ◌&&◌, ◌==◌, List, [], ◌∷◌, length, take, drop}
 use Rattle.std.proofs.Common.{Option, Some, None, refl, ap, sym, inl, inr, arith, bytes_eq, subst, codes, nat_le}
 use Rattle.std.specs.List.{list_all, list_any, onto_first, position, slice_split}
 use Rattle.std.specs.Char.{is_ascii_digit}
@@ -11,6 +11,7 @@ use Rattle.std.proofs.lemmas.List.Splits.{slice_split-cons_no}
 use Rattle.nrm_text.specs.Numbers.{is_whole, whole_between}
 use Rattle.nrm_model.specs.declared.limits.TheConstants.{MOST_PARTY}
 use Rattle.nrm_text.specs.Names.{is_name, is_name_byte, name_before, name_in}
+use Rattle.nrm_text.proofs.Decimals.{whole-digits}
 use Rattle.nrm_stream.specs.Commands.{booking_of, command_of_words, three_words, two_words}
 use Rattle.nrm_stream.specs.declared.command.Command.{Command}
 use Rattle.nrm_stream.specs.declared.command.Command.TheVariants as command
@@ -47,14 +48,6 @@ spaced xs i found one =
     let some : 1 ≤ length (slice_split is_space more) = some-parts is_space more in
     let single : length (slice_split is_space xs) ≡ 1 = ap length one in
     absurd (omega (arith, single, cut, some))
-
-whole-digits : (xs : List ℕ) → is_whole xs ≡ true → list_all is_ascii_digit xs ≡ true
-whole-digits [] whole = refl
-whole-digits (c ∷ []) whole = let digit : is_ascii_digit c ≡ true = whole in rw digit refl
-whole-digits (c ∷ d ∷ more) whole =
-    let (front, others) = and_parts (is_ascii_digit c && not (c == 48)) (list_all is_ascii_digit (d ∷ more)) whole in
-    let digit = (and_parts (is_ascii_digit c) (not (c == 48)) front).0 in
-    rw (digit, others) refl
 
 -- so they are no whole number and no name
 spaced-number : (xs : List ℕ) (i : ℕ) → position is_space xs ≡ Some i → is_whole xs ≡ false

@@ -1,10 +1,10 @@
 -- Decimal text is a whole number, and its value is the number that was written.
-use Rattle.std.proofs.Common.{ℕ, zero, suc, ◌≡◌, ◌⊎◌, ◌+◌, ◌-◌, ◌*◌, ◌/◌, ◌%◌, ◌^◌, ◌<◌, ◌≤◌, true, false, ◌&&◌, ◌==◌, List, [], ◌∷◌, ◌++◌}
+use Rattle.std.proofs.Common.{ℕ, zero, suc, ◌≡◌, ◌⊎◌, ◌+◌, ◌-◌, ◌*◌, ◌/◌, ◌%◌, ◌^◌, ◌<◌, ◌≤◌, true, false, not, ◌&&◌, ◌==◌, List, [], ◌∷◌, ◌++◌}
 use Rattle.std.proofs.Common.{length, get_or, Some, refl, ap, arith, inl, inr, nat_le, length-append}
 use Rattle.std.specs.Prelude.{decimal, fold}
 use Rattle.std.specs.List.{list_all}
 use Rattle.std.specs.Char.{is_ascii_digit}
-use Rattle.std.proofs.lemmas.Bool.{cases_lt}
+use Rattle.std.proofs.lemmas.Bool.{and_parts, cases_lt}
 use Rattle.std.proofs.lemmas.Fmt.{decimal_by_steps, decimal_digit, first_decimal, length-decimal-le}
 use Rattle.std.proofs.lemmas.List.Folds.{list_all-append}
 use Rattle.nrm_text.specs.Numbers.{is_whole, value_of, whole_in, whole_between}
@@ -50,6 +50,15 @@ whole-from (c ∷ d ∷ more) digits some (inl above) =
     let other : (c == 48) ≡ false = grind arith in
     let both : (is_ascii_digit c && list_all is_ascii_digit (d ∷ more)) ≡ true = digits in
     grind arith
+
+-- and a whole number is digits
+pub whole-digits : (xs : List ℕ) → is_whole xs ≡ true → list_all is_ascii_digit xs ≡ true
+whole-digits [] whole = refl
+whole-digits (c ∷ []) whole = let digit : is_ascii_digit c ≡ true = whole in rw digit refl
+whole-digits (c ∷ d ∷ more) whole =
+    let (front, others) = and_parts (is_ascii_digit c && not (c == 48)) (list_all is_ascii_digit (d ∷ more)) whole in
+    let digit = (and_parts (is_ascii_digit c) (not (c == 48)) front).0 in
+    rw (digit, others) refl
 
 pub is_whole-decimal : (n : ℕ) → n < 2 ^ 64 → is_whole (decimal n) ≡ true
 is_whole-decimal n small =
