@@ -8,12 +8,12 @@ ghost use Rattle.nrm_fraction.specs.Fraction.{◌over◌};
 ghost use Rattle.nrm_model.specs.Inventory.{inventory_of, legs_of, uses_leg};
 ghost use Rattle.nrm_model.specs.Network.{least_authorised_of};
 ghost use Rattle.nrm_model.specs.declared.limits.TheConstants.{BOOKING_LIMIT, MOST_PARTY, MOST_SEATS};
-ghost use Rattle.nrm_book.specs.Book.{IsLoadable};
+ghost use Rattle.nrm_book.specs.Book.{IsBook, IsLoadable};
 ghost use Rattle.nrm_book.specs.Bookings.{booking_numbered, left_on, without};
 ghost use Rattle.nrm_hindsight.specs.Requests.{tallies_of};
-ghost use Rattle.nrm_plan.specs.Plans.{IsPlanFault, IsPlanFor, IsPlanOf};
+ghost use Rattle.nrm_plan.specs.Plans.{IsOpeningPlan, IsPlanFault, IsPlanFor, IsPlanOf};
 ghost use Rattle.nrm_control.specs.Refunds.{refund_of, withheld_by};
-ghost use Rattle.nrm_control.specs.Standing.{IsOnNetwork};
+ghost use Rattle.nrm_control.specs.Standing.{IsOnNetwork, IsStartFault};
 ghost use Rattle.nrm_control.specs.State.{seats_left};
 ghost use Rattle.nrm_control.specs.Verdict.{leg_refuses, verdict_of};
 
@@ -150,6 +150,20 @@ fn no_tallies(alloc: Global, net: &Network) -> Result<Vec<u16>, AllocError>
     Ok(tallies)
 }
 
+// What a controller of a network begins with: the plan of period 1 with every authorised seat left, an empty book and the tallies.
+fn begun(alloc: Global, net: &Network, mode: Mode) -> Result<(Plan, Book, Vec<u16>), SolveFault>
+    ensures plan { IfOk result (λ begun. IsOpeningPlan net.now mode begun.0) }
+    ensures book { IfOk result (λ begun. begun.1 ≡ record { inventory = inventory_of net.now; bookings = []; next = 1 }) }
+    ensures sound { IfOk result (λ begun. IsBook begun.1) }
+    ensures tallies { IfOk result (λ begun. begun.2.items ≡ tallies_of net.now []) }
+    ensures fault { IfErr result (IsStartFault net.now mode) }
+{
+    let plan = Plan::opening(alloc, net, mode)?;
+    let tallies = no_tallies(alloc, net)?;
+    let book = Book::new(alloc, net)?;
+    Ok((plan, book, tallies))
+}
+
 // The tally of a product after a request for a party.
 fn tally_after(net: &Network, tally: u16, product: u16, party: u16) -> u16
     requires product { product < length net.now.products }
@@ -187,9 +201,7 @@ impl Controller {
         ensures sound { IfOk result IsControl }
         ensures fault { IfErr result (IsStartFault net mode) }
     {
-        let plan = Plan::opening(alloc, &net, mode)?;
-        let tallies = no_tallies(alloc, &net)?;
-        let book = Book::new(alloc, &net)?;
+        let (plan, book, tallies) = begun(alloc, &net, mode)?;
         Ok(Controller {
             network: net,
             plan,
