@@ -2,7 +2,7 @@
 #![tactic(auto)]
 
 use nrm_cli::{Status, asks_for_a_job, run};
-use nrm_edge::{DirFiles, GatheringSink, StdSink, StdSource};
+use nrm_edge::{DirFiles, GatheringSink, Sink, StdSink, StdSource};
 use nrm_outside::words_given;
 use std::io;
 use std::process::ExitCode;
@@ -10,18 +10,22 @@ use std::process::ExitCode;
 // How many bytes of output are gathered before they are sent on.
 const GATHERED: usize = 65_536;
 
-// The program, around its words. Memory to gather the output is taken only for words that ask for a job.
-fn status_of(rt: &HostRuntime) -> io::Result<Status> {
-    let alloc = rt.alloc();
-    let words = words_given(rt)?;
+// The top call over the real files and standard input.
+fn answered<K: Sink>(rt: &HostRuntime, words: &[String], sink: &mut K) -> Status {
     let mut files = DirFiles::new(rt);
     let mut source = StdSource::new(rt.stdin());
+    run(rt.alloc(), words, &mut files, &mut source, sink)
+}
+
+// The program, around its words. Memory to gather the output is taken only for words that ask for a job.
+fn status_of(rt: &HostRuntime) -> io::Result<Status> {
+    let words = words_given(rt)?;
     let mut output = StdSink::new(io::writer(rt));
     if !asks_for_a_job(&words) {
-        return Ok(run(alloc, &words, &mut files, &mut source, &mut output));
+        return Ok(answered(rt, &words, &mut output));
     }
-    let mut sink = GatheringSink::new(alloc, output, GATHERED)?;
-    Ok(run(alloc, &words, &mut files, &mut source, &mut sink))
+    let mut sink = GatheringSink::new(rt.alloc(), output, GATHERED)?;
+    Ok(answered(rt, &words, &mut sink))
 }
 
 fn main(rt: HostRuntime) -> ExitCode {
