@@ -1,7 +1,11 @@
 //! Whole calls over files, a stream and a sink in memory, worked by hand: legs AB with 3 seats and BC with 2.
+use nrm_cli::Status::{
+    Done, FileFault, NoClass, NoLeg, ReadFault, Refused, Usage, WriteFault, Wrong,
+};
 use nrm_cli::{Status, run};
 use nrm_edge::{MemFiles, MemSink, MemSource};
 use std::alloc::{AllocError, Global};
+use std::process::Abort;
 use std::test::Fail;
 
 const NETWORK: &[u8] =
@@ -73,203 +77,183 @@ fn source(alloc: Global, failing: &[u64]) -> Result<MemSource, AllocError> {
     Ok(MemSource::new(bytes, cuts, failing.to_vec(alloc)?))
 }
 
-// How the program ends that is called with these words, and the sink that it wrote to.
-fn outcome(alloc: Global, words: &[&str]) -> Result<(Status, MemSink), AllocError> {
-    outcome_over(alloc, words, &SOUND)
+// What is written, as far as the outside takes it.
+fn sink(alloc: Global, outside: &Outside<'_>) -> Result<MemSink, AllocError> {
+    let cuts = outside.put_cuts.to_vec(alloc)?;
+    MemSink::new(alloc, outside.room, cuts, outside.puts.to_vec(alloc)?)
 }
 
-// The same over an outside that fails.
-fn outcome_over(
-    alloc: Global,
-    words: &[&str],
-    outside: &Outside<'_>,
-) -> Result<(Status, MemSink), AllocError> {
-    let mut given = Vec::new(alloc);
-    for word in words {
-        given.push(String::from_str(alloc, word)?)?;
+fn words_of(alloc: Global, text: &str) -> Result<Vec<String>, AllocError> {
+    let mut words = Vec::new(alloc);
+    for word in text.split(' ') {
+        words.push(String::from_str(alloc, word)?)?;
     }
-    let put_cuts = outside.put_cuts.to_vec(alloc)?;
-    let puts = outside.puts.to_vec(alloc)?;
-    let mut sink = MemSink::new(alloc, outside.room, put_cuts, puts)?;
-    let status = run(
-        alloc,
-        &given,
-        &mut files(alloc, outside.fetches)?,
-        &mut source(alloc, outside.takes)?,
-        &mut sink,
-    );
-    Ok((status, sink))
+    Ok(words)
 }
 
+// The program, called with these words over an outside, must end so, and have written so much.
+fn ends_over(
+    rt: &impl Abort,
+    alloc: Global,
+    words: &str,
+    outside: &Outside<'_>,
+    status: Status,
+    written: &[u8],
+) -> Result<(), Fail> {
+    let given = words_of(alloc, words)?;
+    let mut files = files(alloc, outside.fetches)?;
+    let mut source = source(alloc, outside.takes)?;
+    let mut sink = sink(alloc, outside)?;
+    let ended = run(alloc, &given, &mut files, &mut source, &mut sink);
+    assert_eq!(rt; (ended, sink.held()), (status, written), "{words}");
+    Ok(())
+}
+
+// The same where nothing fails outside.
+fn ends(
+    rt: &impl Abort,
+    alloc: Global,
+    words: &str,
+    status: Status,
+    written: &[u8],
+) -> Result<(), Fail> {
+    ends_over(rt, alloc, words, &SOUND, status, written)
+}
+
+// The replies to the stream, one after the other, and their lengths from none of them to all.
+const REPLIES: &[u8] = b"ok 1\nno BC\nok 2\nno AB\nunknown\n";
+
+const REPLIED: [usize; 6] = [0, 5, 11, 16, 22, 30];
+
+// In each mode alike: nothing is to come, so no seat has a price; and no leg has a threshold, so nothing is protected.
 #[test]
 fn a_stream_is_answered(rt: HostRuntime) -> Result<(), Fail> {
-    let (status, sink) = outcome(rt.alloc(), &["run", "first", "F"])?;
-    assert_eq!(rt; status, Status::Done);
-    assert_eq!(rt;
-        sink.held(),
-        b"ok 1\nno BC\nok 2\nno AB\nunknown\n".as_slice()
-    );
-    Ok(())
-}
-
-// Nothing is to come, so no seat has a price.
-#[test]
-fn a_stream_is_answered_at_bid_prices(rt: HostRuntime) -> Result<(), Fail> {
-    let (status, sink) = outcome(rt.alloc(), &["run", "bid", "F"])?;
-    assert_eq!(rt; status, Status::Done);
-    assert_eq!(rt;
-        sink.held(),
-        b"ok 1\nno BC\nok 2\nno AB\nunknown\n".as_slice()
-    );
-    Ok(())
-}
-
-// No leg has a threshold, so nothing is protected.
-#[test]
-fn a_stream_is_answered_by_nests(rt: HostRuntime) -> Result<(), Fail> {
-    let (status, sink) = outcome(rt.alloc(), &["run", "davn", "F"])?;
-    assert_eq!(rt; status, Status::Done);
-    assert_eq!(rt;
-        sink.held(),
-        b"ok 1\nno BC\nok 2\nno AB\nunknown\n".as_slice()
-    );
-    Ok(())
+    ends(&rt, rt.alloc(), "run first F", Done, REPLIES)?;
+    ends(&rt, rt.alloc(), "run bid F", Done, REPLIES)?;
+    ends(&rt, rt.alloc(), "run davn F", Done, REPLIES)
 }
 
 #[test]
 fn a_plan_is_written(rt: HostRuntime) -> Result<(), Fail> {
-    let (status, sink) = outcome(rt.alloc(), &["plan", "bid", "DEMANDED"])?;
-    assert_eq!(rt; status, Status::Done);
-    assert_eq!(rt; sink.held(), OPTIMAL);
-
-    let (status, sink) = outcome(rt.alloc(), &["plan", "first", "DEMANDED"])?;
-    assert_eq!(rt; status, Status::Done);
-    assert_eq!(rt; sink.held(), b"first\n".as_slice());
-    Ok(())
+    ends(&rt, rt.alloc(), "plan bid DEMANDED", Done, OPTIMAL)?;
+    ends(&rt, rt.alloc(), "plan first DEMANDED", Done, b"first\n")
 }
 
 #[test]
 fn a_network_is_printed(rt: HostRuntime) -> Result<(), Fail> {
-    let (status, sink) = outcome(rt.alloc(), &["print", "F"])?;
-    assert_eq!(rt; status, Status::Done);
-    assert_eq!(rt; sink.held(), PRINTED);
-    Ok(())
+    ends(&rt, rt.alloc(), "print F", Done, PRINTED)
 }
 
 #[test]
 fn a_certificate_is_checked(rt: HostRuntime) -> Result<(), Fail> {
-    let (status, sink) = outcome(rt.alloc(), &["check", "DEMANDED", "OPTIMAL"])?;
-    assert_eq!(rt; status, Status::Done);
-    assert_eq!(rt; sink.held(), b"optimal\n".as_slice());
-
-    let (status, sink) = outcome(rt.alloc(), &["check", "DEMANDED", "CHEAP"])?;
-    assert_eq!(rt; status, Status::Wrong);
-    assert_eq!(rt; sink.held(), b"wrong product ABL\n".as_slice());
-    Ok(())
+    ends(
+        &rt,
+        rt.alloc(),
+        "check DEMANDED OPTIMAL",
+        Done,
+        b"optimal\n",
+    )?;
+    let wrong = b"wrong product ABL\n";
+    ends(&rt, rt.alloc(), "check DEMANDED CHEAP", Wrong, wrong)
 }
 
 #[test]
 fn a_certificate_is_refused(rt: HostRuntime) -> Result<(), Fail> {
-    let (status, sink) = outcome(rt.alloc(), &["check", "DEMANDED", "REPEATED"])?;
-    assert_eq!(rt; status, Status::Refused);
-    assert_eq!(rt; sink.held(), b"refused certificate line 3\n".as_slice());
+    let line = b"refused certificate line 3\n";
+    ends(&rt, rt.alloc(), "check DEMANDED REPEATED", Refused, line)?;
+    let line = b"refused certificate no file\n";
+    ends(&rt, rt.alloc(), "check DEMANDED NONE", Refused, line)?;
+    let line = b"refused certificate too fine\n";
+    ends(&rt, rt.alloc(), "check DEMANDED FINE", Refused, line)?;
+    let line = b"refused row 1 why 1 kind\n";
+    ends(&rt, rt.alloc(), "check OPTIMAL OPTIMAL", Refused, line)
+}
 
-    let (status, sink) = outcome(rt.alloc(), &["check", "DEMANDED", "NONE"])?;
-    assert_eq!(rt; status, Status::Refused);
-    assert_eq!(rt; sink.held(), b"refused certificate no file\n".as_slice());
-
-    let (status, sink) = outcome(rt.alloc(), &["check", "DEMANDED", "FINE"])?;
-    assert_eq!(rt; status, Status::Refused);
-    assert_eq!(rt; sink.held(), b"refused certificate too fine\n".as_slice());
-
-    let (status, sink) = outcome(rt.alloc(), &["check", "OPTIMAL", "OPTIMAL"])?;
-    assert_eq!(rt; status, Status::Refused);
-    assert_eq!(rt; sink.held(), b"refused row 1 why 1 kind\n".as_slice());
-    Ok(())
+// The fetch of this number fails.
+fn fetch_fails(number: &[u64]) -> Outside<'_> {
+    Outside {
+        fetches: number,
+        ..SOUND
+    }
 }
 
 // The second file is not looked for where the first is refused, so its fault tells nothing then.
 #[test]
 fn a_fault_of_the_files_is_told_where_it_comes(rt: HostRuntime) -> Result<(), Fail> {
-    let (status, sink) = outcome_over(
+    let second = fetch_fails(&[2]);
+    let line = b"refused row 1 why 1 kind\n";
+    ends_over(
+        &rt,
         rt.alloc(),
-        &["check", "OPTIMAL", "OPTIMAL"],
-        &Outside {
-            fetches: &[2],
-            ..SOUND
-        },
+        "check OPTIMAL OPTIMAL",
+        &second,
+        Refused,
+        line,
     )?;
-    assert_eq!(rt; status, Status::Refused);
-    assert_eq!(rt; sink.held(), b"refused row 1 why 1 kind\n".as_slice());
-
-    let (status, sink) = outcome_over(
+    let line = b"file fault\n";
+    ends_over(
+        &rt,
         rt.alloc(),
-        &["check", "DEMANDED", "OPTIMAL"],
-        &Outside {
-            fetches: &[2],
-            ..SOUND
-        },
+        "check DEMANDED OPTIMAL",
+        &second,
+        FileFault,
+        line,
     )?;
-    assert_eq!(rt; status, Status::FileFault);
-    assert_eq!(rt; sink.held(), b"file fault\n".as_slice());
-
-    let (status, sink) = outcome_over(
+    ends_over(
+        &rt,
         rt.alloc(),
-        &["print", "F"],
-        &Outside {
-            fetches: &[1],
-            ..SOUND
-        },
-    )?;
-    assert_eq!(rt; status, Status::FileFault);
-    assert_eq!(rt; sink.held(), b"file fault\n".as_slice());
-    Ok(())
+        "print F",
+        &fetch_fails(&[1]),
+        FileFault,
+        line,
+    )
 }
+
+// What other words get.
+const USAGE: &[u8] =
+    b"usage: nrm run MODE FILE, plan MODE FILE, check FILE CERT, print FILE, gen MODE NUMBER, cuts FILE LEG GROUPS, dp FILE LEG\n";
 
 #[test]
 fn other_words_get_the_usage_line(rt: HostRuntime) -> Result<(), Fail> {
-    let (status, sink) = outcome(rt.alloc(), &["run", "F"])?;
-    assert_eq!(rt; status, Status::Usage);
-    assert_eq!(rt;
-        sink.held(),
-        b"usage: nrm run MODE FILE, plan MODE FILE, check FILE CERT, print FILE, gen MODE NUMBER, cuts FILE LEG GROUPS, dp FILE LEG\n".as_slice()
-    );
-    Ok(())
+    ends(&rt, rt.alloc(), "run F", Usage, USAGE)?;
+    ends(&rt, rt.alloc(), "cuts DEMANDED AB 11", Usage, USAGE)
 }
-
-// The replies to the stream, one after the other.
-const REPLIES: &[u8] = b"ok 1\nno BC\nok 2\nno AB\nunknown\n";
-
-// The lengths of the replies to the first lines, none to all.
-const REPLIED: [usize; 6] = [0, 5, 11, 16, 22, 30];
 
 // The sixth take is the one that would tell the end.
 #[test]
 fn each_take_fails_once(rt: HostRuntime) -> Result<(), Fail> {
     for (place, length) in REPLIED.iter().enumerate() {
-        let takes = [place as u64 + 1];
         let outside = Outside {
-            takes: &takes,
+            takes: &[place as u64 + 1],
             ..SOUND
         };
-        let (status, sink) = outcome_over(rt.alloc(), &["run", "first", "F"], &outside)?;
-        assert_eq!(rt; status, Status::ReadFault);
-        assert_eq!(rt; Some(sink.held()), REPLIES.get(..*length));
+        let written = REPLIES.get(..*length).unwrap_or(b"");
+        ends_over(&rt, rt.alloc(), "run first F", &outside, ReadFault, written)?;
     }
     Ok(())
+}
+
+// The puts of these numbers fail.
+fn puts_fail(numbers: &[u64]) -> Outside<'_> {
+    Outside {
+        puts: numbers,
+        ..SOUND
+    }
 }
 
 #[test]
 fn each_put_fails_once(rt: HostRuntime) -> Result<(), Fail> {
     for (place, length) in REPLIED.iter().take(5).enumerate() {
-        let puts = [place as u64 + 1];
-        let outside = Outside {
-            puts: &puts,
-            ..SOUND
-        };
-        let (status, sink) = outcome_over(rt.alloc(), &["run", "first", "F"], &outside)?;
-        assert_eq!(rt; status, Status::WriteFault);
-        assert_eq!(rt; Some(sink.held()), REPLIES.get(..*length));
+        let number = [place as u64 + 1];
+        let written = REPLIES.get(..*length).unwrap_or(b"");
+        ends_over(
+            &rt,
+            rt.alloc(),
+            "run first F",
+            &puts_fail(&number),
+            WriteFault,
+            written,
+        )?;
     }
     Ok(())
 }
@@ -280,15 +264,16 @@ fn puts_may_be_short(rt: HostRuntime) -> Result<(), Fail> {
         put_cuts: &[1; 40],
         ..SOUND
     };
-    let (status, sink) = outcome_over(rt.alloc(), &["run", "first", "F"], &outside)?;
-    assert_eq!(rt; status, Status::Done);
-    assert_eq!(rt; sink.held(), REPLIES);
-
+    ends_over(&rt, rt.alloc(), "run first F", &outside, Done, REPLIES)?;
     let outside = Outside { room: 5, ..SOUND };
-    let (status, sink) = outcome_over(rt.alloc(), &["run", "first", "F"], &outside)?;
-    assert_eq!(rt; status, Status::WriteFault);
-    assert_eq!(rt; sink.held(), b"ok 1\n".as_slice());
-    Ok(())
+    ends_over(
+        &rt,
+        rt.alloc(),
+        "run first F",
+        &outside,
+        WriteFault,
+        b"ok 1\n",
+    )
 }
 
 // The line that would tell why is what can't be written.
@@ -296,87 +281,41 @@ fn puts_may_be_short(rt: HostRuntime) -> Result<(), Fail> {
 fn a_cut_line_tells_no_other_status(rt: HostRuntime) -> Result<(), Fail> {
     let outside = Outside {
         fetches: &[1],
-        puts: &[1],
-        ..SOUND
+        ..puts_fail(&[1])
     };
-    let (status, sink) = outcome_over(rt.alloc(), &["print", "F"], &outside)?;
-    assert_eq!(rt; status, Status::WriteFault);
-    assert!(rt; sink.held().is_empty());
-
-    let (status, sink) = outcome_over(
-        rt.alloc(),
-        &["fly"],
-        &Outside {
-            puts: &[1],
-            ..SOUND
-        },
-    )?;
-    assert_eq!(rt; status, Status::WriteFault);
-    assert!(rt; sink.held().is_empty());
-    Ok(())
+    ends_over(&rt, rt.alloc(), "print F", &outside, WriteFault, b"")?;
+    let outside = puts_fail(&[1]);
+    ends_over(&rt, rt.alloc(), "fly", &outside, WriteFault, b"")?;
+    ends_over(&rt, rt.alloc(), "cuts F CD 1", &outside, WriteFault, b"")?;
+    ends_over(&rt, rt.alloc(), "dp F AB", &outside, WriteFault, b"")
 }
 
 #[test]
 fn a_made_run_is_summed_up(rt: HostRuntime) -> Result<(), Fail> {
-    let (status, sink) = outcome(rt.alloc(), &["gen", "first", "1"])?;
-    assert_eq!(rt; status, Status::Done);
-    assert_eq!(rt;
-        sink.held(),
+    let line =
         b"made lines 10000 ok 791 no 6721 fare 0 cancelled 397 unknown 1575 legs 512 optimised 3 overflow 0 \
-        revenue 193932 hindsight 299535/1\n"
-            .as_slice()
-    );
-    Ok(())
+        revenue 193932 hindsight 299535/1\n";
+    ends(&rt, rt.alloc(), "gen first 1", Done, line)
 }
 
 // ACL was never asked for, so its fare costs nothing wherever it is.
 #[test]
 fn the_fares_on_a_leg_are_cut(rt: HostRuntime) -> Result<(), Fail> {
-    let (status, sink) = outcome(rt.alloc(), &["cuts", "DEMANDED", "AB", "2"])?;
-    assert_eq!(rt; status, Status::Done);
-    assert_eq!(rt;
-        sink.held(),
-        b"cuts AB 400\ncentres AB 500 150\ncost AB 1200\n".as_slice()
-    );
-
-    let (status, sink) = outcome(rt.alloc(), &["cuts", "DEMANDED", "CD", "2"])?;
-    assert_eq!(rt; status, Status::NoLeg);
-    assert_eq!(rt; status.number(), 10);
-    assert_eq!(rt; sink.held(), b"no leg\n".as_slice());
-
-    let (status, _) = outcome(rt.alloc(), &["cuts", "DEMANDED", "AB", "11"])?;
-    assert_eq!(rt; status, Status::Usage);
-    Ok(())
+    let lines = b"cuts AB 400\ncentres AB 500 150\ncost AB 1200\n";
+    ends(&rt, rt.alloc(), "cuts DEMANDED AB 2", Done, lines)?;
+    ends(&rt, rt.alloc(), "cuts DEMANDED CD 2", NoLeg, b"no leg\n")
 }
 
 // Of ABH 2, 4, 3 and 3 seats are asked for, and three of them are worth more than those of ABL.
 #[test]
 fn the_seats_of_a_leg_are_valued(rt: HostRuntime) -> Result<(), Fail> {
-    let (status, sink) = outcome(rt.alloc(), &["dp", "DEMANDED", "AB"])?;
-    assert_eq!(rt; status, Status::Done);
-    assert_eq!(rt;
-        sink.held(),
-        b"class ABH 400\nclass ABL 150\nvalue AB 4175/2\nprotect AB 3\n".as_slice()
-    );
-
-    for leg in ["BC", "CD"] {
-        let (status, sink) = outcome(rt.alloc(), &["dp", "F", leg])?;
-        assert_eq!(rt; status, Status::NoClass);
-        assert_eq!(rt; status.number(), 11);
-        assert_eq!(rt; sink.held(), b"classes 0\n".as_slice());
-    }
-    Ok(())
+    let lines = b"class ABH 400\nclass ABL 150\nvalue AB 4175/2\nprotect AB 3\n";
+    ends(&rt, rt.alloc(), "dp DEMANDED AB", Done, lines)?;
+    ends(&rt, rt.alloc(), "dp F BC", NoClass, b"classes 0\n")?;
+    ends(&rt, rt.alloc(), "dp F CD", NoClass, b"classes 0\n")
 }
 
 #[test]
-fn a_failed_put_is_told_of_a_leg(rt: HostRuntime) -> Result<(), Fail> {
-    let outside = Outside {
-        puts: &[1],
-        ..SOUND
-    };
-    let (status, _) = outcome_over(rt.alloc(), &["cuts", "F", "CD", "1"], &outside)?;
-    assert_eq!(rt; status, Status::WriteFault);
-    let (status, _) = outcome_over(rt.alloc(), &["dp", "F", "AB"], &outside)?;
-    assert_eq!(rt; status, Status::WriteFault);
-    Ok(())
+fn each_status_has_its_number(rt: HostRuntime) {
+    assert_eq!(rt; (NoLeg.number(), NoClass.number()), (10, 11));
 }

@@ -8,7 +8,7 @@ use nrm_model::Mode;
 use nrm_samples::{two_legs, two_legs_authorised};
 use nrm_session::{End, serve};
 use nrm_simplex::SolveFault;
-use std::alloc::Global;
+use std::alloc::{AllocError, Global};
 use std::process::Abort;
 
 fn begin(alloc: Global, mode: Mode) -> Result<Controller, SolveFault>
@@ -25,6 +25,19 @@ struct Asked<'a> {
     failing_takes: &'a [u64],
     failing_puts: &'a [u64],
     limit: u64,
+}
+
+// The stream, as it comes.
+fn source(alloc: Global, asked: &Asked<'_>) -> Result<MemSource, AllocError> {
+    let takes = asked.failing_takes.to_vec(alloc)?;
+    let cuts = asked.cuts.to_vec(alloc)?;
+    Ok(MemSource::new(asked.stream.to_vec(alloc)?, cuts, takes))
+}
+
+// What is written, of which some puts fail.
+fn sink(alloc: Global, asked: &Asked<'_>) -> Result<MemSink, AllocError> {
+    let puts = asked.failing_puts.to_vec(alloc)?;
+    MemSink::new(alloc, 512, Vec::new(alloc), puts)
 }
 
 // How a session ends, and the sink that it wrote to.
@@ -44,17 +57,8 @@ fn serve_asked(
     requires limit { asked.now.limit ≤ 2 ^ 32 }
 {
     let mut controller = begun;
-    let mut source = MemSource::new(
-        asked.stream.to_vec(alloc)?,
-        asked.cuts.to_vec(alloc)?,
-        asked.failing_takes.to_vec(alloc)?,
-    );
-    let mut sink = MemSink::new(
-        alloc,
-        512,
-        Vec::new(alloc),
-        asked.failing_puts.to_vec(alloc)?,
-    )?;
+    let mut source = source(alloc, asked)?;
+    let mut sink = sink(alloc, asked)?;
     let end = serve(alloc, &mut controller, &mut source, &mut sink, asked.limit);
     Ok((end, sink))
 }
@@ -151,97 +155,46 @@ fn lines_are_answered_at_bid_prices_by_hand(rt: HostRuntime) {
 }
 
 // The put of this number fails: so much was written before it.
-fn assert_cut(
-    rt: &impl Abort,
-    alloc: Global,
-    mode: Mode,
-    failing: u64,
-    stream: &[u8],
-    held: &[u8],
-) {
+fn cut(rt: &impl Abort, alloc: Global, mode: Mode, failing: u64, stream: &[u8], held: &[u8]) {
     let given = session(alloc, mode, stream, &[failing]);
     assert_ends(rt, given, End::WriteFault, held);
 }
 
+// First come, first served, the second put fails.
+fn cut_in_second(rt: &impl Abort, alloc: Global, stream: &[u8], held: &[u8]) {
+    cut(rt, alloc, Mode::FirstCome, 2, stream, held);
+}
+
 #[test]
 fn each_line_goes_out_in_one_put(rt: HostRuntime) {
-    let first = Mode::FirstCome;
     let alloc = rt.alloc();
-    assert_cut(&rt, alloc, first, 2, b"book\nbook\n", b"bad\n");
-    assert_cut(&rt, alloc, first, 2, b"book X 1\nbook X 1\n", b"unknown\n");
-    assert_cut(&rt, alloc, first, 2, b"book LOC 1\nbook LOC 1\n", b"ok 1\n");
-    assert_cut(
-        &rt,
-        alloc,
-        first,
-        2,
-        b"book THRU 3\nbook THRU 3\n",
-        b"no BC\n",
-    );
-    assert_cut(
-        &rt,
-        alloc,
-        first,
-        3,
-        b"book LOC 1\ncancel 1\ncancel 1\n",
-        b"ok 1\ncancelled 1 200\n",
-    );
-    assert_cut(
-        &rt,
-        alloc,
-        first,
-        2,
-        b"leg BC\nleg BC\n",
-        b"leg BC seats 2 authorised 2 sold 0 left 2\n",
-    );
-    assert_cut(&rt, alloc, first, 2, b"plan\nplan\n", b"first\n");
-    assert_cut(
-        &rt,
-        alloc,
-        first,
-        2,
-        b"reoptimise 1\nplan\n",
-        b"optimised none\n",
-    );
-    assert_cut(
-        &rt,
-        alloc,
-        first,
-        2,
-        b"hindsight\nhindsight\n",
-        b"hindsight 0/1 revenue 0 withheld 0\n",
-    );
+    cut_in_second(&rt, alloc, b"book\nbook\n", b"bad\n");
+    cut_in_second(&rt, alloc, b"book X 1\nbook X 1\n", b"unknown\n");
+    cut_in_second(&rt, alloc, b"book LOC 1\nbook LOC 1\n", b"ok 1\n");
+    cut_in_second(&rt, alloc, b"book THRU 3\nbook THRU 3\n", b"no BC\n");
+    let held = b"leg BC seats 2 authorised 2 sold 0 left 2\n";
+    cut_in_second(&rt, alloc, b"leg BC\nleg BC\n", held);
+    cut_in_second(&rt, alloc, b"plan\nplan\n", b"first\n");
+    let held = b"optimised none\n";
+    cut_in_second(&rt, alloc, b"reoptimise 1\nplan\n", held);
+    let held = b"hindsight 0/1 revenue 0 withheld 0\n";
+    cut_in_second(&rt, alloc, b"hindsight\nhindsight\n", held);
+    let stream = b"book LOC 1\ncancel 1\ncancel 1\n";
+    let held = b"ok 1\ncancelled 1 200\n";
+    cut(&rt, alloc, Mode::FirstCome, 3, stream, held);
 }
 
 #[test]
 fn each_line_of_a_plan_goes_out_in_one_put(rt: HostRuntime) {
-    let bid = Mode::Bid;
     let alloc = rt.alloc();
-    assert_cut(&rt, alloc, bid, 2, b"plan\n", b"value 1200/1\n");
-    assert_cut(
-        &rt,
-        alloc,
-        bid,
-        5,
-        b"plan\n",
-        b"value 1200/1\nproduct THRU 2/1\nproduct LOC 1/1\nleg AB 200/1\n",
-    );
-    assert_cut(
-        &rt,
-        alloc,
-        bid,
-        2,
-        b"reoptimise 1\nplan\n",
-        b"optimised 1200/1\n",
-    );
-    assert_cut(
-        &rt,
-        alloc,
-        bid,
-        4,
-        b"book LOC 2\nreoptimise 1\nbook LOC 1\nplan\n",
-        b"ok 1\noptimised 500/1\nno fare\n",
-    );
+    cut(&rt, alloc, Mode::Bid, 2, b"plan\n", b"value 1200/1\n");
+    let held = b"value 1200/1\nproduct THRU 2/1\nproduct LOC 1/1\nleg AB 200/1\n";
+    cut(&rt, alloc, Mode::Bid, 5, b"plan\n", held);
+    let held = b"optimised 1200/1\n";
+    cut(&rt, alloc, Mode::Bid, 2, b"reoptimise 1\nplan\n", held);
+    let stream = b"book LOC 2\nreoptimise 1\nbook LOC 1\nplan\n";
+    let held = b"ok 1\noptimised 500/1\nno fare\n";
+    cut(&rt, alloc, Mode::Bid, 4, stream, held);
 }
 
 // Two bytes a take, so that words, line ends and a carriage return are cut.
@@ -307,17 +260,6 @@ fn a_byte_past_the_limit_is_too_many(rt: HostRuntime) {
 // The second put fails, and the third line of the piece has no reply.
 #[test]
 fn no_line_behind_a_cut_one_is_answered(rt: HostRuntime) {
-    let asked = Asked {
-        stream: b"book LOC 1\nbook LOC 1\nbook LOC 1\n",
-        cuts: &[],
-        failing_takes: &[],
-        failing_puts: &[2],
-        limit: 512,
-    };
-    assert_ends(
-        &rt,
-        session_as(rt.alloc(), Mode::FirstCome, &asked),
-        End::WriteFault,
-        b"ok 1\n",
-    );
+    let stream = b"book LOC 1\nbook LOC 1\nbook LOC 1\n";
+    cut_in_second(&rt, rt.alloc(), stream, b"ok 1\n");
 }
