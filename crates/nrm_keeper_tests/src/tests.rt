@@ -16,19 +16,6 @@ use std::rt::HostRuntime;
 use std::test::Fail;
 use std::{env, fs};
 
-// A call, and the rows that are kept after it.
-#[derive(Clone, Copy)]
-struct Step<'a> {
-    call: Call<'a>,
-    kept: &'a [Line<'a>],
-}
-
-#[derive(Clone, Copy)]
-enum Call<'a> {
-    Add(Line<'a>),
-    Drop(u16),
-}
-
 // The number, the product and the party of a row.
 type Line<'a> = (u16, &'a [u8], u16);
 
@@ -64,18 +51,18 @@ fn keeps<P: Keeper>(keeper: &mut P, alloc: Global, wanted: &[Line<'_>]) -> bool 
     true
 }
 
-// Whether each call is done, and leaves the rows that it should.
-fn runs<P: Keeper>(keeper: &mut P, alloc: Global, steps: &[Step<'_>]) -> Result<bool, Fail> {
-    for step in steps {
-        let done = match step.call {
-            Call::Add(line) => keeper.add(alloc, row(line)?),
-            Call::Drop(number) => keeper.drop_row(alloc, u64::from(number)),
-        };
-        if done.is_err() || !keeps(keeper, alloc, step.kept) {
-            return Ok(false);
-        }
-    }
-    Ok(true)
+// Whether a call is done, and leaves the rows that it should.
+fn adds<P: Keeper>(
+    keeper: &mut P,
+    alloc: Global,
+    line: Line<'_>,
+    wanted: &[Line<'_>],
+) -> Result<bool, Fail> {
+    Ok(keeper.add(alloc, row(line)?).is_ok() && keeps(keeper, alloc, wanted))
+}
+
+fn drops<P: Keeper>(keeper: &mut P, alloc: Global, number: u16, wanted: &[Line<'_>]) -> bool {
+    keeper.drop_row(alloc, u64::from(number)).is_ok() && keeps(keeper, alloc, wanted)
 }
 
 // The same calls and answers over each keeper.
@@ -83,45 +70,24 @@ fn first_run<P: Keeper>(keeper: &mut P, alloc: Global) -> Result<bool, Fail> {
     let one = (1, b"THRU".as_slice(), 2);
     let two = (2, b"LOC".as_slice(), 1);
     let five = (5, b"THRU".as_slice(), 65535);
-    let steps = [
-        Step {
-            call: Call::Add(one),
-            kept: &[one],
-        },
-        Step {
-            call: Call::Add(two),
-            kept: &[one, two],
-        },
-        Step {
-            call: Call::Add(five),
-            kept: &[one, two, five],
-        },
-        Step {
-            call: Call::Drop(2),
-            kept: &[one, five],
-        },
-        Step {
-            call: Call::Drop(1),
-            kept: &[five],
-        },
-    ];
-    Ok(keeps(keeper, alloc, &[]) && runs(keeper, alloc, &steps)?)
+    Ok(
+        keeps(keeper, alloc, &[])
+            && adds(keeper, alloc, one, &[one])?
+            && adds(keeper, alloc, two, &[one, two])?
+            && adds(keeper, alloc, five, &[one, two, five])?
+            && drops(keeper, alloc, 2, &[one, five])
+            && drops(keeper, alloc, 1, &[five]),
+    )
 }
 
 fn second_run<P: Keeper>(keeper: &mut P, alloc: Global) -> Result<bool, Fail> {
     let five = (5, b"THRU".as_slice(), 65535);
     let six = (6, b"LOC".as_slice(), 1);
-    let steps = [
-        Step {
-            call: Call::Add(six),
-            kept: &[five, six],
-        },
-        Step {
-            call: Call::Drop(5),
-            kept: &[six],
-        },
-    ];
-    Ok(keeps(keeper, alloc, &[five]) && runs(keeper, alloc, &steps)?)
+    Ok(
+        keeps(keeper, alloc, &[five])
+            && adds(keeper, alloc, six, &[five, six])?
+            && drops(keeper, alloc, 5, &[six]),
+    )
 }
 
 // A new store tells the empty list, and a row that was added to it.
