@@ -141,17 +141,20 @@ class Lists:
         """The texts of a list with which a line of a part begins."""
         return [it for it in texts if any(line.strip().startswith(it) for line in part.lines)]
 
+    def met_by(self, page):
+        """The texts of the lists with which a line of a page's parts begins, whether they are run or not."""
+        return {found for texts in (self.not_run, self.ends, self.not_shown) for it in parts_of(page)
+                for found in self.found(texts, it)}
 
-def missing(needs):
-    """Those commands of a list that aren't installed: a part that runs one isn't run."""
-    return {command: "it isn't installed" for command in needs if not shutil.which(command)}
+
+def missing(needs, path=None):
+    """Those commands of a list that aren't on a path of programs: a part that runs one isn't run."""
+    return {command: "it isn't installed" for command in needs if not shutil.which(command, path=path)}
 
 
 def faults_of(page, top, path, lists):
-    """Runs a page in a folder: what is wrong, how many parts were run and compared, and what was met of the lists."""
+    """Runs a page in a folder: what is wrong, and how many parts were run and compared."""
     parts = parts_of(page)
-    met = {found for some in (lists.not_run, lists.ends, lists.not_shown) for it in parts
-           for found in lists.found(some, it)}
     chosen = [it for it in parts if it.is_run() and not lists.found(lists.not_run, it)]
     if chosen:
         run(chosen, top, path)
@@ -165,4 +168,4 @@ def faults_of(page, top, path, lists):
     for it in compared:
         if not any(is_shown_in(it.text(), above.out) for above in it.shows):
             faults.append(f"{it.name()}: this wasn't printed by {it.shows[-1].name()}\n{it.shows[-1].out[-600:]}")
-    return faults, len(chosen), len(compared), met
+    return faults, len(chosen), len(compared)

@@ -52,6 +52,7 @@ ENDS = {  # by the beginning of the commands that end with another status than 0
     "python3 examples/line/make.py trains": 1, "python3 examples/line/make.py line": 1, "sed 's/AB 120/AB 119/'": 1,
     "sed 's/^protect BC 4 6/": 1, "nrm-tools explain mine/train.csv": 3, 'cp "$store-wal" mine/backup': 1}
 NOT_SHOWN = {}  # by the beginning of what isn't compared: the reason
+LISTS = blocks.Lists({**NOT_RUN, **blocks.missing(NEEDS)}, ENDS, NOT_SHOWN)
 
 
 def headings_of(path):
@@ -82,7 +83,12 @@ def copied(top, program):
             (top / name).parent.mkdir(parents=True, exist_ok=True)
             shutil.copy2(TOP / name, top / name, follow_symlinks=False)
     lay_programs(top, program)
-    if not shutil.which("socat"):
+    lay_typed(top)
+
+
+def lay_typed(top, path=None):
+    """Lays `typed.py` at the top of a folder, in the place of `socat` where that isn't on a path of programs."""
+    if not shutil.which("socat", path=path):
         (top / "socat").symlink_to(TYPED)
 
 
@@ -106,14 +112,13 @@ def lacks_a_database():
 
 
 def page_tried(path, program):
-    """What is wrong with a page, how many parts were run and how many compared, and what of the lists was met."""
+    """What is wrong with a page, how many parts were run and how many compared."""
     with tempfile.TemporaryDirectory() as folder:
         os.chmod(folder, 0o755)  # the servers of a database run as somebody else where this is root
         top = Path(folder) / "copy"
         if any(it.is_run() for it in blocks.parts_of(path)):
             copied(top, program)
-        lists = blocks.Lists({**NOT_RUN, **blocks.missing(NEEDS)}, ENDS, NOT_SHOWN)
-        return blocks.faults_of(path, top, f"{top}:{os.environ['PATH']}", lists)
+        return blocks.faults_of(path, top, f"{top}:{os.environ['PATH']}", LISTS)
 
 
 def main():
@@ -125,23 +130,23 @@ def main():
     faults, links = faulty_links([*TOP.glob("*.md"), *pages])
     if links < 100 and not given.pattern:
         faults.append(f"there are {links} links alone")
+    unmet = []
+    if not given.pattern:
+        met = set().union(*map(LISTS.met_by, pages))
+        unmet = [f"no page has `{it}`, which is listed" for it in [*NOT_RUN, *ENDS, *NOT_SHOWN] if it not in met]
     if (why := lacks_a_database()) and (without := [it for it in pages if it.name == WITH_DATABASE]):
         print(f"{WITH_DATABASE}: its commands aren't run: {why}")
         pages = [it for it in pages if it not in without]
     if not shutil.which("socat"):
         print("socat isn't installed (Debian has socat): tests/typed.py types the lines of desks in its place")
-    failed, met = bool(faults), set()
+    failed = bool(faults) + bool(unmet)
+    faults += unmet
     with concurrent.futures.ThreadPoolExecutor(4) as pool:
         tried = pool.map(lambda it: page_tried(it, given.program), pages)
-        for path, (wrong, ran, compared, found) in zip(pages, tried):
+        for path, (wrong, ran, compared) in zip(pages, tried):
             print(f"{path.name}: commands run {ran}, compared with what is shown {compared}", flush=True)
             faults += wrong
-            met |= found
             failed += bool(wrong)
-    if not given.pattern:
-        unmet = [f"no page has `{it}`, which is listed" for it in [*NOT_RUN, *ENDS, *NOT_SHOWN] if it not in met]
-        faults += unmet
-        failed += bool(unmet)
     for it in faults:
         print(it)
     return checks.ended(len(pages) + 2 - failed, failed)

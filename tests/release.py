@@ -150,7 +150,9 @@ def its_commands_run_as_they_are_written(release):
             continue
         copy = release.folder / f"copy-{at}"
         shutil.copytree(release.made, copy)
-        lists = blocks.Lists({**pages.NOT_RUN, **NOT_THERE, **blocks.missing(pages.NEEDS)}, pages.ENDS, pages.NOT_SHOWN)
+        pages.lay_typed(copy, SYSTEM)
+        lists = blocks.Lists({**pages.NOT_RUN, **NOT_THERE, **blocks.missing(pages.NEEDS, SYSTEM)}, pages.ENDS,
+                             pages.NOT_SHOWN)
         faults += blocks.faults_of(page, copy, f"{copy}:{SYSTEM}", lists)[0]
     if faults:
         raise Wrong("\n".join(faults))
