@@ -3,9 +3,9 @@
 
     tests/door.py [PATTERN]
 
-Each test has a copy of the script beside a `rt` that stands in for the kit's: it notes how it was called, plays `rt
-try` as the test wants, and builds a program that says its words and gives its input back. With PATTERN only the tests
-that have it in their names. The last line is `N passed, M failed`.
+Each test has a copy of the script beside a `rt` that stands in for the kit's: it notes how it was called and what it is
+to prove, plays `rt try` as the test wants, and builds a program that says its words and gives its input back. With
+PATTERN only the tests that have it in their names. The last line is `N passed, M failed`.
 """
 import contextlib
 import os
@@ -20,17 +20,18 @@ import checks
 from checks import want, want_in
 
 RT = r'''#!/usr/bin/env bash
-echo "$*" >>"$CALLS"
-case "$1 $2" in
-  "all check")
-    echo "$PWD" >>"$CALLS.folders"
-    echo "== nrm" ;;
-  "run --")
-    mkdir -p out
-    printf '#!/usr/bin/env bash\necho "program $*"\ncat\n' >out/nrm
-    chmod +x out/nrm
-    echo "rt: running out/nrm" ;;
-  *)
+case "$1" in
+  ci)
+    echo "$*" >>"$CALLS"
+    while IFS=: read -r crate _; do echo "rt: $crate proved"; done <crates.txt
+    [ -z "$PROVED" ] || cp -r . "$PROVED"
+    [ -z "$TOUCHED" ] || touch "$TOUCHED"
+    mkdir -p crates/nrm/out
+    printf '#!/usr/bin/env bash\necho "program $*"\ncat\n' >crates/nrm/out/nrm
+    chmod +x crates/nrm/out/nrm
+    exit "$STATUS" ;;
+  try)
+    echo "$*" >>"$CALLS"
     case "$PLAY" in
       ends) echo "tried"; cat; printf 'checked: ended status=%s\n' "$STATUS" >&2
         printf 'run=ended status=%s runners=1 proved=no\n' "$STATUS" >&2 ;;
@@ -38,7 +39,26 @@ case "$1 $2" in
     esac ;;
 esac
 '''
-CRATES = "nrm_low:\nnrm_beside: nrm_low\nnrm_cli: nrm_low\nnrm: nrm_cli\n"
+CRATES = "nrm_low:\nnrm_beside: nrm_low\nnrm_cli: nrm_low csv\nnrm: nrm_low nrm_cli\n"
+LIB = "mod list;\n#[cfg(test)]\nmod tests;\n\npub use list::len;\n"
+LIST = '''pub fn len() {
+}
+
+#[cfg(test)]
+mod tests {
+    use super::*;
+
+    #[test]
+    fn is_empty() {
+    }
+}
+'''
+FILES = {"bin/rt": RT, "crates.txt": CRATES, "HANDLES": "Handles allowed: none.\n", "net.csv": "periods,1,1\n",
+         **{f"crates/{it}/src/lib.rt": "pub mod it;\n" for it in ("nrm", "nrm_cli", "nrm_beside")},
+         "crates/nrm_low/src/lib.rt": LIB, "crates/nrm_low/src/list.rt": LIST,
+         "crates/nrm_low/src/tests.rt": "#[test]\n", "crates/nrm_low/proofs/tests/is_full/Lts.antt": "three\n",
+         "crates/nrm_low/specs/Low.antt": "one\n", "crates/nrm_low/proofs/list/Lts.antt": "two\n",
+         "crates/nrm_low/must-fail/len.edit": "file: src/list.rt\n", "crates/nrm_low/out/old": "built before\n"}
 test = checks.Tests()
 
 
@@ -47,20 +67,20 @@ class Door:
 
     def __init__(self, folder):
         self.folder = folder
-        self.calls = os.path.join(folder, "CALLS")
-        for crate in "nrm", "nrm_cli", "nrm_low", "nrm_beside":
-            os.makedirs(os.path.join(folder, "crates", crate))
-        os.mkdir(os.path.join(folder, "bin"))
+        self.calls, self.proved, self.rooms = (os.path.join(folder, it) for it in ("CALLS", "proved", "rooms"))
+        os.mkdir(self.rooms)
         shutil.copy(os.path.join(checks.TOP, "nrm"), folder)
-        for name, text, rights in (("bin/rt", RT, 0o755), ("crates.txt", CRATES, 0o644),
-                                    ("net.csv", "periods,1,1\n", 0o644)):
-            with open(os.path.join(folder, name), "w") as file:
+        for name, text in FILES.items():
+            path = os.path.join(folder, name)
+            os.makedirs(os.path.dirname(path), exist_ok=True)
+            with open(path, "w") as file:
                 file.write(text)
-            os.chmod(file.name, rights)
+        os.chmod(os.path.join(folder, "bin", "rt"), 0o755)
 
-    def start(self, *words, play="ends", status=0, **more):
+    def start(self, *words, play="ends", status=0, proved="", touched="", **more):
         path = os.path.join(self.folder, "bin") + ":" + os.environ["PATH"]
-        outside = dict(os.environ, PATH=path, CALLS=self.calls, PLAY=play, STATUS=str(status))
+        outside = dict(os.environ, PATH=path, CALLS=self.calls, PLAY=play, STATUS=str(status), PROVED=proved,
+                       TOUCHED=touched, TMPDIR=self.rooms)
         return subprocess.Popen([os.path.join(self.folder, "nrm"), *words], cwd=self.folder, env=outside,
                                 stdout=subprocess.PIPE,
                                 stderr=subprocess.PIPE, **more)
@@ -85,7 +105,7 @@ class Door:
         return process.returncode, out, told.decode()
 
     def called(self):
-        """How `rt` was called, without what comes behind the first three words."""
+        """How `rt` was called to try and to prove."""
         if not os.path.exists(self.calls):
             return []
         with open(self.calls) as file:
@@ -97,9 +117,10 @@ class Door:
 
     def source(self, crate):
         """A source file of a crate, newer than each program that is there."""
-        path = os.path.join(self.folder, "crates", crate, "lib.rt")
-        with open(path, "w"):
-            os.utime(path, (time.time() + 60, time.time() + 60))
+        os.utime(self.at("crates", crate, "src", "lib.rt"), (time.time() + 60, time.time() + 60))
+
+    def at(self, *names):
+        return os.path.join(self.folder, *names)
 
 
 @test
@@ -146,7 +167,7 @@ def a_pipe_that_ends_is_taken(door):
 def a_pipe_that_does_not_end_builds_first(door):
     status, out, told = door.pipe("run", "first", "net.csv", first=b"one\n", then=b"two\n", wait=4)
     want((status, out), (0, b"program run first net.csv\none\ntwo\n"))
-    want([call[0] for call in door.called()], ["all", "run"])
+    want(door.called(), [["ci"]])
 
 
 @test
@@ -189,9 +210,9 @@ def a_program_that_is_there_is_run(door):
 @test
 def a_program_older_than_its_sources_is_built_again(door):
     door.build()
-    os.utime(os.path.join(door.folder, "crates", "nrm", "out", "nrm"), (1, 1))
+    os.utime(door.at("crates", "nrm", "out", "nrm"), (1, 1))
     want(door.run("print", "net.csv")[1], "program print net.csv\n")
-    want([call[0] for call in door.called()], ["all", "run"])
+    want(door.called(), [["ci"]])
 
 
 @test
@@ -199,7 +220,7 @@ def a_source_that_the_program_stands_on_makes_it_old(door):
     door.build()
     door.source("nrm_low")
     want(door.run("print", "net.csv")[1], "program print net.csv\n")
-    want([call[0] for call in door.called()], ["all", "run"])
+    want(door.called(), [["ci"]])
 
 
 @test
@@ -210,17 +231,52 @@ def a_source_of_another_program_does_not(door):
     want(door.called(), [])
 
 
+# What the program stands on, without tests, wrong bodies and what was built before.
+PROVED = {"HANDLES": FILES["HANDLES"], "crates.txt": "nrm_low:\nnrm_cli: nrm_low csv\nnrm: nrm_low nrm_cli\n",
+          "crates/nrm/src/lib.rt": "pub mod it;\n", "crates/nrm_cli/src/lib.rt": "pub mod it;\n",
+          "crates/nrm_low/src/lib.rt": "mod list;\n\npub use list::len;\n",
+          "crates/nrm_low/src/list.rt": "pub fn len() {\n}\n\n",
+          "crates/nrm_low/specs/Low.antt": "one\n", "crates/nrm_low/proofs/list/Lts.antt": "two\n"}
+
+
 @test
 def what_is_proved_is_what_the_program_stands_on(door):
-    want_in(door.run("--build")[2], "proving and building 3 crates")
-    with open(door.calls + ".folders") as file:
-        want(file.read(), os.path.realpath(os.path.join(door.folder, "crates", "nrm")) + "\n")
+    told = door.run("--build", proved=door.proved)[2]
+    want_in(told, "proving and building 3 crates")
+    for line in "1 of 3 done: nrm_low", "2 of 3 done: nrm_cli", "3 of 3 done: nrm":
+        want_in(told, line)
+    found = {}
+    for at, _, names in os.walk(door.proved):
+        for name in names:
+            with open(os.path.join(at, name)) as file:
+                found[os.path.relpath(file.name, door.proved)] = file.read()
+    want(found, PROVED)
+    want((os.listdir(door.at("out")), os.listdir(door.rooms)), (["build.log"], []))
+
+
+@test
+def a_build_that_fails_leaves_the_program_that_is_there(door):
+    door.build()
+    door.source("nrm_low")
+    status, out, told = door.run("print", "net.csv", status=1)
+    want((status, out), (checks.NOT_BUILT, ""))
+    want_in(told, "it was not built")
+    want((os.listdir(door.at("crates", "nrm", "out")), os.listdir(door.rooms)), (["nrm"], []))
+    want(subprocess.run([door.at("crates", "nrm", "out", "nrm"), "x"], stdin=subprocess.DEVNULL,
+                        stdout=subprocess.PIPE).stdout, b"program x\n")
+
+
+@test
+def a_source_that_changes_during_a_build_makes_it_old(door):
+    door.run("--build", touched=door.at("crates", "nrm_low", "src", "list.rt"))
+    want(door.run("print", "net.csv")[1], "program print net.csv\n")
+    want(door.called(), [["ci"], ["ci"]])
 
 
 @test
 def build_builds_and_runs_nothing(door):
     want(door.run("--build")[:2], (0, ""))
-    want([call[0] for call in door.called()], ["all", "run"])
+    want(door.called(), [["ci"]])
     os.remove(door.calls)
     want(door.run("--build"), (0, "", ""))
     want(door.called(), [])
