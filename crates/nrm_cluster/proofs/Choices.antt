@@ -1,33 +1,15 @@
 -- From the table to the chosen division: the fewest pieces of the cheapest, and the walk over their lengths.
 use Rattle.std.proofs.Common.{◌≡◌, ℕ, zero, suc, ◌+◌, ◌-◌, ◌<◌, ◌≤◌, arith, refl, sym, ap, ap₂, subst, ◌∙◌, List, [], ◌∷◌, ◌++◌, length, get_or, Option, Some, None, Vec}
 use Rattle.std.specs.declared.alloc.Global.{Global}
-use Rattle.std.proofs.lemmas.List.{append-nil, append_assoc}
+use Rattle.std.proofs.lemmas.List.{append_assoc}
 use Rattle.nrm_cluster.specs.declared.table.Cell.{Cell}
 use Rattle.nrm_cluster.specs.declared.chosen.Pick.{Pick}
 use Rattle.nrm_cluster.specs.Points.{PointsValue}
 use Rattle.nrm_cluster.specs.Divisions.{division_cost, IsChosen}
-use Rattle.nrm_cluster.specs.Inner.Table.{Costed, cheaper, cheapest, led_by, best_into, best_division, into_pieces}
+use Rattle.nrm_cluster.specs.Inner.Table.{Costed, cheapest, led_by, best_into, best_division, into_pieces}
 use Rattle.nrm_cluster.specs.Inner.Cells.{IsCell, IsColumn, AreColumns, IsPick, columns_in, first_of}
 use Rattle.nrm_cluster.proofs.Tables.{IsCheapest, cheapest-some, table-chooses}
 use Rattle.nrm_cluster.proofs.Columns.{with_first, column-read}
-
--- ---- the fewest pieces
-pick-here : (into : ℕ → Option Costed) (pick : Pick) (o : Option Costed) → into pick.pieces ≡ o → IsCell o pick.cell → IsPick into o pick
-pick-here into pick None e is = is
-pick-here into pick (Some d) e is = (is, e)
-
-pub pick-more : (p : PointsValue) (groups before : ℕ) (column : List Cell) (cell : Cell) (best next : Pick) → IsColumn p groups (length p.values) column → before < groups → cell ≡ get_or column (before + 1) cell
-    → IsPick (into_pieces p) (cheapest (into_pieces p) before) best
-    → ((into : ℕ → Option Costed) (o q : Option Costed) → IsPick into o best → IsPick into q (record { pieces = before + 1; cell = cell }) → IsPick into (cheaper o q) next)
-    → IsPick (into_pieces p) (cheapest (into_pieces p) (before + 1)) next
-pick-more p groups before column cell best next whole few read so-far joined =
-    let all : length p.values - length p.values ≡ 0 = omega arith in
-    let there : IsCell (best_into p (before + 1) (length p.values - length p.values) (length p.values)) cell = subst (IsCell (best_into p (before + 1) (length p.values - length p.values) (length p.values))) (sym read) (whole.cells (before + 1) cell (omega arith)) in
-    let here : IsCell (into_pieces p (before + 1)) cell = subst (λ a. IsCell (best_into p (before + 1) a (length p.values)) cell) all there in
-    let one : suc before ≡ before + 1 = omega arith in
-    let same : cheaper (cheapest (into_pieces p) before) (into_pieces p (before + 1)) ≡ cheapest (into_pieces p) (before + 1) =
-    ap (λ k. cheaper (cheapest (into_pieces p) before) (into_pieces p k)) (sym one) ∙ ap (cheapest (into_pieces p)) one in
-    subst (λ o. IsPick (into_pieces p) o next) same (joined (into_pieces p) (cheapest (into_pieces p) before) (into_pieces p (before + 1)) so-far (pick-here (into_pieces p) (record { pieces = before + 1; cell = cell }) (into_pieces p (before + 1)) refl here))
 
 -- the division that was picked
 pub picked : (p : PointsValue) (groups : ℕ) (pick : Pick) (lengths : List ℕ) → 0 < length p.values → 0 < groups → IsPick (into_pieces p) (best_division p groups) pick → (d : Costed) × (into_pieces p pick.pieces ≡ Some d) × (lengths ≡ d.lengths)
@@ -66,19 +48,6 @@ walk-starts p pieces lengths (d, e) none = record {
   where
     plain : (n : ℕ) → n - 0 ≡ n
     plain n = omega arith
-
-pub walk-ends : (p : PointsValue) (pieces done a : ℕ) (lengths : List ℕ) → pieces ≤ done → IsWalk p pieces done a lengths → (d : Costed) × (into_pieces p pieces ≡ Some d) × (lengths ≡ d.lengths)
-walk-ends p pieces done a lengths all is = (is.whole, is.is_whole, sym (append-nil lengths) ∙ ap (λ ls. lengths ++ ls) (sym nothing) ∙ is.joined)
-  where
-    none : pieces - done ≡ 0
-    none = omega arith
-
-    no-more : (n : ℕ) (d : Costed) → best_into p 0 a n ≡ Some d → d.lengths ≡ []
-    no-more zero d e = let same : record { cost = 0; lengths = [] } ≡ d = cc in sym (ap (λ (x : Costed). x.lengths) same)
-    no-more (suc n) d e = cc
-
-    nothing : is.rest.lengths ≡ []
-    nothing = no-more (length p.values - a) is.rest (sym (ap (λ k. best_into p k a (length p.values - a)) none) ∙ is.is_rest)
 
 pub record HasLed (p : PointsValue) (pieces a n : ℕ) (d : Costed) : Type 0 where
   pub first : ℕ

@@ -1,9 +1,9 @@
--- Columns: each cell is that of the best division, as one first piece after another is tried; and a list of columns grows.
-use Rattle.std.proofs.Common.{◌≡◌, ◌==◌, ℕ, zero, suc, ◌+◌, ◌-◌, ◌<◌, ◌≤◌, true, false, arith, inl, inr, refl, sym, ap, ap₂, subst, ◌∙◌, List, [], ◌∷◌, ◌++◌, length, get_or, take, drop, All, Option, Some, None, Vec, nat_lt, ne_eqb}
+-- Columns: each cell is that of the best division, as one first piece after another is tried.
+use Rattle.std.proofs.Common.{◌≡◌, ◌==◌, ℕ, zero, suc, ◌+◌, ◌-◌, ◌<◌, ◌≤◌, true, false, arith, inl, inr, refl, sym, ap, ap₂, subst, ◌∙◌, List, [], ◌++◌, length, get_or, take, drop, All, Option, Some, None, Vec, nat_lt, ne_eqb}
 use Rattle.std.specs.declared.alloc.Global.{Global}
 use Rattle.std.specs.Option.{option_map}
-use Rattle.std.proofs.lemmas.Bool.{cases_Bool, cases_lt}
-use Rattle.std.proofs.lemmas.List.{append-nil, drop_all, take_all, get_or-map, length-map, map_push, length_push, get_or_append_left, get_or_push}
+use Rattle.std.proofs.lemmas.Bool.{cases_Bool}
+use Rattle.std.proofs.lemmas.List.{append-nil, drop_all, take_all, get_or-map, length-map}
 use Rattle.nrm_cluster.specs.declared.table.Cell.{Cell}
 use Rattle.nrm_cluster.specs.Points.{PointsValue, ArePoints}
 use Rattle.nrm_cluster.specs.Divisions.{piece_cost}
@@ -106,20 +106,6 @@ pub column-read : (p : PointsValue) (groups : ℕ) (columns : List (Vec Cell Glo
 column-read p groups columns k v column are few read same =
     subst (IsColumn p groups k) (sym (same ∙ ap (λ (w : Vec Cell Global). w.items) read ∙ sym (get_or-map (λ (w : Vec Cell Global). w.items) columns k v [] few)))
     (are k [] (omega (arith, length-map columns (λ (w : Vec Cell Global). w.items))))
-
--- one column more
-pub columns-push : (p : PointsValue) (groups : ℕ) (columns more : List (Vec Cell Global)) (next : Vec Cell Global) → AreColumns p groups (columns_in columns) → IsColumn p groups (length columns) next.items → more ≡ columns ++ next ∷ []
-    → AreColumns p groups (columns_in more)
-columns-push p groups columns more next are last e left d few =
-    let whole : columns_in more ≡ columns_in columns ++ next.items ∷ [] = ap columns_in e ∙ map_push (λ (w : Vec Cell Global). w.items) columns next in
-    let long : length (columns_in columns) ≡ length columns = length-map columns (λ (w : Vec Cell Global). w.items) in
-    let count : length (columns_in more) ≡ length (columns_in columns) + 1 = ap length whole ∙ length_push (columns_in columns) next.items in
-    subst (λ cs. IsColumn p groups left (get_or cs left d)) (sym whole) (elim (cases_lt left (length (columns_in columns))) [
-      | inl less ↦ subst (IsColumn p groups left) (sym (get_or_append_left (columns_in columns) (next.items ∷ []) d left less)) (are left d less)
-      | inr at ↦
-          let here : length (columns_in columns) ≡ left = omega arith in
-          subst (IsColumn p groups left) (sym (get_or_push (columns_in columns) next.items d left here)) (subst (λ k. IsColumn p groups k next.items) (sym long ∙ here) last)
-    ])
 
 -- what is written through a slice of a whole list is the list
 pub written-over : (new old : List Cell) (len : ℕ) → length new ≡ length old → len ≡ length old → take len (new ++ drop (length new) old) ≡ new

@@ -1,23 +1,17 @@
 -- The walk over the pieces of a division.
-use Rattle.std.proofs.Common.{◌≡◌, ℕ, ◌+◌, ◌-◌, ◌<◌, ◌≤◌, arith, sym, ap, ◌∙◌, slice_index, List, [], ◌∷◌, ◌++◌, get_or, drop, sum, length}
-use Rattle.std.proofs.lemmas.List.{append-nil, append_assoc, drop_more, drop_all}
+use Rattle.std.proofs.Common.{◌≡◌, ℕ, ◌+◌, ◌-◌, ◌<◌, arith, sym, ap, ◌∙◌, slice_index, List, [], ◌∷◌, ◌++◌, get_or, drop, sum, length}
+use Rattle.std.proofs.lemmas.List.{append_assoc, drop_more}
 use Rattle.std.proofs.lemmas.List.Sums.{sum_by-cons}
 use Rattle.nrm_cluster.specs.Points.{PointsValue}
-use Rattle.nrm_cluster.specs.Divisions.{centre_of, IsDivision, centres_from, cuts_from}
+use Rattle.nrm_cluster.specs.Divisions.{centre_of, centres_from, cuts_from}
 
 -- a list that is made piece by piece
 pub record IsListing (made : ℕ → List ℕ → List ℕ) (p : PointsValue) (lengths : List ℕ) (k a : ℕ) (items : List ℕ) : Type 0 where
   pub whole : a + sum (drop k lengths) ≡ length p.values
   pub joined : items ++ made a (drop k lengths) ≡ made 0 lengths
 
-piece-there : (p : PointsValue) (lengths : List ℕ) (k : ℕ) → IsDivision (length p.values) lengths → k < length lengths → 0 < get_or lengths k 0
-piece-there p lengths k is few = is.some k 0 few
-
 sum-next : (lengths : List ℕ) (k : ℕ) → k < length lengths → sum (drop k lengths) ≡ get_or lengths k 0 + sum (drop (k + 1) lengths)
 sum-next lengths k few = ap sum (drop_more lengths k 0 few) ∙ sum_by-cons (λ x. x) (get_or lengths k 0) (drop (k + 1) lengths)
-
-pub piece-within : (made : ℕ → List ℕ → List ℕ) (p : PointsValue) (lengths : List ℕ) (k a : ℕ) (items : List ℕ) → k < length lengths → IsListing made p lengths k a items → a + get_or lengths k 0 ≤ length p.values
-piece-within made p lengths k a items few is = omega (arith, is.whole, sum-next lengths k few)
 
 pub centres-more : (p : PointsValue) (lengths : List ℕ) (k a : ℕ) (items more : List ℕ) (c : ℕ) → k < length lengths → IsListing (centres_from p) p lengths k a items → c ≡ centre_of p a (get_or lengths k 0) → more ≡ items ++ c ∷ []
     → IsListing (centres_from p) p lengths (k + 1) (a + get_or lengths k 0) more
@@ -47,12 +41,3 @@ cuts-more p lengths k a items more v few is e g = record {
   where
     next : drop (k + 1) lengths ≡ get_or lengths (k + 1) 0 ∷ drop (k + 1 + 1) lengths
     next = drop_more lengths (k + 1) 0 few
-
-pub centres-all : (p : PointsValue) (lengths : List ℕ) (k a : ℕ) (items : List ℕ) → length lengths ≤ k → IsListing (centres_from p) p lengths k a items → items ≡ centres_from p 0 lengths
-centres-all p lengths k a items all is = sym (append-nil items) ∙ ap (λ ls. items ++ centres_from p a ls) (sym (drop_all k lengths all)) ∙ is.joined
-
-pub cuts-all : (p : PointsValue) (lengths : List ℕ) (k a : ℕ) (items : List ℕ) → length lengths - 1 ≡ k → 0 < length lengths → IsListing (cuts_from p) p lengths k a items → items ≡ cuts_from p 0 lengths
-cuts-all p lengths k a items all some is = sym (append-nil items) ∙ ap (λ ls. items ++ cuts_from p a ls) (sym last) ∙ is.joined
-  where
-    last : drop k lengths ≡ get_or lengths k 0 ∷ []
-    last = drop_more lengths k 0 (omega arith) ∙ ap (λ ls. get_or lengths k 0 ∷ ls) (drop_all (k + 1) lengths (omega arith))

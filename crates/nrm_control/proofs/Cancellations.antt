@@ -120,12 +120,6 @@ withheld-cancelled net book withheld number same is within = by (booking_numbere
         let its : withheld_by net book.bookings number ≤ most_worth = subst (λ w. w ≤ most_worth) (sym (ap (λ o. option_map_or (withheld_of net) o 0) e)) most in
         one-gone (length book.bookings) (length (without book.bookings number)) book.next withheld (withheld_by net book.bookings number) its (one-fewer book.bookings number b is.rising e) within
 
-pub withheld-small : (bookings : List Booking) (next withheld : ℕ) → next ≤ 1000000000000 → IsWithheld bookings next withheld → withheld ≤ 99899999000900100000999
-withheld-small bookings next withheld few within = bounded (length bookings) next withheld few within
-  where
-    bounded : (n next withheld : ℕ) → next ≤ 1000000000000 → withheld + n * most_worth ≤ (next - 1) * most_worth → withheld ≤ 99899999000900100000999
-    bounded n next withheld few within = omega (arith, few, within)
-
 -- ---- as the code works them out
 module _ (net : NetworkValue) (bookings : List Booking) (number : ℕ) (b : Booking) (product : Product) (party fare percent : ℕ) (live : Some b ≡ booking_numbered bookings number)
     (found : Some product ≡ slice_get net.products b.product) (its_party : party ≡ b.party) (its_fare : fare ≡ product.fare) (its_percent : percent ≡ product.refund) where

@@ -6,7 +6,7 @@ use Rattle.nrm_lp.specs.Program.{ProgramValue}
 use Rattle.nrm_lp.specs.Closing.{certificate}
 use Rattle.nrm_dual.specs.Conditions.{verdict_on}
 use Rattle.nrm_dual.specs.declared.verdict.Verdict.TheVariants.{Optimal, WrongShape, WrongProduct, WrongLeg, WrongValue}
-use Rattle.nrm_lp.proofs.Overflows.{triangle, reached_by}
+use Rattle.nrm_lp.proofs.OverflowExamples.{triangle, reached_by}
 
 -- the triangle's own certificate
 own : certificate triangle (reached_by triangle 4) ≡ record { q = pos 2; x = pos 1 ∷ pos 1 ∷ pos 1 ∷ []; den = pos 1; p = pos 1 ∷ pos 1 ∷ pos 1 ∷ []; value = pos 3 }

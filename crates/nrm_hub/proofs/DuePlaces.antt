@@ -1,9 +1,9 @@
 -- The places at which something is due, as clients change.
-use Rattle.std.proofs.Common.{ℕ, ◌≡◌, ◌∙◌, ◌+◌, ◌<◌, ◌≤◌, ◌⊎◌, Bool, true, false, List, [], ◌∷◌, ◌++◌, length, get_or, Option, Some, None, refl, sym, ap, subst, arith, inl, inr}
+use Rattle.std.proofs.Common.{ℕ, ◌≡◌, ◌∙◌, ◌+◌, ◌<◌, ◌≤◌, ◌⊎◌, Bool, true, false, List, [], ◌∷◌, length, get_or, Option, Some, None, refl, sym, ap, subst, arith, inl, inr}
 use Rattle.std.specs.Prelude.{Contains, slice_set, if◌then◌else◌}
 use Rattle.std.proofs.lemmas.Bool.{cases_eq, cases_lt, false≢true}
 use Rattle.std.proofs.lemmas.List.{get_or_default, get_or-set_other, get_or-set_same, length-set}
-use Rattle.std.proofs.lemmas.List.Elements.{All-nil, Contains-append_left, Contains-push}
+use Rattle.std.proofs.lemmas.List.Elements.{All-nil}
 use Rattle.nrm_frames.specs.declared.limits.TheConstants.{LAST_PLACE}
 use Rattle.nrm_frames.specs.declared.rights.Rights.{Rights}
 use Rattle.nrm_frames.specs.declared.why.Why.{Why}
@@ -22,14 +22,6 @@ nothing-is-due place (inr (k, short, is)) = omega (arith, short)
 
 pub still-same : (due : DueValue) → StillDue due due
 still-same due place is = is
-
-pub is-pushed : (due : DueValue) (place : ℕ) (places : List ℕ) → places ≡ due.places ++ place ∷ [] → IsDue (record { places = places; is_all = due.is_all }) place
-is-pushed due place places is = inr (subst (λ (ps : List ℕ). Contains ps place) (sym is) (Contains-push due.places place))
-
-pub still-pushed : (due : DueValue) (place : ℕ) (places : List ℕ) → places ≡ due.places ++ place ∷ [] → StillDue due (record { places = places; is_all = due.is_all })
-still-pushed due place places is other (inl all) = inl all
-still-pushed due place places is other (inr has) =
-    inr (subst (λ (ps : List ℕ). Contains ps other) (sym is) (Contains-append_left due.places (place ∷ []) other has))
 
 -- one that is due is among those that are looked at
 pub due-found : (due : DueValue) (place : ℕ) → place ≤ LAST_PLACE → IsDue due place → (at : ℕ) × (at < due_count due) × (due_at due at ≡ place)

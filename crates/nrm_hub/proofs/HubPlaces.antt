@@ -3,7 +3,7 @@ use Rattle.std.proofs.Common.{ℕ, ◌≡◌, ◌≢◌, ◌∙◌, ◌+◌, ◌
 use Rattle.std.proofs.Common.{append-nil, append_assoc, arith, inl, inr}
 use Rattle.std.specs.Prelude.{is_some, replicate, slice_set}
 use Rattle.std.proofs.lemmas.Bool.{cases_lt, false≢true}
-use Rattle.std.proofs.lemmas.List.{get_or-append_right, get_or-replicate, get_or_append_left, get_or_default, get_or_past, length-replicate, replicate_more, set-get_or}
+use Rattle.std.proofs.lemmas.List.{get_or_default, get_or_past, replicate_more, set-get_or}
 use Rattle.std.proofs.lemmas.List.Elements.{All-append, All-get_or, All-replicate, All-set, All-weaker}
 use Rattle.nrm_frames.specs.declared.why.Why.{Why}
 use Rattle.nrm_hub.specs.Clients.{ClientValue, closed_for}
@@ -95,12 +95,6 @@ closes-seated clients clients' desks place reason (closes c there whole) seated 
 closes-seated clients clients' desks place reason (stays nothing) seated = seated
 
 -- ---- places that nobody was at
-nobody-at : (count place : ℕ) → get_or (replicate {A = Option ClientValue} count None) place None ≡ None
-nobody-at count place = elim (cases_lt place count) [
-  | inl less ↦ get_or-replicate count place None None less
-  | inr past ↦ get_or_past (replicate {A = Option ClientValue} count None) place None (let long = length-replicate {A = Option ClientValue} count None in omega (arith, long, past))
-]
-
 pub places-none : (clients : List (Option ClientValue)) → HasPlaces clients clients
 places-none clients = (0, sym (append-nil clients))
 
@@ -110,14 +104,6 @@ places-more clients mid new (count, is) pushed = (
   pushed ∙ ap (λ (cs : List (Option ClientValue)). cs ++ None ∷ []) is ∙ append_assoc clients (replicate count None) (None ∷ [])
       ∙ ap (λ (cs : List (Option ClientValue)). clients ++ cs) (replicate_more count None),
 )
-
-pub places-same : (clients new : List (Option ClientValue)) (place : ℕ) → HasPlaces clients new → get_or new place None ≡ get_or clients place None
-places-same clients new place (count, is) =
-    ap (λ (cs : List (Option ClientValue)). get_or cs place None) is ∙ elim (cases_lt place (length clients)) [
-      | inl less ↦ get_or_append_left clients (replicate count None) None place less
-      | inr past ↦ get_or-append_right clients (replicate count None) (length clients) place None refl past
-          ∙ nobody-at count (place - length clients) ∙ sym (get_or_past clients place None past)
-    ]
 
 pub places-seated : (clients new : List (Option ClientValue)) (desks : ℕ) → HasPlaces clients new → AreSeated clients desks → AreSeated new desks
 places-seated clients new desks (count, is) seated =

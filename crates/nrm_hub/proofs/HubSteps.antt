@@ -1,8 +1,7 @@
 -- What methods of the hub do, by what they do to the clients at their places.
-use Rattle.std.proofs.Common.{ℕ, ◌≡◌, ◌≢◌, ◌∙◌, ◌<◌, ◌≤◌, List, [], ◌∷◌, length, get_or, Option, Some, None, refl, sym, ap, subst, ◌⊎◌, inl, inr}
+use Rattle.std.proofs.Common.{ℕ, ◌≡◌, ◌≢◌, ◌∙◌, ◌<◌, List, [], ◌∷◌, length, get_or, Option, Some, None, refl, sym, ap, subst, ◌⊎◌, inl, inr}
 use Rattle.std.specs.Prelude.{is_some, replicate, slice_set}
 use Rattle.std.proofs.lemmas.List.{set-get_or}
-use Rattle.std.proofs.lemmas.List.Elements.{All-set}
 use Rattle.nrm_frames.specs.Outgoing.{close, send}
 use Rattle.nrm_frames.specs.declared.header.Header.TheVariants as header
 use Rattle.nrm_frames.specs.declared.why.Why.{Why}
@@ -11,9 +10,7 @@ use Rattle.nrm_hub.specs.Clients.{ClientValue, after_telling, closed_for}
 use Rattle.nrm_hub.specs.Goes.{Goes}
 use Rattle.nrm_hub.specs.Hub.{HubValue, client_at, with_client, with_places}
 use Rattle.nrm_hub.specs.Inner.Seats.{ClosesAt, HasPlaces, IsDeskAt, TakesAt, closes, nobody, stays, takes}
-use Rattle.nrm_hub.specs.Seats.{AreSeated, IsSeated}
 use Rattle.nrm_hub.specs.Inner.Taking.{Came, IsTook, TakesNext, joined, refused}
-use Rattle.nrm_hub.specs.Seats.{IsBelow}
 use Rattle.nrm_hub.specs.Register.{RegisterValue}
 use Rattle.nrm_hub.specs.World.{IsElsewhere, TakesNothing, frame}
 use Rattle.nrm_hub.specs.declared.client.Took.{Took}
@@ -21,7 +18,7 @@ use Rattle.nrm_hub.specs.declared.client.Took.TheVariants as took
 use Rattle.nrm_hub.specs.declared.phase.Phase.TheVariants as phase
 use Rattle.nrm_hub.proofs.Going.{goes-closed, goes-closing, goes-left, goes-nothing, goes-past, goes-piece, goes-places, goes-same, goes-told, goes-too_much}
 use Rattle.nrm_hub.proofs.HubLines.{goes-taken}
-use Rattle.nrm_hub.proofs.HubPlaces.{same-some, seated-more, unchanged}
+use Rattle.nrm_hub.proofs.HubPlaces.{same-some, unchanged}
 
 -- ---- gone, and elsewhere
 pub goes-gone : (h : HubValue) (place : ℕ) (clients : List (Option ClientValue)) → ClosesAt h.clients place why.Gone clients
@@ -61,11 +58,6 @@ pub goes-came_past : (h : HubValue) (place : ℕ) (piece : List ℕ) → TakesNo
 goes-came_past h place piece nothing = goes-past h (frame (header.Came place (length piece)) piece) nothing
 
 -- ---- a line was taken, or none
-pub seated-taken : (clients : List (Option ClientValue)) (desks more place : ℕ) (c : ClientValue) → desks ≤ more → IsBelow c.desk more
-    → AreSeated clients desks → AreSeated (slice_set clients place (Some c)) more
-seated-taken clients desks more place c grown below seated =
-    All-set (IsSeated more) clients place (Some c) below (seated-more clients desks more grown seated)
-
 abbrev pub after_took : HubValue → RegisterValue → List (Option ClientValue) → Took → HubValue
 after_took h r clients took.Nothing = record h { register = r; clients = clients }
 after_took h r clients took.Line = record h { register = r; clients = clients; phase = phase.Answering }

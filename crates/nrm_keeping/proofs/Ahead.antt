@@ -1,10 +1,10 @@
 -- What is kept before a line is what the line makes of the book.
-use Rattle.std.proofs.Common.{ℕ, ◌≡◌, ◌≢◌, ◌∙◌, ◌<◌, Bool, true, false, List, [], ◌∷◌, ◌++◌, length, take, All, Option, Some, None, Result, Ok, Err, refl, sym, ap, subst, arith, append-nil}
+use Rattle.std.proofs.Common.{ℕ, ◌≡◌, ◌∙◌, ◌<◌, true, false, List, [], ◌∷◌, ◌++◌, length, take, All, Option, Some, Result, Ok, Err, refl, sym, ap, subst, arith, append-nil}
 use Rattle.std.specs.Prelude.{OnErr, OnOk}
 use Rattle.std.specs.Io.KnownBytes.{Appends}
 use Rattle.nrm_edge.specs.Causes.{HasCause}
 use Rattle.nrm_edge.specs.Pieces.{AppendsFront}
-use Rattle.nrm_model.specs.Network.{NetworkValue, leg_named, product_named}
+use Rattle.nrm_model.specs.Network.{product_named}
 use Rattle.nrm_book.specs.declared.booking.Booking.{Booking}
 use Rattle.nrm_book.specs.Bookings.{booking_numbered, without}
 use Rattle.nrm_control.specs.State.{SeatState, after_answer}
@@ -19,7 +19,7 @@ use Rattle.nrm_stream.specs.declared.command.Command.TheVariants as command
 use Rattle.nrm_session.specs.Answering.{AnswersLine, CutsLine, Steps}
 use Rattle.nrm_session.specs.Clerks.{Answers, AnswersCut, is_control}
 use Rattle.nrm_session.specs.Replies.{Reply, text_of}
-use Rattle.nrm_session.specs.Step.{Reoptimises, Step, lacks_period, optimises, overflows, wants_memory}
+use Rattle.nrm_session.specs.Step.{Step}
 use Rattle.nrm_keeper.specs.declared.keeper.Keeper.{Ghosts}
 use Rattle.nrm_keeper.specs.declared.row.KeepFault.{KeepFault}
 use Rattle.nrm_keeper.specs.declared.row.KeptRow.{KeptRow}
@@ -37,12 +37,6 @@ use Rattle.nrm_keeping.proofs.Readings.{changed-read, read-weaker}
 -- the rows stay, and so does the book
 stays : (control : ControlValue) (rows rows' : Option (List KeptRow)) (s s' : SeatState) → rows' ≡ rows → s'.bookings ≡ s.bookings → AreRows control.net s.bookings rows → AreRows control.net s'.bookings rows'
 stays control rows rows' s s' same book are = same ∙ are ∙ ap (λ (bookings : List Booking). Some (rows_of control.net bookings)) (sym book)
-
--- a request for no product
-pub unknown-ahead : (control : ControlValue) (name : List ℕ) (party : ℕ) (rows rows' : Option (List KeptRow)) → product_named control.net name ≡ None → rows' ≡ rows → KeepsAhead control (command.Book name party) rows rows'
-unknown-ahead control name party rows rows' none same s s' reply stands step are =
-    let gives = rw none at step in
-    stays control rows rows' s s' same (ap (λ (s : SeatState). s.bookings) gives.1) are
 
 -- a request that is answered so
 module _ (control : ControlValue) (name : List ℕ) (party j : ℕ) (rows rows' : Option (List KeptRow)) (found : product_named control.net name ≡ Some j) (given : Answer)
@@ -76,12 +70,6 @@ module _ (control : ControlValue) (name : List ℕ) (party j : ℕ) (rows rows' 
       (j, found, answer-same control s j party stands ∙ sym is ∙ sells ∙ ap answer.Sold (next ∙ sym stands.next))
 
 -- ---- cancellations
-pub dead-ahead : (control : ControlValue) (number : ℕ) (rows rows' : Option (List KeptRow)) → booking_numbered control.bookings number ≡ None → rows' ≡ rows → KeepsAhead control (command.Cancel number) rows rows'
-dead-ahead control number rows rows' none same s s' reply stands step are =
-    let here : booking_numbered s.bookings number ≡ None = ap (λ (bookings : List Booking). booking_numbered bookings number) stands.bookings ∙ none in
-    let gives = rw here at step in
-    stays control rows rows' s s' same (ap (λ (s : SeatState). s.bookings) gives.1) are
-
 module _ (control : ControlValue) (number : ℕ) (rows rows' : Option (List KeptRow)) (b : Booking) (live : booking_numbered control.bookings number ≡ Some b) where
   pub live-changes : (s : SeatState) → StandsFor control s → ChangesBook control.net s (command.Cancel number)
   live-changes s stands = (b, ap (λ (bookings : List Booking). booking_numbered bookings number) stands.bookings ∙ live)
@@ -94,29 +82,6 @@ module _ (control : ControlValue) (number : ℕ) (rows rows' : Option (List Kept
       let left = (subst (λ (o : Option (List KeptRow)). Drops number o rows') own drops) (live-row control.net control.bookings number b live) in
       let after : s'.bookings ≡ without control.bookings number = ap (λ (s : SeatState). s.bookings) gives.1 ∙ ap (λ (bookings : List Booking). without bookings number) stands.bookings in
       left ∙ ap Some (sym (rows-without control.net control.bookings number)) ∙ ap (λ (bookings : List Booking). Some (rows_of control.net bookings)) (sym after)
-
--- ---- the other lines
-planned : (net : NetworkValue) (s : SeatState) (k : ℕ) (reply : Reply) (s' : SeatState) → Reoptimises net s k reply s' → s'.bookings ≡ s.bookings
-planned net s k reply s' (optimises plan for) = refl
-planned net s k reply s' (overflows n number large) = refl
-planned net s k reply s' (wants_memory solves) = refl
-
-pub other-ahead : (control : ControlValue) (c : Command) (rows rows' : Option (List KeptRow)) → ((name : List ℕ) (party : ℕ) → c ≢ command.Book name party) → ((number : ℕ) → c ≢ command.Cancel number) → rows' ≡ rows → KeepsAhead control c rows rows'
-other-ahead control (command.Book name party) rows rows' no_book no_cancel same s s' reply stands step are = absurd (no_book name party refl)
-other-ahead control (command.Cancel number) rows rows' no_book no_cancel same s s' reply stands step are = absurd (no_cancel number refl)
-other-ahead control (command.Reoptimise k) rows rows' no_book no_cancel same s s' reply stands step are = by (lacks_period control.net k) refl
-  where
-    by : (b : Bool) → lacks_period control.net k ≡ b → AreRows control.net s'.bookings rows'
-    by true e = let gives = rw e at step in stays control rows rows' s s' same (ap (λ (s : SeatState). s.bookings) gives.1) are
-    by false e = let made = rw e at step in stays control rows rows' s s' same (planned control.net s k reply s' made) are
-other-ahead control (command.Leg name) rows rows' no_book no_cancel same s s' reply stands step are = by (leg_named control.net name) refl
-  where
-    by : (o : Option ℕ) → leg_named control.net name ≡ o → AreRows control.net s'.bookings rows'
-    by None e = let gives = rw e at step in stays control rows rows' s s' same (ap (λ (s : SeatState). s.bookings) gives.1) are
-    by (Some i) e = let gives = rw e at step in stays control rows rows' s s' same (ap (λ (s : SeatState). s.bookings) gives.1) are
-other-ahead control command.Hindsight rows rows' no_book no_cancel same s s' reply stands step are = stays control rows rows' s s' same (ap (λ (s : SeatState). s.bookings) step.1) are
-other-ahead control command.Plan rows rows' no_book no_cancel same s s' reply stands step are = stays control rows rows' s s' same (ap (λ (s : SeatState). s.bookings) step.1) are
-other-ahead control command.Bad rows rows' no_book no_cancel same s s' reply stands step are = stays control rows rows' s s' same (ap (λ (s : SeatState). s.bookings) step.1) are
 
 -- ---- one line
 module _ {P : Type 0} (keeps : Ghosts P) (old new : ControlValue × P) (c : Command) where

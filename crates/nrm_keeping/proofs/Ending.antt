@@ -1,5 +1,5 @@
 -- How a call ends, out of how its parts went.
-use Rattle.std.proofs.Common.{ℕ, ◌≡◌, ◌∙◌, ◌≤◌, List, [], ◌∷◌, ◌++◌, Option, Some, None, Ok, Err, refl, sym, ap, subst, arith, inl, inr}
+use Rattle.std.proofs.Common.{ℕ, ◌≡◌, ◌∙◌, List, [], ◌∷◌, ◌++◌, Option, Some, None, Ok, Err, refl, sym, ap, subst, arith, inl, inr}
 use Rattle.nrm_edge.specs.Causes.{counted}
 use Rattle.nrm_model.specs.Inventory.{inventory_of}
 use Rattle.nrm_model.specs.Limits.{IsNetwork}
@@ -169,9 +169,6 @@ begun-stands net start begun = record {
 
 pub begun-load : (net : NetworkValue) (start : ControlValue) (rows : List KeptRow) → HasBegun net start → load net rows ≡ load_behind start.net (loaded_in start) rows
 begun-load net start rows begun = λ k. load_behind ((sym begun) k).net (loaded_in ((sym begun) k)) rows
-
-pub begun-low : (net : NetworkValue) (start : ControlValue) → HasBegun net start → start.next ≤ 100000000000
-begun-low net start begun = omega (arith, ap (λ (c : ControlValue). c.next) begun)
 
 -- rows that were kept by a listing
 pub keeps-stay : (before after : Option (List KeptRow)) → Keeps before after → (rows : List KeptRow) → before ≡ Some rows → after ≡ Some rows

@@ -68,17 +68,6 @@ rows-below net (b ∷ bs) number low =
     All-cons (λ (row : KeptRow). row.number < number) (row_of net b) (rows_of net bs) (All-head (λ (b : Booking). b.number < number) b bs low)
     (rows-below net bs number (All-tail (λ (b : Booking). b.number < number) b bs low))
 
--- ---- loading
--- rows that are loaded behind others
-pub load-append : (net : NetworkValue) (l m : Loaded) (rows more : List KeptRow) → load_behind net l rows ≡ Ok m → load_behind net l (rows ++ more) ≡ load_behind net m more
-load-append net l m [] more loads = let same : Ok l ≡ Ok m = loads in let is : l ≡ m = cc in ap (λ (l : Loaded). load_behind net l more) is
-load-append net l m (row ∷ rows) more loads = by (booking_of net l row) refl (λ b. load-append net (loaded_more l b) m rows more)
-  where
-    by : (o : Option Booking) → booking_of net l row ≡ o → ((b : Booking) → load_behind net (loaded_more l b) rows ≡ Ok m → load_behind net (loaded_more l b) (rows ++ more) ≡ load_behind net m more)
-        → load_behind net l ((row ∷ rows) ++ more) ≡ load_behind net m more
-    by None e rest = absurd (let clash : Err row.number ≡ Ok m = rw e at loads in cc)
-    by (Some b) e rest = rw e (rest b (rw e at loads))
-
 -- what a row gives is that row
 booked-row : (net : NetworkValue) (l : Loaded) (row : KeptRow) (b : Booking) → booking_of net l row ≡ Some b → row_of net b ≡ row
 booked-row net l row b gives = by (product_named net row.product) refl

@@ -7,7 +7,7 @@ use Rattle.std.proofs.lemmas.List.{length-map, map-append}
 use Rattle.std.proofs.lemmas.Option.{slice_get-map}
 use Rattle.std.proofs.lemmas.List.Sums.{AllPass-from_list_all}
 use Rattle.nrm_model.specs.Inventory.{inventory_of, legs_of}
-use Rattle.nrm_model.specs.Network.{NetworkValue, product_named, product_of}
+use Rattle.nrm_model.specs.Network.{NetworkValue, product_of}
 use Rattle.nrm_model.specs.declared.product.Product.{Product}
 use Rattle.nrm_book.specs.declared.booking.Booking.{Booking}
 use Rattle.nrm_book.specs.Book.{IsLoadable}
@@ -47,17 +47,6 @@ fits-of net l row j is =
       seats = λ k d short. leb-true row.party _ (all k d short);
     }
 
--- the booking that it gives
-pub given-by : (net : NetworkValue) (l : Loaded) (row : KeptRow) (j : ℕ) → product_named net row.product ≡ Some j → row_fits net l row j ≡ true
-    → Some (record { number = row.number; product = j; party = row.party }) ≡ booking_of net l row
-given-by net l row j found fits = rw (found, fits) refl
-
-pub none-unfit : (net : NetworkValue) (l : Loaded) (row : KeptRow) (j : ℕ) → product_named net row.product ≡ Some j → row_fits net l row j ≡ false → None ≡ booking_of net l row
-none-unfit net l row j found fits = rw (found, fits) refl
-
-pub none-unknown : (net : NetworkValue) (l : Loaded) (row : KeptRow) → product_named net row.product ≡ None → None ≡ booking_of net l row
-none-unknown net l row none = rw none refl
-
 -- it can be loaded
 pub loadable : (control : ControlValue) (row : KeptRow) (j : ℕ) → j < length (inventory_of control.net).legs → (product_of control.net j).legs ≡ legs_of (inventory_of control.net) j → row_fits control.net (loaded_in control) row j ≡ true
     → IsLoadable (book_of control) (record { number = row.number; product = j; party = row.party })
@@ -80,9 +69,6 @@ pub record IsLoading (old now : ControlValue) (rest all : List KeptRow) : Type 0
   pub stands : StandsFor now (loaded_state now.plan (loaded_in now))
   pub kept : IsControl now
   pub low : old.next ≤ 100000000000 → now.next ≤ 100000000000
-
-pub nothing-loading : (control : ControlValue) (all : List KeptRow) → StandsFor control (loaded_state control.plan (loaded_in control)) → IsControl control → IsLoading control control all all
-nothing-loading control all stands kept = record { network = refl; plan = refl; behind = refl; stands = stands; kept = kept; low = λ low. low }
 
 module _ (old now : ControlValue) (row : KeptRow) (rest all : List KeptRow) (so_far : IsLoading old now (row ∷ rest) all) where
   -- a row that gives a booking

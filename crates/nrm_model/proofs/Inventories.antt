@@ -25,10 +25,6 @@ pub fare_of-product : (net : NetworkValue) (j : ℕ) (product : Product) → Som
 fare_of-product net j product is =
     sym (get_or_from_slice_get (map (λ (p : Product). p.fare) net.products) j product.fare 0 (slice_get-map (λ (p : Product). p.fare) net.products j ∙ ap (option_map (λ (p : Product). p.fare)) (sym is)))
 
-pub authorised_of-leg : (net : NetworkValue) (i : ℕ) (leg : Leg) → Some leg ≡ slice_get net.legs i → leg.authorised ≡ authorised_of (inventory_of net) i
-authorised_of-leg net i leg is =
-    sym (get_or_from_slice_get (map (λ (l : Leg). l.authorised) net.legs) i leg.authorised 0 (slice_get-map (λ (l : Leg). l.authorised) net.legs i ∙ ap (option_map (λ (l : Leg). l.authorised)) (sym is)))
-
 -- ---- by number, past the last one too
 abbrev no_leg : Leg
 no_leg = record { name = []; seats = 0; authorised = 0; cuts = [] }

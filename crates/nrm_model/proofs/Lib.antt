@@ -5,5 +5,4 @@ pub mod Inventories  -- what a network's inventory has of a leg or a product: on
 pub mod NameLemmas  -- a name's number: the place at which it is found
 pub mod SeatLemmas  -- the least authorised seats of a few legs
 pub mod Lists  -- lists that are worked out number by number
-pub mod Maps  -- maps in order whose keys are the numbers of a range, or those of them that pass a test
 pub mod Used  -- the products that use a leg, product by product

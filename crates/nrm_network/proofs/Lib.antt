@@ -28,7 +28,7 @@ pub mod DemandBack  -- the demand rows of a canonical file give back the demand
 pub mod CanonicalRead  -- the canonical file of a network is read as that network
 pub mod RowTexts  -- the text of rows, written piece by piece
 pub mod BackwardNumbers  -- the numbers of a demand row, written from the last to the first
-pub mod CauseTexts  -- the text of each cause once, byte by byte
+pub mod CauseExamples  -- the text of each cause once, byte by byte
 pub mod OnLiterals  -- what an answer unfolds to compute what a file gives, where the file is written down
 pub mod Examples  -- files that are refused, and files that give a network
-pub mod ManyLegs  -- a file with one leg too many
+pub mod LongExamples  -- a file with one leg too many

@@ -2,7 +2,7 @@
 use Rattle.std.proofs.Common.{◌≡◌, ◌≢◌, ◌∙◌, ◌+◌, ◌-◌, ◌<◌, ◌≤◌, ℕ, zero, suc, true, false, ◌==◌, List, [], ◌∷◌, ◌++◌, length}
 use Rattle.std.proofs.Common.{get_or, take, drop, refl, sym, ap, arith, inl, inr, append_assoc, length-append, length-take}
 use Rattle.std.proofs.lemmas.Bool.{cases_Bool, cases_lt, eqb-true}
-use Rattle.std.proofs.lemmas.List.{append-nil, drop_more, drop_all, get_or-drop, length-drop, take_more}
+use Rattle.std.proofs.lemmas.List.{drop_more, get_or-drop, length-drop, take_more}
 use Rattle.std.proofs.lemmas.List.Sums.{fold-append}
 use Rattle.csv.proofs.ReadFacts.{part-of}
 use Rattle.nrm_network.specs.Rows.{Row, field}
@@ -17,19 +17,6 @@ line-more bytes end short inside so_far =
     so_far ∙ ap (λ (line : List ℕ). take end bytes ++ line) goes
     ∙ sym (append_assoc (take end bytes) (get_or bytes end 0 ∷ []) (line_of (drop (end + 1) bytes)))
     ∙ ap (λ (front : List ℕ). front ++ line_of (drop (end + 1) bytes)) (sym (take_more bytes end 0 short))
-
-pub line-stops : (bytes : List ℕ) (end : ℕ) → end < length bytes → ends_line (get_or bytes end 0) ≡ true
-    → line_of bytes ≡ take end bytes ++ line_of (drop end bytes) → line_of bytes ≡ take end bytes
-line-stops bytes end short stops so_far =
-    let next = drop_more bytes end 0 short in
-    let none : line_of (drop end bytes) ≡ [] = rw next (rw stops refl) in
-    so_far ∙ ap (λ (line : List ℕ). take end bytes ++ line) none ∙ append-nil (take end bytes)
-
-pub line-ends : (bytes : List ℕ) (end : ℕ) → length bytes ≤ end → line_of bytes ≡ take end bytes ++ line_of (drop end bytes)
-    → line_of bytes ≡ take end bytes
-line-ends bytes end over so_far =
-    let none : line_of (drop end bytes) ≡ [] = rw (drop_all end bytes over) refl in
-    so_far ∙ ap (λ (line : List ℕ). take end bytes ++ line) none ∙ append-nil (take end bytes)
 
 -- the fields of a row and of one more
 field-low : (fields more : Row) (k : ℕ) → k < length fields → field (fields ++ more) k ≡ field fields k

@@ -60,16 +60,6 @@ plan-nests net plan nests of has = by plan.mode plan.certificate refl refl (subs
     by mode.Davn None em ec nested = absurd nested
     by mode.Davn (Some c) em ec nested = (c, nested, λ i j. (λ n. seats_protected net (em n) plan.period (ec n) i j))
 
--- and one that has none keeps no seats
-pub no-nests : (net : NetworkValue) (plan : PlanValue) → IsPlanOf net plan → plan.nests ≡ None → (i j : ℕ) → protected_from net plan i j ≡ 0
-no-nests net plan of has i j = by plan.mode plan.certificate (subst (λ (n : Option NestsValue). HasNests net plan.period plan.mode plan.certificate n) has of.nests)
-  where
-    by : (m : Mode) (cert : Option Certificate) → HasNests net plan.period m cert None → seats_protected net m plan.period cert i j ≡ 0
-    by mode.FirstCome cert nested = refl
-    by mode.Bid cert nested = refl
-    by mode.Davn None nested = refl
-    by mode.Davn (Some c) nested = absurd nested
-
 -- what a table has for a pair is the product's bucket
 bucket-there : (net : NetworkValue) (cert : Certificate) (table : TableValue) (i j : ℕ) → IsTableOf net cert table → HasPair table i j → bucket_in table i j ≡ Some (bucket_of net cert i j)
 bucket-there net cert table i j of pair = by (bucket_in table i j) refl pair

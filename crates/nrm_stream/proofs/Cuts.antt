@@ -62,7 +62,3 @@ line-first bytes line rest cut =
     let (whole, last) = ended-lines bytes line rest cut in
     ap (λ (w : List (List ℕ)). w ++ as_line (unfinished_line bytes)) whole
     ∙ ap (λ (l : List ℕ). line ∷ (whole_lines rest ++ as_line l)) last
-
-pub line-last : (bytes : List ℕ) → parts_of bytes ≡ bytes ∷ [] → 0 < length bytes → lines_of bytes ≡ bytes ∷ []
-line-last [] cut some = absurd (omega arith)
-line-last (c ∷ bytes) cut some = ap (λ parts. all_but_last parts ++ as_line (last_part parts)) cut

@@ -41,9 +41,6 @@ pub record IsJoinedTo (old other now : List ℕ) (i : ℕ) : Type 0 where
   pub joined : (k : ℕ) → k < i → get_or now k 0 ≡ bit_or (get_or old k 0) (get_or other k 0)
   pub rest : (k : ℕ) → i ≤ k → get_or now k 0 ≡ get_or old k 0
 
-pub joined_first : (old other : List ℕ) → length old ≡ 5 → IsJoinedTo old other old 0
-joined_first old other l = record { long = l; joined = λ k h. absurd (omega arith); rest = λ k h. refl }
-
 pub joined_more : (old other now : List ℕ) (i : ℕ) → i < 5 → IsJoinedTo old other now i → IsJoinedTo old other (set now i (bit_or (get_or now i 0) (get_or other i 0))) (i + 1)
 joined_more old other now i h p = record {
   long = length-set now i (bit_or (get_or now i 0) (get_or other i 0)) ∙ p.long;

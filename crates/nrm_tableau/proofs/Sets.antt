@@ -46,12 +46,6 @@ pub record HasLegs (words : List ℕ) (bound : ℕ) (legs : List ℕ) : Type 0 w
   pub bounded : row_bit words bound ≡ 1
   pub named : (i : ℕ) → names i legs ≡ true → row_bit words i ≡ 1
 
-pub legs_first : (words : List ℕ) (bound : ℕ) → row_bit words bound ≡ 1 → HasLegs words bound []
-legs_first words bound e = record { bounded = e; named = λ i f. absurd (none f) }
-  where
-    none : false ≡ true → ⊥
-    none f = cc
-
 pub legs_more : (words new : List ℕ) (bound k l : ℕ) (legs : List ℕ) → k < length legs → l ≡ get_or legs k 0 → row_bit new l ≡ 1 → ((r : ℕ) → row_bit words r ≡ 1 → row_bit new r ≡ 1) → HasLegs words bound (take k legs) → HasLegs new bound (take (k + 1) legs)
 legs_more words new bound k l legs within is put kept h = record {
   bounded = kept bound h.bounded;
@@ -120,9 +114,6 @@ module _ (a : ProgramValue) where
 pub record IsSpreadTo (old now : List (List ℕ)) (changed : List ℕ) (es : List (ℕ × ℤ)) : Type 0 where
   pub long : length now ≡ length old
   pub bits : (c r : ℕ) → c < length old → row_bit (get_or now c []) r ≡ 0 → (row_bit (get_or old c []) r ≡ 0) × ((row_bit changed r ≡ 0) ⊎ (number_at es c ≡ pos 0))
-
-pub spread_first : (old : List (List ℕ)) (changed : List ℕ) → IsSpreadTo old old changed []
-spread_first old changed = record { long = refl; bits = λ c r l e. (e, inr refl) }
 
 later : (changed : List ℕ) (es : List (ℕ × ℤ)) (col c r : ℕ) (n : ℤ) → ¬ (c ≡ col) → (row_bit changed r ≡ 0) ⊎ (number_at es c ≡ pos 0) → (row_bit changed r ≡ 0) ⊎ (number_at (es ++ (col, n) ∷ []) c ≡ pos 0)
 later changed es col c r n d (inl e) = inl e

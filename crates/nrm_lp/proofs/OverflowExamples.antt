@@ -7,7 +7,7 @@ use Rattle.nrm_lp.specs.Program.{ProgramValue}
 use Rattle.nrm_lp.specs.Tableau.{Tableau, first_tableau, entering}
 use Rattle.nrm_lp.specs.Closing.{closing, value_over}
 use Rattle.nrm_lp.specs.Path.{after, next}
-use Rattle.nrm_lp.proofs.Runs.{network_a}
+use Rattle.nrm_lp.proofs.PathExamples.{network_a}
 use Rattle.nrm_lp.specs.Overflow.{Overflows, Closes, pivot_large, closing_large}
 
 -- three legs, and a product on each two of them: each is sold by halves
