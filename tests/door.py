@@ -53,11 +53,14 @@ mod tests {
     }
 }
 '''
+LEMMAS = "mod Examples\npub mod Ends  -- of a list\npub mod LongExamples  -- by hand\n"
 FILES = {"bin/rt": RT, "crates.txt": CRATES, "HANDLES": "Handles allowed: none.\n", "net.csv": "periods,1,1\n",
          **{f"crates/{it}/src/lib.rt": "pub mod it;\n" for it in ("nrm", "nrm_cli", "nrm_beside")},
          "crates/nrm_low/src/lib.rt": LIB, "crates/nrm_low/src/list.rt": LIST,
          "crates/nrm_low/src/tests.rt": "#[test]\n", "crates/nrm_low/proofs/tests/is_full/Lts.antt": "three\n",
          "crates/nrm_low/specs/Low.antt": "one\n", "crates/nrm_low/proofs/list/Lts.antt": "two\n",
+         "crates/nrm_low/proofs/Lib.antt": LEMMAS, "crates/nrm_low/proofs/Ends.antt": "four\n",
+         "crates/nrm_low/proofs/Examples.antt": "five\n", "crates/nrm_low/proofs/LongExamples.antt": "six\n",
          "crates/nrm_low/must-fail/len.edit": "file: src/list.rt\n", "crates/nrm_low/out/old": "built before\n"}
 test = checks.Tests()
 
@@ -231,12 +234,13 @@ def a_source_of_another_program_does_not(door):
     want(door.called(), [])
 
 
-# What the program stands on, without tests, wrong bodies and what was built before.
+# What the program stands on, without tests, worked examples, wrong bodies and what was built before.
 PROVED = {"HANDLES": FILES["HANDLES"], "crates.txt": "nrm_low:\nnrm_cli: nrm_low csv\nnrm: nrm_low nrm_cli\n",
           "crates/nrm/src/lib.rt": "pub mod it;\n", "crates/nrm_cli/src/lib.rt": "pub mod it;\n",
           "crates/nrm_low/src/lib.rt": "mod list;\n\npub use list::len;\n",
           "crates/nrm_low/src/list.rt": "pub fn len() {\n}\n\n",
-          "crates/nrm_low/specs/Low.antt": "one\n", "crates/nrm_low/proofs/list/Lts.antt": "two\n"}
+          "crates/nrm_low/specs/Low.antt": "one\n", "crates/nrm_low/proofs/list/Lts.antt": "two\n",
+          "crates/nrm_low/proofs/Lib.antt": "pub mod Ends  -- of a list\n", "crates/nrm_low/proofs/Ends.antt": "four\n"}
 
 
 @test
