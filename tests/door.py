@@ -39,7 +39,7 @@ case "$1" in
     esac ;;
 esac
 '''
-CRATES = "nrm_low:\nnrm_beside: nrm_low\nnrm_cli: nrm_low csv\nnrm: nrm_low nrm_cli\n"
+CRATES = "nrm_low:\nnrm_samples: nrm_low\nnrm_beside: nrm_low\nnrm_cli: nrm_low nrm_samples csv\nnrm: nrm_low nrm_cli\n"
 LIB = "mod list;\n#[cfg(test)]\nmod tests;\n\npub use list::len;\n"
 LIST = '''pub fn len() {
 }
@@ -55,7 +55,7 @@ mod tests {
 '''
 LEMMAS = "mod Examples\npub mod Ends  -- of a list\npub mod LongExamples  -- by hand\n"
 FILES = {"bin/rt": RT, "crates.txt": CRATES, "HANDLES": "Handles allowed: none.\n", "net.csv": "periods,1,1\n",
-         **{f"crates/{it}/src/lib.rt": "pub mod it;\n" for it in ("nrm", "nrm_cli", "nrm_beside")},
+         **{f"crates/{it}/src/lib.rt": "pub mod it;\n" for it in ("nrm", "nrm_cli", "nrm_beside", "nrm_samples")},
          "crates/nrm_low/src/lib.rt": LIB, "crates/nrm_low/src/list.rt": LIST,
          "crates/nrm_low/src/tests.rt": "#[test]\n", "crates/nrm_low/proofs/tests/is_full/Lts.antt": "three\n",
          "crates/nrm_low/specs/Low.antt": "one\n", "crates/nrm_low/proofs/list/Lts.antt": "two\n",
