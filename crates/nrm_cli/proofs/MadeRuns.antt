@@ -29,10 +29,11 @@ use Rattle.nrm_cli.specs.Made.{MadeRun, counted, counts_from, hindsight_in, last
 use Rattle.nrm_cli.specs.Ends.{Ends, Failures}
 use Rattle.nrm_cli.specs.Jobs.{run_made}
 use Rattle.nrm_cli.specs.Tells.{of_network}
-use Rattle.nrm_cli.specs.Inner.Parts.{AnswersMade, HasBegun, PutsSummary, rest_of, total_of}
+use Rattle.nrm_cli.specs.Inner.Parts.{AnswersMade, HasBegun, PutsMade, PutsSummary, rest_of, total_of}
 use Rattle.nrm_cli.specs.declared.status.Status.{Status}
 use Rattle.nrm_cli.specs.declared.status.Status.TheVariants as status
 use Rattle.nrm_session.proofs.ServedBy.{opened}
+use Rattle.nrm_cli.proofs.PlanEnds.{unplanned-ends, unplanned-failures}
 use Rattle.nrm_cli.proofs.ToldEnds.{told-ends}
 use Rattle.nrm_findings.specs.declared.summary.Counts.{Counts}
 
@@ -173,3 +174,16 @@ pub summary-failures : (net : NetworkValue) (plan : PlanValue) (number : ℕ) (b
 summary-failures net plan number before after s files source (inl (is, kept, same)) = rw is (record { files = files; source = source; sink = same })
 summary-failures net plan number before after s files source (inr (text, run, inl (is, wrote, same))) = rw is (record { files = files; source = source; sink = same })
 summary-failures net plan number before after s files source (inr (text, run, inr (is, front, rose))) = rw is (source, inl files)
+
+-- by whether there is an opening plan
+pub made-ends : (m : Mode) (number : ℕ) (net : NetworkValue) (before after : Outside) → net ≡ made_network number → LeftStream before after
+    → (s : Status) → PutsMade net m number before.held after.held before.sink_faults after.sink_faults s → Ends (Some (run_made m number)) before after s
+made-ends m number net before after made left s (inl (plan, opening, puts)) = summary-ends m number net plan before after s made opening left puts
+made-ends m number net before after made left s (inr (why, is, puts)) =
+    unplanned-ends (run_made m number) m net before after (λ goes text none. inr none) (refl, made) left why s is puts
+
+pub made-failures : (m : Mode) (number : ℕ) (net : NetworkValue) (before after : Outside) → after.file_faults ≡ before.file_faults
+    → after.source_faults ≡ before.source_faults
+    → (s : Status) → PutsMade net m number before.held after.held before.sink_faults after.sink_faults s → Failures s before after
+made-failures m number net before after files source s (inl (plan, opening, puts)) = summary-failures net plan number before after s files source puts
+made-failures m number net before after files source s (inr (why, is, puts)) = unplanned-failures before after files source why s puts

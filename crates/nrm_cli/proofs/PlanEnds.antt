@@ -1,5 +1,5 @@
 -- How a job ends that has an opening plan, or none since its program is Large or memory ran out.
-use Rattle.std.proofs.Common.{ℕ, ◌≡◌, List, Some, Result, Ok, Err, IfErr, inl, inr, refl, subst}
+use Rattle.std.proofs.Common.{ℕ, ◌≡◌, List, Option, Some, Result, Ok, Err, IfErr, inl, inr, refl, subst}
 use Rattle.nrm_model.specs.Inventory.{inventory_of}
 use Rattle.nrm_model.specs.Network.{NetworkValue}
 use Rattle.nrm_model.specs.declared.mode.Mode.{Mode}
@@ -52,15 +52,12 @@ unplanned-failures before after files source fault.NoMemory s (is, kept, same) =
 unplanned-failures before after files source (fault.Overflow pivots number) s (inl (is, wrote, same)) = rw is (record { files = files; source = source; sink = same })
 unplanned-failures before after files source (fault.Overflow pivots number) s (inr (is, front, rose)) = rw is (source, inl files)
 
--- by what was planned: nothing was, and it was put why
-pub without-plan : {T : Type 0} (job : Job) (m : Mode) (net : NetworkValue) (before after : Outside) → TellsNone job m net before
-    → Opens (Some job) job before net → LeftStream before after → after.file_faults ≡ before.file_faults → after.source_faults ≡ before.source_faults
-    → (planned : Result T SolveFault) → IfErr planned (IsStartFault net m) → (s : Status)
-    → TellsUnplanned STATUSES planned before.held after.held before.sink_faults after.sink_faults s
-    → Ends (Some job) before after s × Failures s before after
-without-plan job m net before after tells opens left files source (Ok made) is s told = absurd told
-without-plan job m net before after tells opens left files source (Err why) is s told =
-    (unplanned-ends job m net before after tells opens left why s is told, unplanned-failures before after files source why s told)
+-- nothing was planned, and it was put why
+pub lacks-plan : {T : Type 0} (net : NetworkValue) (m : Mode) (held held' : Option (List ℕ)) (before now : ℕ) (planned : Result T SolveFault)
+    → IfErr planned (IsStartFault net m) → (s : Status) → TellsUnplanned STATUSES planned held held' before now s
+    → (why : SolveFault) × IsStartFault net m why × PutsUnplanned STATUSES why held held' before now s
+lacks-plan net m held held' before now (Ok made) is s told = absurd told
+lacks-plan net m held held' before now (Err why) is s told = (why, is, told)
 
 -- ---- the plan's text, or none
 pub planned-ends : (m : Mode) (file : List ℕ) (net : NetworkValue) (before after : Outside)

@@ -11,8 +11,11 @@ use Rattle.nrm_session.specs.declared.serving.End.{End}
 use Rattle.nrm_session.specs.declared.serving.End.TheVariants as end
 use Rattle.nrm_cli.specs.Ends.{Ends, Failures, Starts, stream_limit}
 use Rattle.nrm_cli.specs.Jobs.{run_file}
-use Rattle.nrm_cli.specs.Inner.Parts.{HasBegun, status_at}
+use Rattle.nrm_cli.specs.Inner.Does.{Does}
+use Rattle.nrm_cli.specs.Inner.Parts.{HasBegun, ServesNetwork, status_at}
 use Rattle.nrm_cli.specs.Tells.{Opens}
+use Rattle.nrm_cli.specs.declared.status.Status.{Status}
+use Rattle.nrm_cli.proofs.PlanEnds.{unplanned-ends, unplanned-failures}
 use Rattle.nrm_cli.proofs.SessionRuns.{run-stops, run-writes}
 
 -- the source and the sink of what stands outside
@@ -66,3 +69,18 @@ served-goes before after same files end.Done (took, sank) = record { files = sam
 served-goes before after same files end.ReadFault (rose, later, sank) = record { files = same; file_faults = omega (arith, files); source_faults = later; sink_faults = omega (arith, sank) }
 served-goes before after same files end.WriteFault (rose, later, took) = record { files = same; file_faults = omega (arith, files); source_faults = omega (arith, took); sink_faults = later }
 served-goes before after same files end.TooLong (took, sank) = record { files = same; file_faults = omega (arith, files); source_faults = omega (arith, took); sink_faults = omega (arith, sank) }
+
+-- so it does what the words ask for, or tells why it can't
+pub served-does : (mode : Mode) (file : List ℕ) (net : NetworkValue) (before after : Outside) → Opens (Some (run_file mode file)) (run_file mode file) before net
+    → after.files ≡ before.files → after.file_faults ≡ before.file_faults → (s : Status) → ServesNetwork net mode (streams_of before) (streams_of after) s
+    → Does (Some (run_file mode file)) before after s
+served-does mode file net before after opens same files s (inl did) = record {
+  ends = rw did.status (served-ends mode file net did.start did.last before after did.begun opens did.planned did.ended did.serves did.counts);
+  failures = rw did.status (served-failures before after files did.ended did.counts);
+  goes = served-goes before after same files did.ended did.counts;
+}
+served-does mode file net before after opens same files s (inr none) = record {
+  ends = unplanned-ends (run_file mode file) mode net before after (λ goes text lacks. lacks) opens none.left none.why s none.is none.puts;
+  failures = unplanned-failures before after files none.source none.why s none.puts;
+  goes = record { files = same; file_faults = omega (arith, files); source_faults = omega (arith, none.source); sink_faults = none.later };
+}

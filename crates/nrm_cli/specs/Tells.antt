@@ -73,12 +73,16 @@ pub data TellsVerdict (net : NetworkValue) (files : Option Folder) (certificate 
       → verdict_on (opening_program net) given ≡ found → found ≢ verdict.Optimal → found ≢ verdict.WrongShape
       → TellsVerdict net files certificate status.Wrong (verdict_line net found)
 
+-- the canonical file of a network
+abbrev pub TellsFile : NetworkValue → Status → List ℕ → Type 0
+TellsFile net s text = (s ≡ status.Done) × (text ≡ canonical_file net)
+
 -- what each job tells of its network, and with which status; the replies of a run are beside this
 abbrev pub TellsOf : Job → NetworkValue → Option Folder → Status → List ℕ → Type 0
 TellsOf (run_file m file) net files = TellsNoPlan net m
 TellsOf (plan_file m file) net files = TellsPlanned net m (λ plan text. text ≡ plan_text net plan)
 TellsOf (check_file file certificate) net files = TellsVerdict net files certificate
-TellsOf (print_file file) net files = λ s text. (s ≡ status.Done) × (text ≡ canonical_file net)
+TellsOf (print_file file) net files = TellsFile net
 TellsOf (run_made m number) net files = TellsPlanned net m (λ plan text. MadeRun net plan number text)
 TellsOf (cut_leg file leg groups) net files = CutsTold net leg groups
 TellsOf (value_leg file leg) net files = ValuesTold net leg

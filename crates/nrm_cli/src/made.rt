@@ -12,7 +12,7 @@ ghost use Rattle.nrm_outside.specs.Outside.{SentOn};
 ghost use Rattle.nrm_cli.specs.Jobs.{run_made as made_job};
 ghost use Rattle.nrm_cli.specs.Made.{counted, hindsight_in};
 ghost use Rattle.nrm_cli.specs.Inner.Does.{DoesBeside, sink_beside};
-ghost use Rattle.nrm_cli.specs.Inner.Parts.{AnswersMade, HasBegun, PutsSummary, rest_of, total_of};
+ghost use Rattle.nrm_cli.specs.Inner.Parts.{AnswersMade, HasBegun, PutsMade, PutsSummary, rest_of, total_of};
 
 use crate::Status;
 use crate::status::STATUSES;
@@ -20,7 +20,7 @@ use nrm_control::Controller;
 use nrm_edge::Sink;
 use nrm_findings::{Counts, line_of_summary};
 use nrm_gen::{Maker, made};
-use nrm_model::Mode;
+use nrm_model::{Mode, Network};
 use nrm_session::{Reply, carry_out};
 use std::alloc::Global;
 
@@ -113,6 +113,26 @@ fn put_summary<K: Sink>(
     }
 }
 
+// Answers the commands of a maker from the opening of a network and puts the summary, or why there is no opening plan.
+fn put_run<K: Sink>(
+    alloc: Global,
+    net: Network,
+    mode: Mode,
+    maker: &mut Maker,
+    sink: &mut K,
+) -> Status
+    requires { maker.old.given ≤ command_count }
+    ensures puts { (number : ℕ) → rest_of maker.old ≡ made_commands number
+        → PutsMade net mode number (K.held sink.old) (K.held sink.new) (K.faults sink.old) (K.faults sink.new) result }
+    ensures later { K.faults sink.old ≤ K.faults sink.new }
+    ensures sent { SentOn Status.WriteFault result (K.unsent sink.old) (K.unsent sink.new) }
+{
+    match STATUSES.planned_or_told(Controller::start(alloc, net, mode), sink) {
+        Ok(mut controller) => put_summary(alloc, &mut controller, maker, sink),
+        Err(told) => told,
+    }
+}
+
 /// Makes the network and the commands of a number, has the controller of this mode answer them, and writes one line that sums the
 /// replies up. Where a line runs out of memory nothing is written.
 pub(crate) fn run_made<K: Sink>(alloc: Global, mode: Mode, number: u32, sink: &mut K) -> Status
@@ -120,15 +140,8 @@ pub(crate) fn run_made<K: Sink>(alloc: Global, mode: Mode, number: u32, sink: &m
         DoesBeside (made_job mode number) (at sink.old) (at sink.new) result }
     ensures sent { SentOn Status.WriteFault result (K.unsent sink.old) (K.unsent sink.new) }
 {
-    let Ok((net, maker)) = made(alloc, number) else {
-        return Status::NoMemory;
-    };
-    match STATUSES.planned_or_told(Controller::start(alloc, net, mode), sink) {
-        Ok(controller) => {
-            let mut controller = controller;
-            let mut maker = maker;
-            put_summary(alloc, &mut controller, &mut maker, sink)
-        }
-        Err(told) => told,
+    match made(alloc, number) {
+        Ok((net, mut maker)) => put_run(alloc, net, mode, &mut maker, sink),
+        Err(_) => Status::NoMemory,
     }
 }

@@ -5,13 +5,13 @@ ghost use Rattle.nrm_outside.specs.Outside.{SentOn, outside};
 ghost use Rattle.nrm_cli.specs.Ends.{stream_limit};
 ghost use Rattle.nrm_cli.specs.Inner.Does.{Does};
 ghost use Rattle.nrm_cli.specs.Jobs.{run_file as run_job};
-ghost use Rattle.nrm_cli.specs.Inner.Parts.{status_at};
+ghost use Rattle.nrm_cli.specs.Inner.Parts.{ServesNetwork, status_at};
 
 use crate::Status;
 use crate::status::STATUSES;
 use nrm_control::Controller;
 use nrm_edge::{Files, Sink, Source};
-use nrm_model::{MOST_STREAM_BYTES, Mode};
+use nrm_model::{MOST_STREAM_BYTES, Mode, Network};
 use nrm_outside::open_network;
 use nrm_session::{End, serve};
 use std::alloc::Global;
@@ -45,6 +45,24 @@ fn answer_stream<S: Source, K: Sink>(
     serve(alloc, controller, source, sink, MOST_STREAM_BYTES)
 }
 
+// Answers the lines of the stream from the opening of a network, or puts why there is no opening plan.
+fn serve_network<S: Source, K: Sink>(
+    alloc: Global,
+    net: Network,
+    mode: Mode,
+    source: &mut S,
+    sink: &mut K,
+) -> Status
+    ensures serves { let at = streams S.coming S.faults K.held K.faults in
+        ServesNetwork net mode (at source.old sink.old) (at source.new sink.new) result }
+    ensures sent { SentOn Status.WriteFault result (K.unsent sink.old) (K.unsent sink.new) }
+{
+    match STATUSES.planned_or_told(Controller::start(alloc, net, mode), sink) {
+        Ok(mut controller) => status_at(answer_stream(alloc, &mut controller, source, sink)),
+        Err(told) => told,
+    }
+}
+
 /// Opens a network, makes its opening plan, and answers the lines of the stream.
 pub(crate) fn run_file<F: Files, S: Source, K: Sink>(
     alloc: Global,
@@ -58,15 +76,8 @@ pub(crate) fn run_file<F: Files, S: Source, K: Sink>(
         Does (Some (run_job mode name.now)) (at files.old source.old sink.old) (at files.new source.new sink.new) result }
     ensures sent { SentOn Status.WriteFault result (K.unsent sink.old) (K.unsent sink.new) }
 {
-    let net = match STATUSES.network_or_told(open_network(alloc, files, name), sink) {
-        Ok(net) => net,
-        Err(told) => return told,
-    };
-    match STATUSES.planned_or_told(Controller::start(alloc, net, mode), sink) {
-        Ok(controller) => {
-            let mut controller = controller;
-            status_at(answer_stream(alloc, &mut controller, source, sink))
-        }
+    match STATUSES.network_or_told(open_network(alloc, files, name), sink) {
+        Ok(net) => serve_network(alloc, net, mode, source, sink),
         Err(told) => told,
     }
 }

@@ -28,7 +28,7 @@ use Rattle.nrm_outside.specs.Refusals.{file_fault_line}
 use Rattle.nrm_outside.specs.Puts.{PutsIfSome, PutsLine, PutsUnplanned}
 use Rattle.nrm_findings.specs.Certificates.{certificate_under, lacking_line, no_certificate, refused_for, verdict_line}
 use Rattle.nrm_hindsight.specs.Requests.{tallies_of}
-use Rattle.nrm_control.specs.Standing.{ControlValue, IsControl, StandsFor}
+use Rattle.nrm_control.specs.Standing.{ControlValue, IsControl, IsStartFault, StandsFor}
 use Rattle.nrm_control.specs.State.{SeatState}
 use Rattle.nrm_stream.specs.declared.command.Command.{Command}
 use Rattle.nrm_gen.specs.MadeCommands.{Making, command_count, commands_from}
@@ -36,10 +36,11 @@ use Rattle.nrm_session.specs.Answering.{IsTellable, reply_in}
 use Rattle.nrm_session.specs.Laws.{MemorySuffices}
 use Rattle.nrm_session.specs.Replies.{Reply}
 use Rattle.nrm_session.specs.Run.{Run}
+use Rattle.nrm_session.specs.Serving.{CountsFaults, Serves, Streams}
 use Rattle.nrm_session.specs.declared.reply.Reply.{Reply as Answered}
 use Rattle.nrm_session.specs.declared.serving.End.{End}
 use Rattle.nrm_session.specs.declared.serving.End.TheVariants as end
-use Rattle.nrm_cli.specs.Ends.{status_of}
+use Rattle.nrm_cli.specs.Ends.{status_of, stream_limit}
 use Rattle.nrm_findings.specs.Summary.{nothing_counted}
 use Rattle.nrm_cli.specs.Made.{MadeRun, counts_from, last_of}
 use Rattle.nrm_findings.specs.declared.summary.Counts.{Counts}
@@ -172,3 +173,32 @@ abbrev pub PutsTold : (Status → List ℕ → Type 0) → Option (List ℕ) →
 PutsTold told held held' before now result =
     ((result ≡ status.NoMemory) × Keeps held held' × (now ≡ before))
     ⊎ ((goes : Status) × (text : List ℕ) × told goes text × PutsLine STATUSES text goes held held' before now result)
+
+-- the run is answered from the opening plan of its network and its summary is put, or it is put why there is no such plan
+abbrev pub PutsMade : NetworkValue → Mode → ℕ → Option (List ℕ) → Option (List ℕ) → ℕ → ℕ → Status → Type 0
+PutsMade net m number held held' before now result =
+    ((plan : PlanValue) × IsOpeningPlan net m plan × PutsSummary net plan number held held' before now result)
+    ⊎ ((why : SolveFault) × IsStartFault net m why × PutsUnplanned STATUSES why held held' before now result)
+
+-- a controller that has just begun, with the opening plan of a network, answered the stream
+pub record ServesFrom (net : NetworkValue) (m : Mode) (before after : Streams) (result : Status) : Type 0 where
+  pub start : ControlValue
+  pub last : ControlValue
+  pub ended : End
+  pub begun : HasBegun net start
+  pub planned : IsOpeningPlan net m start.plan
+  pub serves : Serves start last before after stream_limit ended
+  pub counts : CountsFaults before after ended
+  pub status : result ≡ status_at ended
+
+-- or it was put why there is no such plan, and the stream was not touched
+pub record TellsWhy (net : NetworkValue) (m : Mode) (before after : Streams) (result : Status) : Type 0 where
+  pub why : SolveFault
+  pub is : IsStartFault net m why
+  pub puts : PutsUnplanned STATUSES why before.held after.held before.sink_faults after.sink_faults result
+  pub left : after.coming ≡ before.coming
+  pub source : after.source_faults ≡ before.source_faults
+  pub later : before.sink_faults ≤ after.sink_faults
+
+abbrev pub ServesNetwork : NetworkValue → Mode → Streams → Streams → Status → Type 0
+ServesNetwork net m before after result = ServesFrom net m before after result ⊎ TellsWhy net m before after result
