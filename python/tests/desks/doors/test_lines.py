@@ -73,7 +73,7 @@ class Lines(ServeTest):
 
     def test_who_asks_for_texts_waits_alone(self) -> None:
         """A text is long too: a flood of them leaves room for another's line."""
-        count = 400
+        count = 6_000  # half a second of work; more than half of them are read at a time
         with self.served(self.journal(mode="davn")) as serve, serve.connect() as busy, serve.connect() as other:
             self.assertEqual(answers(other, b"desk D2\n", 1), [b"at 1\n"])
             heard = Heard(busy, b"value ")
