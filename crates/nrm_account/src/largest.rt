@@ -1,5 +1,5 @@
 //! The largest party of a product that would be sold, and what a seat more would be answered.
-ghost use Rattle.std.specs.Prelude.{◌≡◌, ◌-◌, ◌<◌, ◌≤◌, ◌∷◌, ◌++◌, All, codes, decimal, length, map, min, true};
+ghost use Rattle.std.specs.Prelude.{◌≡◌, ◌-◌, ◌<◌, ◌≤◌, ◌∷◌, ◌++◌, All, length, map, min, true};
 ghost use Rattle.nrm_text.specs.Words.{spaced};
 ghost use Rattle.nrm_model.specs.Inventory.{inventory_of, uses_leg};
 ghost use Rattle.nrm_model.specs.Network.{least_of};
@@ -7,7 +7,7 @@ ghost use Rattle.nrm_model.specs.declared.limits.TheConstants.{MOST_PARTY};
 ghost use Rattle.nrm_plan.specs.Plans.{IsPlanOf};
 ghost use Rattle.nrm_control.specs.Standing.{IsOnNetwork};
 ghost use Rattle.nrm_session.specs.Replies.{bad, reply_to, text_of};
-ghost use Rattle.nrm_account.specs.Largest.{beyond, largest_party, open_seats};
+ghost use Rattle.nrm_account.specs.Largest.{largest_party, open_seats};
 ghost use Rattle.nrm_account.specs.Texts.{largest_line};
 
 use crate::line::ROOM;

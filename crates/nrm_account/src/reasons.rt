@@ -1,9 +1,7 @@
 //! What a line is accounted for by, kind by kind.
-ghost use Rattle.std.specs.Prelude.{◌≡◌, ◌<◌, ◌≤◌, ◌++◌, length, IfOk, OnOk};
-ghost use Rattle.std.specs.Int.{IsInRange};
-ghost use Rattle.std.specs.List.{range_with_len};
+ghost use Rattle.std.specs.Prelude.{◌≡◌, ◌<◌, ◌++◌, length, IfOk, OnOk};
 ghost use Rattle.nrm_model.specs.Inventory.{inventory_of};
-ghost use Rattle.nrm_account.specs.Texts.{asked_line, back_line, booking_line, cancellation_text, is_accounted, left_line, left_text, reasons};
+ghost use Rattle.nrm_account.specs.Texts.{asked_line, cancellation_text, is_accounted, left_line, left_text, reasons};
 
 use crate::line::{ROOM, asked, back, booking, left};
 use crate::request::push_request;

@@ -1,7 +1,7 @@
 //! Slots of a row of bookings: a number, and what stands under it. A slot keeps its number when its booking is cancelled,
 //! so that the numbers of a row rise without a gap to search around.
 ghost use Rattle.std.specs.Prelude.{◌≡◌, Some};
-ghost use Rattle.nrm_book.specs.Standing.{booking_of, standing_in};
+ghost use Rattle.nrm_book.specs.Standing.{standing_in};
 
 use crate::Booking;
 

@@ -1,6 +1,6 @@
 //! The book of a network of two legs, AB with 3 seats and BC with 2, of one with 4 and 1 of those authorised, and of one with
 //! five products, and five bookings alone, worked by hand.
-ghost use Rattle.std.specs.Prelude.{◌≡◌, [], IfOk, length};
+ghost use Rattle.std.specs.Prelude.{◌≡◌, [], IfOk};
 ghost use Rattle.nrm_model.specs.Inventory.{inventory_of};
 ghost use Rattle.nrm_samples.specs.Networks.{two_legs, two_legs_authorised, two_legs_five_products};
 

@@ -1,6 +1,5 @@
 //! Prints the canonical file of a network.
-ghost use Rattle.std.specs.Prelude.{◌≡◌, ◌≤◌};
-ghost use Rattle.nrm_network.specs.Canonical.{canonical_file};
+ghost use Rattle.std.specs.Prelude.{◌≤◌};
 ghost use Rattle.nrm_outside.specs.Outside.{SentOn};
 ghost use Rattle.nrm_cli.specs.Inner.Does.{DoesBeside, files_and_sink};
 ghost use Rattle.nrm_cli.specs.Inner.Parts.{PutsTold};

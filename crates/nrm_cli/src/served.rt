@@ -1,5 +1,5 @@
 //! Serves the stream: the controller of a network file answers each line.
-ghost use Rattle.std.specs.Prelude.{◌≡◌, ◌≤◌, Some};
+ghost use Rattle.std.specs.Prelude.{◌≡◌, Some};
 ghost use Rattle.nrm_session.specs.Serving.{CountsFaults, Serves, streams};
 ghost use Rattle.nrm_outside.specs.Outside.{SentOn, outside};
 ghost use Rattle.nrm_cli.specs.Ends.{stream_limit};

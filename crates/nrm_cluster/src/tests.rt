@@ -1,6 +1,6 @@
 //! Thresholds of leg AB of a network of five products, worked by hand: the fares on it are 500, 400, 229 and 150, and 16, 12, no
 //! and 28 seats were asked for at them.
-ghost use Rattle.std.specs.Prelude.{◌<◌, ◌≤◌, length};
+ghost use Rattle.std.specs.Prelude.{◌<◌, length};
 ghost use Rattle.std.specs.Int.{IsInRange};
 ghost use Rattle.nrm_cluster.specs.declared.limits.TheConstants.{MOST_GROUPS};
 

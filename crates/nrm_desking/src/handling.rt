@@ -1,10 +1,9 @@
 //! What is done with one frame, and what behind the last one that waits.
-ghost use Rattle.std.specs.Prelude.{◌≡◌, ◌≢◌, ◌∷◌, [], length, false, true, OnErr, OnOk};
+ghost use Rattle.std.specs.Prelude.{◌≡◌, [], length, false, true, OnErr, OnOk};
 ghost use Rattle.nrm_edge.specs.Causes.{HasCause};
 ghost use Rattle.nrm_frames.specs.Headers.{size_of};
 ghost use Rattle.nrm_frames.specs.declared.header.Header.TheVariants as header;
 ghost use Rattle.nrm_hub.specs.Waiting.{NothingIsDue};
-ghost use Rattle.nrm_hub.specs.World.{frame};
 ghost use Rattle.nrm_hub.specs.declared.phase.Phase.TheVariants as phase;
 ghost use Rattle.nrm_hub.specs.Goes.{Puts, PutsCut};
 ghost use Rattle.nrm_desking.specs.Inner.Handling.{Handles, IsFresh, outcome_of};

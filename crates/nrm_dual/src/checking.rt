@@ -1,5 +1,5 @@
 //! The checker: it reads and compares, and never solves.
-ghost use Rattle.std.specs.Prelude.{◌≡◌, ◌≢◌, ◌^◌, length, nat_abs};
+ghost use Rattle.std.specs.Prelude.{◌≡◌, ◌≢◌, length, nat_abs};
 ghost use Rattle.nrm_fraction.specs.Large.{size_limit};
 ghost use Rattle.nrm_lp.specs.Certified.{Certifies, sizes};
 ghost use Rattle.nrm_lp.specs.Shape.{HasShape};

@@ -1,6 +1,6 @@
 //! Certificates as they are read from a file: its lines fill a sheet with a fraction for the value, each product and each
 //! leg, and the whole sheet gives the certificate.
-ghost use Rattle.std.specs.Prelude.{◌≡◌, ◌≤◌, ◌^◌, IfErr, IfOk, MatchResult, Err, Ok, length};
+ghost use Rattle.std.specs.Prelude.{◌≡◌, ◌≤◌, IfErr, IfOk, MatchResult, Err, Ok, length};
 ghost use Rattle.nrm_fraction.specs.Large.{size_limit};
 ghost use Rattle.nrm_stream.specs.Lines.{lines_of};
 ghost use Rattle.nrm_lp.specs.Shape.{HasShape};

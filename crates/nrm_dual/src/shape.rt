@@ -1,5 +1,5 @@
 //! The first condition: lengths, denominators and the sizes of the numbers. The others read sizes alone.
-ghost use Rattle.std.specs.Prelude.{◌≡◌, ◌&&◌, ◌<◌, ◌^◌, ◌==◌, nat_lt, nat_abs, length};
+ghost use Rattle.std.specs.Prelude.{◌≡◌, ◌&&◌, ◌<◌, ◌==◌, nat_lt, nat_abs, length};
 ghost use Rattle.nrm_fraction.specs.Large.{size_limit};
 ghost use Rattle.nrm_lp.specs.Limits.{IsLimited};
 ghost use Rattle.nrm_dual.specs.Conditions.{are_small, has_shape, is_small};

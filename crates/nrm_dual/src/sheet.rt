@@ -1,6 +1,5 @@
 //! The fractions that the lines of a file have given so far: for the value, for each product and for each leg.
-ghost use Rattle.std.specs.Prelude.{◌≡◌, ◌<◌, IfOk, IfSome, is_some, length, map};
-ghost use Rattle.nrm_model.specs.Network.{NetworkValue};
+ghost use Rattle.std.specs.Prelude.{◌≡◌, ◌<◌, IfOk, IfSome, is_some, length};
 ghost use Rattle.nrm_dual.specs.Reading.{blank, first_missing, given, with_given};
 ghost use Rattle.nrm_dual.specs.Inner.Sheets.{IsPlaceOf, IsSheetOf, meant};
 

@@ -1,6 +1,6 @@
 //! What no clause tells: that the calls which take memory succeed, and what the real adapters do. And what each adapter
 //! tells through its trait alone: a sink that tells no bytes, or a count that stands, is refused here.
-ghost use Rattle.std.specs.Prelude.{◌≡◌, ◌<◌, ◌≤◌, ◌++◌, ◌^◌, ℕ, [], length, take, IfOk, OnOk, OnErr, Ok, Err};
+ghost use Rattle.std.specs.Prelude.{◌≡◌, ◌<◌, ◌++◌, ◌^◌, ℕ, [], length, take, IfOk, OnOk, OnErr, Ok, Err};
 ghost use Rattle.std.specs.Io.KnownBytes.{Appends, ReadConsumes};
 ghost use Rattle.nrm_edge.specs.Causes.{HasCause, one_more};
 ghost use Rattle.nrm_edge.specs.Fetch.{AnswersFetch, HasFileCause, IsFetched};

@@ -1,7 +1,7 @@
 //! Fractions over their least common denominator.
 #![tactic(auto)]
 
-ghost use Rattle.std.specs.Prelude.{◌≡◌, ◌<◌, ◌^◌, ◌/◌, ◌*ℤ◌, ◌++◌, ◌∷◌, [], pos, MatchResult, None, OnOk, IfErr};
+ghost use Rattle.std.specs.Prelude.{◌≡◌, ◌<◌, ◌^◌, ◌/◌, ◌*ℤ◌, [], pos, MatchResult, None};
 ghost use Rattle.nrm_number.specs.Gcd.{lcm as lcm_of};
 ghost use Rattle.nrm_fraction.specs.Large.{common, first_reaching, numerators as numerators_over, running, size_limit, first_too_large};
 ghost use Rattle.nrm_fraction.specs.Fault.{IsFault};

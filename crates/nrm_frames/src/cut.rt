@@ -1,6 +1,6 @@
 //! The first frame of some bytes.
 ghost use Rattle.std.specs.Prelude.{◌≡◌, length, nat_lt};
-ghost use Rattle.nrm_frames.specs.Cutting.{cut_of, no_frame, part, whole};
+ghost use Rattle.nrm_frames.specs.Cutting.{cut_of};
 ghost use Rattle.nrm_frames.specs.Cuts.{IsCut};
 ghost use Rattle.nrm_frames.specs.declared.limits.TheConstants.{MOST_HEADER};
 

@@ -1,8 +1,6 @@
 //! What a line of a client asks of the hub, and whether the client may.
-ghost use Rattle.std.specs.Prelude.{ℕ, List, ◌≡◌, ◌==◌, ◌≤◌, IfSome, Some, true};
+ghost use Rattle.std.specs.Prelude.{◌≡◌, ◌==◌, IfSome, Some, true};
 ghost use Rattle.std.specs.List.{slice_split};
-ghost use Rattle.std.specs.Str.Lines.{strip_carriage_return};
-ghost use Rattle.nrm_stream.specs.Commands.{IsCommand};
 ghost use Rattle.nrm_hub.specs.Asked.{allows, asked_in, asked_of_three, asked_of_two, asked_of_words, is_change, is_desk, owner_of};
 ghost use Rattle.nrm_hub.specs.Inner.Asking.{IsAsked};
 ghost use Rattle.nrm_hub.specs.declared.limits.TheConstants.{LAST_SEQUENCE};

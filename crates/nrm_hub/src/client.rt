@@ -1,7 +1,7 @@
 //! A client of the hub: who it is, what came from it and was not used yet, and what waits to be told to it. The bytes that were used stay at
 //! the front until more come.
-ghost use Rattle.std.specs.Prelude.{ℕ, ◌≡◌, ◌≢◌, ◌==◌, ◌<◌, ◌≤◌, ◌+◌, ◌++◌, ◌∷◌, ◌^◌, ◌⊎◌, [], drop, length, position, take, None, Some, false, true};
-ghost use Rattle.nrm_hub.specs.Clients.{after_telling, closed_for, new_client, with_piece};
+ghost use Rattle.std.specs.Prelude.{◌≡◌, ◌≢◌, ◌==◌, ◌<◌, ◌≤◌, ◌+◌, ◌^◌, ◌⊎◌, drop, length, position, take, None, Some, false, true};
+ghost use Rattle.nrm_hub.specs.Clients.{after_telling, closed_for, new_client};
 ghost use Rattle.nrm_hub.specs.Asked.{asked_in};
 ghost use Rattle.nrm_hub.specs.Clients.{after_line, joined_as};
 ghost use Rattle.nrm_hub.specs.Inner.Asking.{IsAsked, IsNumber};

@@ -1,7 +1,6 @@
 //! The hub: what all desks have in common, the clients by their places, whose turn comes, and who is to be told. Lines are taken in turns;
 //! then the rows of all that was answered are given out, and once they are kept the replies are sent.
-ghost use Rattle.std.specs.Prelude.{ℕ, ◌≡◌, ◌≢◌, ◌<◌, ◌≤◌, ◌∷◌, [], length, Some, None, IfErr, MatchOption, OnErr, OnOk, false, true, ◌⊎◌};
-ghost use Rattle.std.specs.Io.KnownBytes.{Appends};
+ghost use Rattle.std.specs.Prelude.{ℕ, ◌≡◌, ◌≢◌, ◌<◌, ◌≤◌, ◌∷◌, [], length, Some, None, IfErr, MatchOption, OnErr, OnOk, false, ◌⊎◌};
 ghost use Rattle.nrm_edge.specs.Causes.{HasCause};
 ghost use Rattle.nrm_frames.specs.declared.header.Header.TheVariants as header;
 ghost use Rattle.nrm_hub.specs.Again.{FailsAgain};

@@ -1,5 +1,5 @@
 //! One line of a client that is a desk: it is carried out, or looked up, or refused, and its reply joins what waits to be told.
-ghost use Rattle.std.specs.Prelude.{ℕ, List, ◌≡◌, ◌≢◌, ◌<◌, ◌≤◌, ◌++◌, length, true};
+ghost use Rattle.std.specs.Prelude.{ℕ, List, ◌≡◌, ◌≢◌, ◌<◌, ◌≤◌, length, true};
 ghost use Rattle.nrm_stream.specs.Commands.{IsCommand};
 ghost use Rattle.nrm_stream.specs.declared.command.Command.TheVariants as command;
 ghost use Rattle.nrm_session.specs.Answering.{IsTellable, reply_in};

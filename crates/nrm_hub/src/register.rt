@@ -1,12 +1,12 @@
 //! What all desks have in common: the controller, the desks by their numbers with a table of their names, whose each booking is, and the rows
 //! of the journal that were not given out yet. Room for a row is reserved before its line is carried out.
-ghost use Rattle.std.specs.Prelude.{ℕ, ◌≡◌, ◌≢◌, ◌+◌, ◌<◌, ◌≤◌, ◌++◌, ◌∷◌, [], Contains, drop, length, vec_capacity, vec_len, IfErr, IfOk, IfSome, None, OnErr, OnOk, false, true};
+ghost use Rattle.std.specs.Prelude.{◌≡◌, ◌+◌, ◌<◌, ◌≤◌, ◌++◌, ◌∷◌, [], Contains, length, vec_capacity, vec_len, IfErr, IfOk, IfSome, None, OnErr, OnOk, false, true};
 ghost use Rattle.nrm_stream.specs.Commands.{IsCommand};
-ghost use Rattle.nrm_session.specs.Answering.{IsTellable, Steps, reply_in};
+ghost use Rattle.nrm_session.specs.Answering.{IsTellable, reply_in};
 ghost use Rattle.nrm_hub.specs.Asked.{allows, is_change};
 ghost use Rattle.nrm_hub.specs.Inner.Answered.{CarriesOut, IsJoinFault};
 ghost use Rattle.nrm_hub.specs.Lines.{reason_used, row_under};
-ghost use Rattle.nrm_hub.specs.Register.{DeskValue, IsTold, Joins, Passes, desk_at, desk_named, is_of_row, new_desk, new_register, owners_after, trimmed, with_row};
+ghost use Rattle.nrm_hub.specs.Register.{DeskValue, IsTold, Joins, Passes, desk_at, desk_named, new_desk, new_register, owners_after, trimmed};
 ghost use Rattle.nrm_hub.specs.declared.limits.TheConstants.{LAST_SEQUENCE, MOST_DESKS, MOST_HELD, MOST_ROWS};
 
 use crate::asked::allows;

@@ -1,5 +1,5 @@
 //! Rows of the journal as they are written, and the lines that only the hub writes.
-ghost use Rattle.std.specs.Prelude.{◌≡◌, ◌≤◌, ◌<◌, ◌+◌, ◌∷◌, ◌++◌, decimal, length, pos, true};
+ghost use Rattle.std.specs.Prelude.{◌≡◌, ◌≤◌, ◌<◌, ◌+◌, ◌++◌, length, pos, true};
 ghost use Rattle.nrm_model.specs.Network.{product_named};
 ghost use Rattle.nrm_control.specs.Standing.{ControlValue};
 ghost use Rattle.nrm_stream.specs.Commands.{IsCommand};

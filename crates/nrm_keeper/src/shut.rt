@@ -1,5 +1,5 @@
 //! The calls of a keeper on a connection that may be shut.
-ghost use Rattle.std.specs.Prelude.{◌≡◌, ◌<◌, ◌^◌, IfOk, OnOk, OnErr, IsSome};
+ghost use Rattle.std.specs.Prelude.{◌<◌, ◌^◌, IfOk, OnOk, OnErr, IsSome};
 ghost use Rattle.nrm_keeper.specs.Rows.{Adds, Drops, Lists};
 ghost use Rattle.nrm_keeper.specs.File.{Same};
 ghost use Rattle.nrm_keeper.specs.Steady.{IsSettled};

@@ -1,5 +1,5 @@
 //! Loads kept rows into a controller.
-ghost use Rattle.std.specs.Prelude.{◌≡◌, ◌<◌, ◌≤◌, All, nat_le, length, OnErr, OnOk, IfErr, IfSome, Ok, Err};
+ghost use Rattle.std.specs.Prelude.{◌≡◌, ◌<◌, ◌≤◌, All, nat_le, length, OnOk, IfErr, IfSome, Ok, Err};
 ghost use Rattle.std.specs.List.{list_all};
 ghost use Rattle.nrm_model.specs.Inventory.{inventory_of};
 ghost use Rattle.nrm_book.specs.Bookings.{left_on};

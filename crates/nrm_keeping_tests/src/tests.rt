@@ -1,7 +1,6 @@
 //! Whole calls over files, a stream, a sink and a keeper in memory. The worked ones are on legs AB with 3 seats and BC with 2; the others
 //! compare a session over a store with the same session without one.
-ghost use Rattle.std.specs.Prelude.{◌≡◌, ◌<◌, ◌≤◌, true, IfOk};
-ghost use Rattle.nrm_keeper.specs.Rows.{rise};
+ghost use Rattle.std.specs.Prelude.{◌<◌, true};
 
 use nrm_control::Controller;
 use nrm_edge::{MemFiles, MemSink, MemSource};

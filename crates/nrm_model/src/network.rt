@@ -1,7 +1,7 @@
 //! The network: legs and products in file order, tables of their names, and the demand of each product in each
 //! history and period, in one list. The tables hold the names in the order of the legs and the products. Beside them
 //! stand the numbers of the products that use each leg, so that nobody has to look for them among all products.
-ghost use Rattle.std.specs.Prelude.{◌≡◌, ◌≢◌, ◌+◌, ◌<◌, ◌≤◌, ◌^◌, All, AllPairs, IfOk, IfSome, length, map, min, slice_get, sum, Some};
+ghost use Rattle.std.specs.Prelude.{◌≡◌, ◌≢◌, ◌+◌, ◌<◌, ◌≤◌, AllPairs, IfOk, IfSome, length, map, min, slice_get, sum, Some};
 ghost use Rattle.std.specs.Int.{IsInRange};
 ghost use Rattle.std.specs.List.{range_with_len};
 ghost use Rattle.nrm_model.specs.declared.limits.TheConstants.{MOST_DEMAND, MOST_LEGS, MOST_PRODUCTS, MOST_SEATS, MOST_TOTAL_DEMAND};
@@ -52,7 +52,6 @@ impl Model for Network {
 }
 
 impl Network {
-    ghost use Rattle.std.specs.List.{position_from};
     ghost use Rattle.nrm_model.specs.Limits.{IsLeg, IsNetwork, IsProduct};
     ghost use Rattle.nrm_model.specs.Network.{leg_named, least_authorised_of, product_named};
     ghost use Rattle.nrm_model.specs.Inventory.{inventory_of, products_on, uses_leg};

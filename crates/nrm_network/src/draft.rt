@@ -1,6 +1,6 @@
 //! A network as it is read, row by row: legs and products with tables of their names, the percentage of each product, 100 until a row
 //! gives it, and the demand of each product in each history and period, 0 until a row gives it. Nothing else of a row is kept.
-ghost use Rattle.std.specs.Prelude.{◌≡◌, ◌<◌, ◌≤◌, ◌+◌, ◌-◌, ◌*◌, ◌^◌, ℕ, List, [], bytes_eq, false, length, map, sum, true};
+ghost use Rattle.std.specs.Prelude.{◌≡◌, ◌<◌, ◌≤◌, ◌+◌, ◌-◌, ◌*◌, ◌^◌, List, [], bytes_eq, false, length, map, sum, true};
 ghost use Rattle.std.specs.Prelude.{IfOk, MatchOption, OnOk};
 ghost use Rattle.std.specs.List.{list_all, list_any, position_from};
 ghost use Rattle.std.specs.Int.{IsInRange};

@@ -1,9 +1,9 @@
 //! A row as it is read: its fields by their meaning, each read once. What is asked of a row before any look-up stands
 //! here, kind by kind: its place, how many fields it has, that there is room for it, and what its fields are.
-ghost use Rattle.std.specs.Prelude.{◌≡◌, ◌≤◌, List, ℕ, MatchResult, false};
+ghost use Rattle.std.specs.Prelude.{◌≡◌, ◌≤◌, MatchResult, false};
 ghost use Rattle.nrm_network.specs.Inner.RowFields.{fields_in};
 ghost use Rattle.nrm_network.specs.Rows.{kind_of, periods_kind, leg_kind, product_kind, demand_kind, refund_kind};
-ghost use Rattle.nrm_network.specs.Inner.Entries.{Counted, ReadsAs, ReadsRow, first_refusal, kind_by, kind_seen};
+ghost use Rattle.nrm_network.specs.Inner.Entries.{ReadsAs, ReadsRow, first_refusal, kind_by, kind_seen};
 
 use crate::fault::{RowRefusal, Why};
 use crate::row::{
@@ -11,8 +11,8 @@ use crate::row::{
     version_of,
 };
 use nrm_model::{
-    Leg, MOST_DEMAND, MOST_FARE, MOST_HISTORIES, MOST_LEGS, MOST_LEGS_OF_A_PRODUCT, MOST_PERIODS,
-    MOST_PRODUCTS, MOST_REFUND, MOST_THRESHOLDS, Thresholds,
+    Leg, MOST_FARE, MOST_HISTORIES, MOST_LEGS, MOST_LEGS_OF_A_PRODUCT, MOST_PERIODS, MOST_PRODUCTS,
+    MOST_REFUND, MOST_THRESHOLDS, Thresholds,
 };
 use nrm_text::Name;
 use std::alloc::Global;

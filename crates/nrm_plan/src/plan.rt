@@ -1,6 +1,5 @@
 //! A plan: the mode, the period and the seats left of one optimisation, and its certificate. A plan holds no network.
-ghost use Rattle.std.specs.Prelude.{ℕ, ℤ, ◌≡◌, ◌≢◌, ◌<◌, ◌≤◌, IfErr, IfOk, IfSome, Option, Some, length, option_map, pos, true, []};
-ghost use Rattle.std.specs.Prelude.{slice_index_or};
+ghost use Rattle.std.specs.Prelude.{◌≡◌, ◌<◌, ◌≤◌, IfErr, IfOk, IfSome, Option, Some, length, option_map, pos, true, [], slice_index_or};
 ghost use Rattle.std.specs.Int.{IsInRange};
 ghost use Rattle.nrm_number.specs.Gcd.{gcd};
 ghost use Rattle.nrm_fraction.specs.Fraction.{◌over◌};

@@ -1,6 +1,6 @@
 //! The nests of a plan: leg by leg a line for each product on it, with its adjusted fare and its bucket, and then leg by
 //! leg a line of its protections. Each line is put at once.
-ghost use Rattle.std.specs.Prelude.{ℕ, ◌≡◌, ◌≤◌, ◌<◌, ◌*◌, ◌+◌, ◌^◌, ◌++◌, ◌∷◌, [], codes, decimal, flat_map, get_or, length, true};
+ghost use Rattle.std.specs.Prelude.{◌≡◌, ◌≤◌, ◌<◌, ◌*◌, ◌+◌, ◌^◌, ◌++◌, ◌∷◌, [], codes, decimal, flat_map, get_or, length, true};
 ghost use Rattle.std.specs.Prelude.{unsigned_abs, OnErr, OnOk, Some};
 ghost use Rattle.std.specs.Io.KnownBytes.{Appends};
 ghost use Rattle.std.specs.List.{range_with_len};

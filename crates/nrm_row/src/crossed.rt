@@ -2,7 +2,7 @@
 //! their common divisor, as far as it isn't 1, and once to be put into their places.
 #![tactic(auto)]
 
-ghost use Rattle.std.specs.Prelude.{◌≡◌, ◌^◌, pos, ◌*ℤ◌, ◌<ℤ◌, unsigned_abs, length, All, IfNone, IfOk, MatchResult, None};
+ghost use Rattle.std.specs.Prelude.{◌≡◌, pos, ◌*ℤ◌, ◌<ℤ◌, unsigned_abs, length, All, IfNone, IfOk, MatchResult, None};
 ghost use Rattle.nrm_fraction.specs.Large.{fractions, gcd_all, first_reaching, large_number, size_limit, IsSmall};
 ghost use Rattle.nrm_row.specs.Numbers.{IsRow};
 ghost use Rattle.nrm_row.specs.Inner.Crossed.{crossed, shrunk};

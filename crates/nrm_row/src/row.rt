@@ -2,7 +2,7 @@
 #![tactic(auto)]
 
 ghost use Rattle.nrm_row.specs.declared.limits.TheConstants.{MOST_COLUMNS};
-ghost use Rattle.std.specs.Prelude.{◌≡◌, ◌↔◌, IsTrue, ◌+◌, ◌<◌, ◌≤◌, ◌^◌, ◌<ℤ◌, ◌*ℤ◌, ℕ, ℤ, pos};
+ghost use Rattle.std.specs.Prelude.{◌≡◌, ◌↔◌, IsTrue, ◌+◌, ◌<◌, ◌≤◌, ℕ, ℤ, pos};
 ghost use Rattle.std.specs.Prelude.{unsigned_abs, length, map, take, drop, All, IfOk, OnErr, MatchResult, None, List, get_or};
 ghost use Rattle.std.specs.Int.{IsInRange};
 ghost use Rattle.std.specs.List.{range_with_len};

@@ -26,10 +26,6 @@ pub record WritesBy {R : Type 0} (step : SeatState → Command → R → SeatSta
 abbrev pub Run : NetworkValue → SeatState → List Command → List Reply → SeatState → Type 0
 Run net = RunBy (Step net)
 
--- the output of a run: the texts of its replies, one after another
-abbrev pub output_of : List Reply → List ℕ
-output_of replies = flat_map text_of replies
-
 -- these bytes are the output of a run over the commands, which ends in s'
 abbrev pub Writes : NetworkValue → SeatState → List Command → List ℕ → SeatState → Type 0
 Writes net = WritesBy (Step net) text_of

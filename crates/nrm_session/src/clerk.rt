@@ -1,5 +1,5 @@
 //! Who answers the lines of a session: a controller, and what stands beside it.
-ghost use Rattle.std.specs.Prelude.{ℕ, List, ◌≡◌, ◌<◌, ◌∷◌, [], OnErr, OnOk};
+ghost use Rattle.std.specs.Prelude.{ℕ, List, ◌<◌, ◌∷◌, [], OnErr, OnOk};
 ghost use Rattle.nrm_model.specs.declared.limits.TheConstants.{BOOKING_LIMIT};
 ghost use Rattle.nrm_control.specs.Standing.{ControlValue};
 ghost use Rattle.nrm_stream.specs.Commands.{IsCommand};

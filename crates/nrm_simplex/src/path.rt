@@ -1,5 +1,5 @@
 //! The path of the simplex method, from the first tableau to the last.
-ghost use Rattle.std.specs.Prelude.{◌≡◌, ◌^◌, IfOk, MatchResult};
+ghost use Rattle.std.specs.Prelude.{IfOk, MatchResult};
 ghost use Rattle.nrm_lp.specs.Certified.{Certifies};
 ghost use Rattle.nrm_simplex.specs.Solving.{IsClosing, IsSolveFault};
 ghost use Rattle.nrm_fraction.specs.Large.{size_limit};

@@ -1,7 +1,7 @@
 //! The columns of a program's tableaux: the products, the slack of each constraint row, the right side.
 #![tactic(auto)]
 
-ghost use Rattle.std.specs.Prelude.{◌≡◌, ◌<◌, length};
+ghost use Rattle.std.specs.Prelude.{◌≡◌, ◌<◌};
 ghost use Rattle.nrm_lp.specs.Limits.{IsLimited};
 ghost use Rattle.nrm_lp.specs.Tableau.{product_count, row_count, right_side, slack};
 

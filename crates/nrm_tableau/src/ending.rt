@@ -1,7 +1,7 @@
 //! What a last tableau shows: what is allotted to each product, the bid price of each leg, and the value.
 #![tactic(auto)]
 
-ghost use Rattle.std.specs.Prelude.{◌≡◌, ◌<◌, ◌≤◌, ◌^◌, ◌/◌, suc, pos, false, nat_abs, get_or, length, map, All, IfOk, MatchResult, None};
+ghost use Rattle.std.specs.Prelude.{◌≡◌, ◌<◌, ◌≤◌, ◌/◌, suc, pos, false, nat_abs, get_or, length, map, All, IfOk, MatchResult, None};
 ghost use Rattle.std.specs.List.{range_with_len};
 ghost use Rattle.nrm_fraction.specs.Fraction.{less, whole};
 ghost use Rattle.nrm_fraction.specs.Large.{common, numerators, size_limit, first_too_large};

@@ -2,10 +2,9 @@
 //! few entries that aren't 0.
 #![tactic(auto)]
 
-ghost use Rattle.std.specs.Prelude.{◌≡◌, ◌<◌, ◌+◌, suc, pos, neg_ℤ, [], get_or, length, map, IfOk};
+ghost use Rattle.std.specs.Prelude.{◌≡◌, ◌<◌, ◌+◌, suc, pos, neg_ℤ, length, map, IfOk};
 ghost use Rattle.std.specs.List.{range_with_len};
 ghost use Rattle.nrm_lp.specs.Limits.{IsLimited};
-ghost use Rattle.nrm_lp.specs.Program.{names};
 ghost use Rattle.nrm_lp.specs.Tableau.{first_entry, first_tableau, first_value, product_count, right_side, row_bound, row_count};
 ghost use Rattle.nrm_tableau.specs.Inner.Entries.{IsFilled};
 ghost use Rattle.nrm_tableau.specs.RowSets.{Covers, IsNoughtBut};

@@ -1,7 +1,7 @@
 //! A tableau: its rows as exact fractions, and the basic column of each constraint row. It is kept on its program's path.
 #![tactic(auto)]
 
-ghost use Rattle.std.specs.Prelude.{◌≡◌, ◌<◌, ◌^◌, pos, true, IfOk, IfErr, IfSome, MatchResult, OnOk, Some, None};
+ghost use Rattle.std.specs.Prelude.{◌≡◌, ◌<◌, pos, true, IfOk, IfErr, IfSome, MatchResult, OnOk, Some, None};
 ghost use Rattle.std.specs.Option.{option_map};
 ghost use Rattle.nrm_fraction.specs.Fraction.{less, whole};
 ghost use Rattle.nrm_fraction.specs.Rows.{at};

@@ -1,5 +1,4 @@
 //! Words are read, and a line is written of what they gave.
-ghost use Rattle.std.specs.Prelude.{◌≤◌, ◌+◌, IfSome, length};
 
 use crate::{Line, is_word, name_of, read_whole};
 
