@@ -21,15 +21,19 @@ from checks import want, want_in
 
 RT = r'''#!/usr/bin/env bash
 case "$1" in
-  ci)
+  all)
     echo "$*" >>"$CALLS"
-    while IFS=: read -r crate _; do echo "rt: $crate proved"; done <crates.txt
+    while IFS=: read -r crate _; do echo "== $crate"; done <crates.txt
     [ -z "$PROVED" ] || cp -r . "$PROVED"
+    for crate in crates/*; do mkdir -p $crate/out/incremental; echo again >>$crate/out/incremental/proofs; done
     [ -z "$TOUCHED" ] || touch "$TOUCHED"
-    mkdir -p crates/nrm/out
-    printf '#!/usr/bin/env bash\necho "program $*"\ncat\n' >crates/nrm/out/nrm
-    chmod +x crates/nrm/out/nrm
     exit "$STATUS" ;;
+  run)
+    echo "$*" >>"$CALLS"
+    [ "$PLAY" != unbuilt ] || exit 1
+    printf '#!/usr/bin/env bash\necho "program $*"\ncat\n' >out/nrm
+    chmod +x out/nrm
+    exit 2 ;;
   try)
     echo "$*" >>"$CALLS"
     case "$PLAY" in
@@ -39,6 +43,8 @@ case "$1" in
     esac ;;
 esac
 '''
+# How `rt` is called to build.
+BUILT = [["all", "check", "--jobs", str(min(len(os.sched_getaffinity(0)), 4))], ["run", "--", "no-words"]]
 CRATES = "nrm_low:\nnrm_samples: nrm_low\nnrm_beside: nrm_low\nnrm_cli: nrm_low nrm_samples csv\nnrm: nrm_low nrm_cli\n"
 LIB = "mod list;\n#[cfg(test)]\nmod tests;\n\npub use list::len;\n"
 LIST = '''pub fn len() {
@@ -170,7 +176,7 @@ def a_pipe_that_ends_is_taken(door):
 def a_pipe_that_does_not_end_builds_first(door):
     status, out, told = door.pipe("run", "first", "net.csv", first=b"one\n", then=b"two\n", wait=4)
     want((status, out), (0, b"program run first net.csv\none\ntwo\n"))
-    want(door.called(), [["ci"]])
+    want(door.called(), BUILT)
 
 
 @test
@@ -215,7 +221,7 @@ def a_program_older_than_its_sources_is_built_again(door):
     door.build()
     os.utime(door.at("crates", "nrm", "out", "nrm"), (1, 1))
     want(door.run("print", "net.csv")[1], "program print net.csv\n")
-    want(door.called(), [["ci"]])
+    want(door.called(), BUILT)
 
 
 @test
@@ -223,7 +229,7 @@ def a_source_that_the_program_stands_on_makes_it_old(door):
     door.build()
     door.source("nrm_low")
     want(door.run("print", "net.csv")[1], "program print net.csv\n")
-    want(door.called(), [["ci"]])
+    want(door.called(), BUILT)
 
 
 @test
@@ -255,7 +261,27 @@ def what_is_proved_is_what_the_program_stands_on(door):
             with open(os.path.join(at, name)) as file:
                 found[os.path.relpath(file.name, door.proved)] = file.read()
     want(found, PROVED)
-    want((os.listdir(door.at("out")), os.listdir(door.rooms)), (["build.log"], []))
+    want((sorted(os.listdir(door.at("out"))), os.listdir(door.rooms)), (["build.log", "kept"], []))
+
+
+@test
+def what_was_proved_is_kept_for_the_next_build(door):
+    door.run("--build", status=1)
+    door.run("--build")
+    door.source("nrm_low")
+    door.run("--build", proved=door.proved)
+    for folder in "nrm", "nrm_cli", "nrm_low":
+        with open(os.path.join(door.proved, "crates", folder, "out", "incremental", "proofs")) as file:
+            want(file.read(), "again\nagain\n")
+    want(sorted(os.listdir(door.at("out", "kept"))), ["nrm", "nrm_cli", "nrm_low"])
+
+
+@test
+def proofs_without_a_program_are_not_enough(door):
+    status, out, told = door.run("--build", play="unbuilt")
+    want((status, out), (checks.NOT_BUILT, ""))
+    want_in(told, "it was not built")
+    want(os.listdir(door.at("crates", "nrm", "out")), [])
 
 
 @test
@@ -274,13 +300,13 @@ def a_build_that_fails_leaves_the_program_that_is_there(door):
 def a_source_that_changes_during_a_build_makes_it_old(door):
     door.run("--build", touched=door.at("crates", "nrm_low", "src", "list.rt"))
     want(door.run("print", "net.csv")[1], "program print net.csv\n")
-    want(door.called(), [["ci"], ["ci"]])
+    want(door.called(), BUILT + BUILT)
 
 
 @test
 def build_builds_and_runs_nothing(door):
     want(door.run("--build")[:2], (0, ""))
-    want(door.called(), [["ci"]])
+    want(door.called(), BUILT)
     os.remove(door.calls)
     want(door.run("--build"), (0, "", ""))
     want(door.called(), [])
