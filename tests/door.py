@@ -21,15 +21,22 @@ from checks import want, want_in
 
 RT = r'''#!/usr/bin/env bash
 case "$1" in
-  all)
-    echo "$*" >>"$CALLS"
-    while IFS=: read -r crate _; do echo "== $crate"; done <crates.txt
-    [ -z "$PROVED" ] || cp -r . "$PROVED"
-    for crate in crates/*; do mkdir -p $crate/out/incremental; echo again >>$crate/out/incremental/proofs; done
+  lib)
+    echo "$* of ${PWD##*/}" >>"$CALLS"
+    mkdir -p out/incremental out/rlib
+    echo again >>out/incremental/proofs
+    echo "library ${PWD##*/}" >out/rlib/built
     [ -z "$TOUCHED" ] || touch "$TOUCHED"
+    if [ "$PLAY" = together ] && [ "${PWD##*/}" != nrm_cli ]; then
+      for _ in {1..100}; do [ "$(grep -c lib "$CALLS")" = 1 ] || exit 0; sleep 0.1; done
+      exit 1
+    fi
     exit "$STATUS" ;;
   run)
-    echo "$*" >>"$CALLS"
+    echo "$* of ${PWD##*/}" >>"$CALLS"
+    [ -z "$PROVED" ] || cp -r ../.. "$PROVED"
+    mkdir -p out/incremental
+    echo again >>out/incremental/proofs
     [ "$PLAY" != unbuilt ] || exit 1
     printf '#!/usr/bin/env bash\necho "program $*"\ncat\n' >out/nrm
     chmod +x out/nrm
@@ -44,7 +51,9 @@ case "$1" in
 esac
 '''
 # How `rt` is called to build.
-BUILT = [["all", "check", "--jobs", str(min(len(os.sched_getaffinity(0)), 4))], ["run", "--", "no-words"]]
+PROCESSES = min(len(os.sched_getaffinity(0)), 4)
+BUILT = [["lib", "--jobs", str(PROCESSES), "of", "nrm_low"], ["lib", "--jobs", str(PROCESSES), "of", "nrm_cli"],
+         ["run", "--", "no-words", "of", "nrm"]]
 CRATES = "nrm_low:\nnrm_samples: nrm_low\nnrm_beside: nrm_low\nnrm_cli: nrm_low nrm_samples csv\nnrm: nrm_low nrm_cli\n"
 LIB = "mod list;\n#[cfg(test)]\nmod tests;\n\npub use list::len;\n"
 LIST = '''pub fn len() {
@@ -240,9 +249,11 @@ def a_source_of_another_program_does_not(door):
     want(door.called(), [])
 
 
-# What the program stands on, without tests, worked examples, wrong bodies and what was built before.
+# What the program stands on, without tests, worked examples, wrong bodies and what was built before, but with the libraries of
+# this build.
 PROVED = {"HANDLES": FILES["HANDLES"], "crates.txt": "nrm_low:\nnrm_cli: nrm_low csv\nnrm: nrm_low nrm_cli\n",
           "crates/nrm/src/lib.rt": "pub mod it;\n", "crates/nrm_cli/src/lib.rt": "pub mod it;\n",
+          "crates/nrm_cli/out/rlib/built": "library nrm_cli\n", "crates/nrm_low/out/rlib/built": "library nrm_low\n",
           "crates/nrm_low/src/lib.rt": "mod list;\n\npub use list::len;\n",
           "crates/nrm_low/src/list.rt": "pub fn len() {\n}\n\n",
           "crates/nrm_low/specs/Low.antt": "one\n", "crates/nrm_low/proofs/list/Lts.antt": "two\n",
@@ -269,11 +280,23 @@ def what_was_proved_is_kept_for_the_next_build(door):
     door.run("--build", status=1)
     door.run("--build")
     door.source("nrm_low")
-    door.run("--build", proved=door.proved)
-    for folder in "nrm", "nrm_cli", "nrm_low":
-        with open(os.path.join(door.proved, "crates", folder, "out", "incremental", "proofs")) as file:
-            want(file.read(), "again\nagain\n")
-    want(sorted(os.listdir(door.at("out", "kept"))), ["nrm", "nrm_cli", "nrm_low"])
+    door.run("--build")
+    kept = door.at("out", "kept")
+    for crate, times in ("nrm_low", 3), ("nrm_cli", 2), ("nrm", 2):
+        with open(os.path.join(kept, crate, "proofs")) as file:
+            want(file.read(), "again\n" * times)
+    want(sorted(os.listdir(kept)), ["nrm", "nrm_cli", "nrm_low"])
+
+
+@test
+def crates_that_do_not_need_each_other_are_proved_side_by_side(door):
+    with open(door.at("crates.txt"), "w") as file:
+        file.write("nrm_low:\nnrm_beside:\nnrm_cli: nrm_low nrm_beside\nnrm: nrm_cli\n")
+    if PROCESSES > 1:
+        want(door.run("--build", play="together")[0], 0)
+        together = [["lib", "--jobs", str(PROCESSES // 2), "of", it] for it in ("nrm_beside", "nrm_low")]
+        want(sorted(door.called())[:2], together)
+        want(door.called()[2:], BUILT[1:])
 
 
 @test
