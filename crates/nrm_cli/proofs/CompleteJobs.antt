@@ -8,7 +8,7 @@ use Rattle.nrm_plan.specs.Plans.{IsOpeningPlan}
 use Rattle.nrm_outside.specs.Outside.{Outside, OnFile, Wrote}
 use Rattle.nrm_outside.specs.Refusals.{Refusal, network_under}
 use Rattle.nrm_stream.specs.Commands.{commands_of}
-use Rattle.nrm_cli.specs.Jobs.{Job, run_file, HasNetwork, HasNetworkFrom, NamesFile, Origin, of_file, of_number, origin_of, TakesStream}
+use Rattle.nrm_cli.specs.Jobs.{Job, run_file, HasNetwork, HasNetworkFrom, NamesFile, Origin, of_file, of_number, TakesStream}
 use Rattle.nrm_cli.specs.Ends.{Completes, Ends, IsDone, NothingHinders, RunWrites, RunsThrough, Starts, stream_limit}
 use Rattle.nrm_cli.specs.Tells.{GivesNetwork, GivesNetworkFrom, Opens, Refuses, RefusesNetwork, RefusesNetworkFrom, Tells, TellsOf}
 use Rattle.nrm_cli.specs.Tells.{usage, refused, of_network, file_fault}
@@ -61,10 +61,10 @@ module _ (asked : Option Job) (before after : Outside) (job : Job) (net : Networ
   same-job other is = let e = sym is ∙ asks in cc
 
   same-net : (other : Job) (given : NetworkValue) → Opens asked other before given → given ≡ net
-  same-net other given (is, has) = gives-for (origin_of job) before.files net given valid (subst (λ (j : Job). GivesNetwork j before.files given) (same-job other is) has)
+  same-net other given (is, has) = gives-for job.origin before.files net given valid (subst (λ (j : Job). GivesNetwork j before.files given) (same-job other is) has)
 
   not-refused : (refusal : Refusal) → Refuses asked before refusal → ⊥
-  not-refused refusal r = refuses-for (origin_of job) before.files net refusal valid (subst (λ (j : Job). RefusesNetwork j before.files refusal) (same-job r.job r.asks) r.refused)
+  not-refused refusal r = refuses-for job.origin before.files net refusal valid (subst (λ (j : Job). RefusesNetwork j before.files refusal) (same-job r.job r.asks) r.refused)
 
   -- where a run was started, its plan is the network's
   started : (st : Starts asked before) → IsOpeningPlan net st.mode st.plan
@@ -83,7 +83,7 @@ module _ (asked : Option Job) (before after : Outside) (job : Job) (net : Networ
       → ((stream : List ℕ) → before.coming ≡ Some stream → length stream ≤ stream_limit
       → (s ≡ status.Done) × (output : List ℕ) × RunWrites net st.plan (commands_of stream) output × Wrote before after output) → IsDone job net before after s
   run-through s st through =
-      inr (subst (λ (j : Job). RunsThrough j net before after s) (same-job (run_file st.mode st.file) st.opens.0) (st.plan, started st, through))
+      inr (subst (λ (j : Job). RunsThrough j.task net before after s) (same-job (run_file st.mode st.file) st.opens.0) (st.plan, started st, through))
 
   pub complete : (s : Status) → Ends asked before after s → IsDone job net before after s
   complete status.Done (inl ran) =

@@ -5,7 +5,6 @@ use Rattle.nrm_outside.specs.Outside.{LeftStream, Outside}
 use Rattle.nrm_cli.specs.Ends.{Ends, Failures}
 use Rattle.nrm_cli.specs.Inner.Parts.{PutsTold}
 use Rattle.nrm_cli.specs.Jobs.{Job}
-use Rattle.nrm_cli.specs.LegTexts.{CutsTold, ValuesTold, cut, no_classes, unused, valued}
 use Rattle.nrm_cli.specs.Tells.{IsOfNetwork, Opens, TellsOf, of_network}
 use Rattle.nrm_cli.specs.declared.status.Status.{Status}
 use Rattle.nrm_cli.proofs.ToldEnds.{quiet-of-network, told-counts, told-ends}
@@ -24,12 +23,3 @@ module _ (job : Job) (net : NetworkValue) (before after : Outside)
   network-failures files source s (inl (is, kept, same)) = rw is (record { files = files; source = source; sink = same })
   network-failures files source s (inr (goes, text, is, puts)) =
       told-counts (Some job) before after goes s text files source puts (quiet-of-network before after goes (fits goes text is))
-
--- the statuses with which a leg is told of
-pub cuts-fit : (net : NetworkValue) (leg : List ℕ) (groups : ℕ) (s : Status) (text : List ℕ) → CutsTold net leg groups s text → IsOfNetwork s
-cuts-fit net leg groups s text (cut found is) = tt
-cuts-fit net leg groups s text (unused is) = tt
-
-pub values-fit : (net : NetworkValue) (leg : List ℕ) (s : Status) (text : List ℕ) → ValuesTold net leg s text → IsOfNetwork s
-values-fit net leg s text (valued found is) = tt
-values-fit net leg s text (no_classes is) = tt

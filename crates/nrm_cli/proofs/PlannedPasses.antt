@@ -1,5 +1,5 @@
 -- What a call with `plan bid FILE` wrote passes the check.
-use Rattle.std.proofs.Common.{ℕ, ◌≡◌, ◌∙◌, ◌++◌, List, Option, Some, None, Result, Ok, Err, inl, inr, refl, ap, subst, sym}
+use Rattle.std.proofs.Common.{ℕ, ◌≡◌, ◌∙◌, ◌++◌, List, Option, Some, None, Result, Ok, Err, inl, inr, refl, ap, option_map, subst, sym}
 use Rattle.std.proofs.lemmas.List.{append_cancel_left}
 use Rattle.std.specs.Io.KnownBytes.{Appends}
 use Rattle.nrm_edge.specs.Fetch.{Folder}
@@ -21,7 +21,7 @@ use Rattle.nrm_outside.specs.Outside.{OnFile, Outside, Wrote}
 use Rattle.nrm_outside.specs.Refusals.{network_under}
 use Rattle.nrm_findings.specs.Certificates.{LacksCertificate, certificate_under, verdict_line}
 use Rattle.nrm_cli.specs.Ends.{Completes, Ends, IsDone, OrRanOut}
-use Rattle.nrm_cli.specs.Jobs.{Job, run_file, plan_file, check_file}
+use Rattle.nrm_cli.specs.Jobs.{Job, run_file, plan_file, check_file, plans, runs}
 use Rattle.nrm_cli.specs.Own.{PlannedPasses, WasPlanned}
 use Rattle.nrm_cli.specs.Tells.{GivesNetwork, Tells, TellsOf, TellsVerdict, lacking, optimal, wrong, usage, refused, of_network, file_fault}
 use Rattle.nrm_cli.specs.declared.status.Status.{Status}
@@ -87,8 +87,11 @@ was-planned : (contents : Option (List ℕ)) (text : List ℕ) → WasPlanned co
     → (net : NetworkValue) × (plan : PlanValue) × (network_under contents ≡ Ok net) × IsOpeningPlan net mode.Bid plan × (text ≡ plan_text net plan)
 was-planned contents text w = by w.ends
   where
+    apart : (m : Mode) → Some (plans mode.Bid) ≡ Some (runs m) → ⊥
+    apart m e = cc
+
     other-run : (m : Mode) (f : List ℕ) → Some (plan_file mode.Bid w.file) ≡ Some (run_file m f) → ⊥
-    other-run m f e = cc
+    other-run m f e = apart m (ap (option_map (λ (job : Job). job.task)) e)
 
     by : Ends (Some (plan_file mode.Bid w.file)) w.before w.after status.Done → (net : NetworkValue) × (plan : PlanValue) × (network_under contents ≡ Ok net) × IsOpeningPlan net mode.Bid plan × (text ≡ plan_text net plan)
     by (inl served) = absurd (other-run served.starts.mode served.starts.file served.starts.opens.0)

@@ -15,7 +15,7 @@ use Rattle.nrm_plan.specs.Plans.{IsOpeningPlan, PlanValue}
 use Rattle.nrm_outside.specs.Outside.{Outside, FilesFailed, SourceFailed, SinkFailed, NothingFailed, Wrote, WroteCut, WroteNothing}
 use Rattle.nrm_outside.specs.Outside.{LeftStream}
 use Rattle.nrm_outside.specs.Refusals.{file_fault_line}
-use Rattle.nrm_cli.specs.Jobs.{Job, run_file, HasNetwork, NamesFile, TakesStream}
+use Rattle.nrm_cli.specs.Jobs.{Job, Task, runs, run_file, HasNetwork, NamesFile, TakesStream}
 use Rattle.nrm_cli.specs.Tells.{Opens, TellsOf, Told, ToldCut}
 use Rattle.nrm_cli.specs.declared.status.Status.{Status}
 use Rattle.nrm_cli.specs.declared.status.Status.TheVariants as status
@@ -135,8 +135,8 @@ OrRanOutTelling told before after s =
 
 -- a job that takes the stream was done: the network has an opening plan, and where the stream is told and short, the replies to all its
 -- lines are written
-abbrev pub RunsThrough : Job → NetworkValue → Outside → Outside → Status → Type 0
-RunsThrough (run_file m file) net before after s =
+abbrev pub RunsThrough : Task → NetworkValue → Outside → Outside → Status → Type 0
+RunsThrough (runs m) net before after s =
     (plan : PlanValue) × IsOpeningPlan net m plan
     × ((stream : List ℕ) → before.coming ≡ Some stream → length stream ≤ stream_limit
     → (s ≡ status.Done) × (output : List ℕ) × RunWrites net plan (commands_of stream) output × Wrote before after output)
@@ -144,7 +144,7 @@ RunsThrough _ net before after s = ⊥
 
 -- a job that has a network was done: what it tells of it is written, or memory ran out; or it answered the stream
 abbrev pub IsDone : Job → NetworkValue → Outside → Outside → Status → Type 0
-IsDone job net before after s = OrRanOutTelling (TellsOf job net before.files) before after s ⊎ RunsThrough job net before after s
+IsDone job net before after s = OrRanOutTelling (TellsOf job net before.files) before after s ⊎ RunsThrough job.task net before after s
 
 -- nothing failed that the job uses: the files if it names one, the stream if it takes it, the output
 pub record NothingHinders (job : Job) (before after : Outside) : Type 0 where

@@ -13,33 +13,55 @@ use Rattle.nrm_cluster.specs.declared.limits.TheConstants.{MOST_GROUPS}
 use Rattle.nrm_gen.specs.MadeNetwork.{made_network}
 use Rattle.nrm_cli.specs.declared.words.Asked.{Asked}
 use Rattle.nrm_cli.specs.declared.words.Asked.TheVariants as asked
+use Rattle.nrm_cli.specs.declared.told.Telling.{Telling}
+use Rattle.nrm_cli.specs.declared.told.Telling.TheVariants as telling
 use Rattle.nrm_cli.specs.declared.words.TheConstants.{LAST_MADE}
 
--- to run the controller on a network file in a mode, to write its opening plan, to check a certificate against a network file, to print a
--- network file, to run the controller in a mode on the network that is made of a number, over the commands that are made of it, to cut the
--- fares on a leg of a network file into at most so many groups, and to value the seats of such a leg
-pub data Job : Type 0 where
-  run_file : Mode → List ℕ → Job
-  plan_file : Mode → List ℕ → Job
-  check_file : List ℕ → List ℕ → Job
-  print_file : List ℕ → Job
-  run_made : Mode → ℕ → Job
-  cut_leg : List ℕ → List ℕ → ℕ → Job
-  value_leg : List ℕ → List ℕ → Job
+-- what is done on a network: the controller answers the stream in a mode; its opening plan in a mode is written; the certificate of a file
+-- is checked against it; it is printed; the controller answers in a mode the commands that are made of a number; the fares on a leg are cut
+-- into at most so many groups; and the seats of a leg are valued
+pub data Task : Type 0 where
+  runs : Mode → Task
+  plans : Mode → Task
+  checks : List ℕ → Task
+  prints : Task
+  runs_made : Mode → ℕ → Task
+  cuts : List ℕ → ℕ → Task
+  values : List ℕ → Task
 
 -- what the network of a job is read or made of: a file, or a number
 pub data Origin : Type 0 where
   of_file : List ℕ → Origin
   of_number : ℕ → Origin
 
-abbrev pub origin_of : Job → Origin
-origin_of (run_file m file) = of_file file
-origin_of (plan_file m file) = of_file file
-origin_of (check_file file certificate) = of_file file
-origin_of (print_file file) = of_file file
-origin_of (run_made m number) = of_number number
-origin_of (cut_leg file leg groups) = of_file file
-origin_of (value_leg file leg) = of_file file
+-- a job: where its network is from, and what is done on it
+pub record Job : Type 0 where
+  pub origin : Origin
+  pub task : Task
+
+abbrev pub on_file : List ℕ → Task → Job
+on_file file task = record { origin = of_file file; task = task }
+
+abbrev pub run_file : Mode → List ℕ → Job
+run_file m file = on_file file (runs m)
+
+abbrev pub plan_file : Mode → List ℕ → Job
+plan_file m file = on_file file (plans m)
+
+abbrev pub check_file : List ℕ → List ℕ → Job
+check_file file certificate = on_file file (checks certificate)
+
+abbrev pub print_file : List ℕ → Job
+print_file file = on_file file prints
+
+abbrev pub run_made : Mode → ℕ → Job
+run_made m number = record { origin = of_number number; task = runs_made m number }
+
+abbrev pub cut_leg : List ℕ → List ℕ → ℕ → Job
+cut_leg file leg groups = on_file file (cuts leg groups)
+
+abbrev pub value_leg : List ℕ → List ℕ → Job
+value_leg file leg = on_file file (values leg)
 
 -- the network of an origin: that of its file, where the files are told; or that which is made of a number, whatever the files
 abbrev pub HasNetworkFrom : Origin → Option Folder → NetworkValue → Type 0
@@ -47,7 +69,7 @@ HasNetworkFrom (of_file file) told net = (files : Folder) × (told ≡ Some file
 HasNetworkFrom (of_number number) told net = net ≡ made_network number
 
 abbrev pub HasNetwork : Job → Option Folder → NetworkValue → Type 0
-HasNetwork job told net = HasNetworkFrom (origin_of job) told net
+HasNetwork job told net = HasNetworkFrom job.origin told net
 
 -- a job that names a file, and one that takes the stream
 abbrev pub IsFile : Origin → Type 0
@@ -55,11 +77,14 @@ IsFile (of_file file) = ⊤
 IsFile (of_number number) = ⊥
 
 abbrev pub NamesFile : Job → Type 0
-NamesFile job = IsFile (origin_of job)
+NamesFile job = IsFile job.origin
+
+abbrev pub IsRun : Task → Type 0
+IsRun (runs m) = ⊤
+IsRun _ = ⊥
 
 abbrev pub TakesStream : Job → Type 0
-TakesStream (run_file m file) = ⊤
-TakesStream _ = ⊥
+TakesStream job = IsRun job.task
 
 -- a made run, where its mode and its number are good
 abbrev pub made_run_of : Option Mode → Option ℕ → Option Job
@@ -94,18 +119,28 @@ job_of (verb ∷ second ∷ third ∷ fourth ∷ []) =
 job_of (verb ∷ second ∷ third ∷ fourth ∷ fifth ∷ more) = None
 
 -- a job as the code holds it, whose number of groups lies within its limits
+abbrev pub task_of : Telling → Task
+task_of (telling.Plan mode) = plans mode
+task_of (telling.Check certificate) = checks certificate.now
+task_of telling.Print = prints
+task_of (telling.Cuts leg groups) = cuts leg groups
+task_of (telling.Values leg) = values leg
+
+abbrev pub telling_of : List ℕ → Telling → Job
+telling_of file t = on_file file (task_of t)
+
 abbrev pub job_in : Asked → Job
 job_in (asked.Run mode file) = run_file mode file.now
-job_in (asked.Plan mode file) = plan_file mode file.now
-job_in (asked.Check file certificate) = check_file file.now certificate.now
-job_in (asked.Print file) = print_file file.now
+job_in (asked.Tell file t) = telling_of file.now t
 job_in (asked.Made mode number) = run_made mode number
-job_in (asked.Cuts file leg groups) = cut_leg file.now leg groups
-job_in (asked.Values file leg) = value_leg file.now leg
 
-abbrev pub IsWithin : Asked → Type 0
-IsWithin (asked.Cuts file leg groups) = IsInRange 1 MOST_GROUPS groups
+abbrev pub IsWithin : Telling → Type 0
+IsWithin (telling.Cuts leg groups) = IsInRange 1 MOST_GROUPS groups
 IsWithin _ = ⊤
+
+abbrev pub AsksWithin : Asked → Type 0
+AsksWithin (asked.Tell file t) = IsWithin t
+AsksWithin _ = ⊤
 
 -- the line that says how to call the program
 abbrev pub usage_line : List ℕ

@@ -18,8 +18,8 @@ use Rattle.nrm_outside.specs.Outside.{Outside, OnFile, FilesFailed, Wrote, Wrote
 use Rattle.nrm_outside.specs.Refusals.{Refusal, network_under, refusal_line, file_fault_line}
 use Rattle.nrm_outside.specs.Words.{overflow_line, told_pivots}
 use Rattle.nrm_findings.specs.Certificates.{LacksCertificate, certificate_under, lacking_line, verdict_line}
-use Rattle.nrm_cli.specs.Jobs.{Job, run_file, plan_file, check_file, print_file, run_made, cut_leg, value_leg, NamesFile}
-use Rattle.nrm_cli.specs.Jobs.{Origin, of_file, of_number, origin_of, usage_line}
+use Rattle.nrm_cli.specs.Jobs.{Job, Task, runs, plans, checks, prints, runs_made, cuts, values, NamesFile}
+use Rattle.nrm_cli.specs.Jobs.{Origin, of_file, of_number, usage_line}
 use Rattle.nrm_cli.specs.LegTexts.{CutsTold, ValuesTold}
 use Rattle.nrm_cli.specs.Made.{MadeRun}
 use Rattle.nrm_cli.specs.declared.status.Status.{Status}
@@ -31,7 +31,7 @@ GivesNetworkFrom (of_file file) files net = OnFile files file (λ contents. netw
 GivesNetworkFrom (of_number number) files net = net ≡ made_network number
 
 abbrev pub GivesNetwork : Job → Option Folder → NetworkValue → Type 0
-GivesNetwork job files net = GivesNetworkFrom (origin_of job) files net
+GivesNetwork job files net = GivesNetworkFrom job.origin files net
 
 -- the words ask for a job, and it has this network
 abbrev pub Opens : Option Job → Job → Outside → NetworkValue → Type 0
@@ -43,7 +43,7 @@ RefusesNetworkFrom (of_file file) files refusal = OnFile files file (λ contents
 RefusesNetworkFrom (of_number number) files refusal = ⊥
 
 abbrev pub RefusesNetwork : Job → Option Folder → Refusal → Type 0
-RefusesNetwork job files refusal = RefusesNetworkFrom (origin_of job) files refusal
+RefusesNetwork job files refusal = RefusesNetworkFrom job.origin files refusal
 
 -- the words ask for a job whose file is refused so
 pub record Refuses (asked : Option Job) (before : Outside) (refusal : Refusal) : Type 0 where
@@ -78,14 +78,17 @@ abbrev pub TellsFile : NetworkValue → Status → List ℕ → Type 0
 TellsFile net s text = (s ≡ status.Done) × (text ≡ canonical_file net)
 
 -- what each job tells of its network, and with which status; the replies of a run are beside this
+abbrev pub TellsBy : Task → NetworkValue → Option Folder → Status → List ℕ → Type 0
+TellsBy (runs m) net files = TellsNoPlan net m
+TellsBy (plans m) net files = TellsPlanned net m (λ plan text. text ≡ plan_text net plan)
+TellsBy (checks certificate) net files = TellsVerdict net files certificate
+TellsBy prints net files = TellsFile net
+TellsBy (runs_made m number) net files = TellsPlanned net m (λ plan text. MadeRun net plan number text)
+TellsBy (cuts leg groups) net files = CutsTold net leg groups
+TellsBy (values leg) net files = ValuesTold net leg
+
 abbrev pub TellsOf : Job → NetworkValue → Option Folder → Status → List ℕ → Type 0
-TellsOf (run_file m file) net files = TellsNoPlan net m
-TellsOf (plan_file m file) net files = TellsPlanned net m (λ plan text. text ≡ plan_text net plan)
-TellsOf (check_file file certificate) net files = TellsVerdict net files certificate
-TellsOf (print_file file) net files = TellsFile net
-TellsOf (run_made m number) net files = TellsPlanned net m (λ plan text. MadeRun net plan number text)
-TellsOf (cut_leg file leg groups) net files = CutsTold net leg groups
-TellsOf (value_leg file leg) net files = ValuesTold net leg
+TellsOf job = TellsBy job.task
 
 -- a status with which a job tells of its network
 abbrev pub IsOfNetwork : Status → Type 0

@@ -1,12 +1,10 @@
-//! Checks the certificate of one file against the network of another.
+//! Checks the certificate of a file against a network.
 ghost use Rattle.std.specs.Prelude.{◌≡◌, ◌≤◌, IfOk, length};
 ghost use Rattle.nrm_fraction.specs.Large.{size_limit};
 ghost use Rattle.nrm_lp.specs.Shape.{HasShape};
 ghost use Rattle.nrm_dlp.specs.Programs.{opening_program};
 ghost use Rattle.nrm_outside.specs.Outside.{SentOn};
 ghost use Rattle.nrm_cli.specs.Ends.{status_of};
-ghost use Rattle.nrm_cli.specs.Inner.Does.{DoesBeside, files_and_sink};
-ghost use Rattle.nrm_cli.specs.Jobs.{check_file as check_job};
 ghost use Rattle.nrm_cli.specs.Inner.Parts.{ChecksFile, PutsCompared, PutsVerdict};
 
 use crate::Status;
@@ -18,7 +16,6 @@ use nrm_edge::{Files, Sink};
 use nrm_findings::line_of_verdict;
 use nrm_lp::{Certificate, Program};
 use nrm_model::Network;
-use nrm_outside::open_network;
 use std::alloc::{AllocError, Global};
 
 // The status that goes with a verdict.
@@ -73,8 +70,8 @@ fn put_checked<K: Sink>(
     put_compared(net, opening_program(alloc, net), certificate, sink)
 }
 
-// Opens the certificate for a network and checks it.
-fn check_certificate<F: Files, K: Sink>(
+/// Opens the certificate for a network and checks it.
+pub(crate) fn check_certificate<F: Files, K: Sink>(
     alloc: Global,
     net: &Network,
     name: &str,
@@ -93,23 +90,5 @@ fn check_certificate<F: Files, K: Sink>(
             Some(line) => STATUSES.put_line(sink, line.bytes(), reason.status()),
             None => Status::NoMemory,
         },
-    }
-}
-
-/// Checks the certificate of the second file against the network of the first, at period 1 with every authorised seat left.
-pub(crate) fn check_file<F: Files, K: Sink>(
-    alloc: Global,
-    name: &str,
-    certificate: &str,
-    files: &mut F,
-    sink: &mut K,
-) -> Status
-    ensures does { let at = files_and_sink F.contents F.faults K.held K.faults in
-        DoesBeside (check_job name.now certificate.now) (at files.old sink.old) (at files.new sink.new) result }
-    ensures sent { SentOn Status.WriteFault result (K.unsent sink.old) (K.unsent sink.new) }
-{
-    match STATUSES.network_or_told(open_network(alloc, files, name), sink) {
-        Ok(net) => check_certificate(alloc, &net, certificate, files, sink),
-        Err(told) => told,
     }
 }

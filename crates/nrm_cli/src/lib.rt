@@ -3,14 +3,12 @@
 
 mod certificate;
 mod checked;
-mod cut;
 mod made;
 mod planned;
-mod printed;
 mod served;
 mod status;
+mod told;
 mod top;
-mod valued;
 mod words;
 
 pub use status::Status;

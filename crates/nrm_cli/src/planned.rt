@@ -1,4 +1,4 @@
-//! Writes the opening plan of a network.
+//! Puts the opening plan of a network.
 ghost use Rattle.std.specs.Prelude.{◌≡◌, ◌≤◌, [], OnErr, OnOk};
 ghost use Rattle.std.specs.Io.KnownBytes.{Appends};
 ghost use Rattle.nrm_edge.specs.Causes.{HasCause};
@@ -6,15 +6,12 @@ ghost use Rattle.nrm_edge.specs.Pieces.{AppendsCut};
 ghost use Rattle.nrm_plan.specs.Plans.{IsPlanOf};
 ghost use Rattle.nrm_report.specs.Texts.{plan_text};
 ghost use Rattle.nrm_outside.specs.Outside.{SentOn};
-ghost use Rattle.nrm_cli.specs.Jobs.{plan_file as plan_job};
-ghost use Rattle.nrm_cli.specs.Inner.Does.{DoesBeside, files_and_sink};
 ghost use Rattle.nrm_cli.specs.Inner.Parts.{PutsPlan};
 
 use crate::Status;
 use crate::status::STATUSES;
-use nrm_edge::{Failed, Files, Sink};
+use nrm_edge::{Failed, Sink};
 use nrm_model::{Mode, Network};
-use nrm_outside::open_network;
 use nrm_plan::Plan;
 use nrm_report::plan_text;
 use std::alloc::Global;
@@ -31,8 +28,8 @@ fn send_plan<K: Sink>(net: &Network, plan: &Plan, sink: &mut K) -> Result<(), Fa
     sink.flush()
 }
 
-// Makes the opening plan of a network and puts its text.
-fn put_plan<K: Sink>(alloc: Global, net: &Network, mode: Mode, sink: &mut K) -> Status
+/// Makes the opening plan of a network and puts its text.
+pub(crate) fn put_plan<K: Sink>(alloc: Global, net: &Network, mode: Mode, sink: &mut K) -> Status
     ensures puts { PutsPlan net.now mode (K.held sink.old) (K.held sink.new) (K.faults sink.old) (K.faults sink.new) result }
     ensures later { K.faults sink.old ≤ K.faults sink.new }
     ensures sent { SentOn Status.WriteFault result (K.unsent sink.old) (K.unsent sink.new) }
@@ -44,23 +41,5 @@ fn put_plan<K: Sink>(alloc: Global, net: &Network, mode: Mode, sink: &mut K) -> 
     match send_plan(net, &plan, sink) {
         Ok(()) => Status::Done,
         Err(_) => Status::WriteFault,
-    }
-}
-
-/// Writes the plan of period 1 with every authorised seat left.
-pub(crate) fn plan_file<F: Files, K: Sink>(
-    alloc: Global,
-    mode: Mode,
-    name: &str,
-    files: &mut F,
-    sink: &mut K,
-) -> Status
-    ensures does { let at = files_and_sink F.contents F.faults K.held K.faults in
-        DoesBeside (plan_job mode name.now) (at files.old sink.old) (at files.new sink.new) result }
-    ensures sent { SentOn Status.WriteFault result (K.unsent sink.old) (K.unsent sink.new) }
-{
-    match STATUSES.network_or_told(open_network(alloc, files, name), sink) {
-        Ok(net) => put_plan(alloc, &net, mode, sink),
-        Err(told) => told,
     }
 }

@@ -14,26 +14,12 @@ of-words : (asked known : Option Asked) (before after : Outside) (s : Status) �
     → Does (option_map job_in known) before after s → Does (option_map job_in asked) before after s
 of-words asked known before after s is ends = subst (λ (a : Option Asked). Does (option_map job_in a) before after s) (sym is) ends
 
-pub returns-in-Some-Print-clause-does : goal.returns-in-Some-Print-clause-does
-returns-in-Some-Print-clause-does g c =
-    let printed = c.in-Some-Print.field-0 in
-    let is = rw c.in-Some-Print.is at c.in-Some-Print.field-0-is in
-    of-words c.args.asked.now (Some printed) _ _ c.print_file.result c.in-Some-Print.is
-    (of-words (Some printed) _ _ _ c.print_file.result (ap Some is) (c.print_file.ensures.does (g.S.Source.coming c.args.source.now) (g.S.Source.faults c.args.source.now)))
-
-pub returns-in-Some-Plan-clause-does : goal.returns-in-Some-Plan-clause-does
-returns-in-Some-Plan-clause-does g c =
-    let planned = c.in-Some-Plan.field-0 in
-    let is = rw c.in-Some-Plan.is at c.in-Some-Plan.field-0-is in
-    of-words c.args.asked.now (Some planned) _ _ c.plan_file.result c.in-Some-Plan.is
-    (of-words (Some planned) _ _ _ c.plan_file.result (ap Some is) (c.plan_file.ensures.does (g.S.Source.coming c.args.source.now) (g.S.Source.faults c.args.source.now)))
-
-pub returns-in-Some-Check-clause-does : goal.returns-in-Some-Check-clause-does
-returns-in-Some-Check-clause-does g c =
-    let checked = c.in-Some-Check.field-0 in
-    let is = rw c.in-Some-Check.is at c.in-Some-Check.field-0-is in
-    of-words c.args.asked.now (Some checked) _ _ c.check_file.result c.in-Some-Check.is
-    (of-words (Some checked) _ _ _ c.check_file.result (ap Some is) (c.check_file.ensures.does (g.S.Source.coming c.args.source.now) (g.S.Source.faults c.args.source.now)))
+pub returns-in-Some-Tell-clause-does : goal.returns-in-Some-Tell-clause-does
+returns-in-Some-Tell-clause-does g c =
+    let told = c.in-Some-Tell.field-0 in
+    let is = rw c.in-Some-Tell.is at c.in-Some-Tell.field-0-is in
+    of-words c.args.asked.now (Some told) _ _ c.tell_file.result c.in-Some-Tell.is
+    (of-words (Some told) _ _ _ c.tell_file.result (ap Some is) (c.tell_file.ensures.does (g.S.Source.coming c.args.source.now) (g.S.Source.faults c.args.source.now)))
 
 pub returns-in-Some-Made-clause-does : goal.returns-in-Some-Made-clause-does
 returns-in-Some-Made-clause-does g c =
@@ -42,20 +28,6 @@ returns-in-Some-Made-clause-does g c =
     of-words c.args.asked.now (Some made) _ _ c.run_made.result c.in-Some-Made.is
     (of-words (Some made) _ _ _ c.run_made.result (ap Some is)
     (c.run_made.ensures.does (g.F.Files.contents c.args.files.now) (g.F.Files.faults c.args.files.now) (g.S.Source.coming c.args.source.now) (g.S.Source.faults c.args.source.now)))
-
-pub returns-in-Some-Cuts-clause-does : goal.returns-in-Some-Cuts-clause-does
-returns-in-Some-Cuts-clause-does g c =
-    let cuts = c.in-Some-Cuts.field-0 in
-    let is = rw c.in-Some-Cuts.is at c.in-Some-Cuts.field-0-is in
-    of-words c.args.asked.now (Some cuts) _ _ c.cut_leg.result c.in-Some-Cuts.is
-    (of-words (Some cuts) _ _ _ c.cut_leg.result (ap Some is) (c.cut_leg.ensures.does (g.S.Source.coming c.args.source.now) (g.S.Source.faults c.args.source.now)))
-
-pub returns-in-Some-Values-clause-does : goal.returns-in-Some-Values-clause-does
-returns-in-Some-Values-clause-does g c =
-    let values = c.in-Some-Values.field-0 in
-    let is = rw c.in-Some-Values.is at c.in-Some-Values.field-0-is in
-    of-words c.args.asked.now (Some values) _ _ c.value_leg.result c.in-Some-Values.is
-    (of-words (Some values) _ _ _ c.value_leg.result (ap Some is) (c.value_leg.ensures.does (g.S.Source.coming c.args.source.now) (g.S.Source.faults c.args.source.now)))
 
 pub returns-in-None-clause-does : goal.returns-in-None-clause-does
 returns-in-None-clause-does g c =

@@ -1,6 +1,6 @@
 use Rattle.std.proofs.Common.{inr, refl, ◌∙◌}
 use Rattle.nrm_cli.specs.declared.status.Status.TheVariants as status
-use Rattle.nrm_cli.proofs.printed.put_printed.Goals as goal
+use Rattle.nrm_cli.proofs.told.put_printed.Goals as goal
 
 pub returns-in-Ok-clause-puts : goal.returns-in-Ok-clause-puts
 returns-in-Ok-clause-puts g c =

@@ -1,7 +1,7 @@
 use Rattle.std.proofs.Common.{inr, subst, sym}
 use Rattle.nrm_cli.specs.LegTexts.{CutsTold, cut, no_leg_line, unused}
 use Rattle.nrm_cli.specs.declared.status.Status.TheVariants as status
-use Rattle.nrm_cli.proofs.cut.put_cuts.Goals as goal
+use Rattle.nrm_cli.proofs.told.put_cuts.Goals as goal
 
 pub returns-in-Ok-Some-clause-puts : goal.returns-in-Ok-Some-clause-puts
 returns-in-Ok-Some-clause-puts g c =

@@ -3,7 +3,7 @@ use Rattle.nrm_outside.specs.Puts.{PutsLine}
 use Rattle.nrm_findings.specs.LegValues.{class_count, no_classes_line}
 use Rattle.nrm_cli.specs.LegTexts.{ValuesTold, no_classes, valued}
 use Rattle.nrm_cli.specs.declared.status.Status.TheVariants as status
-use Rattle.nrm_cli.proofs.valued.put_values.Goals as goal
+use Rattle.nrm_cli.proofs.told.put_values.Goals as goal
 use Rattle.nrm_cli.specs.declared.status.TheConstants.{STATUSES}
 
 pub returns-in-Ok-clause-puts : goal.returns-in-Ok-clause-puts
