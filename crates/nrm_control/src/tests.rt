@@ -57,14 +57,11 @@ fn look_back(rt: &impl Abort, alloc: Global, controller: &Controller)
 
 #[test]
 fn serves_by_hand(rt: HostRuntime) {
-    match begun(rt.alloc(), Mode::FirstCome) {
-        Ok(controller) => {
-            let mut controller = controller;
-            serve(&rt, &mut controller);
-            look_back(&rt, rt.alloc(), &controller);
-        }
-        Err(_) => assert!(rt; false),
-    }
+    let Ok(mut controller) = begun(rt.alloc(), Mode::FirstCome) else {
+        panic!(rt; "the controller doesn't begin");
+    };
+    serve(&rt, &mut controller);
+    look_back(&rt, rt.alloc(), &controller);
 }
 
 // With one seat left on the first leg it costs 500 there and nothing on the second; with a seat sold on the second and
@@ -86,26 +83,20 @@ fn serve_at_bid_prices(rt: &impl Abort, alloc: Global, controller: &mut Controll
 
 #[test]
 fn serves_at_bid_prices_by_hand(rt: HostRuntime) {
-    match begun(rt.alloc(), Mode::Bid) {
-        Ok(controller) => {
-            let mut controller = controller;
-            serve_at_bid_prices(&rt, rt.alloc(), &mut controller);
-        }
-        Err(_) => assert!(rt; false),
-    }
+    let Ok(mut controller) = begun(rt.alloc(), Mode::Bid) else {
+        panic!(rt; "the controller doesn't begin");
+    };
+    serve_at_bid_prices(&rt, rt.alloc(), &mut controller);
 }
 
 // Nothing is solved.
 #[test]
 fn first_come_is_not_optimised(rt: HostRuntime) {
-    match begun(rt.alloc(), Mode::FirstCome) {
-        Ok(controller) => {
-            let mut controller = controller;
-            assert!(rt; controller.reoptimise(rt.alloc(), 2) == Ok(None));
-            assert_eq!(rt; controller.plan().period(), 2);
-        }
-        Err(_) => assert!(rt; false),
-    }
+    let Ok(mut controller) = begun(rt.alloc(), Mode::FirstCome) else {
+        panic!(rt; "the controller doesn't begin");
+    };
+    assert!(rt; controller.reoptimise(rt.alloc(), 2) == Ok(None));
+    assert_eq!(rt; controller.plan().period(), 2);
 }
 
 // A controller by virtual nests of the network with two legs of ten seats each, and thresholds.
@@ -131,13 +122,10 @@ fn serve_nested(rt: &impl Abort, controller: &mut Controller)
 
 #[test]
 fn serves_by_nests_by_hand(rt: HostRuntime) {
-    match begun_nested(rt.alloc()) {
-        Ok(controller) => {
-            let mut controller = controller;
-            serve_nested(&rt, &mut controller);
-        }
-        Err(_) => assert!(rt; false),
-    }
+    let Ok(mut controller) = begun_nested(rt.alloc()) else {
+        panic!(rt; "the controller doesn't begin");
+    };
+    serve_nested(&rt, &mut controller);
 }
 
 // A controller by first come, first served, where a seat more than AB has is authorised, and a seat less than BC has.
@@ -171,11 +159,8 @@ fn serve_authorised(rt: &impl Abort, controller: &mut Controller)
 
 #[test]
 fn serves_authorised_seats_by_hand(rt: HostRuntime) {
-    match begun_authorised(rt.alloc()) {
-        Ok(controller) => {
-            let mut controller = controller;
-            serve_authorised(&rt, &mut controller);
-        }
-        Err(_) => assert!(rt; false),
-    }
+    let Ok(mut controller) = begun_authorised(rt.alloc()) else {
+        panic!(rt; "the controller doesn't begin");
+    };
+    serve_authorised(&rt, &mut controller);
 }

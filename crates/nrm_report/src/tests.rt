@@ -1,5 +1,5 @@
 //! The texts of a leg, AB with 10 seats, of a certificate, and of a plan under virtual nesting, worked by hand.
-ghost use Rattle.std.specs.Prelude.{◌≡◌, IfOk, length};
+ghost use Rattle.std.specs.Prelude.{◌≡◌, IfOk};
 ghost use Rattle.nrm_fraction.specs.Large.{size_limit};
 ghost use Rattle.nrm_lp.specs.Shape.{HasShape};
 ghost use Rattle.nrm_model.specs.Inventory.{inventory_of};
@@ -32,53 +32,34 @@ fn failing_sink(alloc: Global, failing: &[u64]) -> Result<MemSink, AllocError> {
     MemSink::new(alloc, 400, Vec::new(alloc), failing.to_vec(alloc)?)
 }
 
-// A text of which so much went out, and whether that is all of it, where the puts of the numbers `failing` fail.
-fn assert_out(rt: &impl Abort, failing: &[u64], out: (bool, &[u8]), wanted: (bool, &[u8])) {
-    assert_eq!(rt; out, wanted, "where the puts {failing:?} fail");
-}
-
 // The text of the first leg, where the puts of the numbers `failing` fail: whether it goes out whole, and what does.
 fn leg_goes_out(
     rt: &impl Abort,
     alloc: Global,
     failing: &[u64],
-    whole: bool,
-    text: &[u8],
+    wanted: (bool, &[u8]),
 ) -> Result<(), AllocError> {
     let net = two_legs_five_products(alloc)?;
-    leg_of_network_goes_out(rt, alloc, &net, failing, (whole, text))
-}
-
-// The same, of the network by hand.
-fn leg_of_network_goes_out(
-    rt: &impl Abort,
-    alloc: Global,
-    net: &Network,
-    failing: &[u64],
-    wanted: (bool, &[u8]),
-) -> Result<(), AllocError>
-    requires { net.now ≡ two_legs_five_products }
-{
     let mut sink = failing_sink(alloc, failing)?;
-    let book = book_by_hand(rt, alloc, net)?;
-    let whole = leg_text(net, &book, 0, &mut sink).is_ok();
-    assert_out(rt, failing, (whole, sink.held()), wanted);
+    let book = book_by_hand(rt, alloc, &net)?;
+    let whole = leg_text(&net, &book, 0, &mut sink).is_ok();
+    assert_eq!(rt; (whole, sink.held()), wanted, "puts {failing:?} fail");
     Ok(())
 }
 
 #[test]
 fn tells_by_hand(rt: HostRuntime) -> Result<(), Fail> {
     let text = b"leg AB seats 10 authorised 10 sold 3 left 7\non AB ABL 1\non AB ACH 2\n";
-    leg_goes_out(&rt, rt.alloc(), &[], true, text)?;
+    leg_goes_out(&rt, rt.alloc(), &[], (true, text))?;
     Ok(())
 }
 
 #[test]
 fn each_line_of_a_leg_goes_out_in_one_put(rt: HostRuntime) -> Result<(), Fail> {
     let text = b"leg AB seats 10 authorised 10 sold 3 left 7\n";
-    leg_goes_out(&rt, rt.alloc(), &[2], false, text)?;
+    leg_goes_out(&rt, rt.alloc(), &[2], (false, text))?;
     let text = b"leg AB seats 10 authorised 10 sold 3 left 7\non AB ABL 1\n";
-    leg_goes_out(&rt, rt.alloc(), &[3], false, text)?;
+    leg_goes_out(&rt, rt.alloc(), &[3], (false, text))?;
     Ok(())
 }
 
@@ -100,28 +81,13 @@ fn certificate_goes_out(
     rt: &impl Abort,
     alloc: Global,
     failing: &[u64],
-    whole: bool,
-    text: &[u8],
+    wanted: (bool, &[u8]),
 ) -> Result<(), AllocError> {
     let net = two_legs_five_products(alloc)?;
-    certificate_of_network_goes_out(rt, alloc, &net, failing, (whole, text))
-}
-
-// The same, of a network with two legs and five products.
-fn certificate_of_network_goes_out(
-    rt: &impl Abort,
-    alloc: Global,
-    net: &Network,
-    failing: &[u64],
-    wanted: (bool, &[u8]),
-) -> Result<(), AllocError>
-    requires legs { length net.now.legs ≡ 2 }
-    requires products { length net.now.products ≡ 5 }
-{
     let mut sink = failing_sink(alloc, failing)?;
     let certificate = hand_certificate(alloc)?;
-    let whole = certificate_text(net, &certificate, &mut sink).is_ok();
-    assert_out(rt, failing, (whole, sink.held()), wanted);
+    let whole = certificate_text(&net, &certificate, &mut sink).is_ok();
+    assert_eq!(rt; (whole, sink.held()), wanted, "puts {failing:?} fail");
     Ok(())
 }
 
@@ -129,7 +95,7 @@ fn certificate_of_network_goes_out(
 fn writes_a_certificate_by_hand(rt: HostRuntime) -> Result<(), Fail> {
     let text =
         b"value 751/4\nproduct ABH 3/2\nproduct ABL 5/2\nproduct ACH 0/1\nproduct BCL 1/8\nproduct ACL 1/4\nleg AB 0/1\nleg BC 3/2\n";
-    certificate_goes_out(&rt, rt.alloc(), &[], true, text)?;
+    certificate_goes_out(&rt, rt.alloc(), &[], (true, text))?;
     Ok(())
 }
 
@@ -142,13 +108,13 @@ fn each_line_of_a_certificate_goes_out_in_one_put(rt: HostRuntime) -> Result<(),
         b"value 751/4\nproduct ABH 3/2\nproduct ABL 5/2\nproduct ACH 0/1\n".as_slice(),
     ];
     for (k, text) in lines.iter().enumerate() {
-        certificate_goes_out(&rt, rt.alloc(), &[k as u64 + 2], false, text)?;
+        certificate_goes_out(&rt, rt.alloc(), &[k as u64 + 2], (false, text))?;
     }
 
     // The put of the last line fails, behind one of a leg.
     let text =
         b"value 751/4\nproduct ABH 3/2\nproduct ABL 5/2\nproduct ACH 0/1\nproduct BCL 1/8\nproduct ACL 1/4\nleg AB 0/1\n";
-    certificate_goes_out(&rt, rt.alloc(), &[8], false, text)?;
+    certificate_goes_out(&rt, rt.alloc(), &[8], (false, text))?;
     Ok(())
 }
 
@@ -158,27 +124,15 @@ fn plan_goes_out(
     rt: &impl Abort,
     alloc: Global,
     failing: &[u64],
-    whole: bool,
-    text: &[u8],
-) -> Result<(), AllocError> {
-    let net = two_legs_five_products(alloc)?;
-    plan_of_network_goes_out(rt, alloc, &net, failing, (whole, text))
-}
-
-// The same, of a network that has a plan.
-fn plan_of_network_goes_out(
-    rt: &impl Abort,
-    alloc: Global,
-    net: &Network,
-    failing: &[u64],
     wanted: (bool, &[u8]),
 ) -> Result<(), AllocError> {
+    let net = two_legs_five_products(alloc)?;
     let mut sink = failing_sink(alloc, failing)?;
-    let Ok(plan) = Plan::opening(alloc, net, Mode::Davn) else {
+    let Ok(plan) = Plan::opening(alloc, &net, Mode::Davn) else {
         panic!(rt; "there is no plan");
     };
-    let whole = plan_text(net, &plan, &mut sink).is_ok();
-    assert_out(rt, failing, (whole, sink.held()), wanted);
+    let whole = plan_text(&net, &plan, &mut sink).is_ok();
+    assert_eq!(rt; (whole, sink.held()), wanted, "puts {failing:?} fail");
     Ok(())
 }
 
@@ -189,7 +143,7 @@ fn writes_a_plan_with_its_nests(rt: HostRuntime) -> Result<(), Fail> {
         leg AB 150/1\nleg BC 80/1\nnest AB ABH 400/1 1\nnest AB ABL 150/1 2\nnest AB ACH 420/1 1\n\
         nest AB ACL 149/1 2\nnest BC ACH 350/1 1\nnest BC BCL 80/1 3\nnest BC ACL 79/1 3\nprotect AB 7 10\n\
         protect BC 4 6\n";
-    plan_goes_out(&rt, rt.alloc(), &[], true, text)?;
+    plan_goes_out(&rt, rt.alloc(), &[], (true, text))?;
     Ok(())
 }
 
@@ -199,11 +153,11 @@ fn each_line_of_a_nest_goes_out_in_one_put(rt: HostRuntime) -> Result<(), Fail> 
     let text =
         b"value 4130/1\nproduct ABH 3/1\nproduct ABL 3/1\nproduct ACH 4/1\nproduct BCL 6/1\nproduct ACL 0/1\n\
         leg AB 150/1\nleg BC 80/1\nnest AB ABH 400/1 1\n";
-    plan_goes_out(&rt, rt.alloc(), &[10], false, text)?;
+    plan_goes_out(&rt, rt.alloc(), &[10], (false, text))?;
     let text =
         b"value 4130/1\nproduct ABH 3/1\nproduct ABL 3/1\nproduct ACH 4/1\nproduct BCL 6/1\nproduct ACL 0/1\n\
         leg AB 150/1\nleg BC 80/1\nnest AB ABH 400/1 1\nnest AB ABL 150/1 2\nnest AB ACH 420/1 1\n\
         nest AB ACL 149/1 2\nnest BC ACH 350/1 1\nnest BC BCL 80/1 3\nnest BC ACL 79/1 3\nprotect AB 7 10\n";
-    plan_goes_out(&rt, rt.alloc(), &[17], false, text)?;
+    plan_goes_out(&rt, rt.alloc(), &[17], (false, text))?;
     Ok(())
 }
