@@ -50,9 +50,9 @@ case "$1" in
     esac ;;
 esac
 '''
+NPROC = "#!/bin/sh\necho 16\n"
 # How `rt` is called to build.
-PROCESSES = min(len(os.sched_getaffinity(0)), 4)
-BUILT = [["lib", "--jobs", str(PROCESSES), "of", "nrm_low"], ["lib", "--jobs", str(PROCESSES), "of", "nrm_cli"],
+BUILT = [["lib", "--jobs", "4", "of", "nrm_low"], ["lib", "--jobs", "4", "of", "nrm_cli"],
          ["run", "--", "no-words", "of", "nrm"]]
 CRATES = "nrm_low:\nnrm_samples: nrm_low\nnrm_beside: nrm_low\nnrm_cli: nrm_low nrm_samples csv\nnrm: nrm_low nrm_cli\n"
 LIB = "mod list;\n#[cfg(test)]\nmod tests;\n\npub use list::len;\n"
@@ -69,7 +69,8 @@ mod tests {
 }
 '''
 LEMMAS = "mod Examples\npub mod Ends  -- of a list\npub mod LongExamples  -- by hand\n"
-FILES = {"bin/rt": RT, "crates.txt": CRATES, "HANDLES": "Handles allowed: none.\n", "net.csv": "periods,1,1\n",
+FILES = {"bin/rt": RT, "bin/nproc": NPROC, "crates.txt": CRATES, "HANDLES": "Handles allowed: none.\n",
+         "net.csv": "periods,1,1\n",
          **{f"crates/{it}/src/lib.rt": "pub mod it;\n" for it in ("nrm", "nrm_cli", "nrm_beside", "nrm_samples")},
          "crates/nrm_low/src/lib.rt": LIB, "crates/nrm_low/src/list.rt": LIST,
          "crates/nrm_low/src/tests.rt": "#[test]\n", "crates/nrm_low/proofs/tests/is_full/Lts.antt": "three\n",
@@ -93,7 +94,8 @@ class Door:
             os.makedirs(os.path.dirname(path), exist_ok=True)
             with open(path, "w") as file:
                 file.write(text)
-        os.chmod(os.path.join(folder, "bin", "rt"), 0o755)
+        for command in "rt", "nproc":
+            os.chmod(os.path.join(folder, "bin", command), 0o755)
 
     def start(self, *words, play="ends", status=0, proved="", touched="", **more):
         path = os.path.join(self.folder, "bin") + ":" + os.environ["PATH"]
@@ -249,8 +251,8 @@ def a_source_of_another_program_does_not(door):
     want(door.called(), [])
 
 
-# What the program stands on, without tests, worked examples, wrong bodies and what was built before, but with the libraries of
-# this build.
+# What the program stands on, without tests, worked examples, wrong bodies and what was built before, but with the
+# libraries of this build.
 PROVED = {"HANDLES": FILES["HANDLES"], "crates.txt": "nrm_low:\nnrm_cli: nrm_low csv\nnrm: nrm_low nrm_cli\n",
           "crates/nrm/src/lib.rt": "pub mod it;\n", "crates/nrm_cli/src/lib.rt": "pub mod it;\n",
           "crates/nrm_cli/out/rlib/built": "library nrm_cli\n", "crates/nrm_low/out/rlib/built": "library nrm_low\n",
@@ -292,11 +294,10 @@ def what_was_proved_is_kept_for_the_next_build(door):
 def crates_that_do_not_need_each_other_are_proved_side_by_side(door):
     with open(door.at("crates.txt"), "w") as file:
         file.write("nrm_low:\nnrm_beside:\nnrm_cli: nrm_low nrm_beside\nnrm: nrm_cli\n")
-    if PROCESSES > 1:
-        want(door.run("--build", play="together")[0], 0)
-        together = [["lib", "--jobs", str(PROCESSES // 2), "of", it] for it in ("nrm_beside", "nrm_low")]
-        want(sorted(door.called())[:2], together)
-        want(door.called()[2:], BUILT[1:])
+    want(door.run("--build", play="together")[0], 0)
+    together = [["lib", "--jobs", "2", "of", it] for it in ("nrm_beside", "nrm_low")]
+    want(sorted(door.called()[:2]), together)
+    want(door.called()[2:], BUILT[1:])
 
 
 @test
