@@ -301,6 +301,31 @@ def crates_that_do_not_need_each_other_are_proved_side_by_side(door):
 
 
 @test
+def a_crate_for_which_others_wait_more_has_the_processes(door):
+    with open(door.at("crates.txt"), "w") as file:
+        file.write("nrm_low:\nnrm_beside:\nnrm_cli: nrm_low\nnrm: nrm_cli nrm_beside\n")
+    with open(door.at("crates", "nrm_cli", "src", "it.rt"), "w") as file:
+        file.write("//" * 1000)
+    want(door.run("--build")[0], 0)
+    processes = {it[-1]: it[2] for it in door.called() if it[0] == "lib"}
+    want((processes["nrm_low"], processes["nrm_beside"]), ("2", "1"))
+    want(door.called()[-1:], BUILT[-1:])
+
+
+@test
+def a_large_crate_has_two_processes(door):
+    with open(door.at("crates.txt"), "w") as file:
+        file.write("nrm_low:\nnrm_beside:\nnrm_one:\nnrm_cli: nrm_low nrm_beside nrm_one\nnrm: nrm_cli\n")
+    shutil.copytree(door.at("crates", "nrm_beside"), door.at("crates", "nrm_one"))
+    with open(door.at("crates", "nrm_beside", "src", "it.rt"), "w") as file:
+        file.write("//" * 200_000)
+    want(door.run("--build")[0], 0)
+    want(sorted(door.called()[:3]), [["lib", "--jobs", "1", "of", "nrm_low"], ["lib", "--jobs", "1", "of", "nrm_one"],
+                                     ["lib", "--jobs", "2", "of", "nrm_beside"]])
+    want(door.called()[3:], BUILT[1:])
+
+
+@test
 def proofs_without_a_program_are_not_enough(door):
     status, out, told = door.run("--build", play="unbuilt")
     want((status, out), (checks.NOT_BUILT, ""))

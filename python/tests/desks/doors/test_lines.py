@@ -62,14 +62,15 @@ class Lines(ServeTest):
     def test_who_asks_for_long_work_waits_alone(self) -> None:
         """Of lines that take long the program takes one of a client at a time, so that another's come between them."""
         journal = self.journal(mode="bid")
+        count = 400  # all of them are read at once
         with self.served(journal) as serve, serve.connect() as busy, serve.connect() as other:
             self.assertEqual(answers(other, b"desk D2\n", 1), [b"at 1\n"])
-            busy.sendall(b"desk D1\n" + b"reoptimise 1\n" * 90)
+            busy.sendall(b"desk D1\n" + b"reoptimise 1\n" * count)
             answers(busy, b"", 2)
             self.assertEqual(answers(other, b"book HJ-Q 1\n", 1), [b"ok 1\n"], "another's reply")
             [(at,)] = rows_in(journal, "SELECT number FROM line WHERE desk = 'D2'")
-            if at > 30:
-                self.fail(f"the other's line after a few, and not after {at}")
+            if at > count // 2:
+                self.fail(f"the other's line soon after it came, and not after {at} of {count}")
 
     def test_who_asks_for_texts_waits_alone(self) -> None:
         """A text is long too: a flood of them leaves room for another's line."""
