@@ -132,8 +132,8 @@ class Sockets(ServeTest):
             told = [it.stderr.readline() for it in many]
             begun = Counter("event=started" in it for it in told)
             self.assertEqual(begun, {True: 1, False: 7}, told)
-            [it] = [it for it, line in zip(many, told) if "event=started" in line]
-            self.assertIn(f"event=listening on={killed.path}", it.stderr.readline())
+            [server] = [it for it, line in zip(many, told) if "event=started" in line]
+            self.assertIn(f"event=listening on={killed.path}", server.stderr.readline())
             with killed.connect() as connection:
                 self.assertEqual(answers(connection, LOOK, 1), [REPLY], "its reply")
         finally:
