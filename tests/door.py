@@ -329,6 +329,8 @@ def a_large_crate_has_two_processes(door):
 def proofs_without_a_program_are_not_enough(door):
     status, out, told = door.run("--build", play="unbuilt")
     want((status, out), (checks.NOT_BUILT, ""))
+    want_in(told, "2 of 3 done: nrm_cli")
+    want("3 of 3 done" in told, False)
     want_in(told, "it was not built")
     want(os.listdir(door.at("crates", "nrm", "out")), [])
 

@@ -118,7 +118,7 @@ job_of (verb ∷ second ∷ third ∷ fourth ∷ []) =
     if bytes_eq verb (codes "cuts") then cut_of second (name_in third) (whole_between 1 MOST_GROUPS fourth) else None
 job_of (verb ∷ second ∷ third ∷ fourth ∷ fifth ∷ more) = None
 
--- a job as the code holds it, whose number of groups lies within its limits
+-- a job as the code holds it
 abbrev pub task_of : Telling → Task
 task_of (telling.Plan mode) = plans mode
 task_of (telling.Check certificate) = checks certificate.now
@@ -134,6 +134,7 @@ job_in (asked.Run mode file) = run_file mode file.now
 job_in (asked.Tell file t) = telling_of file.now t
 job_in (asked.Made mode number) = run_made mode number
 
+-- a job whose number of groups lies within its limits
 abbrev pub IsWithin : Telling → Type 0
 IsWithin (telling.Cuts leg groups) = IsInRange 1 MOST_GROUPS groups
 IsWithin _ = ⊤
