@@ -9,8 +9,9 @@ Of proofs.md and claims.md it checks each file of definitions or proofs (`nrm_lp
 function (`nrm_cli::run`, clause `ends`, or clause `ends` of `run`). claims.md must name each file of definitions that a
 public contract reaches. Of the table in proofs.md it checks too that a file has the names that stand behind it. The
 table and the drawing of map.md are compared with crates.txt. Of CONTRIBUTING.md each path must be there
-(`nrm_stream/src/command.rt`, `docs/commands.md`). Each link of a page must lead to a file and to a heading in it, and to
-none that a release leaves out. What isn't so is printed; the last line is `N names, M not there`.
+(`nrm_stream/src/command.rt`, `docs/commands.md`), and each clause that it quotes must be a line of the code. Each link
+of a page must lead to a file and to a heading in it, and to none that a release leaves out. What isn't so is printed;
+the last line is `N names, M not there`.
 """
 import functools
 import glob
@@ -181,6 +182,14 @@ def look_for_paths(document, names):
             names.look(document, path, any((Path(TOP) / below / path).exists() for below in ("", "crates")))
 
 
+def look_for_clauses(document, names):
+    """The clauses that a document quotes, each a whole line of the code."""
+    code = {line.strip() for path in Path(TOP, "crates").glob("*/src/**/*.rt")
+            for line in path.read_text(encoding="utf-8").splitlines()}
+    for clause in re.findall(r"^ {8}((?:requires|ensures) .*)$", read(document), re.M):
+        names.look(document, f"the clause {clause}", clause in code)
+
+
 def look_at_links(names):
     """The links of all pages."""
     linked = [Path(TOP, "CONTRIBUTING.md"), Path(TOP, "CHANGELOG.md"), *pages.PAGES]
@@ -203,6 +212,7 @@ def main():
     look_in_table("docs/proofs.md", names)
     look_in_map("docs/map.md", names)
     look_for_paths("CONTRIBUTING.md", names)
+    look_for_clauses("CONTRIBUTING.md", names)
     look_at_links(names)
     print(*names.missing, sep="\n", end="\n" if names.missing else "")
     print(f"{names.count} names, {len(names.missing)} not there")
