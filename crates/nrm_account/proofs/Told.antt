@@ -126,7 +126,7 @@ module _ (old new : ControlValue × Teller) (c : Command) (reply : Reply) (ran_o
     means = tells-one text told;
     counts = same;
     next = passes.steps.next;
-    kept = goes-on ready;
+    sound = goes-on ready;
   }
 
   cut-told : (text : List ℕ) (held held' : Option (List ℕ)) (faults faults' : ℕ) → can_tell old → Told text → AppendsFront held held' text → Rose faults faults' → faults ≤ faults'
@@ -137,7 +137,7 @@ module _ (old new : ControlValue × Teller) (c : Command) (reply : Reply) (ran_o
     means = record { done = c ∷ []; after = []; commands_are = refl; whole = text; count = front.count; front = refl; tells = tells-one text told };
     rose = rose;
     later = later;
-    kept = goes-on ready;
+    sound = goes-on ready;
   }
 
   pub put-whole : {T E : Type 0} (result : Result T E) (text : List ℕ) (held held' : Option (List ℕ)) (faults faults' : ℕ) → can_tell old → Told text

@@ -8,7 +8,7 @@ use Rattle.nrm_book.specs.Standing.{StandingValue}
 -- no product has a leg twice, the list has room for as many bookings as there are authorised seats in all, and the counters are what the
 -- list sums to
 pub record IsStored (book : BookValue) (bookings : StandingValue) (sold : SeatsValue) (revenue : ℕ) : Type 0 where
-  pub kept : IsBook book
+  pub sound : IsBook book
   pub distinct : All (λ (legs : List ℕ). AllPairs (λ a b. a ≢ b) legs) book.inventory.legs
   pub room : sum book.inventory.authorised ≤ bookings.room
   pub seats : sold ≡ seats_sold book.inventory book.bookings

@@ -90,7 +90,7 @@ module _ (old now new : ControlValue) (at_first left after : Making) (counts cou
       → ((control : ControlValue) → counts' ≡ counted counts (reply_in control last)) → total_of counts' ≤ total_of counts + 1
       → Steps now new command (reply_in new reply) → IsTellable new.net reply → IsControl new → reply ≢ answered.Memory
       → FrontMade old new at_first after counts' reply
-  made-more gives goes count total steps tellable kept other =
+  made-more gives goes count total steps tellable sound other =
       let (few, rest, given) = taken left command gives in
       let told : Reply = reply_in new reply in
       record {
@@ -109,7 +109,7 @@ module _ (old now new : ControlValue) (at_first left after : Making) (counts cou
                 count now ∙ ap (λ (c : Counts). counted c (reply_in now last)) counts_are ∙ ap (counted (counts_from nothing_counted replies)) (sym last_is) ∙ sym (counts-more nothing_counted replies told),
                 last-more replies told,
               );
-          kept = kept;
+          sound = sound;
           few = omega (arith, total, made.answers.few, length-append made.front (command ∷ []));
         };
         together =

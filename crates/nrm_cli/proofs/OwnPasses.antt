@@ -1,4 +1,4 @@
--- The text of the closing of a network's program is found optimal, and so is each optimal certificate.
+-- The text of the closing of a network's linear program is found optimal, and so is each optimal certificate.
 use Rattle.std.proofs.Common.{ap, refl}
 use Rattle.std.proofs.lemmas.Bool.{ltb-true}
 use Rattle.nrm_fraction.specs.Large.{size_limit}

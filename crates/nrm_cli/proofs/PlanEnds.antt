@@ -1,4 +1,4 @@
--- How a job ends that has an opening plan, or none since its program is Large or memory ran out.
+-- How a job ends that has an opening plan, or none since its linear program is Large or memory ran out.
 use Rattle.std.proofs.Common.{ℕ, ◌≡◌, List, Option, Some, Result, Ok, Err, IfErr, inl, inr, refl, subst}
 use Rattle.nrm_model.specs.Inventory.{inventory_of}
 use Rattle.nrm_model.specs.Network.{NetworkValue}

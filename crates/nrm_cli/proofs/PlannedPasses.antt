@@ -29,7 +29,7 @@ use Rattle.nrm_cli.specs.declared.status.Status.TheVariants as status
 use Rattle.nrm_outside.proofs.Networks.{taken-network}
 use Rattle.nrm_cli.proofs.OwnPasses.{own-passes}
 
--- the certificate of an opening plan under bid-price control closes the opening program
+-- the certificate of an opening plan under bid-price control closes the opening linear program
 module _ (net : NetworkValue) (plan : PlanValue) (is : IsOpeningPlan net mode.Bid plan) where
   solved : IsSolved net (inventory_of net).authorised 1 plan.certificate
   solved =

@@ -43,7 +43,7 @@ last_of [] = bad
 last_of (reply ∷ []) = reply
 last_of (reply ∷ next ∷ more) = last_of (next ∷ more)
 
--- the value that a reply to hindsight tells; if its program is Large there is none
+-- the value that a reply to hindsight tells; if its linear program is Large there is none
 abbrev pub hindsight_in : Reply → Option Fraction
 hindsight_in (hindsight_told value revenue withheld) = Some value
 hindsight_in _ = None

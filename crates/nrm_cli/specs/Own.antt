@@ -23,13 +23,13 @@ use Rattle.nrm_cli.specs.Jobs.{Job, check_file, plan_file}
 use Rattle.nrm_cli.specs.declared.status.Status.{Status}
 use Rattle.nrm_cli.specs.declared.status.Status.TheVariants as status
 
--- the text of the closing of a network's program is read as that closing, and no condition fails at it
+-- the text of the closing of a network's linear program is read as that closing, and no condition fails at it
 abbrev pub OwnCertificatesPass : Type 0
 OwnCertificatesPass = (net : NetworkValue) → IsNetwork net → (n : ℕ) (t : Tableau) → Closes size_limit (opening_program net) n t
     → (certificate_under net (Some (certificate_text net (certificate (opening_program net) t))) ≡ Ok (certificate (opening_program net) t))
     × (verdict_on (opening_program net) (certificate (opening_program net) t) ≡ Optimal)
 
--- where the program of a network isn't too large, no condition fails at a certificate of the network's shape whose allocation and
+-- where the linear program of a network isn't too large, no condition fails at a certificate of the network's shape whose allocation and
 -- bid prices are optimal and whose value is the cost of its prices, whoever made it
 abbrev pub OptimalCertificatesPass : Type 0
 OptimalCertificatesPass = (net : NetworkValue) → IsNetwork net → (n : ℕ) (t : Tableau) → Closes size_limit (opening_program net) n t

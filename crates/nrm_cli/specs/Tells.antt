@@ -51,7 +51,7 @@ pub record Refuses (asked : Option Job) (before : Outside) (refusal : Refusal) :
   pub asks : asked ≡ Some job
   pub refused : RefusesNetwork job before.files refusal
 
--- what is told of a network that has no plan, since its opening program is too large for the solver's numbers
+-- what is told of a network that has no plan, since its opening linear program is too large for the solver's numbers
 abbrev pub TellsNoPlan : NetworkValue → Mode → Status → List ℕ → Type 0
 TellsNoPlan net m s text =
     (n : ℕ) × (number : ℤ) × OpeningOverflows net m n number × (s ≡ status.Overflow) × (text ≡ overflow_line (told_pivots n) number)
@@ -61,8 +61,8 @@ abbrev pub TellsPlanned : NetworkValue → Mode → (PlanValue → List ℕ → 
 TellsPlanned net m told s text =
     ((plan : PlanValue) × IsOpeningPlan net m plan × told plan text × (s ≡ status.Done)) ⊎ TellsNoPlan net m s text
 
--- what is told of a certificate for the opening program of a network, where the files are told: why there is none in the file of this
--- name; `optimal` where allocation and bid prices are optimal, whoever made them; and else the first condition that fails
+-- what is told of a certificate for the opening linear program of a network, where the files are told: why there is none in the file of
+-- this name; `optimal` where allocation and bid prices are optimal, whoever made them; and else the first condition that fails
 pub data TellsVerdict (net : NetworkValue) (files : Option Folder) (certificate : List ℕ) : Status → List ℕ → Type 0 where
   lacking : (reason : LacksCertificate) → OnFile files certificate (λ contents. certificate_under net contents ≡ Err reason)
       → TellsVerdict net files certificate status.Refused (lacking_line net reason)

@@ -31,7 +31,7 @@ fn status_with(verdict: Verdict) -> Status
     }
 }
 
-// Puts the verdict on a certificate, by the program that was to be had for it; if memory ran out on the program there is none.
+// Puts the verdict on a certificate, by the linear program that was to be had for it; if memory ran out on that there is none.
 fn put_compared<K: Sink>(
     net: &Network,
     program: Result<Program, AllocError>,

@@ -60,7 +60,7 @@ fn answer_all(
     maker: &mut Maker,
 ) -> Option<(Counts, Reply)>
     requires next { controller.old.next ≡ 1 }
-    requires kept { IsControl controller.old }
+    requires sound { IsControl controller.old }
     requires within { maker.old.given ≤ command_count }
     ensures { IfSome result (λ made. AnswersMade controller.old controller.new (rest_of maker.old) made.0 made.1) }
 {
@@ -85,7 +85,7 @@ fn hindsight_of(reply: Reply) -> Option<(u64, u64)>
     }
 }
 
-// Answers the commands of a maker and puts the summary, or memory is wanting.
+// Answers the commands of a maker and puts the summary, or runs out of memory.
 fn put_summary<K: Sink>(
     alloc: Global,
     controller: &mut Controller,
@@ -93,7 +93,7 @@ fn put_summary<K: Sink>(
     sink: &mut K,
 ) -> Status
     requires next { controller.old.next ≡ 1 }
-    requires kept { IsControl controller.old }
+    requires sound { IsControl controller.old }
     requires within { maker.old.given ≤ command_count }
     ensures puts { (net : NetworkValue) (number : ℕ) → HasBegun net controller.old → rest_of maker.old ≡ made_commands number
         → PutsSummary net controller.old.plan number (K.held sink.old) (K.held sink.new) (K.faults sink.old) (K.faults sink.new) result }

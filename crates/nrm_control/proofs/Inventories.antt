@@ -16,16 +16,16 @@ use Rattle.nrm_control.specs.State.{seats_left}
 use Rattle.nrm_control.specs.Verdict.{leg_refuses, verdict_of}
 use Rattle.nrm_control.specs.declared.answer.Answer.TheVariants as answer
 
--- where no leg of a list refuses a party, whatever is kept, each has the seats for it
-pub none-refuses : (left kept : ℕ → ℕ) (party : ℕ) (legs : List ℕ) → find (λ i. nat_lt (left i) (party + kept i)) legs ≡ None → All (λ i. party ≤ left i) legs
-none-refuses left kept party [] none = λ k d short. absurd (omega (arith, short))
-none-refuses left kept party (i ∷ legs) none = by (nat_lt (left i) (party + kept i)) refl (none-refuses left kept party legs)
+-- where no leg of a list refuses a party, whatever is protected, each has the seats for it
+pub none-refuses : (left protected : ℕ → ℕ) (party : ℕ) (legs : List ℕ) → find (λ i. nat_lt (left i) (party + protected i)) legs ≡ None → All (λ i. party ≤ left i) legs
+none-refuses left protected party [] none = λ k d short. absurd (omega (arith, short))
+none-refuses left protected party (i ∷ legs) none = by (nat_lt (left i) (party + protected i)) refl (none-refuses left protected party legs)
   where
-    by : (b : Bool) → nat_lt (left i) (party + kept i) ≡ b → (find (λ i. nat_lt (left i) (party + kept i)) legs ≡ None → All (λ i. party ≤ left i) legs) → All (λ i. party ≤ left i) (i ∷ legs)
+    by : (b : Bool) → nat_lt (left i) (party + protected i) ≡ b → (find (λ i. nat_lt (left i) (party + protected i)) legs ≡ None → All (λ i. party ≤ left i) legs) → All (λ i. party ≤ left i) (i ∷ legs)
     by true e more = let some : Some i ≡ None = rw e at none in cc
     by false e more =
-        let rest : find (λ i. nat_lt (left i) (party + kept i)) legs ≡ None = rw e at none in
-        All-cons (λ i. party ≤ left i) i legs (omega (arith, ltb-false (left i) (party + kept i) e)) (more rest)
+        let rest : find (λ i. nat_lt (left i) (party + protected i)) legs ≡ None = rw e at none in
+        All-cons (λ i. party ≤ left i) i legs (omega (arith, ltb-false (left i) (party + protected i) e)) (more rest)
 
 -- the legs of a product are legs of the network, and used by it
 pub own-legs : (net : NetworkValue) (j : ℕ) (product : Product) (legs : List ℕ) → Some product ≡ slice_get net.products j → legs ≡ product.legs → All (λ i. i < length net.legs) product.legs

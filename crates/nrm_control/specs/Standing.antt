@@ -61,7 +61,7 @@ pub record IsInForce (net : NetworkValue) (plan : PlanValue) (book : BookValue) 
   pub network : IsNetwork net
   pub planned : IsPlanOf net plan
   pub inventory : book.inventory ≡ inventory_of net
-  pub kept : IsBook book
+  pub sound : IsBook book
   pub tallied : AreTalliesBeside net book.bookings tallies
   pub withheld : IsWithheld book.bookings book.next held_back
 
@@ -105,7 +105,7 @@ IsOnNetwork net answer.Fare = ⊤
 abbrev pub StandsForSome : Type 0
 StandsForSome = (control : ControlValue) → IsControl control → (s : SeatState) × StandsFor control s
 
--- why none begins: the opening plan's program is Large; or memory is wanting, which may be for the book
+-- why none begins: the opening plan's linear program is Large; or memory runs out, which may be for the book
 abbrev pub IsStartFault : NetworkValue → Mode → SolveFault → Type 0
 IsStartFault net m (fault.Overflow pivots number) = IsPlanFault net m (inventory_of net).authorised 1 (fault.Overflow pivots number)
 IsStartFault net m fault.NoMemory = ⊤

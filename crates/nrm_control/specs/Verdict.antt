@@ -9,8 +9,8 @@ use Rattle.nrm_plan.specs.Plans.{PlanValue, fare_refuses, protected_from}
 use Rattle.nrm_control.specs.declared.answer.Answer.{Answer}
 use Rattle.nrm_control.specs.declared.answer.Answer.TheVariants as answer
 
--- a leg refuses where its seats left don't cover the party and the seats that the plan in force keeps from the product: those protected
--- for the buckets above its own
+-- a leg refuses where its seats left don't cover the party and the seats that the plan in force protects from the product: those for the
+-- buckets above its own
 abbrev pub leg_refuses : NetworkValue → PlanValue → List Booking → ℕ → ℕ → ℕ → Bool
 leg_refuses net plan bookings j party i = nat_lt (left_on (inventory_of net) bookings i) (party + protected_from net plan i j)
 

@@ -61,8 +61,8 @@ fn refuses(net: &Network, plan: &Plan, book: &Book, leg: u8, product: u16, party
     requires uses { uses_leg (inventory_of net.now) leg product ≡ true }
     ensures { result ≡ leg_refuses net.now plan.now book.now.bookings product party leg }
 {
-    let kept = plan.protected_from(net, leg, product);
-    u32::from(book.left(leg)) < u32::from(party) + u32::from(kept)
+    let protected = plan.protected_from(net, leg, product);
+    u32::from(book.left(leg)) < u32::from(party) + u32::from(protected)
 }
 
 // The first of a product's legs, in its own order, that refuses.
@@ -192,7 +192,7 @@ impl Controller {
     /// A controller of a network with nothing sold, and the plan of period 1 with every authorised seat left.
     ///
     /// # Errors
-    /// `Overflow` exactly where the program of that plan is Large, which under first come, first served is never;
+    /// `Overflow` exactly where the linear program of that plan is Large, which under first come, first served is never;
     /// `NoMemory`. The network is dropped.
     pub fn start(alloc: Global, net: Network, mode: Mode) -> Result<Controller, SolveFault>
         ensures begins { IfOk result (λ controller. controller
@@ -288,7 +288,7 @@ impl Controller {
     /// denominator in lowest terms. Under first come, first served it solves nothing, takes no memory and gives `None`.
     ///
     /// # Errors
-    /// `Overflow` exactly where the program at these seats left and this period is Large; `NoMemory`. Nothing changes.
+    /// `Overflow` exactly where the linear program at these seats left and this period is Large; `NoMemory`. Nothing changes.
     pub fn reoptimise(
         &mut self,
         alloc: Global,
@@ -315,7 +315,7 @@ impl Controller {
     /// seats earns more, in whole currency units, as a numerator and a denominator in lowest terms. Nothing changes.
     ///
     /// # Errors
-    /// `Overflow` exactly where the program of hindsight is Large; `NoMemory`.
+    /// `Overflow` exactly where the linear program of hindsight is Large; `NoMemory`.
     pub fn hindsight(&self, alloc: Global) -> Result<(u64, u64), SolveFault>
         ensures value { IfOk result (λ value. IsHindsight self.now.net self.now.tallies (pos value.0 over value.1)) }
         ensures some { IfOk result (λ value. 0 < value.1) }

@@ -19,7 +19,7 @@ pub enum DesksStatus {
     WriteFault,
     /// Memory ran out before clients could be opened.
     NoMemory,
-    /// The opening program leaves the range of the solver's numbers.
+    /// The opening linear program leaves the range of the solver's numbers.
     Overflow,
     /// More bytes came than are counted.
     TooLong,

@@ -1,4 +1,4 @@
--- The program of a network has its products and its legs.
+-- The linear program of a network has its products and its legs.
 use Rattle.std.proofs.Common.{◌≡◌, ◌*◌, ℕ, length, sym, subst, ◌∙◌}
 use Rattle.std.proofs.lemmas.List.{length-map}
 use Rattle.std.proofs.lemmas.List.FromFn.{length-map-range_with_len}
@@ -17,7 +17,7 @@ products-of net = length-map-range_with_len (λ j. total_to_come net j 1) 0 (len
 pub legs-of : (net : NetworkValue) → length (opening_program net).caps ≡ length net.legs
 legs-of net = length-map (inventory_of net).authorised (λ seats. net.histories * seats) ∙ length-map net.legs (λ (leg : Leg). leg.authorised)
 
--- so a certificate of the network's shape has the program's
+-- so a certificate of the network's shape has the linear program's
 pub shape-of-program : (net : NetworkValue) (given : Certificate) → HasShape size_limit (length net.products) (length net.legs) given
     → HasShape size_limit (length (opening_program net).bounds) (length (opening_program net).caps) given
 shape-of-program net given shape =

@@ -12,7 +12,7 @@ nothing_counted = record { sold = 0; no_leg = 0; no_fare = 0; cancelled = 0; unk
 abbrev pub fraction_of : Option (ℕ × ℕ) → Option Fraction
 fraction_of = option_map (λ value. pos value.0 over value.1)
 
--- the value of hindsight, or that its program is Large
+-- the value of hindsight, or that its linear program is Large
 abbrev pub hindsight_word : Option Fraction → List ℕ
 hindsight_word (Some value) = fraction_text value
 hindsight_word None = codes "overflow"

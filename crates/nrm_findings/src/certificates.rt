@@ -58,7 +58,7 @@ pub fn line_of_fault(net: &Network, fault: CertFault) -> Option<Line>
     Some(line)
 }
 
-/// The line of the verdict on a certificate for the opening program of a network.
+/// The line of the verdict on a certificate for the opening linear program of a network.
 pub fn line_of_verdict(net: &Network, verdict: Verdict) -> Line
     requires { IsOfProgram (opening_program net.now) verdict }
     ensures { result ≡ verdict_line net.now verdict }

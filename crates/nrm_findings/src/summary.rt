@@ -62,7 +62,7 @@ fn line_of_counts(counts: &Counts) -> Line
     line
 }
 
-// Appends the value of hindsight, or that its program is Large.
+// Appends the value of hindsight, or that its linear program is Large.
 #[tactic(auto, using(nrm_text::proofs::Fractions::short_fraction))]
 fn push_hindsight(line: &mut Line, hindsight: Option<(u64, u64)>)
     requires room { length line.old ≤ 400 }
@@ -77,7 +77,7 @@ fn push_hindsight(line: &mut Line, hindsight: Option<(u64, u64)>)
 }
 
 /// The line that sums a made run up: how many lines it had, how many replies of each kind, the revenue of the bookings that
-/// stand, and the value of hindsight as a numerator and a denominator, both in whole currency units; `None` where the program
+/// stand, and the value of hindsight as a numerator and a denominator, both in whole currency units; `None` where the linear program
 /// of hindsight is too large.
 pub fn line_of_summary(counts: &Counts, revenue: u64, hindsight: Option<(u64, u64)>) -> Line
     requires { IfSome hindsight (λ value. 0 < value.1) }

@@ -1,4 +1,4 @@
--- A selection is an allocation of the program of hindsight, and earns no more than its value.
+-- A selection is an allocation of the linear program of hindsight, and earns no more than its value.
 use Rattle.std.proofs.Common.{ℕ, ◌≡◌, ◌∙◌, ◌+◌, ◌*◌, ◌<◌, ◌≤◌, ◌||◌, pos, ◌*ℤ◌, ◌≤ℤ◌, true, eqb, All, List, [], ◌∷◌, length, get_or, map, sum_by, refl, sym, ap, ap₂, subst, zero-add, arith}
 use Rattle.std.specs.List.{list_any, range_with_len}
 use Rattle.std.proofs.Math.IntN.{*ℤ-one}

@@ -1,4 +1,4 @@
--- Sums over the numbers of a range, and what a program makes of a list that was made from one.
+-- Sums over the numbers of a range, and what a linear program makes of a list that was made from one.
 use Rattle.std.proofs.Common.{ℕ, zero, suc, ◌≡◌, ◌∙◌, ◌+◌, ◌*◌, ◌<◌, ◌≤◌, Bool, true, cond, eqb, List, [], ◌∷◌, length, get_or, map, filter, sum_by, inl, inr, refl, sym, ap, ap₂, arith}
 use Rattle.std.specs.List.{range_with_len}
 use Rattle.std.proofs.lemmas.Bool.{cases_Bool, cases_lt, eqb-true}

@@ -12,7 +12,7 @@ use Rattle.nrm_book.specs.Bookings.{revenue_of, sold_of, sold_on}
 use Rattle.nrm_hindsight.specs.Requests.{Request, requests_of, tallies_of, tally_of}
 use Rattle.nrm_hindsight.specs.Selections.{BoundsSelections, ChosenFrom, IsSelection, earned_by, taken_of_each}
 
--- every selection is a whole allocation of the program of hindsight, which gains what the selection earns
+-- every selection is a whole allocation of the linear program of hindsight, which gains what the selection earns
 abbrev pub SelectionsAllocate : Type 0
 SelectionsAllocate = (net : NetworkValue) (requests chosen : List Request) → IsNetwork net → IsSelection net requests chosen
     → IsAllocation (hindsight_program net (tallies_of net requests)) 1 (taken_of_each net chosen)

@@ -9,7 +9,7 @@ ghost use Rattle.nrm_hindsight.specs.Laws.{
 };
 
 /// The value of hindsight bounds what every choice of past requests earns that fits the authorised seats of each leg, each
-/// request whole and at most once: such a choice is an allocation of its program. Bookings that are among the requests and
+/// request whole and at most once: such a choice is an allocation of its linear program. Bookings that are among the requests and
 /// take no more than the authorised seats of a leg are such a choice, and earn their revenue.
 pub fn selections_are_bounded()
     ensures allocates { SelectionsAllocate }

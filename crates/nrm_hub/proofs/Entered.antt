@@ -149,8 +149,8 @@ same-looking net s s' command.Bad reply looks step = step.1
 same-state : (net : NetworkValue) (s s' : SeatState) (c : Command) (reply : Reply) → (is_change c ≡ false) ⊎ (reply ≡ memory) → Step net s c reply s' → s' ≡ s
 same-state net s s' c reply (inl looks) step = same-looking net s s' c reply looks step
 same-state net s s' c reply (inr is) step =
-    let wanting : Step net s c memory s' = subst (λ (r : Reply). Step net s c r s') is step in
-    (other-lines net s s' c wanting).1
+    let run_out : Step net s c memory s' = subst (λ (r : Reply). Step net s c r s') is step in
+    (other-lines net s s' c run_out).1
 
 -- so no booking was sold then
 same-next : (old new : ControlValue) (c : Command) (reply : Reply) → IsControl old → Steps old new c reply → (is_change c ≡ false) ⊎ (reply ≡ memory)

@@ -54,7 +54,7 @@ line-in control (answered.Hindsight num den revenue withheld) = refl
 line-in control (answered.Leg i) = refl
 line-in control answered.Plan = refl
 
--- ---- what a line that may change something is answered, if it isn't that memory is wanting
+-- ---- what a line that may change something is answered, if memory doesn't run out
 to-request : (net : NetworkValue) (a : Answer) → is_line (reply_to net a) ≡ true
 to-request net (answer.Sold number) = refl
 to-request net (answer.Leg i) = refl

@@ -24,7 +24,7 @@ use Rattle.nrm_hub.specs.Rows.{Entry}
 use Rattle.nrm_hub.specs.Taking.{TakesLine, answers, greets, lacks_memory, may_not_greet, refuses, too_many}
 use Rattle.nrm_hub.specs.World.{Comes, Exchange, Happens, World, beginning, exchange_of, here, line_taken, then}
 
--- a line that was carried out and has no row changed nothing, or memory was wanting
+-- a line that was carried out and has no row changed nothing, or memory ran out
 abbrev IsIdle : How → Type 0
 IsIdle (passed c reply) = (is_change c ≡ false) ⊎ (reply ≡ memory)
 IsIdle (carried c reply) = ⊤

@@ -96,7 +96,7 @@ fn part(bytes: &[u8], start: usize, count: usize) -> &[u8]
     &bytes[start..start + count]
 }
 
-// Whether a line may take long: one for which a program is solved or a text of many lines is written.
+// Whether a line may take long: one for which a linear program is solved or a text of many lines is written.
 fn takes_long(asked: &Asked) -> bool {
     matches!(
         asked,

@@ -153,29 +153,29 @@ module _ {P : Type 0} (keeps : Ghosts P) (old new : ControlValue × P) (c : Comm
   -- ---- as its reply was put
   pub line-kept : {T E : Type 0} (held held' : Option (List ℕ)) (sunk sunk' : ℕ) (result : Result T E) → is_control old → is_control new → HoweverRead keeps (KeepsAhead old.0 c) old.1 new.1 → keeps.faults new.1 ≡ keeps.faults old.1
       → OnOk result (AnswersLine old.0 new.0 c held held') → HasCause sunk sunk' result → OnOk result (Answers (KeptRefines keeps) is_control old new (c ∷ []) held held' sunk sunk')
-  line-kept held held' sunk sunk' (Ok value) was kept ahead count line cause = record {
+  line-kept held held' sunk sunk' (Ok value) was sound ahead count line cause = record {
     output = text_of line.reply;
     written = line.written;
     means = kept-line line.reply was ahead count line.steps;
     counts = cause.done;
     next = line.steps.next;
-    kept = kept;
+    sound = sound;
   }
-  line-kept held held' sunk sunk' (Err error) was kept ahead count line cause = tt
+  line-kept held held' sunk sunk' (Err error) was sound ahead count line cause = tt
 
   pub line-kept_cut : {T E : Type 0} (held held' : Option (List ℕ)) (sunk sunk' : ℕ) (result : Result T E) → is_control old → is_control new → HoweverRead keeps (KeepsAhead old.0 c) old.1 new.1 → keeps.faults new.1 ≡ keeps.faults old.1
       → OnErr result (CutsLine old.0 new.0 c held held') → HasCause sunk sunk' result → OnErr result (AnswersCut (KeptRefinesCut keeps) is_control old new (c ∷ []) held held' sunk sunk')
-  line-kept_cut held held' sunk sunk' (Ok value) was kept ahead count line cause = tt
-  line-kept_cut held held' sunk sunk' (Err error) was kept ahead count line cause = record {
+  line-kept_cut held held' sunk sunk' (Ok value) was sound ahead count line cause = tt
+  line-kept_cut held held' sunk sunk' (Err error) was sound ahead count line cause = record {
     output = take line.front.count (text_of line.reply);
     written = line.front.grown;
     means = kept-line_cut line.reply line.front.count was ahead count line.steps line.front.short;
     rose = cause.failed;
     later = cause.later;
-    kept = kept;
+    sound = sound;
   }
 
-  module _ (reply : KeptReply) (held held' : Option (List ℕ)) (sunk sunk' : ℕ) (kept : is_control new) (steps : (s : SeatState) → StandsFor old.0 s → KeptStep old.0.net s c reply s) (same : new.0 ≡ old.0)
+  module _ (reply : KeptReply) (held held' : Option (List ℕ)) (sunk sunk' : ℕ) (sound : is_control new) (steps : (s : SeatState) → StandsFor old.0 s → KeptStep old.0.net s c reply s) (same : new.0 ≡ old.0)
       (rows_same : HoweverRead keeps Same old.1 new.1) (counted : keeps.faults new.1 ≡ count_after (reply ∷ []) (keeps.faults old.1)) where
     pub line-unkept : {T E : Type 0} (result : Result T E) → OnOk result (Appends held held' (kept_text reply)) → HasCause sunk sunk' result → OnOk result (Answers (KeptRefines keeps) is_control old new (c ∷ []) held held' sunk sunk')
     line-unkept (Ok value) written cause = record {
@@ -184,7 +184,7 @@ module _ {P : Type 0} (keeps : Ghosts P) (old new : ControlValue × P) (c : Comm
       means = unkept-line reply steps same rows_same counted;
       counts = cause.done;
       next = omega (arith, ap (λ (control : ControlValue). control.next) same);
-      kept = kept;
+      sound = sound;
     }
     line-unkept (Err error) written cause = tt
 
@@ -197,7 +197,7 @@ module _ {P : Type 0} (keeps : Ghosts P) (old new : ControlValue × P) (c : Comm
       means = unkept-line_cut reply front.count steps same rows_same counted front.short;
       rose = cause.failed;
       later = cause.later;
-      kept = kept;
+      sound = sound;
     }
 
 -- ---- as the keeper answered

@@ -57,7 +57,7 @@ module _ (asked : Option KeptJob) (before after : KeptOutside) (job : KeptJob) (
       let refuses : network_under (files job.file) ≡ Err refusal = on-told before.at.files files job.file (λ contents. network_under contents ≡ Err refusal) told own in
       let e : Err refusal ≡ Ok net = sym refuses ∙ valid in cc
 
-  -- ---- there is an opening plan, or its program is Large
+  -- ---- there is an opening plan, or its linear program is Large
   opening-same : (plan other : PlanValue) → IsOpeningPlan net job.mode plan → IsOpeningPlan net job.mode other → other ≡ plan
   opening-same plan other is is' = (one-plan net job.mode (inventory_of net).authorised 1).plan plan other is is'
 

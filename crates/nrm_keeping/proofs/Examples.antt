@@ -128,8 +128,8 @@ dead_keeps : ChangesBook two_legs one_left (command.Cancel 1) → ⊥
 dead_keeps (b, live) = cc
 
 -- running out of memory there changes nothing
-wanting : KeptStep two_legs two_sold (command.Cancel 2) (told memory) two_sold
-wanting = lacks_memory (local 2 1, refl)
+run_out : KeptStep two_legs two_sold (command.Cancel 2) (told memory) two_sold
+run_out = lacks_memory (local 2 1, refl)
 
 -- ---- lines and words
 refused_line : store_refused_line 5 ≡ codes "refused store number 5\n"

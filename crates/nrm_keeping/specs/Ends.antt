@@ -180,7 +180,7 @@ abbrev pub OrRanOut : KeptOutside → KeptOutside → KeptStatus → KeptStatus 
 OrRanOut before after s wanted output =
     ((s ≡ wanted) × Wrote before.at after.at output) ⊎ ((s ≡ status.NoMemory) × WroteNothing before.at after.at)
 
--- if the opening program is Large the line that says so is written
+-- if the opening linear program is Large the line that says so is written
 abbrev pub TellsOverflow : KeptJob → NetworkValue → KeptOutside → KeptOutside → KeptStatus → Type 0
 TellsOverflow job net before after s =
     (n : ℕ) (number : ℤ) → OpeningOverflows net job.mode n number

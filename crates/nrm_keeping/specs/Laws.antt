@@ -73,8 +73,9 @@ KeptMoneyAddsUp = (net : NetworkValue) (plan : PlanValue) (rows : List KeptRow) 
     → revenue_of (inventory_of net) l.bookings + sold_in_all net (carried_out commands replies) (replies_to_those replies)
     ≡ revenue_of (inventory_of net) s'.bookings + given_back_in_all (replies_to_those replies) + s'.withheld
 
--- In a mode that solves programs, what a `plan` line prints once rows have loaded, after any commands from there, are optimal bid prices: for
--- the seats left and from the period of the last line that was answered `optimised`, or for every authorised seat and from period 1.
+-- In a mode that solves linear programs, what a `plan` line prints once rows have loaded, after any commands from there, are optimal bid
+-- prices: for the seats left and from the period of the last line that was answered `optimised`, or for every authorised seat and from
+-- period 1.
 abbrev pub KeptPlansAreOptimal : Type 0
 KeptPlansAreOptimal = (net : NetworkValue) (m : Mode) (plan : PlanValue) (l : Loaded) → IsNetwork net → m ≢ mode.FirstCome
     → IsOpeningPlan net m plan

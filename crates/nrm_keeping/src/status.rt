@@ -19,7 +19,7 @@ pub enum KeptStatus {
     WriteFault,
     /// Memory ran out, before anything was written.
     NoMemory,
-    /// The opening program leaves the range of the solver's numbers.
+    /// The opening linear program leaves the range of the solver's numbers.
     Overflow,
     /// The stream is too long.
     TooLong,

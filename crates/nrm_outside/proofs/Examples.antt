@@ -1,4 +1,4 @@
--- The words for modes, and the line of a program that is Large, worked by hand.
+-- The words for modes, and the line of a linear program that is Large, worked by hand.
 use Rattle.std.specs.Prelude.{◌≡◌, [], ◌∷◌, map, codes, pos, negsuc, refl, Some, None}
 use Rattle.std.specs.Fmt.{digits}
 use Rattle.nrm_model.specs.declared.mode.Mode.TheVariants as mode
@@ -8,7 +8,7 @@ modes : map mode_of (codes "first" ∷ codes "bid" ∷ codes "davn" ∷ codes "f
     ≡ Some mode.FirstCome ∷ Some mode.Bid ∷ Some mode.Davn ∷ None ∷ None ∷ None ∷ []
 modes = refl
 
--- the line of a program that is Large, with a sign before a negative number
+-- the line of a linear program that is Large, with a sign before a negative number
 line_of_overflow : overflow_line 64 (pos 399599996004000) ≡ codes "overflow after 64 pivots at 399599996004000\n"
 unfolding digits
 line_of_overflow = refl

@@ -17,7 +17,7 @@ mode_of word =
 abbrev pub told_pivots : ℕ → ℕ
 told_pivots n = min n (2 ^ 32 - 1)
 
--- the line that says that the opening program is Large: after so many pivots, at which number
+-- the line that says that the opening linear program is Large: after so many pivots, at which number
 abbrev pub overflow_line : ℕ → ℤ → List ℕ
 overflow_line pivots number =
     text_line (codes "overflow" ∷ codes "after" ∷ decimal pivots ∷ codes "pivots" ∷ codes "at" ∷ signed_text number ∷ [])

@@ -1,4 +1,4 @@
-//! The line that says why there is no network, that of a program that is too large, and sending a line.
+//! The line that says why there is no network, that of a linear program that is too large, and sending a line.
 ghost use Rattle.std.specs.Prelude.{◌≡◌, [], OnErr, OnOk};
 ghost use Rattle.std.specs.Io.KnownBytes.{Appends};
 ghost use Rattle.nrm_edge.specs.Causes.{HasCause};
@@ -39,7 +39,7 @@ impl NoNetwork {
     }
 }
 
-/// The line that says that an opening program is too large: after so many finished pivots (4,294,967,295 stands for more), at
+/// The line that says that an opening linear program is too large: after so many finished pivots (4,294,967,295 stands for more), at
 /// this number, the first that reached the limit in size.
 #[tactic(auto, using(nrm_text::proofs::Decimals::short_decimal, nrm_text::proofs::Fractions::short_signed))]
 pub fn line_of_overflow(pivots: u32, number: i128) -> Line

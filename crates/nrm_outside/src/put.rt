@@ -16,7 +16,7 @@ pub struct Statuses<S> {
     pub refused: S,
     /// The files failed.
     pub file_fault: S,
-    /// The opening program leaves the range of the solver's numbers.
+    /// The opening linear program leaves the range of the solver's numbers.
     pub overflow: S,
     /// Memory ran out.
     pub no_memory: S,

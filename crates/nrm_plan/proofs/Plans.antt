@@ -40,7 +40,7 @@ module _ (net : NetworkValue) (left : List ℕ) (k : ℕ) where
   certificate-optimal mode.Bid cert is are has other = solved-optimal cert is are has
   certificate-optimal mode.Davn cert is are has other = solved-optimal cert is are has
 
-  -- one certificate closes a program
+  -- one certificate closes a linear program
   solved-once : (c d : Option Certificate) → IsSolved net left k c → IsSolved net left k d → d ≡ c
   solved-once None d missing solved = absurd missing
   solved-once (Some c) None solved missing = absurd missing
@@ -66,7 +66,7 @@ module _ (net : NetworkValue) (left : List ℕ) (k : ℕ) where
   overflow-of mode.Bid n n' number number' large large' = overflow-once (program_at net left k) n n' number number' large large'
   overflow-of mode.Davn n n' number number' large large' = overflow-once (program_at net left k) n n' number number' large large'
 
-  -- a certificate, or none since its program is Large
+  -- a certificate, or none since its linear program is Large
   abbrev HasOr : Mode → Type 0
   HasOr m = ((c : Option Certificate) × HasCertificate net left k m c) ⊎ ((n : ℕ) × (number : ℤ) × PlanOverflows net m left k n number)
 
@@ -86,7 +86,7 @@ module _ (net : NetworkValue) (left : List ℕ) (k : ℕ) where
 pub optimal : PlansAreOptimal
 optimal net plan is of other = certificate-optimal net plan.left plan.period plan.mode plan.certificate is of.left of.certificate other
 
--- the program of a network has a bound for each product and a cap for each leg, so the certificate of a plan has the network's shape
+-- the linear program of a network has a bound for each product and a cap for each leg, so the certificate of a plan has the network's shape
 pub shape-of-network : (net : NetworkValue) (left : List ℕ) (k : ℕ) (cert : Certificate) → length left ≡ length net.legs → HasShape size_limit (length (program_at net left k).bounds) (length (program_at net left k).caps) cert
     → HasShape size_limit (length net.products) (length net.legs) cert
 shape-of-network net left k cert legs shape =

@@ -12,17 +12,17 @@ use Rattle.nrm_emsr.specs.Protections.{protection_of}
 use Rattle.nrm_plan.specs.Nesting.{NestsValue, level_at}
 use Rattle.nrm_plan.specs.Plans.{AreSeatsLeft, HasOptimalPrices, IsPlanFor, IsPlanOf, PlanOverflows, PlanValue}
 
--- each plan of a network that solves a program has optimal bid prices
+-- each plan of a network that solves a linear program has optimal bid prices
 abbrev pub PlansAreOptimal : Type 0
 PlansAreOptimal =
     (net : NetworkValue) (plan : PlanValue) → IsNetwork net → IsPlanOf net plan → plan.mode ≢ FirstCome → HasOptimalPrices net plan
 
--- a network, a mode, seats left and a period of the network have a plan, or their program is Large
+-- a network, a mode, seats left and a period of the network have a plan, or their linear program is Large
 abbrev pub EachHasAPlan : Type 0
 EachHasAPlan = (net : NetworkValue) (m : Mode) (left : List ℕ) (k : ℕ) → AreSeatsLeft net left → IsInRange 1 net.periods k
     → ((plan : PlanValue) × IsPlanFor net m left k plan) ⊎ ((n : ℕ) × (number : ℤ) × PlanOverflows net m left k n number)
 
--- they have one plan, or their program is Large after one number of pivots and with one number, and not both
+-- they have one plan, or their linear program is Large after one number of pivots and with one number, and not both
 pub record HasOnePlan (net : NetworkValue) (m : Mode) (left : List ℕ) (k : ℕ) : Type 0 where
   pub plan : (plan other : PlanValue) → IsPlanFor net m left k plan → IsPlanFor net m left k other → other ≡ plan
   pub overflow : (n n' : ℕ) (number number' : ℤ) → PlanOverflows net m left k n number → PlanOverflows net m left k n' number' → (n' ≡ n)

@@ -22,7 +22,7 @@ use Rattle.nrm_emsr.specs.Protections.{protection_of}
 use Rattle.nrm_plan.specs.Nesting.{AreNestsOf, NestsValue}
 
 -- how the seats are controlled, the period and the seats left of the last optimisation, the certificate that it gave, where the mode
--- solves a program, and the nests, where the mode has them
+-- solves a linear program, and the nests, where the mode has them
 pub record PlanValue : Type 0 where
   pub mode : Mode
   pub period : ℕ
@@ -35,12 +35,12 @@ pub record AreSeatsLeft (net : NetworkValue) (left : List ℕ) : Type 0 where
   pub legs : length left ≡ length net.legs
   pub seats : (i : ℕ) → i < length net.legs → slice_index left i ≤ (leg_of net i).authorised
 
--- the program at these seats left and period k was solved, and this is the certificate of its closing
+-- the linear program at these seats left and period k was solved, and this is the certificate of its closing
 abbrev pub IsSolved : NetworkValue → List ℕ → ℕ → Option Certificate → Type 0
 IsSolved net left k None = ⊥
 IsSolved net left k (Some cert) = IsClosing (program_at net left k) cert
 
--- first come, first served solves nothing; the other modes solve that program
+-- first come, first served solves nothing; the other modes solve that linear program
 abbrev pub HasCertificate : NetworkValue → List ℕ → ℕ → Mode → Option Certificate → Type 0
 HasCertificate net left k mode.FirstCome cert = cert ≡ None
 HasCertificate net left k mode.Bid cert = IsSolved net left k cert
@@ -76,7 +76,7 @@ pub record IsPlanFor (net : NetworkValue) (m : Mode) (left : List ℕ) (k : ℕ)
 abbrev pub IsOpeningPlan : NetworkValue → Mode → PlanValue → Type 0
 IsOpeningPlan net m plan = IsPlanFor net m (inventory_of net).authorised 1 plan
 
--- there is no plan, since the program that the mode would solve is Large: after n finished pivots, with this number
+-- there is no plan, since the linear program that the mode would solve is Large: after n finished pivots, with this number
 abbrev pub PlanOverflows : NetworkValue → Mode → List ℕ → ℕ → ℕ → ℤ → Type 0
 PlanOverflows net mode.FirstCome left k n number = ⊥
 PlanOverflows net mode.Bid left k n number = Overflows size_limit (program_at net left k) n number
@@ -85,13 +85,13 @@ PlanOverflows net mode.Davn left k n number = Overflows size_limit (program_at n
 abbrev pub OpeningOverflows : NetworkValue → Mode → ℕ → ℤ → Type 0
 OpeningOverflows net m n number = PlanOverflows net m (inventory_of net).authorised 1 n number
 
--- why no plan is made: its program is Large, after so many finished pivots, where 4,294,967,295 stands for more; or memory is wanting,
+-- why no plan is made: its linear program is Large, after so many finished pivots, where 4,294,967,295 stands for more; or memory runs out,
 -- which first come, first served never needs
 abbrev pub IsPlanFault : NetworkValue → Mode → List ℕ → ℕ → SolveFault → Type 0
 IsPlanFault net m left k (fault.Overflow pivots number) = (n : ℕ) × PlanOverflows net m left k n number × (pivots ≡ min n (2 ^ 32 - 1))
 IsPlanFault net m left k fault.NoMemory = m ≢ mode.FirstCome
 
--- the mean value of a history, where a program was solved
+-- the mean value of a history, where a linear program was solved
 abbrev pub value_of : NetworkValue → PlanValue → Option Fraction
 value_of net plan = option_map (mean_value net.histories) plan.certificate
 
@@ -120,7 +120,7 @@ abbrev pub protected_from : NetworkValue → PlanValue → ℕ → ℕ → ℕ
 protected_from net plan i j = seats_protected net plan.mode plan.period plan.certificate i j
 
 -- a plan's bid prices are optimal duals: its certificate has an optimal allocation and optimal bid prices, against every allocation and
--- all prices of the program at the plan's seats left and period, and its value is the gain of the one and the cost of the others
+-- all prices of the linear program at the plan's seats left and period, and its value is the gain of the one and the cost of the others
 abbrev pub HasOptimalPrices : NetworkValue → PlanValue → Type 0
 HasOptimalPrices net plan =
     (cert : Certificate) × (plan.certificate ≡ Some cert) × Certifies size_limit (program_at net plan.left plan.period) cert

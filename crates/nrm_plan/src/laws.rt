@@ -1,12 +1,12 @@
 //! Laws of plans. Each is the contract of a function that does nothing.
 ghost use Rattle.nrm_plan.specs.Laws.{EachHasAPlan, NestsAreThoseDefined, PlansAreDetermined, PlansAreOptimal};
 
-/// Each plan that solves a program has an optimal allocation and optimal bid prices.
+/// Each plan that solves a linear program has an optimal allocation and optimal bid prices.
 pub fn plans_are_optimal()
     ensures { PlansAreOptimal }
 {}
 
-/// A network has a plan in each mode, for all seats left and periods, or the program is Large.
+/// A network has a plan in each mode, for all seats left and periods, or the linear program is Large.
 pub fn each_has_a_plan()
     ensures { EachHasAPlan }
 {}

@@ -13,7 +13,7 @@ ghost use Rattle.nrm_virtual.specs.Table.{HasPair, IsTableOf, bucket_in};
 ghost use Rattle.nrm_emsr.specs.Protections.{protections_of};
 ghost use Rattle.nrm_plan.specs.Nesting.{AreNestsOf, level_at};
 ghost use Rattle.nrm_virtual.specs.Inner.Written.{written};
-ghost use Rattle.nrm_plan.specs.Inner.Kept.{AreKeptInAll, kept_at};
+ghost use Rattle.nrm_plan.specs.Inner.Protected.{AreProtectedInAll, protected_at};
 
 use nrm_emsr::protections;
 use nrm_lp::Certificate;
@@ -28,21 +28,21 @@ pub(crate) struct Nests {
     buckets: BucketTable,
     protections: Vec<Vec<u16>>,
     products: usize,
-    kept: Vec<u16>,
+    protected: Vec<u16>,
 }
 
 impl Model for Nests {
     ghost use Rattle.std.specs.Prelude.{map};
     ghost use Rattle.nrm_plan.specs.Nesting.{NestsValue};
-    ghost use Rattle.nrm_plan.specs.Inner.Kept.{AreKept};
+    ghost use Rattle.nrm_plan.specs.Inner.Protected.{AreProtected};
 
     ghost Value = { NestsValue };
 
     ghost view = { λ nests. record { buckets = nests.buckets; protections = map (λ v. v.items) nests.protections.items } };
 
-    ghost invariant = { λ nests. AreKept
+    ghost invariant = { λ nests. AreProtected
         (record { buckets = nests.buckets; protections = map (λ v. v.items) nests.protections.items })
-        nests.products nests.kept.items };
+        nests.products nests.protected.items };
 }
 
 // The protections of each leg.
@@ -79,7 +79,7 @@ fn level_at(levels: &[u16], bucket: u8) -> u16
 }
 
 // The seats that are protected from a product on one of its legs.
-fn kept_at(
+fn protected_at(
     net: &Network,
     buckets: &BucketTable,
     protections: &[Vec<u16>],
@@ -91,7 +91,7 @@ fn kept_at(
     requires leg { leg < length net.now.legs }
     requires product { product < length net.now.products }
     requires uses { uses_leg (inventory_of net.now) leg product ≡ true }
-    ensures { result ≡ kept_at (record { buckets = buckets.now; protections = map (λ v. v.items) protections.now }) leg product }
+    ensures { result ≡ protected_at (record { buckets = buckets.now; protections = map (λ v. v.items) protections.now }) leg product }
 {
     level_at(
         &protections[leg as usize],
@@ -101,7 +101,7 @@ fn kept_at(
 
 // Puts the seats that are protected from a leg's products into their places.
 fn put_leg(
-    kept: &mut Vec<u16>,
+    protected: &mut Vec<u16>,
     net: &Network,
     buckets: &BucketTable,
     protections: &[Vec<u16>],
@@ -110,20 +110,26 @@ fn put_leg(
     requires nests { (cert : Cert) × (k : ℕ)
         × AreNestsOf net.now k cert (record { buckets = buckets.now; protections = map (λ v. v.items) protections.now }) }
     requires leg { leg < length net.now.legs }
-    requires long { length kept.old.items ≡ length net.now.legs * length net.now.products }
-    ensures { kept.new.items
+    requires long { length protected.old.items ≡ length net.now.legs * length net.now.products }
+    ensures { protected.new.items
         ≡ written (leg * length net.now.products)
-        (kept_at (record { buckets = buckets.now; protections = map (λ v. v.items) protections.now }) leg)
-        (products_on (inventory_of net.now) leg) kept.old.items }
+        (protected_at (record { buckets = buckets.now; protections = map (λ v. v.items) protections.now }) leg)
+        (products_on (inventory_of net.now) leg) protected.old.items }
 {
     let first = leg as usize * net.product_count();
     for product in net.products_on(leg) {
-        kept[first + *product as usize] = kept_at(net, buckets, protections, leg, *product);
+        protected[first + *product as usize] = protected_at(
+            net,
+            buckets,
+            protections,
+            leg,
+            *product,
+        );
     }
 }
 
 // The seats that are protected from each product on each of its legs, and 0 where it doesn't use the leg.
-fn kept_in_all(
+fn protected_in_all(
     alloc: Global,
     net: &Network,
     buckets: &BucketTable,
@@ -131,14 +137,14 @@ fn kept_in_all(
 ) -> Result<Vec<u16>, AllocError>
     requires { (cert : Cert) × (k : ℕ)
         × AreNestsOf net.now k cert (record { buckets = buckets.now; protections = map (λ v. v.items) protections.now }) }
-    ensures { IfOk result (λ kept. AreKeptInAll net.now
-        (record { buckets = buckets.now; protections = map (λ v. v.items) protections.now }) kept.items) }
+    ensures { IfOk result (λ protected. AreProtectedInAll net.now
+        (record { buckets = buckets.now; protections = map (λ v. v.items) protections.now }) protected.items) }
 {
-    let mut kept = vec![in alloc; 0; net.leg_count() * net.product_count()]?;
+    let mut protected = vec![in alloc; 0; net.leg_count() * net.product_count()]?;
     for leg in 0..net.leg_count() as u8 {
-        put_leg(&mut kept, net, buckets, protections, leg);
+        put_leg(&mut protected, net, buckets, protections, leg);
     }
-    Ok(kept)
+    Ok(protected)
 }
 
 impl Nests {
@@ -158,12 +164,12 @@ impl Nests {
     {
         let buckets = BucketTable::build(alloc, net, certificate)?;
         let protections = protections_of_legs(alloc, net, certificate, &buckets, period)?;
-        let kept = kept_in_all(alloc, net, &buckets, &protections)?;
+        let protected = protected_in_all(alloc, net, &buckets, &protections)?;
         Ok(Nests {
             buckets,
             protections,
             products: net.product_count(),
-            kept,
+            protected,
         })
     }
 
@@ -192,6 +198,6 @@ impl Nests {
         ensures { (b : ℕ) → bucket_in self.now.buckets leg product ≡ Some b
             → result ≡ level_at (slice_index_or self.now.protections leg []) (b - 1) }
     {
-        self.kept[leg as usize * self.products + product as usize]
+        self.protected[leg as usize * self.products + product as usize]
     }
 }

@@ -78,11 +78,11 @@ fn solved(
 
 impl Plan {
     /// The plan of a network in a mode, at these seats left and from period `period` on: under first come, first served
-    /// nothing is solved, and no memory taken; in the other modes it has the certificate of the program's closing.
+    /// nothing is solved, and no memory taken; in the other modes it has the certificate of the linear program's closing.
     /// `left` has the seats left leg by leg, on each leg at most its authorised seats; periods count from 1.
     ///
     /// # Errors
-    /// `Overflow` exactly where the program is Large, and `NoMemory`; first come, first served meets neither.
+    /// `Overflow` exactly where the linear program is Large, and `NoMemory`; first come, first served meets neither.
     pub fn make(
         alloc: Global,
         net: &Network,

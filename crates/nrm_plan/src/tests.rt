@@ -1,5 +1,5 @@
 //! Plans of a network of two legs, AB with 3 seats and BC with 2: a through product for 500, a local one on AB for 200. And
-//! the seats that are kept under virtual nesting, of one with five products.
+//! the seats that are protected under virtual nesting, of one with five products.
 ghost use Rattle.std.specs.Prelude.{◌≡◌, length};
 ghost use Rattle.nrm_plan.specs.Plans.{IsPlanOf};
 
@@ -100,8 +100,8 @@ fn first_come_has_no_prices(rt: HostRuntime) {
     );
 }
 
-// The seats that are kept on AB from the first three products, which use it, and on BC from the last two.
-fn kept_at_opening(alloc: Global) -> Result<[u16; 5], SolveFault> {
+// The seats that are protected on AB from the first three products, which use it, and on BC from the last two.
+fn protected_at_opening(alloc: Global) -> Result<[u16; 5], SolveFault> {
     let net = two_legs_five_products(alloc)?;
     let plan = Plan::opening(alloc, &net, Mode::Davn)?;
     Ok([
@@ -115,8 +115,8 @@ fn kept_at_opening(alloc: Global) -> Result<[u16; 5], SolveFault> {
 
 // On AB seven seats are protected above the second bucket, on BC six above the third.
 #[test]
-fn seats_are_kept_for_higher_buckets(rt: HostRuntime) {
-    assert!(rt; kept_at_opening(rt.alloc()) == Ok([0, 7, 0, 6, 6]));
+fn seats_are_protected_for_higher_buckets(rt: HostRuntime) {
+    assert!(rt; protected_at_opening(rt.alloc()) == Ok([0, 7, 0, 6, 6]));
 }
 
 #[test]

@@ -52,8 +52,8 @@ nests_text net k cert =
     flat_map (λ i. flat_map (nest_line net cert i) (products_on (inventory_of net) i)) (range_with_len 0 (length net.legs))
     ++ flat_map (protect_line net cert k) (range_with_len 0 (length net.legs))
 
--- the plan text: the one word `first` where no program is solved; under bid-price control the certificate; and under virtual nesting the
--- certificate and the nests
+-- the plan text: the one word `first` where no linear program is solved; under bid-price control the certificate; and under virtual nesting
+-- the certificate and the nests
 abbrev pub text_of_plan : NetworkValue → Mode → ℕ → Option Certificate → List ℕ
 text_of_plan net m k None = codes "first\n"
 text_of_plan net mode.FirstCome k (Some cert) = certificate_text net cert

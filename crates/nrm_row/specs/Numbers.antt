@@ -43,5 +43,5 @@ pub record Lists (nums : List ℤ) (entries : List (ℕ × ℤ)) : Type 0 where
 
 -- a row with a bound, and its columns listed
 pub record IsUnit (den : ℤ) (most : ℕ) (nums : List ℤ) (entries : List (ℕ × ℤ)) : Type 0 where
-  pub kept : IsBoundedRow den most nums
+  pub sound : IsBoundedRow den most nums
   pub lists : Lists nums entries

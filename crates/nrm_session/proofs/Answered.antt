@@ -174,25 +174,25 @@ refines-one_cut old new c reply count steps within = record {
 answers-one : {B : Type 0} (old new : ControlValue × B) (c : Command) (held held' : Option (List ℕ)) (faults faults' : ℕ)
     → AnswersLine old.0 new.0 c held held' → IsControl new.0 → faults' ≡ faults
     → Answers refines is_control old new (c ∷ []) held held' faults faults'
-answers-one old new c held held' faults faults' line kept same = record {
+answers-one old new c held held' faults faults' line sound same = record {
   output = text_of line.reply;
   written = line.written;
   means = refines-one old.0 new.0 c line.reply line.steps;
   counts = same;
   next = line.steps.next;
-  kept = kept;
+  sound = sound;
 }
 
 cut-one : {B : Type 0} (old new : ControlValue × B) (c : Command) (held held' : Option (List ℕ)) (faults faults' : ℕ)
     → CutsLine old.0 new.0 c held held' → IsControl new.0 → Rose faults faults' → faults ≤ faults'
     → AnswersCut refines_cut is_control old new (c ∷ []) held held' faults faults'
-cut-one old new c held held' faults faults' line kept rose later = record {
+cut-one old new c held held' faults faults' line sound rose later = record {
   output = take line.front.count (text_of line.reply);
   written = line.front.grown;
   means = refines-one_cut old.0 new.0 c line.reply line.front.count line.steps line.front.short;
   rose = rose;
   later = later;
-  kept = kept;
+  sound = sound;
 }
 
 -- so it is as the line was answered
@@ -200,17 +200,17 @@ pub answered : {B T E : Type 0} (old new : ControlValue × B) (c : Command) (hel
     (result : Result T E)
     → IsControl new.0 → OnOk result (AnswersLine old.0 new.0 c held held') → HasCause faults faults' result
     → OnOk result (Answers refines is_control old new (c ∷ []) held held' faults faults')
-answered old new c held held' faults faults' (Ok value) kept line cause =
-    answers-one old new c held held' faults faults' line kept cause.done
-answered old new c held held' faults faults' (Err error) kept line cause = tt
+answered old new c held held' faults faults' (Ok value) sound line cause =
+    answers-one old new c held held' faults faults' line sound cause.done
+answered old new c held held' faults faults' (Err error) sound line cause = tt
 
 pub answered-cut : {B T E : Type 0} (old new : ControlValue × B) (c : Command) (held held' : Option (List ℕ)) (faults faults' : ℕ)
     (result : Result T E)
     → IsControl new.0 → OnErr result (CutsLine old.0 new.0 c held held') → HasCause faults faults' result
     → OnErr result (AnswersCut refines_cut is_control old new (c ∷ []) held held' faults faults')
-answered-cut old new c held held' faults faults' (Ok value) kept line cause = tt
-answered-cut old new c held held' faults faults' (Err error) kept line cause =
-    cut-one old new c held held' faults faults' line kept cause.failed cause.later
+answered-cut old new c held held' faults faults' (Ok value) sound line cause = tt
+answered-cut old new c held held' faults faults' (Err error) sound line cause =
+    cut-one old new c held held' faults faults' line sound cause.failed cause.later
 
 -- a reply that was put to a line
 pub line-answered : {T E : Type 0} (old new : ControlValue) (c : Command) (reply : Reply) (held held' : Option (List ℕ))

@@ -14,13 +14,13 @@ module _ {B : Type 0} (whole cut : (ControlValue × B) → (ControlValue × B) �
   -- no command yet
   pub answers-nothing : (at : ControlValue × B) (held : Option (List ℕ)) (faults : ℕ)
       → ready at → Answers whole ready at at [] held held faults faults
-  answers-nothing at held faults kept = record {
+  answers-nothing at held faults sound = record {
     output = [];
     written = Appends-nil held;
     means = are.nothing at;
     counts = refl;
     next = omega arith;
-    kept = kept;
+    sound = sound;
   }
 
   module _ (old mid new : ControlValue × B) (commands more : List Command) (held held' held'' : Option (List ℕ))
@@ -35,7 +35,7 @@ module _ {B : Type 0} (whole cut : (ControlValue × B) → (ControlValue × B) �
       means = are.more old mid new commands more first.output rest.output first.means rest.means;
       counts = rest.counts ∙ first.counts;
       next = omega (arith, first.next, rest.next, length-append commands more);
-      kept = rest.kept;
+      sound = rest.sound;
     }
 
     -- and of those one that was cut
@@ -47,7 +47,7 @@ module _ {B : Type 0} (whole cut : (ControlValue × B) → (ControlValue × B) �
       means = are.then_cut old mid new commands more first.output rest.output first.means rest.means;
       rose = subst (λ count. Rose count faults'') first.counts rest.rose;
       later = subst (λ count. count ≤ faults'') first.counts rest.later;
-      kept = rest.kept;
+      sound = rest.sound;
     }
 
     -- or none of them was, and only sending them on failed
@@ -62,7 +62,7 @@ module _ {B : Type 0} (whole cut : (ControlValue × B) → (ControlValue × B) �
       ];
       rose = subst (λ count. Rose count faults'') first.counts rest.rose;
       later = subst (λ count. count ≤ faults'') first.counts rest.later;
-      kept = rest.kept;
+      sound = rest.sound;
     }
 
   -- where one was cut, the sink failed
@@ -75,7 +75,7 @@ module _ {B : Type 0} (whole cut : (ControlValue × B) → (ControlValue × B) �
     means = inl one.means;
     rose = one.rose;
     later = one.later;
-    kept = one.kept;
+    sound = one.sound;
   }
 
   -- commands that come behind the one that was cut
@@ -88,7 +88,7 @@ module _ {B : Type 0} (whole cut : (ControlValue × B) → (ControlValue × B) �
     means = are.behind old new commands more one.output one.means;
     rose = one.rose;
     later = one.later;
-    kept = one.kept;
+    sound = one.sound;
   }
 
   module _ (old new : ControlValue × B) (commands : List Command) (held held' held'' : Option (List ℕ)) (faults faults' faults'' : ℕ)
@@ -101,7 +101,7 @@ module _ {B : Type 0} (whole cut : (ControlValue × B) → (ControlValue × B) �
       means = answers.means;
       counts = same ∙ answers.counts;
       next = answers.next;
-      kept = answers.kept;
+      sound = answers.sound;
     }
 
     -- or sending it on failed
@@ -113,7 +113,7 @@ module _ {B : Type 0} (whole cut : (ControlValue × B) → (ControlValue × B) �
       means = inr answers.means;
       rose = subst (λ count. Rose count faults'') answers.counts rose;
       later = subst (λ count. count ≤ faults'') answers.counts later;
-      kept = answers.kept;
+      sound = answers.sound;
     }
 
   -- as sending on went

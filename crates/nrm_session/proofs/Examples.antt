@@ -87,8 +87,8 @@ after_the_last_period : (s : SeatState) → Step there_and_back s (command.Reopt
 after_the_last_period s = (refl, refl)
 
 -- first come, first served never runs out of memory
-never_wanting : (s : SeatState) → Reoptimises there_and_back (sold_once first) 1 memory s → ⊥
-never_wanting s made = by memory s refl made
+never_run_out : (s : SeatState) → Reoptimises there_and_back (sold_once first) 1 memory s → ⊥
+never_run_out s made = by memory s refl made
   where
     by : (reply : Reply) (s' : SeatState) → reply ≡ memory → Reoptimises there_and_back (sold_once first) 1 reply s' → ⊥
     by reply s' e (optimises plan for) = planned plan.certificate e
@@ -99,7 +99,7 @@ never_wanting s made = by memory s refl made
     by reply s' e (overflows n number large) = cc
     by reply s' e (wants_memory solves) = solves refl
 
--- a line of hindsight tells a value, or it is too large, or memory is wanting; nothing else, and nothing changes
+-- a line of hindsight tells a value, or it is too large, or memory runs out; nothing else, and nothing changes
 never_bad : (net : NetworkValue) (s s' : SeatState) → Step net s command.Hindsight bad s' → ⊥
 never_bad net s s' step = by bad refl step.0
   where
@@ -189,7 +189,7 @@ text_of_hindsight value num den = rw (num, den) refl
 text_of_memory : text_of memory ≡ codes "memory\n"
 text_of_memory = refl
 
--- ---- memory may run out where a program is solved, and nowhere else
+-- ---- memory may run out where a linear program is solved, and nowhere else
 no_program_for_a_leg : Solves there_and_back (sold_once first) (command.Leg (codes "AB")) → ⊥
 no_program_for_a_leg solves = solves
 

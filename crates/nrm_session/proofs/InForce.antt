@@ -15,7 +15,7 @@ use Rattle.nrm_stream.specs.declared.command.Command.TheVariants as command
 use Rattle.nrm_session.specs.Replies.{Reply, unknown}
 use Rattle.nrm_session.specs.Step.{Gives, Reoptimises, Step, optimises, overflows, wants_memory, lacks_period}
 use Rattle.nrm_session.specs.Run.{Run}
-use Rattle.nrm_session.specs.Laws.{IsPlanned, PlansAreKept}
+use Rattle.nrm_session.specs.Laws.{IsPlanned, PlansStayOptimal}
 
 module _ (net : NetworkValue) (is : IsNetwork net) (m : Mode) where
   planned-so : (s : SeatState) → s.plan.mode ≡ m → IsPlanOf net s.plan → IsPlanned net m s
@@ -78,8 +78,8 @@ module _ (net : NetworkValue) (is : IsNetwork net) (m : Mode) where
   run-keeps s s' (c ∷ commands) (reply ∷ replies) planned (mid, step, run) =
       run-keeps mid s' commands replies (step-keeps s c reply mid planned step) run
 
-pub plans-kept : PlansAreKept
-plans-kept = (
+pub plans-stay_optimal : PlansStayOptimal
+plans-stay_optimal = (
   (λ net m plan is for. planned-so net is m (opening plan) for.mode_is for.planned),
   (λ net m s s' commands replies is planned run. run-keeps net is m s s' commands replies planned run),
 )

@@ -1,4 +1,4 @@
--- Memory is wanting at lines for which a program may be solved alone.
+-- Memory runs out at lines alone for which a linear program may be solved.
 use Rattle.std.proofs.Common.{ℕ, ◌≡◌, ◌≢◌, Bool, true, false, Option, Some, None, MatchOption, refl, sym}
 use Rattle.std.specs.Bool.{MatchBool}
 use Rattle.nrm_model.specs.declared.mode.Mode.TheVariants as mode
@@ -29,7 +29,7 @@ neither : {X : Type 0} (o : Option X) (none : Reply) (some : X → Reply) (s' ke
 neither None none some s' kept changed apart others given = apart given.0
 neither (Some x) none some s' kept changed apart others given = others x given.0
 
--- an optimisation for which memory ran out solves a program, and leaves all as it was
+-- an optimisation for which memory ran out solves a linear program, and leaves all as it was
 again : (net : NetworkValue) (s : SeatState) (k : ℕ) (reply : Reply) (s' : SeatState) → reply ≡ memory → Reoptimises net s k reply s'
     → (s.plan.mode ≢ mode.FirstCome) × (s' ≡ s)
 again net s k reply s' is (optimises plan for) = absurd (some-plan (value_of net plan) (sym is))

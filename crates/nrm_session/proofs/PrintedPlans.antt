@@ -26,7 +26,7 @@ use Rattle.nrm_session.specs.Step.{lacks_period}
 use Rattle.nrm_session.specs.Run.{Run}
 use Rattle.nrm_session.specs.LastPlan.{at_line, at_opening, IsPlannedFor, NoneTellsOfPlan, PrintedFromOpeningPlans, PrintedPricesAreOptimal, PrintsOptimalPrices}
 use Rattle.nrm_session.specs.LastPlan.{PrintsOptimalPrices, TellsOfPlan}
-use Rattle.nrm_session.proofs.InForce.{plans-kept}
+use Rattle.nrm_session.proofs.InForce.{plans-stay_optimal}
 
 -- a reply of another kind tells of none
 not-told : (r : Reply) → ((value : Fraction) → r ≡ optimised value → ⊥) → (r ≡ optimised_none → ⊥) → TellsOfPlan r → ⊥
@@ -207,8 +207,8 @@ module _ (net : NetworkValue) (m : Mode) (s : SeatState) (commands : List Comman
 
 pub printed-from : PrintedFromOpeningPlans
 printed-from net m s commands replies mid after reply is solves opens run step =
-    let first = plans-kept.0 net m s.plan is opens in
-    let planned = plans-kept.1 net m s mid commands replies is
+    let first = plans-stay_optimal.0 net m s.plan is opens in
+    let planned = plans-stay_optimal.1 net m s mid commands replies is
     (record { mode_is = first.mode_is; planned = first.planned; optimal = first.optimal }) run in
     let (prices, has, certifies) = planned.optimal solves in
     by-line net m s commands replies mid reply prices opens has certifies

@@ -32,7 +32,7 @@ pub record Answers {B : Type 0} (whole : (ControlValue × B) → (ControlValue �
   pub means : whole old new commands output
   pub counts : faults' ≡ faults
   pub next : new.0.next ≤ old.0.next + length commands
-  pub kept : ready new
+  pub sound : ready new
 
 -- the replies to these commands were written as far as this means, since the sink failed
 pub record AnswersCut {B : Type 0} (cut : (ControlValue × B) → (ControlValue × B) → List Command → List ℕ → Type 0)
@@ -43,7 +43,7 @@ pub record AnswersCut {B : Type 0} (cut : (ControlValue × B) → (ControlValue 
   pub means : cut old new commands output
   pub rose : Rose faults faults'
   pub later : faults ≤ faults'
-  pub kept : ready new
+  pub sound : ready new
 
 -- what a controller alone means by them, whatever stands beside it
 abbrev pub refines : {B : Type 0} → (ControlValue × B) → (ControlValue × B) → List Command → List ℕ → Type 0

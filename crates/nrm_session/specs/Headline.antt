@@ -24,7 +24,7 @@ abbrev pub bid_price_sum : NetworkValue → Certificate → ℕ → ℕ
 bid_price_sum net prices product = price_sum (sizes prices.p) (product_of net product).legs
 
 -- On a leg, the party plus the seats that are protected from the product are no more than the seats left. By the mode of the plan in
--- force none are kept under first come, first served and by bid prices, and under virtual nesting those that are protected for
+-- force none are protected under first come, first served and by bid prices, and under virtual nesting those that are protected for
 -- the buckets above the product's own (`protected_from`). A difference of whole numbers ends at 0, so the seats left would be 0 if
 -- more were sold than there are; no leg ever has.
 abbrev pub SeatsCover : NetworkValue → SeatState → ℕ → ℕ → ℕ → Type 0

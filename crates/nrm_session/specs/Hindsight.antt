@@ -31,7 +31,7 @@ abbrev pub requests_in : NetworkValue → List Command → List Request
 requests_in net commands = flat_map (request_in net) commands
 
 -- No selection of these requests, each whole and at most once, that fits the authorised seats earns more than the value, and an allocation
--- of their program, which may sell parts of seats, gains just that: so it is the least bound that the program gives. The bookings
+-- of their linear program, which may sell parts of seats, gains just that: so it is the least bound that it gives. The bookings
 -- that stand are such a selection, and the revenue is what they earn. What is withheld is in none of these.
 pub record IsBounded (net : NetworkValue) (requests : List Request) (s : SeatState) (value : Fraction) (revenue : ℕ) : Type 0 where
   pub bound : BoundsSelections net requests value

@@ -50,7 +50,7 @@ pub data IsPlannedFor (net : NetworkValue) (s : SeatState) (commands : List Comm
       → IsPlannedFor net s commands replies prices (seats_left net when.bookings) period
 
 -- a reply is the text of a certificate whose allocation is optimal and whose bid prices are optimal duals, against every
--- allocation and all prices, of the program at these seats left and from this period
+-- allocation and all prices, of the linear program at these seats left and from this period
 pub record PrintsOptimalPrices (net : NetworkValue) (m : Mode) (s : SeatState) (commands : List Command) (replies : List Reply)
     (reply : Reply) : Type 0 where
   pub left : List ℕ
@@ -60,7 +60,7 @@ pub record PrintsOptimalPrices (net : NetworkValue) (m : Mode) (s : SeatState) (
   pub printed : reply ≡ plan_told (text_of_plan net m period (Some prices))
   pub optimal : Certifies size_limit (program_at net left period) prices
 
--- In a mode that solves programs, after any commands from an opening, so is what a `plan` line prints.
+-- In a mode that solves linear programs, after any commands from an opening, so is what a `plan` line prints.
 abbrev pub PrintedPricesAreOptimal : Type 0
 PrintedPricesAreOptimal = (net : NetworkValue) (m : Mode) (plan : PlanValue) (commands : List Command) (replies : List Reply)
     (mid after : SeatState) (reply : Reply)

@@ -42,8 +42,8 @@ RepliesAreDetermined = (net : NetworkValue) (s : SeatState) (commands : List Com
     → Run net s commands replies s' → Run net s commands others s'' → MemorySuffices replies → MemorySuffices others → (others ≡ replies)
     × (s'' ≡ s')
 
--- a line for which a program is solved: one of hindsight, and one that optimises again from a period of the network, where the mode solves
--- programs
+-- a line for which a linear program is solved: one of hindsight, and one that optimises again from a period of the network, where the mode
+-- solves linear programs
 abbrev pub Solves : NetworkValue → SeatState → Command → Type 0
 Solves net s (command.Reoptimise k) = (s.plan.mode ≢ mode.FirstCome) × IsInRange 1 net.periods k
 Solves net s command.Hindsight = ⊤
@@ -53,7 +53,7 @@ Solves net s (command.Leg name) = ⊥
 Solves net s command.Plan = ⊥
 Solves net s command.Bad = ⊥
 
--- memory is wanting at such lines alone, and then nothing changes: every other line has its reply whatever memory there is
+-- memory runs out at such lines alone, and then nothing changes: every other line has its reply whatever memory there is
 abbrev pub OtherLinesNeedNoMemory : Type 0
 OtherLinesNeedNoMemory = (net : NetworkValue) (s s' : SeatState) (c : Command) → Step net s c memory s' → Solves net s c × (s' ≡ s)
 
@@ -67,16 +67,16 @@ abbrev pub EachListHasARun : Type 0
 EachListHasARun = (net : NetworkValue) (s : SeatState) (commands : List Command)
     → (replies : List Reply) × (s' : SeatState) × Run net s commands replies s' × MemorySuffices replies
 
--- the plan in force is one of the network in the mode of the session, and where the mode solves programs its bid prices are optimal duals
--- of the program at the plan's seats left and period
+-- the plan in force is one of the network in the mode of the session, and where the mode solves linear programs its bid prices are optimal
+-- duals of the linear program at the plan's seats left and period
 pub record IsPlanned (net : NetworkValue) (m : Mode) (s : SeatState) : Type 0 where
   pub mode_is : s.plan.mode ≡ m
   pub planned : IsPlanOf net s.plan
   pub optimal : m ≢ mode.FirstCome → HasOptimalPrices net s.plan
 
 -- so it is in each opening, and a run from such a state comes to such a state
-abbrev pub PlansAreKept : Type 0
-PlansAreKept = ((net : NetworkValue) (m : Mode) (plan : PlanValue) → IsNetwork net → IsOpeningPlan net m plan
+abbrev pub PlansStayOptimal : Type 0
+PlansStayOptimal = ((net : NetworkValue) (m : Mode) (plan : PlanValue) → IsNetwork net → IsOpeningPlan net m plan
     → IsPlanned net m (opening plan))
     × ((net : NetworkValue) (m : Mode) (s s' : SeatState) (commands : List Command) (replies : List Reply)
     → IsNetwork net → IsPlanned net m s → Run net s commands replies s' → IsPlanned net m s')

@@ -35,7 +35,7 @@ SessionsAreSame = (net other : NetworkValue) (s s' : SeatState) (commands : List
     → DifferInSeats net other → Run net s commands replies s'
     → (others : List Reply) × Run other s commands others s' × SameButLegTexts replies others
 
--- they have the same opening plan, or their opening programs are too large in the same place; and these are the same, so that a
+-- they have the same opening plan, or their opening linear programs are too large in the same place; and these are the same, so that a
 -- certificate has the same verdict on both
 pub record OpeningsAreSame (net other : NetworkValue) (m : Mode) : Type 0 where
   pub plan : (plan : PlanValue) → IsOpeningPlan net m plan → IsOpeningPlan other m plan

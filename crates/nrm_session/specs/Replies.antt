@@ -46,7 +46,7 @@ reply_to net (answer.Sold number) = sold number
 reply_to net (answer.Leg i) = no_leg (leg_of net i).name
 reply_to net answer.Fare = no_fare
 
--- the reply to an optimisation, by the mean value of its plan, if it solved a program
+-- the reply to an optimisation, by the mean value of its plan, if it solved a linear program
 abbrev pub optimised_at : Option Fraction → Reply
 optimised_at None = optimised_none
 optimised_at (Some value) = optimised value

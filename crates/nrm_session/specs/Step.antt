@@ -23,7 +23,7 @@ abbrev pub Gives : Reply → Reply → SeatState → SeatState → Type 0
 Gives expected reply s s' = (reply ≡ expected) × (s' ≡ s)
 
 -- A network is optimised again, at the seats left and period k: the new plan is in force, and its mean value is told; or the
--- program is Large, and nothing changes; or memory is wanting where a program is solved, and nothing changes. That is the one
+-- linear program is Large, and nothing changes; or memory runs out where a linear program is solved, and nothing changes. That is the one
 -- reply which is free, here and at a line of hindsight.
 pub data Reoptimises (net : NetworkValue) (s : SeatState) (k : ℕ) : Reply → SeatState → Type 0 where
   optimises : (plan : PlanValue) → IsPlanFor net s.plan.mode (seats_left net s.bookings) k plan
@@ -32,7 +32,7 @@ pub data Reoptimises (net : NetworkValue) (s : SeatState) (k : ℕ) : Reply → 
   wants_memory : s.plan.mode ≢ mode.FirstCome → Reoptimises net s k memory s
 
 -- A line of hindsight: its value at the tallies of all requests so far, the revenue of the bookings that stand, and the sum withheld;
--- or its program is Large; or memory is wanting.
+-- or its linear program is Large; or memory runs out.
 pub data LooksBack (net : NetworkValue) (s : SeatState) : Reply → Type 0 where
   tells : (value : Fraction) → IsHindsight net (tallies_of net s.requests) value
       → LooksBack net s (hindsight_told value (revenue_of (inventory_of net) s.bookings) s.withheld)

@@ -2,7 +2,7 @@
 ghost use Rattle.nrm_session.specs.Headline.{RequestsAreAnswered};
 ghost use Rattle.nrm_session.specs.Hindsight.{HindsightBounds, HindsightBoundsOn};
 ghost use Rattle.nrm_session.specs.LastPlan.{PrintedFromOpeningPlans, PrintedPricesAreOptimal};
-ghost use Rattle.nrm_session.specs.Laws.{EachListHasARun, OtherLinesNeedNoMemory, PlansAreKept, RepliesAreDetermined, RunsHaveFirstParts};
+ghost use Rattle.nrm_session.specs.Laws.{EachListHasARun, OtherLinesNeedNoMemory, PlansStayOptimal, RepliesAreDetermined, RunsHaveFirstParts};
 ghost use Rattle.nrm_session.specs.Laws.{RunsOversellNoLeg, StatesAreDetermined};
 ghost use Rattle.nrm_session.specs.Money.{MoneyAddsUp, MoneyGoesOn};
 ghost use Rattle.nrm_session.specs.PhysicalSeats.{PhysicalSeatsDecideNothing};
@@ -17,7 +17,7 @@ pub fn replies_are_determined()
     ensures { RepliesAreDetermined }
 {}
 
-/// Memory is wanting at lines of `reoptimise` and of `hindsight` alone, and then nothing changes.
+/// Memory runs out at lines of `reoptimise` and of `hindsight` alone, and then nothing changes.
 pub fn other_lines_need_no_memory()
     ensures { OtherLinesNeedNoMemory }
 {}
@@ -32,13 +32,13 @@ pub fn each_list_has_a_run()
     ensures { EachListHasARun }
 {}
 
-/// The plan in force is one of the network in each opening, and a run keeps that from any state; where its mode solves programs,
-/// its bid prices are optimal duals of the program at the plan's seats left and period.
-pub fn plans_are_kept()
-    ensures { PlansAreKept }
+/// The plan in force is one of the network in each opening, and a run keeps that from any state; where its mode solves linear programs,
+/// its bid prices are optimal duals of the linear program at the plan's seats left and period.
+pub fn plans_stay_optimal()
+    ensures { PlansStayOptimal }
 {}
 
-/// What a `plan` line prints, after any commands from an opening, are optimal bid prices of the program at the seats left and
+/// What a `plan` line prints, after any commands from an opening, are optimal bid prices of the linear program at the seats left and
 /// from the period of the last line that was answered `optimised`, or of the opening.
 pub fn printed_prices_are_optimal()
     ensures opening { PrintedPricesAreOptimal }
@@ -70,9 +70,8 @@ pub fn money_adds_up()
     ensures on { MoneyGoesOn }
 {}
 
-/// Two networks that differ in their physical seats alone have the same opening plan, or their opening programs are too large in the same
-/// place; and from one state, with its plan, they have the same replies to the same commands, but
-/// for the text of a leg.
+/// Two networks that differ in their physical seats alone have the same opening plan, or their opening linear programs are too large in the
+/// same place; and from one state, with its plan, they have the same replies to the same commands, but for the text of a leg.
 pub fn physical_seats_decide_nothing()
     ensures { PhysicalSeatsDecideNothing }
 {}

@@ -13,7 +13,7 @@ mod serving;
 pub use clerk::{Alone, Clerk};
 pub use laws::{
     each_list_has_a_run, hindsight_bounds, money_adds_up, other_lines_need_no_memory,
-    physical_seats_decide_nothing, plans_are_kept, printed_prices_are_optimal,
+    physical_seats_decide_nothing, plans_stay_optimal, printed_prices_are_optimal,
     replies_are_determined, requests_are_answered, runs_have_first_parts, runs_oversell_no_leg,
     states_are_determined,
 };

@@ -52,9 +52,9 @@ pub enum Reply {
         num: u64,
         den: u64,
     },
-    /// A new plan is in force, for which no program was solved.
+    /// A new plan is in force, for which no linear program was solved.
     OptimisedNone,
-    /// The program is too large, and nothing changes.
+    /// The linear program is too large, and nothing changes.
     Overflow,
     /// Memory ran out, and nothing changes.
     Memory,
@@ -102,7 +102,7 @@ fn cancel(controller: &mut Controller, number: u64) -> Reply
     }
 }
 
-// The reply to a line whose program was not solved.
+// The reply to a line whose linear program was not solved.
 fn reply_unsolved(why: SolveFault) -> Reply
     ensures { result ≡ reply_unsolved why }
 {
@@ -175,7 +175,7 @@ fn tell_leg(controller: &Controller, name: &Name) -> Reply
 }
 
 /// Carries out a command, and gives its reply. It takes memory for `hindsight`, and for `reoptimise` where the mode solves
-/// programs, and for no other.
+/// linear programs, and for no other.
 #[inline(always)]
 pub fn carry_out(alloc: Global, controller: &mut Controller, command: &Command) -> Reply
     requires command { IsCommand command.now }

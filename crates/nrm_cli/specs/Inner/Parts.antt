@@ -113,7 +113,7 @@ pub record PutsFound (net : NetworkValue) (given : Certificate) (held held' : Op
   pub optimal : found ≡ verdict.Optimal → Certifies size_limit (opening_program net) given
   pub puts : PutsLine STATUSES (verdict_line net found) (status_of found) held held' before now result
 
--- it is put by the program that was to be had; if memory ran out on that, nothing is
+-- it is put by the linear program that was to be had; if memory ran out on that, nothing is
 abbrev pub PutsCompared : {P E : Type 0} → NetworkValue → Certificate → Result P E
     → Option (List ℕ) → Option (List ℕ) → ℕ → ℕ → Status → Type 0
 PutsCompared net given (Ok program) held held' before now result = PutsFound net given held held' before now result
@@ -155,7 +155,7 @@ pub record AnswersMade (old new : ControlValue) (commands : List Command) (count
   pub run : (s : SeatState) → StandsFor old s → (s' : SeatState) × (replies : List Reply) × StandsFor new s'
       × Run old.net s commands replies s' × MemorySuffices replies
       × (counts ≡ counts_from nothing_counted replies) × (last_of replies ≡ reply_in new last)
-  pub kept : IsControl new
+  pub sound : IsControl new
   pub few : total_of counts ≤ length commands
 
 -- a controller of a network that has just begun, with its plan

@@ -1,11 +1,11 @@
--- The replies to lines that have a program solved, by what was answered: that memory ran out is told only if it did.
+-- The replies to lines that have a linear program solved, by what was answered: that memory ran out is told only if it did.
 use Rattle.std.specs.Prelude.{ℕ, Option, Some, None, Result, Ok, Err}
 use Rattle.nrm_simplex.specs.declared.fault.SolveFault.{SolveFault}
 use Rattle.nrm_simplex.specs.declared.fault.SolveFault.TheVariants as fault
 use Rattle.nrm_session.specs.declared.reply.Reply.{Reply}
 use Rattle.nrm_session.specs.declared.reply.Reply.TheVariants as reply
 
--- no program was solved
+-- no linear program was solved
 abbrev pub reply_unsolved : SolveFault → Reply
 reply_unsolved (fault.Overflow pivots number) = reply.Overflow
 reply_unsolved fault.NoMemory = reply.Memory

@@ -3,7 +3,7 @@ use Rattle.nrm_legdp.proofs.Values.{no-policy-earns-more, protections-earn-all}
 use Rattle.nrm_session.proofs.Determined.{determined, states-determined}
 use Rattle.nrm_session.proofs.FirstParts.{first-parts}
 use Rattle.nrm_session.proofs.Hindsights.{openings-bounded}
-use Rattle.nrm_session.proofs.InForce.{plans-kept}
+use Rattle.nrm_session.proofs.InForce.{plans-stay_optimal}
 use Rattle.nrm_session.proofs.Money.{adds-up}
 use Rattle.nrm_session.proofs.OtherLines.{other-lines}
 use Rattle.nrm_session.proofs.PhysicalSeats.{decide-nothing}
@@ -23,7 +23,7 @@ pub returns-clause-seats : goal.returns-clause-seats
 returns-clause-seats g c = kept
 
 pub returns-clause-optimal : goal.returns-clause-optimal
-returns-clause-optimal g c = plans-kept
+returns-clause-optimal g c = plans-stay_optimal
 
 pub returns-clause-hindsight : goal.returns-clause-hindsight
 returns-clause-hindsight g c = openings-bounded

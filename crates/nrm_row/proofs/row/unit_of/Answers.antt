@@ -21,7 +21,7 @@ invariant_of-result c =
     let list = lists (goal.at.invariant_of-result c).In_ok-entries in
     let bound = subst (λ es. (col : ℕ) → unsigned_abs (number_at es col) ≤ c.greatest_listed.result) c.deref-2.ensures.value c.greatest_listed.ensures.bound in
     record {
-      kept = record {
+      sound = record {
         row = subst (λ d. IsRow d c.in_ok-den.nums.items) (sym (small_same c.in_ok-den.den c.in_ok-den.ensures.row.small)) c.in_ok-den.ensures.row;
         bounded = listed_bounded c.in_ok-den.nums.items c.in_ok-entries.entries.items c.greatest_listed.result list bound;
         room = c.greatest_listed.ensures.small;

@@ -49,7 +49,7 @@ loop-rest-preserved g c =
     (l.controller, l.beside) c.args.splitter.now l.splitter fed.new.self c.args.piece.now l.rest.now
     (g.K.Sink.held c.args.sink.now) (g.K.Sink.held l.sink) (g.K.Sink.faults c.args.sink.now) (g.K.Sink.faults l.sink) l.invariant.lines
     fed.result.0 fed.result.1 fed.ensures.feeds (no-command fed.result.1 c.in_default.not-Some)
-    line stands (some-left l.rest.now c.loop-rest-test.ensures) l.invariant.lines.so_far.answers.kept in
+    line stands (some-left l.rest.now c.loop-rest-test.ensures) l.invariant.lines.so_far.answers.sound in
     record { lines = lines; quiet = l.invariant.quiet }
 
 pub returns-in_err-flush-clause-cut : goal.returns-in_err-flush-clause-cut

@@ -17,7 +17,7 @@ with_room-requires c =
 
 pub invariant_of-result : goal.invariant_of-result
 invariant_of-result c = record {
-  kept = IsBook-of c.args.net.now _ _ _ _ _ c.authorised_of_legs.ensures.limits c.in_ok-authorised.ensures.seats c.in_ok-fares.ensures.fares c.in_ok-legs.ensures.legs c.in_ok-bookings.ensures.items c.in_ok-bookings.ensures.next;
+  sound = IsBook-of c.args.net.now _ _ _ _ _ c.authorised_of_legs.ensures.limits c.in_ok-authorised.ensures.seats c.in_ok-fares.ensures.fares c.in_ok-legs.ensures.legs c.in_ok-bookings.ensures.items c.in_ok-bookings.ensures.next;
   distinct = distinct-of c.args.net.now _ c.authorised_of_legs.ensures.limits c.in_ok-legs.ensures.legs;
   seats = counts-of c.args.net.now _ _ _ _ c.in_ok-sold.sold c.in_ok-authorised.ensures.seats c.in_ok-fares.ensures.fares c.in_ok-legs.ensures.legs c.in_ok-bookings.ensures.items c.in_ok-sold.ensures;
   room =
@@ -27,4 +27,4 @@ invariant_of-result c = record {
 }
 
 pub returns-clause-sound : goal.returns-clause-sound
-returns-clause-sound c = (invariant_of-result c).kept
+returns-clause-sound c = (invariant_of-result c).sound

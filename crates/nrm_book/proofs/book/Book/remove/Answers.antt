@@ -20,40 +20,40 @@ invariant_of-self c =
 
 pub legs_of-requires : goal.legs_of-requires
 legs_of-requires c =
-    let short = sold-short (the_view c.self.inside) c.args.number c.in_ok-booking.booking c.self.invariant.kept c.in_ok-booking.ensures.booking in
+    let short = sold-short (the_view c.self.inside) c.args.number c.in_ok-booking.booking c.self.invariant.sound c.in_ok-booking.ensures.booking in
     omega (arith, short, ap length c.deref.ensures.value, length-map c.self.inside.legs.items (λ (v : Vec ℕ Global). v.items))
 
 pub worth-requires : goal.worth-requires
 worth-requires c =
-    let short = sold-short (the_view c.self.inside) c.args.number c.in_ok-booking.booking c.self.invariant.kept c.in_ok-booking.ensures.booking in
-    omega (arith, short, ap length c.deref-2.ensures.value, c.self.invariant.kept.inventory.fare_count)
+    let short = sold-short (the_view c.self.inside) c.args.number c.in_ok-booking.booking c.self.invariant.sound c.in_ok-booking.ensures.booking in
+    omega (arith, short, ap length c.deref-2.ensures.value, c.self.invariant.sound.inventory.fare_count)
 
 pub give_back-requires : goal.give_back-requires
 give_back-requires c =
     let own = legs-read c.deref.result.now c.legs_of.result.now c.in_ok-booking.booking.product c.deref.ensures.value c.legs_of.ensures in
-    let (k, short, read, gone) = live-place c.self.inside.bookings.items c.args.number c.in_ok-booking.booking c.self.invariant.kept.rising c.in_ok-booking.ensures.booking in
-    let left = (IsBook-removed _ c.args.number _ _ c.self.invariant.kept c.in_ok-booking.ensures.items c.in_ok-booking.ensures.next).products in
-    let can = can-give_back _ c.self.inside.sold k c.in_ok-booking.booking c.legs_of.result.now _ c.self.invariant.kept c.self.invariant.seats c.self.invariant.distinct short read own (c.in_ok-booking.ensures.items ∙ sym gone) left in
+    let (k, short, read, gone) = live-place c.self.inside.bookings.items c.args.number c.in_ok-booking.booking c.self.invariant.sound.rising c.in_ok-booking.ensures.booking in
+    let left = (IsBook-removed _ c.args.number _ _ c.self.invariant.sound c.in_ok-booking.ensures.items c.in_ok-booking.ensures.next).products in
+    let can = can-give_back _ c.self.inside.sold k c.in_ok-booking.booking c.legs_of.result.now _ c.self.invariant.sound c.self.invariant.seats c.self.invariant.distinct short read own (c.in_ok-booking.ensures.items ∙ sym gone) left in
     record { distinct = can.0; product = can.1; legs = can.2 }
 
 pub overflow_sub-self : goal.overflow_sub-self
 overflow_sub-self c =
-    let (k, short, read, gone) = live-place c.self.inside.bookings.items c.args.number c.in_ok-booking.booking c.self.invariant.kept.rising c.in_ok-booking.ensures.booking in
-    let less = (revenue-less _ _ k c.in_ok-booking.booking _ _ _ c.self.invariant.kept c.self.invariant.worth (c.in_ok-booking.ensures.items ∙ sym gone) short read c.deref-2.ensures.value c.worth.ensures).0 in
+    let (k, short, read, gone) = live-place c.self.inside.bookings.items c.args.number c.in_ok-booking.booking c.self.invariant.sound.rising c.in_ok-booking.ensures.booking in
+    let less = (revenue-less _ _ k c.in_ok-booking.booking _ _ _ c.self.invariant.sound c.self.invariant.worth (c.in_ok-booking.ensures.items ∙ sym gone) short read c.deref-2.ensures.value c.worth.ensures).0 in
     omega arith
 
 pub invariant_of-self-2 : goal.invariant_of-self-2
 invariant_of-self-2 c =
-    let (k, short, read, gone) = live-place c.self.inside.bookings.items c.args.number c.in_ok-booking.booking c.self.invariant.kept.rising c.in_ok-booking.ensures.booking in
-    let kept = IsBook-removed _ c.args.number _ _ c.self.invariant.kept c.in_ok-booking.ensures.items c.in_ok-booking.ensures.next in
+    let (k, short, read, gone) = live-place c.self.inside.bookings.items c.args.number c.in_ok-booking.booking c.self.invariant.sound.rising c.in_ok-booking.ensures.booking in
+    let sound = IsBook-removed _ c.args.number _ _ c.self.invariant.sound c.in_ok-booking.ensures.items c.in_ok-booking.ensures.next in
     record {
-      kept = kept;
+      sound = sound;
       distinct = c.self.invariant.distinct;
       seats =
           let own = legs-read c.deref.result.now c.legs_of.result.now c.in_ok-booking.booking.product c.deref.ensures.value c.legs_of.ensures in
-          given_back-next _ c.self.inside.sold k c.in_ok-booking.booking c.legs_of.result.now _ c.self.invariant.kept c.self.invariant.seats c.self.invariant.distinct short read own (c.in_ok-booking.ensures.items ∙ sym gone) kept.products c.give_back.new.self c.give_back.ensures;
+          given_back-next _ c.self.inside.sold k c.in_ok-booking.booking c.legs_of.result.now _ c.self.invariant.sound c.self.invariant.seats c.self.invariant.distinct short read own (c.in_ok-booking.ensures.items ∙ sym gone) sound.products c.give_back.new.self c.give_back.ensures;
       room = omega (arith, c.self.invariant.room, c.in_ok-booking.ensures.room);
-      worth = (revenue-less _ _ k c.in_ok-booking.booking _ _ _ c.self.invariant.kept c.self.invariant.worth (c.in_ok-booking.ensures.items ∙ sym gone) short read c.deref-2.ensures.value c.worth.ensures).1;
+      worth = (revenue-less _ _ k c.in_ok-booking.booking _ _ _ c.self.invariant.sound c.self.invariant.worth (c.in_ok-booking.ensures.items ∙ sym gone) short read c.deref-2.ensures.value c.worth.ensures).1;
     }
 
 pub returns-clause-booking : goal.returns-clause-booking
@@ -67,8 +67,8 @@ returns-clause-removed c =
 
 pub returns-clause-within : goal.returns-clause-within
 returns-clause-within c =
-    let (k, short, read, gone) = live-place c.self.inside.bookings.items c.args.number c.in_ok-booking.booking c.self.invariant.kept.rising c.in_ok-booking.ensures.booking in
-    sold-short c.args.self.now c.args.number c.in_ok-booking.booking (subst IsBook c.self.view_is c.self.invariant.kept) (returns-clause-booking c)
+    let (k, short, read, gone) = live-place c.self.inside.bookings.items c.args.number c.in_ok-booking.booking c.self.invariant.sound.rising c.in_ok-booking.ensures.booking in
+    sold-short c.args.self.now c.args.number c.in_ok-booking.booking (subst IsBook c.self.view_is c.self.invariant.sound) (returns-clause-booking c)
 
 pub returns-clause-sound : goal.returns-clause-sound
-returns-clause-sound c = (invariant_of-self-2 c).kept
+returns-clause-sound c = (invariant_of-self-2 c).sound

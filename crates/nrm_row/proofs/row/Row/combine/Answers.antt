@@ -20,7 +20,7 @@ pub returns-then-entry-eq0-clause-row : goal.returns-then-entry-eq0-clause-row
 returns-then-entry-eq0-clause-row c =
     let fits : SFits w64 c.number-entry.result = search rules in
     let nought = ap (λ ns. get_or ns c.args.col (pos 0)) (sym c.deref.ensures.value) ∙ sym c.number-entry.ensures.value ∙ zero_from_bits c.number-entry.result fits c.if-entry-eq0.true in
-    let same : c.args.self.now ≡ combined c.args.col c.args.unit.now c.args.self.now = uncombined_is c.self.inside.den c.unit.inside.den c.unit.inside.nums.items c.self.inside.nums.items c.args.unit.now c.args.self.now c.args.col c.self.invariant.row c.unit.invariant.kept.row c.self.view_is c.unit.view_is c.requires.widths c.requires.within nought in (
+    let same : c.args.self.now ≡ combined c.args.col c.args.unit.now c.args.self.now = uncombined_is c.self.inside.den c.unit.inside.den c.unit.inside.nums.items c.self.inside.nums.items c.args.unit.now c.args.self.now c.args.col c.self.invariant.row c.unit.invariant.sound.row c.self.view_is c.unit.view_is c.requires.widths c.requires.within nought in (
       same,
       ap (large_number size_limit) (sym same ∙ sym c.self.view_is) ∙ small_not_large c.self.inside.den c.self.inside.nums.items c.self.invariant.row,
     )
@@ -31,8 +31,8 @@ lengths c = same_lengths c.self.inside.den c.unit.inside.den c.unit.inside.nums.
 exact : (c : After-reduced-a) → combined c.args.col c.args.unit.now c.args.self.now ≡ fractions (unsigned_abs (c.self.inside.den *ℤ c.reduced-a.result.1)) (crossed c.reduced-a.result.0 c.reduced-a.result.1 c.unit.inside.nums.items c.self.inside.nums.items)
 exact c =
     let entry : to_z w64 (of_z w64 c.number-entry.result) ≡ get_or c.self.inside.nums.items c.args.col (pos 0) = small_same c.number-entry.result c.number-entry.ensures.small ∙ c.number-entry.ensures.value ∙ ap (λ ns. get_or ns c.args.col (pos 0)) c.deref.ensures.value in
-    let same = ap (λ z. c.reduced-a.result.0 *ℤ z) (sym (small_same c.unit.inside.den c.unit.invariant.kept.row.small)) ∙ c.reduced-a.ensures.same ∙ ap (λ z. z *ℤ c.reduced-a.result.1) entry in
-    combined_is c.self.inside.den c.unit.inside.den c.reduced-a.result.0 c.reduced-a.result.1 c.unit.inside.nums.items c.self.inside.nums.items c.args.unit.now c.args.self.now c.args.col c.self.invariant.row c.unit.invariant.kept.row c.self.view_is c.unit.view_is c.requires.widths c.requires.within c.reduced-a.ensures.positive same
+    let same = ap (λ z. c.reduced-a.result.0 *ℤ z) (sym (small_same c.unit.inside.den c.unit.invariant.sound.row.small)) ∙ c.reduced-a.ensures.same ∙ ap (λ z. z *ℤ c.reduced-a.result.1) entry in
+    combined_is c.self.inside.den c.unit.inside.den c.reduced-a.result.0 c.reduced-a.result.1 c.unit.inside.nums.items c.self.inside.nums.items c.args.unit.now c.args.self.now c.args.col c.self.invariant.row c.unit.invariant.sound.row c.self.view_is c.unit.view_is c.requires.widths c.requires.within c.reduced-a.ensures.positive same
 
 pub cross_in_place-requires-clause-rising : goal.cross_in_place-requires-clause-rising
 cross_in_place-requires-clause-rising c = rw c.deref-in-Some.ensures.value c.unit.invariant.lists.rising
@@ -41,7 +41,7 @@ pub cross_in_place-requires-clause-bounded : goal.cross_in_place-requires-clause
 cross_in_place-requires-clause-bounded c = rw c.deref_mut.ensures.value c.self.invariant.bounded
 
 pub cross_in_place-requires-clause-sizes : goal.cross_in_place-requires-clause-sizes
-cross_in_place-requires-clause-sizes c = rw c.deref-in-Some.ensures.value (listed_sizes c.unit.inside.nums.items c.unit.inside.entries.items c.unit.inside.most c.unit.invariant.kept.bounded c.unit.invariant.lists)
+cross_in_place-requires-clause-sizes c = rw c.deref-in-Some.ensures.value (listed_sizes c.unit.inside.nums.items c.unit.inside.entries.items c.unit.inside.most c.unit.invariant.sound.bounded c.unit.invariant.lists)
 
 pub cross_in_place-requires-clause-within : goal.cross_in_place-requires-clause-within
 cross_in_place-requires-clause-within c =
@@ -61,7 +61,7 @@ den c = small_same c.in-Some.den c.in-Some.ensures.den.1 ∙ c.in-Some.ensures.d
 kept : (c : After-cross_in_place) → length c.unit.inside.nums.items ≡ length c.self.inside.nums.items → IsBoundedRow (to_z w64 (of_z w64 c.in-Some.den)) c.in-Some.most c.cross_in_place.new.xs
 kept c l =
     let most : c.in-Some.most ≡ c.self.inside.most * unsigned_abs c.reduced-a.result.1 + unsigned_abs c.reduced-a.result.0 * c.unit.inside.most = c.in-Some.ensures.most.0 ∙ ap₂ (λ x y. c.self.inside.most * unsigned_abs x + unsigned_abs y * c.unit.inside.most) (small_same c.reduced-a.result.1 c.reduced-a.ensures.small) (small_same c.reduced-a.result.0 c.reduced-a.ensures.number_small) in
-    crossed_bounded c.self.inside.den c.reduced-a.result.0 c.reduced-a.result.1 (to_z w64 (of_z w64 c.in-Some.den)) c.unit.inside.nums.items c.self.inside.nums.items c.cross_in_place.new.xs c.self.inside.most c.unit.inside.most c.in-Some.most c.self.invariant c.unit.invariant.kept.bounded c.reduced-a.ensures.positive l (made c l) (den c)
+    crossed_bounded c.self.inside.den c.reduced-a.result.0 c.reduced-a.result.1 (to_z w64 (of_z w64 c.in-Some.den)) c.unit.inside.nums.items c.self.inside.nums.items c.cross_in_place.new.xs c.self.inside.most c.unit.inside.most c.in-Some.most c.self.invariant c.unit.invariant.sound.bounded c.reduced-a.ensures.positive l (made c l) (den c)
     (subst IsSmall (sym (small_same c.in-Some.den c.in-Some.ensures.den.1)) c.in-Some.ensures.den.1) most c.in-Some.ensures.most.1
 
 written : (c : After-cross_in_place) → take c.self.inside.nums.len (c.cross_in_place.new.xs ++ drop (length c.cross_in_place.new.xs) c.self.inside.nums.items) ≡ c.cross_in_place.new.xs

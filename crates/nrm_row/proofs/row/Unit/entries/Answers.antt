@@ -15,5 +15,5 @@ returns-clause-within c =
 pub returns-clause-noughts : goal.returns-clause-noughts
 returns-clause-noughts c = λ col nought.
     let u = c.self.inside in
-    nought_entry u.den u.nums.items c.args.self.now col c.self.invariant.kept.row.positive c.self.view_is
+    nought_entry u.den u.nums.items c.args.self.now col c.self.invariant.sound.row.positive c.self.view_is
     (sym (c.self.invariant.lists.same col) ∙ ap (λ es. number_at es col) (sym c.as_slice.ensures.value) ∙ nought)

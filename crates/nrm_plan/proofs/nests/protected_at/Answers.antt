@@ -9,7 +9,7 @@ use Rattle.nrm_virtual.specs.Table.{TableValue}
 use Rattle.nrm_virtual.proofs.Tables.{pair-in_table}
 use Rattle.nrm_plan.specs.Nesting.{AreNestsOf, NestsValue, level_at}
 use Rattle.nrm_plan.proofs.Looked.{legs-held, levels-held}
-use Rattle.nrm_plan.proofs.nests.kept_at.Goals as goal
+use Rattle.nrm_plan.proofs.nests.protected_at.Goals as goal
 
 abbrev shown : List (Vec ℕ Global) → List (List ℕ)
 shown levels = map (λ (v : Vec ℕ Global). v.items) levels
