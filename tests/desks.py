@@ -274,7 +274,7 @@ def what_bounds_a_party_by_prices(place):
 
 @test
 def what_bounds_a_party_by_nests(place):
-    """The page of nests: 7 of the 10 seats are kept from ABL and none from ABH."""
+    """The page of nests: 7 of the 10 seats are protected from ABL and none from ABH."""
     place.talk(EMPTY + r"""
         in open 1 A look,book
         in came 1 ask ABL\nask ABH\nbook ABL 3\nask ABL\nask ABH\n

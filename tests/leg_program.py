@@ -69,11 +69,11 @@ def best(classes, seats):
 
 
 def earned(classes, seats, protected):
-    """The mean revenue where from each class but the first so many seats are kept."""
+    """The mean revenue where from each class but the first so many seats are protected."""
     value = [Fraction(0)] * (seats + 1)
-    for (_, fare, demand), kept in zip(classes, [0, *protected]):
+    for (_, fare, demand), level in zip(classes, [0, *protected]):
         value = [mean([fare * sold + value[left - sold] for asked in demand
-                       for sold in [max(0, min(asked, left - kept))]])
+                       for sold in [max(0, min(asked, left - level))]])
                  for left in range(seats + 1)]
     return value[seats]
 
@@ -85,10 +85,10 @@ def emsr(classes, seats):
         above, next_fare = classes[:at], classes[at][1]
         asked = [sum(each) for each in zip(*[demand for _, _, demand in above])]
         fare = Fraction(sum(fare * sum(demand) for _, fare, demand in above), sum(asked)) if sum(asked) else 0
-        kept = 0
-        while kept < seats and sum(it > kept for it in asked) * fare > len(asked) * next_fare:
-            kept += 1
-        protected.append(max(protected[-1], kept))
+        level = 0
+        while level < seats and sum(it > level for it in asked) * fare > len(asked) * next_fare:
+            level += 1
+        protected.append(max(protected[-1], level))
     return protected[1:]
 
 

@@ -526,7 +526,7 @@ class Nests:
         return seats
 
     def levels_of(self, leg):
-        """The seats that are kept for no bucket, for bucket 1, for buckets 1 and 2, and so on but for the last."""
+        """The seats that are protected for no bucket, for bucket 1, for buckets 1 and 2, and so on but for the last."""
         levels = [0]
         for bucket in range(1, len(self.network.thresholds[leg]) + 1):
             levels.append(max(levels[-1], self.computed(leg, bucket)))

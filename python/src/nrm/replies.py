@@ -140,7 +140,7 @@ class Plan:
         return "first" if self.value is None else "davn" if self.protections else "bid"
 
     def protected_from(self, leg: str, product: str) -> int:
-        """The seats of a leg that are kept from a product, since they are protected for the buckets above its own."""
+        """The seats of a leg that are protected from a product: those for the buckets above its own."""
         if self.mode != "davn":
             return 0
         bucket = self.nests[leg, product].bucket

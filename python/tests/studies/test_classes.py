@@ -28,7 +28,7 @@ demand,OVER,1,9
 
 class Classes(PlaceTest):
     def test_tells_what_is_worked_out_by_hand(self) -> None:
-        """The third class is sold one seat where the first two are kept 2, and none where they are kept 3."""
+        """The third class is sold one seat where 2 are protected for the first two, and none where 3 are."""
         out = self.told("optimum", self.file("network.csv", THREE_CLASSES), "X", *self.with_program)
         self.assertEqual(out.splitlines()[0], "On X by itself EMSR-b earns 97.674 % of the optimum, 1,050.00 of "
                          "1,075.00 a history, if classes come one after the other, the lowest fare first.")

@@ -1,4 +1,4 @@
-"""The classes of one leg by itself: what is kept from each by the optimum and by EMSR-b, and what each earns.
+"""The classes of one leg by itself: what is protected from each by the optimum and by EMSR-b, and what each earns.
 
 The optimum is that of `nrm dp`; EMSR-b's protections are those of `nrm plan davn` on a network of the leg and its
 classes alone. May use: nrm, nrm.limits, nrm.network, nrm.program, nrm.replies, nrm.telling.tables.
@@ -36,19 +36,19 @@ class FareClass:
 class Policy:
     """How many seats are protected from each class, the highest fare first, and what each number of seats earns so."""
 
-    def __init__(self, kept: Sequence[int], classes: Sequence[FareClass], seats: int) -> None:
-        self.kept, self.values = list(kept), values(kept, classes, seats)
+    def __init__(self, protected: Sequence[int], classes: Sequence[FareClass], seats: int) -> None:
+        self.protected, self.values = list(protected), values(protected, classes, seats)
 
 
-def values(kept: Sequence[int], classes: Sequence[FareClass], seats: int) -> list[Fraction]:
-    """The mean revenue of a history from 0, 1, 2 seats and so on, if from each class so many are kept.
+def values(protected: Sequence[int], classes: Sequence[FareClass], seats: int) -> list[Fraction]:
+    """The mean revenue of a history from 0, 1, 2 seats and so on, if from each class so many are protected.
 
-    It is kept over one denominator, the histories of all classes that were gone through, the highest fare first.
+    It is counted over one denominator, the histories of all classes that were gone through, the highest fare first.
     """
     earned, ways = [0] * (seats + 1), 1
-    for keep, it in zip(kept, classes):
+    for level, it in zip(protected, classes):
         often = Counter(it.demand)
-        sold = [{asked: min(asked, max(0, left - keep)) for asked in often} for left in range(seats + 1)]
+        sold = [{asked: min(asked, max(0, left - level)) for asked in often} for left in range(seats + 1)]
         earned = [sum(times * (ways * it.fare * sold[left][asked] + earned[left - sold[left][asked]])
                       for asked, times in often.items())
                   for left in range(seats + 1)]
@@ -93,7 +93,7 @@ class LegAlone:
         return text_of(with_thresholds(self.rows, {self.name: fares[:-1]}))
 
     def emsr(self) -> Policy:
-        """What EMSR-b keeps from each class: the level above the bucket that its fare falls into."""
+        """What EMSR-b protects from each class: the level above the bucket that its fare falls into."""
         with tempfile.TemporaryDirectory() as folder:
             path = os.path.join(folder, f"{self.name} alone.csv")
             with open(path, "w", encoding="ascii") as file:
@@ -108,11 +108,11 @@ class LegAlone:
 
 def tables(leg: LegAlone, emsr: Policy) -> list[Table]:
     """The tables of the classes and of the revenue."""
-    kept: list[list[Cell]] = [[it.name, it.fare, f"{it.mean_demand():.2f}", best, by_emsr]
-                              for it, best, by_emsr in zip(leg.classes, leg.optimal.kept, emsr.kept)]
+    protected: list[list[Cell]] = [[it.name, it.fare, f"{it.mean_demand():.2f}", best, by_emsr]
+                                   for it, best, by_emsr in zip(leg.classes, leg.optimal.protected, emsr.protected)]
     value, earned = leg.value(), emsr.values[-1]
-    return [Table(f"Seats of {leg.name} that are kept from each class, of {leg.seats}",
-                  ["class", "fare", "mean demand", "optimum", "EMSR-b"], kept),
+    return [Table(f"Seats of {leg.name} that are protected from each class, of {leg.seats}",
+                  ["class", "fare", "mean demand", "optimum", "EMSR-b"], protected),
             Table("Mean revenue of a history, in currency units", ["", "revenue", "share"],
                   [["optimum", f"{float(value):,.2f}", ""],
                    ["EMSR-b", f"{float(earned):,.2f}", share_of(earned, value)]])]
@@ -138,7 +138,7 @@ def remarks(leg: LegAlone, emsr: Policy) -> list[str]:
     if leg.others:
         found.append(f"products that use {leg.name} and other legs, which have no part in this: {leg.others}")
     lowest = leg.classes[-1].fare
-    if emsr.kept[-1] and not any(any(it.demand) for it in leg.classes if it.fare == lowest):
+    if emsr.protected[-1] and not any(any(it.demand) for it in leg.classes if it.fare == lowest):
         found.append(f"nobody asked at {lowest}, the lowest fare: so `nrm` takes the last bucket's fare as 0, and "
-                     "EMSR-b keeps the more from it")
+                     "EMSR-b protects the more from it")
     return found

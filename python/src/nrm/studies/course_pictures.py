@@ -79,8 +79,8 @@ def bands(course: Course, authorised: int) -> tuple[list[int], list[tuple[int, .
     for number, sold in enumerate(course.course):
         while points and points[0].number <= number:
             levels = points.pop(0).plan.protections.get(course.leg, ())
-        kept = [min(level, authorised - sold) for level in levels]
-        now = [b - a for a, b in zip([0, *kept], [*kept, authorised - sold])] + [sold]
+        protected = [min(level, authorised - sold) for level in levels]
+        now = [b - a for a, b in zip([0, *protected], [*protected, authorised - sold])] + [sold]
         if not found or now != found[-1] or number + 1 == len(course.course):
             numbers.append(number)
             found.append(now)
@@ -105,9 +105,9 @@ def seats(season: Season) -> Figure:
             axis.axhspan(leg.authorised, max(leg.authorised, leg.seats), facecolor=CLOSED[0], linewidth=0)
         axis.set_title(title)
         axis.margins(x=0, y=0)
-    kept = [patch(look, f"left, protected for bucket{f's 1 to {b}' if b > 1 else ' 1'}")
+    protected = [patch(look, f"left, protected for bucket{f's 1 to {b}' if b > 1 else ' 1'}")
             for b, look in enumerate(looks, 1)]
-    handles = [patch(SOLD, "sold"), patch(OPEN, "left, not protected"), *kept, *marks, plan_mark()]
+    handles = [patch(SOLD, "sold"), patch(OPEN, "left, not protected"), *protected, *marks, plan_mark()]
     label(figure, LINE, "seats", handles, 3)
     return figure
 

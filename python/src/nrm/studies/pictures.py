@@ -56,19 +56,19 @@ def draw_fares(axis: Axes, it: Grouping) -> None:
 
 def optimum(classes: Sequence[FareClass], optimal: Policy, emsr: Policy) -> Figure:
     """The mean revenue from each number of seats, what the last one adds, and the seats protected from each class."""
-    figure, (value, price, kept) = panels(3, 1, 1.9, 1, left=1.35, share_y=False)
+    figure, (value, price, protected) = panels(3, 1, 1.9, 1, left=1.35, share_y=False)
     looks = [(optimal, OPTIMUM), (emsr, EMSR)]
     for (policy, (look, mark, _)), shift in zip(looks, (-0.12, 0.12)):
         means = [float(it) for it in policy.values]
         value.plot(range(len(means)), means, **look)
         price.plot(range(1, len(means)), [b - a for a, b in zip(means, means[1:])], **look, drawstyle="steps-mid")
-        kept.plot(policy.kept, [at + shift for at in range(len(classes))], color=look["color"], linestyle="",
-                  marker=mark, clip_on=False)
+        protected.plot(policy.protected, [at + shift for at in range(len(classes))], color=look["color"], linestyle="",
+                       marker=mark, clip_on=False)
     value.set_title("mean revenue of a history from so many seats, currency units")
     price.set_title("bid price: what the last of so many seats adds, currency units")
-    kept.set_title("seats that are kept from each class")
-    kept.set_yticks(range(len(classes)), [f"{it.name}\n{it.fare}" for it in classes])
-    kept.set_ylim(len(classes) - 0.5, -0.5)
+    protected.set_title("seats that are protected from each class")
+    protected.set_yticks(range(len(classes)), [f"{it.name}\n{it.fare}" for it in classes])
+    protected.set_ylim(len(classes) - 0.5, -0.5)
     value.set_xlim(0, max(1, len(optimal.values) - 1))
     for axis in (value, price):
         axis.set_ylim(bottom=0)

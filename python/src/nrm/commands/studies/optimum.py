@@ -5,9 +5,9 @@
 The classes are the products whose only leg is LEG, 1 to 10 of them, and they have all its authorised seats to
 themselves: what is sold over several legs has no part in this. The optimum is that of `nrm dp`. EMSR-b's protections
 are those of `nrm plan davn` on a network of this leg and these classes alone, with a bucket for each fare. Prints, for
-each class, its fare, its mean demand in a history, and how many seats are kept from it by each for the classes above;
-and the mean revenue of a history by each, the second one worked out in exact fractions by the same model, with its
-share of the optimum.
+each class, its fare, its mean demand in a history, and how many seats are protected from it by each for the classes
+above; and the mean revenue of a history by each, the second one worked out in exact fractions by the same model, with
+its share of the optimum.
 
 With --out the revenue over the number of seats, what each further seat adds to it, which is the bid price of that seat,
 and the protections are drawn, as optimum.png and optimum.svg in FOLDER. That needs matplotlib (Debian's
