@@ -57,7 +57,7 @@ ruled account =
     option_map_or (λ leg. no_leg leg.name) (find is_short account.legs)
     (if is_below account.fare account.legs account.den then no_fare else sold account.number)
 
--- ---- the account of a request for product j, a party of so many, in a state of the network
+-- ---- the account of a request for a product, a party of so many, in a state of the network
 
 -- the denominator of the bid prices, where these decide, and the bid price of a leg over it
 abbrev pub deciding_den : Mode → Option Certificate → Option ℕ
@@ -67,26 +67,26 @@ deciding_den mode.Bid (Some cert) = Some (nat_abs cert.den)
 deciding_den mode.Davn cert = None
 
 abbrev pub deciding_price : Mode → Option Certificate → ℕ → ℕ
-deciding_price mode.FirstCome cert i = 0
-deciding_price mode.Bid None i = 0
-deciding_price mode.Bid (Some cert) i = slice_index (sizes cert.p) i
-deciding_price mode.Davn cert i = 0
+deciding_price mode.FirstCome cert leg = 0
+deciding_price mode.Bid None leg = 0
+deciding_price mode.Bid (Some cert) leg = slice_index (sizes cert.p) leg
+deciding_price mode.Davn cert leg = 0
 
 abbrev pub leg_account : NetworkValue → PlanValue → List Booking → ℕ → ℕ → ℕ → LegAccount
-leg_account net plan bookings j party i = record {
-  name = (leg_of net i).name;
-  authorised = (leg_of net i).authorised;
-  sold = sold_on (inventory_of net) bookings i;
-  left = left_on (inventory_of net) bookings i;
-  protected = protected_from net plan i j;
+leg_account net plan bookings product party leg = record {
+  name = (leg_of net leg).name;
+  authorised = (leg_of net leg).authorised;
+  sold = sold_on (inventory_of net) bookings leg;
+  left = left_on (inventory_of net) bookings leg;
+  protected = protected_from net plan leg product;
   needs = party;
-  price = deciding_price plan.mode plan.certificate i;
+  price = deciding_price plan.mode plan.certificate leg;
 }
 
 abbrev pub request_account : NetworkValue → PlanValue → List Booking → ℕ → ℕ → ℕ → RequestAccount
-request_account net plan bookings number j party = record {
-  fare = (product_of net j).fare;
-  legs = map (leg_account net plan bookings j party) (product_of net j).legs;
+request_account net plan bookings number product party = record {
+  fare = (product_of net product).fare;
+  legs = map (leg_account net plan bookings product party) (product_of net product).legs;
   den = deciding_den plan.mode plan.certificate;
   number = number;
 }

@@ -15,19 +15,19 @@ use Rattle.nrm_account.specs.Largest.{largest_party}
 
 -- THE LAW: the numbers of the account of a request give its reply by the rule alone.
 abbrev pub AccountsGiveReplies : Type 0
-AccountsGiveReplies = (net : NetworkValue) (plan : PlanValue) (bookings : List Booking) (number j party : ℕ)
-    → ruled (request_account net plan bookings number j party) ≡ reply_to net (verdict_of net plan bookings number j party)
+AccountsGiveReplies = (net : NetworkValue) (plan : PlanValue) (bookings : List Booking) (number product party : ℕ)
+    → ruled (request_account net plan bookings number product party) ≡ reply_to net (verdict_of net plan bookings number product party)
 
 -- A request for a party is sold exactly if the party is no larger than the largest.
-pub record LargestIsSold (net : NetworkValue) (plan : PlanValue) (bookings : List Booking) (number j : ℕ) : Type 0 where
-  pub sold : (party : ℕ) → 1 ≤ party → party ≤ largest_party net plan bookings j
-      → verdict_of net plan bookings number j party ≡ answer.Sold number
-  pub refused : (party : ℕ) → party ≤ MOST_PARTY → largest_party net plan bookings j < party
-      → (verdict_of net plan bookings number j party ≡ answer.Sold number) → ⊥
+pub record LargestIsSold (net : NetworkValue) (plan : PlanValue) (bookings : List Booking) (number product : ℕ) : Type 0 where
+  pub sold : (party : ℕ) → 1 ≤ party → party ≤ largest_party net plan bookings product
+      → verdict_of net plan bookings number product party ≡ answer.Sold number
+  pub refused : (party : ℕ) → party ≤ MOST_PARTY → largest_party net plan bookings product < party
+      → (verdict_of net plan bookings number product party ≡ answer.Sold number) → ⊥
 
 abbrev pub LargestPartiesAreSold : Type 0
-LargestPartiesAreSold = (net : NetworkValue) (plan : PlanValue) (bookings : List Booking) (number j : ℕ)
-    → LargestIsSold net plan bookings number j
+LargestPartiesAreSold = (net : NetworkValue) (plan : PlanValue) (bookings : List Booking) (number product : ℕ)
+    → LargestIsSold net plan bookings number product
 
 -- THE LAW: what is written as the lines of a session are read is the account of the line that is asked for, if there are so many lines and memory
 -- sufficed for it; and if there are fewer, it is nothing.

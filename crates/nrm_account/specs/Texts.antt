@@ -59,8 +59,9 @@ plan_line planned plan = ended (codes "plan" ++ spaced (mode_word plan.mode) ++ 
 -- ---- a request
 
 abbrev pub product_line : NetworkValue → ℕ → List ℕ
-product_line net j =
-    ended (codes "product" ++ spaced (product_of net j).name ++ counted (codes "fare") (product_of net j).fare ++ counted (codes "refund") (product_of net j).refund)
+product_line net product =
+    ended (codes "product" ++ spaced (product_of net product).name ++ counted (codes "fare") (product_of net product).fare
+    ++ counted (codes "refund") (product_of net product).refund)
 
 -- whether a leg covers the request, or by how many seats it is short
 abbrev pub covering_text : LegAccount → List ℕ
@@ -73,14 +74,14 @@ leg_line leg =
 
 -- the nest of the product on a leg, where the mode has nests
 abbrev pub nest_in_mode : NetworkValue → Mode → Option Certificate → ℕ → ℕ → ℕ → List ℕ
-nest_in_mode net mode.FirstCome cert k i j = []
-nest_in_mode net mode.Bid cert k i j = []
-nest_in_mode net mode.Davn None k i j = []
-nest_in_mode net mode.Davn (Some cert) k i j = nest_text net cert k i j
+nest_in_mode net mode.FirstCome cert period leg product = []
+nest_in_mode net mode.Bid cert period leg product = []
+nest_in_mode net mode.Davn None period leg product = []
+nest_in_mode net mode.Davn (Some cert) period leg product = nest_text net cert period leg product
 
 abbrev pub leg_text : NetworkValue → PlanValue → List Booking → ℕ → ℕ → ℕ → List ℕ
-leg_text net plan bookings j party i =
-    nest_in_mode net plan.mode plan.certificate plan.period i j ++ leg_line (leg_account net plan bookings j party i)
+leg_text net plan bookings product party leg =
+    nest_in_mode net plan.mode plan.certificate plan.period leg product ++ leg_line (leg_account net plan bookings product party leg)
 
 abbrev pub price_line : ℕ → LegAccount → List ℕ
 price_line den leg = ended (codes "price" ++ spaced leg.name ++ spaced (fraction_text (pos leg.price over den)))
@@ -107,14 +108,14 @@ fare_text_of account = fare_text account.fare account.legs account.den
 
 -- the largest party that would be sold, and what one seat more would be answered
 abbrev pub largest_line : NetworkValue → PlanValue → List Booking → ℕ → ℕ → List ℕ
-largest_line net plan bookings number j =
-    codes "largest" ++ spaced (decimal (largest_party net plan bookings j)) ++ spaced (codes "then")
-    ++ spaced (text_of (beyond net plan bookings number j (largest_party net plan bookings j)))
+largest_line net plan bookings number product =
+    codes "largest" ++ spaced (decimal (largest_party net plan bookings product)) ++ spaced (codes "then")
+    ++ spaced (text_of (beyond net plan bookings number product (largest_party net plan bookings product)))
 
 abbrev pub request_text : NetworkValue → ℕ → PlanValue → List Booking → ℕ → ℕ → ℕ → List ℕ
-request_text net planned plan bookings number j party =
-    plan_line planned plan ++ product_line net j ++ flat_map (leg_text net plan bookings j party) (product_of net j).legs
-    ++ fare_text_of (request_account net plan bookings number j party) ++ largest_line net plan bookings number j
+request_text net planned plan bookings number product party =
+    plan_line planned plan ++ product_line net product ++ flat_map (leg_text net plan bookings product party) (product_of net product).legs
+    ++ fare_text_of (request_account net plan bookings number product party) ++ largest_line net plan bookings number product
 
 -- ---- a cancellation
 
@@ -126,7 +127,8 @@ booking_line net booking =
     ++ counted (codes "worth") (worth_of (inventory_of net) booking) ++ counted (codes "refund") (product_of net booking.product).refund)
 
 abbrev pub back_line : NetworkValue → Booking → List ℕ
-back_line net booking = ended (codes "back" ++ spaced (decimal (refund_of net booking)) ++ counted (codes "withheld") (withheld_of net booking))
+back_line net booking =
+    ended (codes "back" ++ spaced (decimal (refund_of net booking)) ++ counted (codes "withheld") (withheld_of net booking))
 
 abbrev pub cancellation_text : NetworkValue → Booking → List ℕ
 cancellation_text net booking = booking_line net booking ++ back_line net booking
@@ -135,7 +137,8 @@ cancellation_text net booking = booking_line net booking ++ back_line net bookin
 
 -- the seats left on a leg, which it is made at
 abbrev pub left_line : NetworkValue → List Booking → ℕ → List ℕ
-left_line net bookings i = ended (codes "left" ++ spaced (leg_of net i).name ++ spaced (decimal (left_on (inventory_of net) bookings i)))
+left_line net bookings leg =
+    ended (codes "left" ++ spaced (leg_of net leg).name ++ spaced (decimal (left_on (inventory_of net) bookings leg)))
 
 abbrev pub left_text : NetworkValue → List Booking → List ℕ
 left_text net bookings = flat_map (left_line net bookings) (range_with_len 0 (length net.legs))
@@ -145,7 +148,7 @@ left_text net bookings = flat_map (left_line net bookings) (range_with_len 0 (le
 -- what a line is accounted for by: the plan in force and the line that made it, the bookings that stand and the next number, before the line
 abbrev pub reasons : NetworkValue → ℕ → PlanValue → List Booking → ℕ → Command → List ℕ
 reasons net planned plan bookings number (command.Book name party) =
-    option_map_or (λ j. request_text net planned plan bookings number j party) (product_named net name) []
+    option_map_or (λ product. request_text net planned plan bookings number product party) (product_named net name) []
 reasons net planned plan bookings number (command.Cancel live) =
     option_map_or (cancellation_text net) (booking_numbered bookings live) []
 reasons net planned plan bookings number (command.Reoptimise period) =

@@ -35,7 +35,7 @@ fn least_open(net: &Network, plan: &Plan, book: &Book, legs: &[u8], product: u16
     requires plan { IsPlanOf net.now plan.now }
     requires book { book.now.inventory ≡ inventory_of net.now }
     requires product { product < length net.now.products }
-    requires legs { All (λ i. (i < length net.now.legs) × (uses_leg (inventory_of net.now) i product ≡ true)) legs.now }
+    requires legs { All (λ leg. (leg < length net.now.legs) × (uses_leg (inventory_of net.now) leg product ≡ true)) legs.now }
     ensures least { result ≡ least_of (MOST_PARTY ∷ map (open_seats net.now plan.now book.now.bookings product) legs.now) }
     ensures within { result ≤ MOST_PARTY }
 {

@@ -126,7 +126,7 @@ fn push_legs(
     requires plan { IsPlanOf net.now plan.now }
     requires book { book.now.inventory ≡ inventory_of net.now }
     requires product { product < length net.now.products }
-    requires legs { All (λ i. (i < length net.now.legs) × (uses_leg (inventory_of net.now) i product ≡ true)) legs.now }
+    requires legs { All (λ leg. (leg < length net.now.legs) × (uses_leg (inventory_of net.now) leg product ≡ true)) legs.now }
     ensures { OnOk result (text.new.items
         ≡ text.old.items ++ flat_map (leg_text net.now plan.now book.now.bookings product party) legs.now) }
 {
@@ -154,7 +154,7 @@ fn push_prices(
     legs: &[u8],
 ) -> Result<(), AllocError>
     requires prices { HasPrices size_limit (length net.now.legs) cert.now }
-    requires legs { All (λ i. i < length net.now.legs) legs.now }
+    requires legs { All (λ leg. leg < length net.now.legs) legs.now }
     ensures { OnOk result (text.new.items ≡ text.old.items ++ flat_map (priced_line net.now cert.now) legs.now) }
 {
     for leg in legs {

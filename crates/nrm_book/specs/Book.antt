@@ -20,7 +20,7 @@ pub record IsInventory (inventory : Inventory) : Type 0 where
   pub fare_count : length inventory.fares ≡ length inventory.legs
   pub fares : All (λ fare. fare ≤ MOST_FARE) inventory.fares
   pub some_leg : All (λ (legs : List ℕ). 1 ≤ length legs) inventory.legs
-  pub legs : All (λ (legs : List ℕ). All (λ i. i < length inventory.authorised) legs) inventory.legs
+  pub legs : All (λ (legs : List ℕ). All (λ leg. leg < length inventory.authorised) legs) inventory.legs
 
 -- the bookings are those of a book: their numbers rise below the next one, each is a party of a product, and no leg has more seats sold
 -- than it has authorised
@@ -31,7 +31,8 @@ pub record IsBook (book : BookValue) : Type 0 where
   pub numbers : All (λ (booking : Booking). (1 ≤ booking.number) × (booking.number < book.next)) book.bookings
   pub parties : All (λ (booking : Booking). IsInRange 1 MOST_PARTY booking.party) book.bookings
   pub products : All (λ (booking : Booking). booking.product < length book.inventory.legs) book.bookings
-  pub seats : (i : ℕ) → i < length book.inventory.authorised → sold_on book.inventory book.bookings i ≤ authorised_of book.inventory i
+  pub seats : (leg : ℕ) → leg < length book.inventory.authorised
+      → sold_on book.inventory book.bookings leg ≤ authorised_of book.inventory leg
 
 -- a booking can be loaded into a book: its number is no lower than the next one, its product is one of the book's, and its party is no
 -- larger than the seats left on each leg of the product
@@ -40,7 +41,7 @@ pub record IsLoadable (book : BookValue) (booking : Booking) : Type 0 where
   pub low : booking.number < BOOKING_LIMIT
   pub product : booking.product < length book.inventory.legs
   pub party : IsInRange 1 MOST_PARTY booking.party
-  pub seats : All (λ i. booking.party ≤ left_on book.inventory book.bookings i) (legs_of book.inventory booking.product)
+  pub seats : All (λ leg. booking.party ≤ left_on book.inventory book.bookings leg) (legs_of book.inventory booking.product)
 
 -- the book has this booking more, under its own number, and the next number is the one above it
 abbrev pub with_loaded : BookValue → Booking → BookValue

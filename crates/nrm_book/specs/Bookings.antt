@@ -5,15 +5,15 @@ use Rattle.nrm_book.specs.declared.booking.Booking.{Booking}
 
 -- the seats sold of a product: the parties of its bookings
 abbrev pub sold_of : List Booking → ℕ → ℕ
-sold_of bookings j = sum_by (λ booking. if booking.product == j then booking.party else 0) bookings
+sold_of bookings product = sum_by (λ booking. if booking.product == product then booking.party else 0) bookings
 
 -- the seats sold on a leg: those of the products that use it
 abbrev pub sold_on : Inventory → List Booking → ℕ → ℕ
-sold_on inventory bookings i = sum_by (sold_of bookings) (products_on inventory i)
+sold_on inventory bookings leg = sum_by (sold_of bookings) (products_on inventory leg)
 
 -- the seats left on a leg: its authorised seats that are not sold
 abbrev pub left_on : Inventory → List Booking → ℕ → ℕ
-left_on inventory bookings i = authorised_of inventory i - sold_on inventory bookings i
+left_on inventory bookings leg = authorised_of inventory leg - sold_on inventory bookings leg
 
 -- what a booking is worth, and all of them
 abbrev pub worth_of : Inventory → Booking → ℕ

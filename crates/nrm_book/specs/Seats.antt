@@ -25,8 +25,8 @@ abbrev pub changed_all : (ℕ → ℕ) → List ℕ → List ℕ → List ℕ
 changed_all change counts ks = fold (changed_at change) counts ks
 
 abbrev pub changed : (ℕ → ℕ) → SeatsValue → List ℕ → ℕ → SeatsValue
-changed change seats legs j = record {
-  by_product = changed_at change seats.by_product j;
+changed change seats legs product = record {
+  by_product = changed_at change seats.by_product product;
   by_leg = changed_all change seats.by_leg legs;
 }
 

@@ -127,7 +127,7 @@ impl Book {
     pub fn add(&mut self, product: u16, party: u16) -> u64
         requires product { product < length self.old.inventory.legs }
         requires party { IsInRange 1 MOST_PARTY party }
-        requires seats { All (λ i. party ≤ left_on self.old.inventory self.old.bookings i) (legs_of self.old.inventory product) }
+        requires seats { All (λ leg. party ≤ left_on self.old.inventory self.old.bookings leg) (legs_of self.old.inventory product) }
         requires next { self.old.next < BOOKING_LIMIT }
         ensures number { result ≡ self.old.next }
         ensures added { self.new ≡ with_booking self.old product party }

@@ -120,8 +120,8 @@ Failures status.NoClass before after = NothingFailed before after
 abbrev pub status_of : Verdict → Status
 status_of verdict.Optimal = status.Done
 status_of verdict.WrongShape = status.Wrong
-status_of (verdict.WrongProduct j) = status.Wrong
-status_of (verdict.WrongLeg i) = status.Wrong
+status_of (verdict.WrongProduct product) = status.Wrong
+status_of (verdict.WrongLeg leg) = status.Wrong
 status_of verdict.WrongValue = status.Wrong
 
 -- a status with its whole output, or memory ran out and nothing was written

@@ -46,7 +46,7 @@ pub record StandsFor (control : ControlValue) (s : SeatState) : Type 0 where
 -- tallies of a network beside bookings: of no product more is booked than its tally
 pub record AreTalliesBeside (net : NetworkValue) (bookings : List Booking) (tallies : List ℕ) : Type 0 where
   pub capped : AreTallies net tallies
-  pub booked : (j : ℕ) → j < length net.products → sold_of bookings j ≤ slice_index tallies j
+  pub booked : (product : ℕ) → product < length net.products → sold_of bookings product ≤ slice_index tallies product
 
 -- the most that one booking is worth, in whole currency units: the largest party at the highest fare
 abbrev pub most_worth : ℕ
@@ -77,17 +77,18 @@ pub record IsControl (control : ControlValue) : Type 0 where
 
 -- the tallies after a request: its party is added to its product's, up to the least authorised seats among the product's legs
 abbrev pub with_request : NetworkValue → List ℕ → ℕ → ℕ → List ℕ
-with_request net tallies j party = slice_set tallies j (min (slice_index tallies j + party) (least_authorised_of net j))
+with_request net tallies product party =
+    slice_set tallies product (min (slice_index tallies product + party) (least_authorised_of net product))
 
 -- the controller after a request was answered: it is tallied, whatever the answer; and one that was sold is booked
 abbrev pub with_answer : ControlValue → ℕ → ℕ → Answer → ControlValue
-with_answer control j party (answer.Sold number) = record control {
-  bookings = control.bookings ++ record { number = number; product = j; party = party } ∷ [];
+with_answer control product party (answer.Sold number) = record control {
+  bookings = control.bookings ++ record { number = number; product = product; party = party } ∷ [];
   next = number + 1;
-  tallies = with_request control.net control.tallies j party;
+  tallies = with_request control.net control.tallies product party;
 }
-with_answer control j party (answer.Leg i) = record control { tallies = with_request control.net control.tallies j party }
-with_answer control j party answer.Fare = record control { tallies = with_request control.net control.tallies j party }
+with_answer control product party (answer.Leg leg) = record control { tallies = with_request control.net control.tallies product party }
+with_answer control product party answer.Fare = record control { tallies = with_request control.net control.tallies product party }
 
 -- a fraction bounds what every selection of past requests earns, of each state that a controller stands for; and the bookings that stand
 -- are one of them
@@ -98,7 +99,7 @@ BoundsRequests control bound = (s : SeatState) → StandsFor control s
 -- a leg that refuses is one of the network
 abbrev pub IsOnNetwork : NetworkValue → Answer → Type 0
 IsOnNetwork net (answer.Sold number) = ⊤
-IsOnNetwork net (answer.Leg i) = i < length net.legs
+IsOnNetwork net (answer.Leg leg) = leg < length net.legs
 IsOnNetwork net answer.Fare = ⊤
 
 -- each controller stands for some state

@@ -31,20 +31,20 @@ seats_left net bookings = map (left_on (inventory_of net) bookings) (range_with_
 
 -- what a request is answered in a state
 abbrev pub answer_in : NetworkValue → SeatState → ℕ → ℕ → Answer
-answer_in net s j party = verdict_of net s.plan s.bookings s.next j party
+answer_in net s product party = verdict_of net s.plan s.bookings s.next product party
 
 -- the state after a request, by its answer: each is remembered, and one that was sold is booked
 abbrev pub after_answer : SeatState → ℕ → ℕ → Answer → SeatState
-after_answer s j party (answer.Sold number) = record s {
-  bookings = s.bookings ++ record { number = number; product = j; party = party } ∷ [];
+after_answer s product party (answer.Sold number) = record s {
+  bookings = s.bookings ++ record { number = number; product = product; party = party } ∷ [];
   next = number + 1;
-  requests = s.requests ++ record { product = j; party = party } ∷ [];
+  requests = s.requests ++ record { product = product; party = party } ∷ [];
 }
-after_answer s j party (answer.Leg i) = record s { requests = s.requests ++ record { product = j; party = party } ∷ [] }
-after_answer s j party answer.Fare = record s { requests = s.requests ++ record { product = j; party = party } ∷ [] }
+after_answer s product party (answer.Leg leg) = record s { requests = s.requests ++ record { product = product; party = party } ∷ [] }
+after_answer s product party answer.Fare = record s { requests = s.requests ++ record { product = product; party = party } ∷ [] }
 
 abbrev pub after_request : NetworkValue → SeatState → ℕ → ℕ → SeatState
-after_request net s j party = after_answer s j party (answer_in net s j party)
+after_request net s product party = after_answer s product party (answer_in net s product party)
 
 -- the state after the booking with a number is cancelled: what isn't given back of it is withheld
 abbrev pub after_cancellation : NetworkValue → SeatState → ℕ → SeatState

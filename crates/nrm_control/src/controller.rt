@@ -77,7 +77,7 @@ fn refusing_leg(
     requires plan { IsPlanOf net.now plan.now }
     requires book { book.now.inventory ≡ inventory_of net.now }
     requires product { product < length net.now.products }
-    requires legs { All (λ i. (i < length net.now.legs) × (uses_leg (inventory_of net.now) i product ≡ true)) legs.now }
+    requires legs { All (λ leg. (leg < length net.now.legs) × (uses_leg (inventory_of net.now) leg product ≡ true)) legs.now }
     ensures { result ≡ find (leg_refuses net.now plan.now book.now.bookings product party) legs.now }
 {
     for leg in legs {
@@ -96,7 +96,7 @@ fn verdict_on(net: &Network, plan: &Plan, book: &Book, product: u16, party: u16)
     ensures answer { result ≡ verdict_of net.now plan.now book.now.bookings book.now.next product party }
     ensures leg { IsOnNetwork net.now result }
     ensures seats { (number : ℕ) → result ≡ Answer.Sold number
-        → All (λ i. party ≤ left_on book.now.inventory book.now.bookings i) (legs_of book.now.inventory product) }
+        → All (λ leg. party ≤ left_on book.now.inventory book.now.bookings leg) (legs_of book.now.inventory product) }
 {
     let legs = net.product_at(product).legs.as_slice();
     if let Some(leg) = refusing_leg(net, plan, book, legs, product, party) {

@@ -12,7 +12,7 @@ use Rattle.nrm_dlp.specs.Programs.{hindsight_program}
 -- a tally for each product, none above the least authorised seats among the product's legs
 pub record AreTallies (net : NetworkValue) (tallies : List ℕ) : Type 0 where
   pub products : length tallies ≡ length net.products
-  pub seats : (j : ℕ) → j < length net.products → slice_index tallies j ≤ least_authorised_of net j
+  pub seats : (product : ℕ) → product < length net.products → slice_index tallies product ≤ least_authorised_of net product
 
 -- the value of hindsight at these tallies, in currency units: that of the closing of its program
 pub record IsHindsight (net : NetworkValue) (tallies : List ℕ) (value : Fraction) : Type 0 where

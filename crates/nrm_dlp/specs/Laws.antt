@@ -16,8 +16,8 @@ ProgramsAreLimited = (net : NetworkValue) (caps bounds : List ℕ) → IsNetwork
 
 -- at seats left, on no leg more than its authorised seats, in any period
 abbrev pub SeatsLeftAreLimited : Type 0
-SeatsLeftAreLimited = (net : NetworkValue) (left : List ℕ) (k : ℕ) → IsNetwork net → length left ≡ length net.legs
-    → ((i : ℕ) → i < length net.legs → slice_index left i ≤ (leg_of net i).authorised) → IsLimited (program_at net left k)
+SeatsLeftAreLimited = (net : NetworkValue) (left : List ℕ) (period : ℕ) → IsNetwork net → length left ≡ length net.legs
+    → ((leg : ℕ) → leg < length net.legs → slice_index left leg ≤ (leg_of net leg).authorised) → IsLimited (program_at net left period)
 
 -- and before anything is sold
 abbrev pub OpeningsAreLimited : Type 0

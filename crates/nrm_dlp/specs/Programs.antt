@@ -11,11 +11,12 @@ use Rattle.nrm_lp.specs.Program.{ProgramValue}
 abbrev pub program_of : NetworkValue → List ℕ → List ℕ → ProgramValue
 program_of net caps bounds = record { caps = caps; bounds = bounds; fares = (inventory_of net).fares; legs = (inventory_of net).legs }
 
--- the program at these seats left and period k: over all histories together, so that every number is whole: each leg
+-- the program at these seats left and from this period on: over all histories together, so that every number is whole: each leg
 -- has its seats left in each history, and a product is bounded by its demand to come in all histories
 abbrev pub program_at : NetworkValue → List ℕ → ℕ → ProgramValue
-program_at net left k =
-    program_of net (map (λ seats. net.histories * seats) left) (map (λ j. total_to_come net j k) (range_with_len 0 (length net.products)))
+program_at net left period =
+    program_of net (map (λ seats. net.histories * seats) left)
+    (map (λ product. total_to_come net product period) (range_with_len 0 (length net.products)))
 
 -- the program of hindsight: the past requests once and not the histories' demand, so a leg has its authorised seats once, and a product
 -- is bounded by its tally

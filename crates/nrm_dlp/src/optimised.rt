@@ -32,7 +32,7 @@ pub fn prices(
     period: u8,
 ) -> Result<Certificate, SolveFault>
     requires legs { length left.now ≡ length net.now.legs }
-    requires seats { (i : ℕ) → i < length net.now.legs → slice_index left.now i ≤ (leg_of net.now i).authorised }
+    requires seats { (leg : ℕ) → leg < length net.now.legs → slice_index left.now leg ≤ (leg_of net.now leg).authorised }
     requires period { IsInRange 1 net.now.periods period }
     ensures closing { MatchResult result
         (IsClosing (program_at net.now left.now period)) (IsSolveFault (program_at net.now left.now period)) }

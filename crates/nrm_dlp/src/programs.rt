@@ -50,7 +50,7 @@ pub fn program_at(
     period: u8,
 ) -> Result<Program, AllocError>
     requires legs { length left.now ≡ length net.now.legs }
-    requires seats { (i : ℕ) → i < length net.now.legs → slice_index left.now i ≤ (leg_of net.now i).authorised }
+    requires seats { (leg : ℕ) → leg < length net.now.legs → slice_index left.now leg ≤ (leg_of net.now leg).authorised }
     requires period { IsInRange 1 net.now.periods period }
     ensures { IfOk result (λ program. program ≡ program_at net.now left.now period) }
 {
@@ -121,7 +121,7 @@ fn caps_of(alloc: Global, histories: u8, left: &[u16]) -> Result<Vec<u32>, Alloc
 fn bounds_of(alloc: Global, net: &Network, period: u8) -> Result<Vec<u32>, AllocError>
     requires { IsInRange 1 net.now.periods period }
     ensures { IfOk result
-        (λ bounds. bounds.items ≡ map (λ j. total_to_come net.now j period) (range_with_len 0 (length net.now.products))) }
+        (λ bounds. bounds.items ≡ map (λ product. total_to_come net.now product period) (range_with_len 0 (length net.now.products))) }
 {
     let mut bounds = Vec::new(alloc);
     for j in 0..net.product_count() as u16 {

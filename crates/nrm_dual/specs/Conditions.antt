@@ -32,34 +32,36 @@ least test k (suc n) = if test k then Some k else least test (suc k) n
 
 -- the product, or the leg, at which a condition fails, or what the later conditions say
 abbrev pub or_product : Option ℕ → Verdict → Verdict
-or_product (Some j) later = verdict.WrongProduct j
+or_product (Some product) later = verdict.WrongProduct product
 or_product None later = later
 
 abbrev pub or_leg : Option ℕ → Verdict → Verdict
-or_leg (Some i) later = verdict.WrongLeg i
+or_leg (Some leg) later = verdict.WrongLeg leg
 or_leg None later = later
 
--- ---- how a condition fails at product j or leg i
+-- ---- how a condition fails at a product or a leg
 -- more seats than its demand
 abbrev pub is_above_demand : ProgramValue → ℕ → List ℕ → ℕ → Bool
-is_above_demand a q x j = nat_lt (q * slice_index a.bounds j) (slice_index x j)
+is_above_demand a q x product = nat_lt (q * slice_index a.bounds product) (slice_index x product)
 
 -- more seats on the leg than its capacity
 abbrev pub is_above_capacity : ProgramValue → ℕ → List ℕ → ℕ → Bool
-is_above_capacity a q x i = nat_lt (q * slice_index a.caps i) (load i a.legs x)
+is_above_capacity a q x leg = nat_lt (q * slice_index a.caps leg) (load leg a.legs x)
 
 -- a bid price above 0 on a leg with seats left
 abbrev pub is_priced_with_seats_left : ProgramValue → ℕ → List ℕ → List ℕ → ℕ → Bool
-is_priced_with_seats_left a q x p i = nat_lt 0 (slice_index p i) && nat_lt (load i a.legs x) (q * slice_index a.caps i)
+is_priced_with_seats_left a q x p leg = nat_lt 0 (slice_index p leg) && nat_lt (load leg a.legs x) (q * slice_index a.caps leg)
 
 -- demand is turned away, and the fare is above the bid prices of the legs
 abbrev pub is_rejected_above_bid_price : ProgramValue → ℕ → List ℕ → ℕ → List ℕ → ℕ → Bool
-is_rejected_above_bid_price a q x d p j =
-    nat_lt (slice_index x j) (q * slice_index a.bounds j) && nat_lt (price_sum p (get_or a.legs j [])) (d * slice_index a.fares j)
+is_rejected_above_bid_price a q x d p product =
+    nat_lt (slice_index x product) (q * slice_index a.bounds product)
+    && nat_lt (price_sum p (get_or a.legs product [])) (d * slice_index a.fares product)
 
 -- seats are allotted, and the fare is below the bid prices of the legs
 abbrev pub is_accepted_below_bid_price : ProgramValue → List ℕ → ℕ → List ℕ → ℕ → Bool
-is_accepted_below_bid_price a x d p j = nat_lt 0 (slice_index x j) && nat_lt (d * slice_index a.fares j) (price_sum p (get_or a.legs j []))
+is_accepted_below_bid_price a x d p product =
+    nat_lt 0 (slice_index x product) && nat_lt (d * slice_index a.fares product) (price_sum p (get_or a.legs product []))
 
 -- the conditions after the shape, on whole numbers that aren't negative
 abbrev pub first_wrong : ProgramValue → ℕ → List ℕ → ℕ → List ℕ → ℕ → Verdict

@@ -10,8 +10,8 @@ use Rattle.nrm_dual.specs.declared.verdict.Verdict.TheVariants as verdict
 abbrev pub IsOfProgram : ProgramValue → Verdict → Type 0
 IsOfProgram a verdict.Optimal = ⊤
 IsOfProgram a verdict.WrongShape = ⊤
-IsOfProgram a (verdict.WrongProduct j) = j < length a.bounds
-IsOfProgram a (verdict.WrongLeg i) = i < length a.caps
+IsOfProgram a (verdict.WrongProduct product) = product < length a.bounds
+IsOfProgram a (verdict.WrongLeg leg) = leg < length a.caps
 IsOfProgram a verdict.WrongValue = ⊤
 
 abbrev pub IsOfNetwork : NetworkValue → CertFault → Type 0
@@ -19,7 +19,7 @@ IsOfNetwork net fault.Long = ⊤
 IsOfNetwork net (fault.Line number) = ⊤
 IsOfNetwork net (fault.Large number) = ⊤
 IsOfNetwork net fault.NoValue = ⊤
-IsOfNetwork net (fault.NoProduct j) = j < length net.products
-IsOfNetwork net (fault.NoLeg i) = i < length net.legs
+IsOfNetwork net (fault.NoProduct product) = product < length net.products
+IsOfNetwork net (fault.NoLeg leg) = leg < length net.legs
 IsOfNetwork net fault.TooFine = ⊤
 IsOfNetwork net fault.NoMemory = ⊤

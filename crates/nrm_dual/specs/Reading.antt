@@ -77,14 +77,14 @@ blank net = record { value = None; products = replicate (length net.products) No
 -- what was given for a place
 abbrev pub given : Sheet → Place → Option Written
 given sheet the_value = sheet.value
-given sheet (of_product j) = get_or sheet.products j None
-given sheet (of_leg i) = get_or sheet.legs i None
+given sheet (of_product product) = get_or sheet.products product None
+given sheet (of_leg leg) = get_or sheet.legs leg None
 
 -- the sheet with a fraction for a place
 abbrev pub with_given : Sheet → Place → Written → Sheet
 with_given sheet the_value fraction = record sheet { value = Some fraction }
-with_given sheet (of_product j) fraction = record sheet { products = set sheet.products j (Some fraction) }
-with_given sheet (of_leg i) fraction = record sheet { legs = set sheet.legs i (Some fraction) }
+with_given sheet (of_product product) fraction = record sheet { products = set sheet.products product (Some fraction) }
+with_given sheet (of_leg leg) fraction = record sheet { legs = set sheet.legs leg (Some fraction) }
 
 -- whether a number exceeds the greatest that may be written
 abbrev pub is_over : Written → Bool
@@ -155,8 +155,8 @@ certificate_or_refusal shares value prices =
 -- the certificate of a sheet, or what is missing on it: the value, the first product, the first leg
 abbrev pub whole_or_refusal : Option Written → Option ℕ → Option ℕ → Result Certificate CertRefusal → Result Certificate CertRefusal
 whole_or_refusal None product leg certificate = Err no_value
-whole_or_refusal (Some value) (Some j) leg certificate = Err (no_product j)
-whole_or_refusal (Some value) None (Some i) certificate = Err (no_leg i)
+whole_or_refusal (Some value) (Some product) leg certificate = Err (no_product product)
+whole_or_refusal (Some value) None (Some leg) certificate = Err (no_leg leg)
 whole_or_refusal (Some value) None None certificate = certificate
 
 abbrev pub certificate_on : NetworkValue → Sheet → Result Certificate CertRefusal

@@ -22,8 +22,8 @@ refusal_of fault.Long = Some too_long
 refusal_of (fault.Line number) = Some (bad_line number)
 refusal_of (fault.Large number) = Some (large_line number)
 refusal_of fault.NoValue = Some no_value
-refusal_of (fault.NoProduct j) = Some (no_product j)
-refusal_of (fault.NoLeg i) = Some (no_leg i)
+refusal_of (fault.NoProduct product) = Some (no_product product)
+refusal_of (fault.NoLeg leg) = Some (no_leg leg)
 refusal_of fault.TooFine = Some too_fine
 refusal_of fault.NoMemory = None
 

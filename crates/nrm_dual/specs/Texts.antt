@@ -13,12 +13,12 @@ value_line net c = text_line (codes "value" ∷ fraction_text (mean_value net.hi
 
 -- what a product is allotted in a history, on the mean
 abbrev pub product_line : NetworkValue → Certificate → ℕ → List ℕ
-product_line net c j =
-    text_line (codes "product" ∷ (product_of net j).name ∷ fraction_text (mean_allocation net.histories c j) ∷ [])
+product_line net c product =
+    text_line (codes "product" ∷ (product_of net product).name ∷ fraction_text (mean_allocation net.histories c product) ∷ [])
 
 -- the bid price of a leg
 abbrev pub leg_line : NetworkValue → Certificate → ℕ → List ℕ
-leg_line net c i = text_line (codes "leg" ∷ (leg_of net i).name ∷ fraction_text (bid_price c i) ∷ [])
+leg_line net c leg = text_line (codes "leg" ∷ (leg_of net leg).name ∷ fraction_text (bid_price c leg) ∷ [])
 
 -- the value's line, those of the products, those of the legs
 abbrev pub certificate_text : NetworkValue → Certificate → List ℕ

@@ -105,7 +105,8 @@ fn add_product(demands: &mut Vec<u32>, net: &Network, product: u16, period: u8) 
     ensures total { result ≡ total_to_come net.now product period }
     ensures within { result ≤ MOST_TOTAL_DEMAND }
     ensures demands { demands.new.items
-        ≡ map (λ h. slice_index demands.old.items h + demand_to_come net.now product h period) (range_with_len 0 net.now.histories) }
+        ≡ map (λ history. slice_index demands.old.items history + demand_to_come net.now product history period)
+        (range_with_len 0 net.now.histories) }
 {
     let mut total = 0;
     for history in 0..net.n() {

@@ -28,8 +28,8 @@ refusal_words net too_long = codes "long" ∷ []
 refusal_words net (bad_line number) = codes "line" ∷ decimal number ∷ []
 refusal_words net (large_line number) = codes "line" ∷ decimal number ∷ codes "large" ∷ []
 refusal_words net no_value = codes "no" ∷ codes "value" ∷ []
-refusal_words net (no_product j) = codes "no" ∷ codes "product" ∷ (product_of net j).name ∷ []
-refusal_words net (no_leg i) = codes "no" ∷ codes "leg" ∷ (leg_of net i).name ∷ []
+refusal_words net (no_product product) = codes "no" ∷ codes "product" ∷ (product_of net product).name ∷ []
+refusal_words net (no_leg leg) = codes "no" ∷ codes "leg" ∷ (leg_of net leg).name ∷ []
 refusal_words net too_fine = codes "too" ∷ codes "fine" ∷ []
 
 -- the line that says why there is no certificate
@@ -41,6 +41,6 @@ lacking_line net (refused_for cause) = text_line (codes "refused" ∷ codes "cer
 abbrev pub verdict_line : NetworkValue → Verdict → List ℕ
 verdict_line net verdict.Optimal = codes "optimal\n"
 verdict_line net verdict.WrongShape = codes "wrong shape\n"
-verdict_line net (verdict.WrongProduct j) = text_line (codes "wrong" ∷ codes "product" ∷ (product_of net j).name ∷ [])
-verdict_line net (verdict.WrongLeg i) = text_line (codes "wrong" ∷ codes "leg" ∷ (leg_of net i).name ∷ [])
+verdict_line net (verdict.WrongProduct product) = text_line (codes "wrong" ∷ codes "product" ∷ (product_of net product).name ∷ [])
+verdict_line net (verdict.WrongLeg leg) = text_line (codes "wrong" ∷ codes "leg" ∷ (leg_of net leg).name ∷ [])
 verdict_line net verdict.WrongValue = codes "wrong value\n"

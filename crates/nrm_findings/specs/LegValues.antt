@@ -14,7 +14,7 @@ use Rattle.nrm_legdp.specs.declared.limits.TheConstants.{MOST_CLASSES}
 
 -- the product of a class, and its fare
 abbrev pub class_line : NetworkValue → ℕ → List ℕ
-class_line net j = text_line (codes "class" ∷ (product_of net j).name ∷ decimal (product_of net j).fare ∷ [])
+class_line net product = text_line (codes "class" ∷ (product_of net product).name ∷ decimal (product_of net product).fare ∷ [])
 
 -- the greatest mean revenue of so many seats, for all classes
 abbrev pub mean_value : DemandValue → ℕ → Fraction
@@ -36,7 +36,7 @@ their_demand net classes = demand_of net.histories classes.fares classes.demands
 
 -- how many products use the leg of this name and no other: none if no leg has the name
 abbrev pub class_count : NetworkValue → List ℕ → ℕ
-class_count net leg = option_map_or (λ i. length (only_on net i)) (leg_named net leg) 0
+class_count net name = option_map_or (λ leg. length (only_on net leg)) (leg_named net name) 0
 
 -- there are classes, and not too many
 abbrev pub HasClasses : NetworkValue → List ℕ → Type 0

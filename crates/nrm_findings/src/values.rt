@@ -36,7 +36,7 @@ fn push_class(text: &mut Text<VALUES_ROOM>, net: &Network, product: u16)
 
 // Appends the lines of the classes.
 fn push_classes(text: &mut Text<VALUES_ROOM>, net: &Network, products: &[u16])
-    requires products { All (λ j. j < length net.now.products) products.now }
+    requires products { All (λ product. product < length net.now.products) products.now }
     requires room { length text.old + 40 * length products.now ≤ VALUES_ROOM }
     ensures text { text.new ≡ text.old ++ flat_map (class_line net.now) products.now }
     ensures length { length text.new ≤ length text.old + 40 * length products.now }
@@ -108,7 +108,7 @@ fn text_of_values(
     table: &LegTable,
     seats: u16,
 ) -> Text<VALUES_ROOM>
-    requires products { All (λ j. j < length net.now.products) classes.now.products }
+    requires products { All (λ product. product < length net.now.products) classes.now.products }
     requires same { length classes.now.products ≡ length classes.now.fares }
     requires classes { AreClasses (their_demand net.now classes.now) }
     requires table { table.now ≡ values_of (their_demand net.now classes.now) seats }

@@ -9,34 +9,36 @@ use Rattle.nrm_gen.specs.Draws.{draw_of}
 
 -- legs 0 to 5 are I1 to I6, legs 6 to 11 are O1 to O6
 abbrev pub leg_name : ℕ → List ℕ
-leg_name i = if nat_lt i 6 then 73 ∷ (49 + i) ∷ [] else 79 ∷ (43 + i) ∷ []
+leg_name leg = if nat_lt leg 6 then 73 ∷ (49 + leg) ∷ [] else 79 ∷ (43 + leg) ∷ []
 
 -- 40 to 79 seats, by the draw of the leg's number, all of them authorised and no more
 abbrev pub made_leg : ℕ → ℕ → Leg
-made_leg number i =
-    let seats = 40 + draw_of number i 40 in
-    record { name = leg_name i; seats = seats; authorised = seats; cuts = 400 ∷ 200 ∷ 100 ∷ [] }
+made_leg number leg =
+    let seats = 40 + draw_of number leg 40 in
+    record { name = leg_name leg; seats = seats; authorised = seats; cuts = 400 ∷ 200 ∷ 100 ∷ [] }
 
 -- products 0 to 23: on each leg X the dear one, X-H, and then the cheap one, X-L; products 24 to 59: Ta-b on Ia and
 -- Ob, for each a and each b
 abbrev pub product_name : ℕ → List ℕ
-product_name j =
-    if nat_lt j 24 then leg_name (j / 2) ++ 45 ∷ (if j % 2 == 0 then 72 else 76) ∷ []
-    else 84 ∷ (49 + (j - 24) / 6) ∷ 45 ∷ (49 + (j - 24) % 6) ∷ []
+product_name product =
+    if nat_lt product 24 then leg_name (product / 2) ++ 45 ∷ (if product % 2 == 0 then 72 else 76) ∷ []
+    else 84 ∷ (49 + (product - 24) / 6) ∷ 45 ∷ (49 + (product - 24) % 6) ∷ []
 
 abbrev pub product_legs : ℕ → List ℕ
-product_legs j = if nat_lt j 24 then j / 2 ∷ [] else (j - 24) / 6 ∷ (6 + (j - 24) % 6) ∷ []
+product_legs product = if nat_lt product 24 then product / 2 ∷ [] else (product - 24) / 6 ∷ (6 + (product - 24) % 6) ∷ []
 
 -- by the draw after those of the legs and of the products before: dear ones 300 to 499, cheap ones 100 to 199, through ones 350 to 649
 abbrev pub product_fare : ℕ → ℕ → ℕ
-product_fare number j =
-    if nat_lt j 24 then (if j % 2 == 0 then 300 + draw_of number (12 + j) 200 else 100 + draw_of number (12 + j) 100)
-    else 350 + draw_of number (12 + j) 300
+product_fare number product =
+    if nat_lt product 24 then (if product % 2 == 0 then 300 + draw_of number (12 + product) 200
+    else 100 + draw_of number (12 + product) 100)
+    else 350 + draw_of number (12 + product) 300
 
 abbrev pub made_product : ℕ → ℕ → Product
-made_product number j = record { name = product_name j; fare = product_fare number j; refund = 100; legs = product_legs j }
+made_product number product =
+    record { name = product_name product; fare = product_fare number product; refund = 100; legs = product_legs product }
 
--- the demand of product j, history h (from 0) and period t (from 0): 0 to 5, by the draws after all these, product by
+-- the demand of a product, a history (from 0) and a period (from 0): 0 to 5, by the draws after all these, product by
 -- product, history by history, period by period
 unfoldable pub made_demand : ℕ → List ℕ
 made_demand number = map (λ k. draw_of number (72 + k) 6) (range_with_len 0 1920)

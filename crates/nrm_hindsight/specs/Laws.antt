@@ -26,7 +26,7 @@ SelectionsAreBounded = (net : NetworkValue) (requests : List Request) (value : F
 -- bookings that are among the requests and take no more than the authorised seats of a leg are a selection, which earns their revenue
 abbrev pub BookingsAreSelected : Type 0
 BookingsAreSelected = (net : NetworkValue) (requests : List Request) (bookings : List Booking) → ChosenFrom requests (requests_of bookings)
-    → ((i : ℕ) → i < length net.legs → sold_on (inventory_of net) bookings i ≤ authorised_of (inventory_of net) i)
+    → ((leg : ℕ) → leg < length net.legs → sold_on (inventory_of net) bookings leg ≤ authorised_of (inventory_of net) leg)
     → IsSelection net requests (requests_of bookings) × (earned_by net (requests_of bookings) ≡ revenue_of (inventory_of net) bookings)
 
 -- the tallies of requests are tallies of the network's products
@@ -35,13 +35,13 @@ TalliesAreCapped = (net : NetworkValue) (requests : List Request) → AreTallies
 
 -- a request adds its party to the tally of its product, up to the least authorised seats among the product's legs
 abbrev pub TalliesGrow : Type 0
-TalliesGrow = (net : NetworkValue) (requests : List Request) (request : Request) (j : ℕ)
-    → tally_of net (requests ++ request ∷ []) j ≡ min (tally_of net requests j + (if request.product == j then request.party else 0))
-    (least_authorised_of net j)
+TalliesGrow = (net : NetworkValue) (requests : List Request) (request : Request) (product : ℕ)
+    → tally_of net (requests ++ request ∷ []) product
+    ≡ min (tally_of net requests product + (if request.product == product then request.party else 0)) (least_authorised_of net product)
 
 -- tallies that are at least what is booked of each product, and at most the least authorised seats, are those of some requests, of
 -- which the bookings are a choice
 abbrev pub SomeRequestsStand : Type 0
 SomeRequestsStand = (net : NetworkValue) (bookings : List Booking) (tallies : List ℕ) → AreTallies net tallies
-    → ((j : ℕ) → j < length net.products → sold_of bookings j ≤ slice_index tallies j)
+    → ((product : ℕ) → product < length net.products → sold_of bookings product ≤ slice_index tallies product)
     → (requests : List Request) × (tallies_of net requests ≡ tallies) × ChosenFrom requests (requests_of bookings)

@@ -11,11 +11,11 @@ pub record Request : Type 0 where
 
 -- the seats that requests ask for of a product
 abbrev pub asked_for : List Request → ℕ → ℕ
-asked_for requests j = sum_by (λ request. if request.product == j then request.party else 0) requests
+asked_for requests product = sum_by (λ request. if request.product == product then request.party else 0) requests
 
 -- the tally of a product: the seats asked for, but no more than the least authorised seats among its legs
 abbrev pub tally_of : NetworkValue → List Request → ℕ → ℕ
-tally_of net requests j = min (asked_for requests j) (least_authorised_of net j)
+tally_of net requests product = min (asked_for requests product) (least_authorised_of net product)
 
 abbrev pub tallies_of : NetworkValue → List Request → List ℕ
 tallies_of net requests = map (tally_of net requests) (range_with_len 0 (length net.products))

@@ -15,12 +15,12 @@ pub data ChosenFrom : List Request → List Request → Type 0 where
 
 -- the seats that requests take on a leg: those of the products that use it
 abbrev pub seats_asked_on : NetworkValue → List Request → ℕ → ℕ
-seats_asked_on net requests i = sum_by (asked_for requests) (products_on (inventory_of net) i)
+seats_asked_on net requests leg = sum_by (asked_for requests) (products_on (inventory_of net) leg)
 
 -- a selection: a choice of the requests that fits the authorised seats of each leg
 pub record IsSelection (net : NetworkValue) (requests chosen : List Request) : Type 0 where
   pub choice : ChosenFrom requests chosen
-  pub fits : (i : ℕ) → i < length net.legs → seats_asked_on net chosen i ≤ authorised_of (inventory_of net) i
+  pub fits : (leg : ℕ) → leg < length net.legs → seats_asked_on net chosen leg ≤ authorised_of (inventory_of net) leg
 
 -- what a selection earns: party times fare
 abbrev pub earned_by : NetworkValue → List Request → ℕ

@@ -52,9 +52,10 @@ bound_words (plan_told text) = []
 -- the largest party of a product of which a request would be sold now, and what bounds it
 abbrev pub available_line : ControlValue → List ℕ → Option ℕ → List ℕ
 available_line control name None = text_line (codes "ask" ∷ name ∷ codes "unknown" ∷ [])
-available_line control name (Some j) =
-    let party = largest_party control.net control.plan control.bookings j in
-    text_line (codes "ask" ∷ name ∷ decimal party ∷ bound_words (beyond control.net control.plan control.bookings control.next j party))
+available_line control name (Some product) =
+    let party = largest_party control.net control.plan control.bookings product in
+    text_line (codes "ask" ∷ name ∷ decimal party
+    ∷ bound_words (beyond control.net control.plan control.bookings control.next product party))
 
 -- the text of a reply for a client: behind one of several lines stands an empty line, so that it is known to be whole
 abbrev pub told_text : Reply → List ℕ

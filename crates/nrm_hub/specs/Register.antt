@@ -57,7 +57,7 @@ abbrev pub owners_after : List ℕ → ℕ → Answered → List ℕ
 owners_after owners desk (answered.Sold number) = owners ++ desk ∷ []
 owners_after owners desk answered.Bad = owners
 owners_after owners desk answered.Unknown = owners
-owners_after owners desk (answered.NoLeg i) = owners
+owners_after owners desk (answered.NoLeg leg) = owners
 owners_after owners desk answered.NoFare = owners
 owners_after owners desk (answered.Cancelled number refund) = owners
 owners_after owners desk (answered.Optimised num den) = owners
@@ -65,7 +65,7 @@ owners_after owners desk answered.OptimisedNone = owners
 owners_after owners desk answered.Overflow = owners
 owners_after owners desk answered.Memory = owners
 owners_after owners desk (answered.Hindsight num den revenue withheld) = owners
-owners_after owners desk (answered.Leg i) = owners
+owners_after owners desk (answered.Leg leg) = owners
 owners_after owners desk answered.Plan = owners
 
 -- a line of a desk was carried out under the desk's own number: the controller makes the step, and the row joins the text
@@ -91,7 +91,7 @@ pub data Joins (old : RegisterValue) (name : List ℕ) : RegisterValue → ℕ �
 abbrev pub is_of_row : Answered → Bool
 is_of_row answered.Unknown = true
 is_of_row (answered.Sold number) = true
-is_of_row (answered.NoLeg i) = true
+is_of_row (answered.NoLeg leg) = true
 is_of_row answered.NoFare = true
 is_of_row (answered.Cancelled number refund) = true
 is_of_row (answered.Optimised num den) = true
@@ -100,7 +100,7 @@ is_of_row answered.Overflow = true
 is_of_row answered.Bad = false
 is_of_row answered.Memory = false
 is_of_row (answered.Hindsight num den revenue withheld) = false
-is_of_row (answered.Leg i) = false
+is_of_row (answered.Leg leg) = false
 is_of_row answered.Plan = false
 
 -- a row that can be told again

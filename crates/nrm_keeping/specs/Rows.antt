@@ -38,14 +38,15 @@ nothing_loaded = record { bookings = []; next = 1 }
 -- whether a row for a product loads behind others: its number is above theirs and from 1 to 99,999,999,999, its party is from 1 to 999,
 -- and each leg of the product has that many seats left of those authorised
 abbrev pub row_fits : NetworkValue → Loaded → KeptRow → ℕ → Bool
-row_fits net l row j =
+row_fits net l row product =
     nat_le l.next row.number && (nat_le row.number LAST_KEPT && (nat_le 1 row.party && (nat_le row.party MOST_PARTY
-    && list_all (λ i. nat_le row.party (left_on (inventory_of net) l.bookings i)) (product_of net j).legs)))
+    && list_all (λ leg. nat_le row.party (left_on (inventory_of net) l.bookings leg)) (product_of net product).legs)))
 
 -- the booking that a row gives behind others, if its product is known and it loads
 abbrev pub booking_of : NetworkValue → Loaded → KeptRow → Option Booking
 booking_of net l row =
-    option_and_then (λ j. if row_fits net l row j then Some (record { number = row.number; product = j; party = row.party }) else None)
+    option_and_then (λ product. if row_fits net l row product
+    then Some (record { number = row.number; product = product; party = row.party }) else None)
     (product_named net row.product)
 
 -- with one booking more

@@ -22,9 +22,10 @@ kept_text store = text_line (codes "store" ∷ [])
 
 -- a line by which the book would change: a request that is sold, and the cancellation of a live number
 abbrev pub ChangesBook : NetworkValue → SeatState → Command → Type 0
-ChangesBook net s (command.Book name party) = (j : ℕ) × (product_named net name ≡ Some j) × (answer_in net s j party ≡ answer.Sold s.next)
+ChangesBook net s (command.Book name party) =
+    (product : ℕ) × (product_named net name ≡ Some product) × (answer_in net s product party ≡ answer.Sold s.next)
 ChangesBook net s (command.Cancel number) = (booking : Booking) × (booking_numbered s.bookings number ≡ Some booking)
-ChangesBook net s (command.Reoptimise k) = ⊥
+ChangesBook net s (command.Reoptimise period) = ⊥
 ChangesBook net s (command.Leg name) = ⊥
 ChangesBook net s command.Hindsight = ⊥
 ChangesBook net s command.Plan = ⊥

@@ -20,8 +20,8 @@ pub const LAST_KEPT: u64 = LATEST_START - 1;
 
 // Whether each of these legs has so many seats left.
 fn have_seats(controller: &Controller, legs: &[u8], party: u16) -> bool
-    requires { All (λ i. i < length controller.now.net.legs) legs.now }
-    ensures { result ≡ list_all (λ i. nat_le party (left_on (inventory_of controller.now.net) controller.now.bookings i)) legs.now }
+    requires { All (λ leg. leg < length controller.now.net.legs) legs.now }
+    ensures { result ≡ list_all (λ leg. nat_le party (left_on (inventory_of controller.now.net) controller.now.bookings leg)) legs.now }
 {
     let book = controller.book();
     for leg in legs {

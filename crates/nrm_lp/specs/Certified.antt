@@ -16,10 +16,11 @@ use Rattle.nrm_lp.specs.Shape.{HasShape}
 pub record Meet (a : ProgramValue) (q : ℕ) (x : List ℕ) (d : ℕ) (p : List ℕ) (value : ℕ) : Type 0 where
   pub allocation : IsAllocation a q x
   pub prices : IsPrices a d p
-  pub full : (i : ℕ) → i < length a.caps → 0 < slice_index p i → load i a.legs x ≡ q * slice_index a.caps i
-  pub unmet : (j : ℕ) → j < length a.bounds → slice_index x j < q * slice_index a.bounds j
-      → d * slice_index a.fares j ≤ price_sum p (get_or a.legs j [])
-  pub used : (j : ℕ) → j < length a.bounds → 0 < slice_index x j → price_sum p (get_or a.legs j []) ≤ d * slice_index a.fares j
+  pub full : (leg : ℕ) → leg < length a.caps → 0 < slice_index p leg → load leg a.legs x ≡ q * slice_index a.caps leg
+  pub unmet : (product : ℕ) → product < length a.bounds → slice_index x product < q * slice_index a.bounds product
+      → d * slice_index a.fares product ≤ price_sum p (get_or a.legs product [])
+  pub used : (product : ℕ) → product < length a.bounds → 0 < slice_index x product
+      → price_sum p (get_or a.legs product []) ≤ d * slice_index a.fares product
   pub value_is : value ≡ cost a d p
   pub worth : value * q ≡ gain a x * d
 

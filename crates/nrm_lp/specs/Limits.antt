@@ -8,10 +8,10 @@ pub record IsLimited (a : ProgramValue) : Type 0 where
   pub cap_count : length a.caps ≤ MOST_CAPS
   pub some_bounds : 1 ≤ length a.bounds
   pub bound_count : length a.bounds ≤ MOST_BOUNDS
-  pub cap_size : (i : ℕ) → i < length a.caps → slice_index a.caps i ≤ MOST_SEATS_IN_ALL
-  pub bound_size : (j : ℕ) → j < length a.bounds → slice_index a.bounds j ≤ MOST_SEATS_IN_ALL
-  pub some_fare : (j : ℕ) → j < length a.bounds → 1 ≤ slice_index a.fares j
-  pub fare_size : (j : ℕ) → j < length a.bounds → slice_index a.fares j ≤ MOST_FARE
-  pub some_leg : (j : ℕ) → j < length a.bounds → 1 ≤ length (get_or a.legs j [])
-  pub leg_count : (j : ℕ) → j < length a.bounds → length (get_or a.legs j []) ≤ MOST_LEGS_OF_A_PRODUCT
+  pub cap_size : (leg : ℕ) → leg < length a.caps → slice_index a.caps leg ≤ MOST_SEATS_IN_ALL
+  pub bound_size : (product : ℕ) → product < length a.bounds → slice_index a.bounds product ≤ MOST_SEATS_IN_ALL
+  pub some_fare : (product : ℕ) → product < length a.bounds → 1 ≤ slice_index a.fares product
+  pub fare_size : (product : ℕ) → product < length a.bounds → slice_index a.fares product ≤ MOST_FARE
+  pub some_leg : (product : ℕ) → product < length a.bounds → 1 ≤ length (get_or a.legs product [])
+  pub leg_count : (product : ℕ) → product < length a.bounds → length (get_or a.legs product []) ≤ MOST_LEGS_OF_A_PRODUCT
   pub products : IsProgram a

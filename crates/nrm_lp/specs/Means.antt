@@ -8,10 +8,10 @@ use Rattle.nrm_lp.specs.declared.certificate.Certificate.{Certificate}
 abbrev pub mean_value : ℕ → Certificate → Fraction
 mean_value histories c = c.value over (nat_abs c.den * histories)
 
--- the seats that product j is allotted in a history
+-- the seats that a product is allotted in a history
 abbrev pub mean_allocation : ℕ → Certificate → ℕ → Fraction
-mean_allocation histories c j = get_or c.x j (pos 0) over (nat_abs c.q * histories)
+mean_allocation histories c product = get_or c.x product (pos 0) over (nat_abs c.q * histories)
 
--- the bid price of a seat on leg i, in currency units
+-- the bid price of a seat on a leg, in currency units
 abbrev pub bid_price : Certificate → ℕ → Fraction
-bid_price c i = get_or c.p i (pos 0) over nat_abs c.den
+bid_price c leg = get_or c.p leg (pos 0) over nat_abs c.den

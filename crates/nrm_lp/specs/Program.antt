@@ -16,21 +16,21 @@ dot [] ys = 0
 dot (x ∷ xs) [] = 0
 dot (x ∷ xs) (y ∷ ys) = x * y + dot xs ys
 
--- whether leg i is among these legs
+-- whether a leg is among these legs
 abbrev pub names : ℕ → List ℕ → Bool
-names i [] = false
-names i (l ∷ ls) = (i == l) || names i ls
+names leg [] = false
+names leg (l ∷ ls) = (leg == l) || names leg ls
 
 -- these are legs of a network with n legs, each named once
 abbrev pub AreLegs : ℕ → List ℕ → Type 0
 AreLegs n [] = Unit {0}
 AreLegs n (l ∷ ls) = (l < n) × (names l ls ≡ false) × AreLegs n ls
 
--- the seats of leg i that an allocation takes: the sum over the products that use the leg
+-- the seats of a leg that an allocation takes: the sum over the products that use the leg
 abbrev pub load : ℕ → List (List ℕ) → List ℕ → ℕ
-load i [] xs = 0
-load i (ls ∷ legs) [] = 0
-load i (ls ∷ legs) (x ∷ xs) = (if names i ls then x else 0) + load i legs xs
+load leg [] xs = 0
+load leg (ls ∷ legs) [] = 0
+load leg (ls ∷ legs) (x ∷ xs) = (if names leg ls then x else 0) + load leg legs xs
 
 -- the sum of the bid prices of a product's legs
 abbrev pub price_sum : List ℕ → List ℕ → ℕ
@@ -65,8 +65,8 @@ IsProgram a = AreProducts (length a.caps) a.bounds a.fares a.legs
 pub record IsAllocation (a : ProgramValue) (q : ℕ) (x : List ℕ) : Type 0 where
   pub whole : 1 ≤ q
   pub shape : length x ≡ length a.bounds
-  pub within : (j : ℕ) → j < length x → slice_index x j ≤ q * slice_index a.bounds j
-  pub seats : (i : ℕ) → i < length a.caps → load i a.legs x ≤ q * slice_index a.caps i
+  pub within : (product : ℕ) → product < length x → slice_index x product ≤ q * slice_index a.bounds product
+  pub seats : (leg : ℕ) → leg < length a.caps → load leg a.legs x ≤ q * slice_index a.caps leg
 
 -- p over d: a price for each leg, none below 0
 pub record IsPrices (a : ProgramValue) (d : ℕ) (p : List ℕ) : Type 0 where

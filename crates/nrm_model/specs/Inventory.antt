@@ -20,17 +20,17 @@ inventory_of net = record {
 
 -- the authorised seats of a leg, the fare of a product and its legs, by number; past the last one there are none
 abbrev pub authorised_of : Inventory → ℕ → ℕ
-authorised_of inventory i = slice_index inventory.authorised i
+authorised_of inventory leg = slice_index inventory.authorised leg
 
 abbrev pub fare_of : Inventory → ℕ → ℕ
-fare_of inventory j = slice_index inventory.fares j
+fare_of inventory product = slice_index inventory.fares product
 
 abbrev pub legs_of : Inventory → ℕ → List ℕ
-legs_of inventory j = unwrap_or (slice_get inventory.legs j) []
+legs_of inventory product = unwrap_or (slice_get inventory.legs product) []
 
 -- whether a product uses a leg, and the products that do, in file order
 abbrev pub uses_leg : Inventory → ℕ → ℕ → Bool
-uses_leg inventory i j = list_any (λ leg. leg == i) (legs_of inventory j)
+uses_leg inventory leg product = list_any (λ other. other == leg) (legs_of inventory product)
 
 abbrev pub products_on : Inventory → ℕ → List ℕ
-products_on inventory i = filter (uses_leg inventory i) (range_with_len 0 (length inventory.legs))
+products_on inventory leg = filter (uses_leg inventory leg) (range_with_len 0 (length inventory.legs))

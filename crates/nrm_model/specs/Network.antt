@@ -15,10 +15,10 @@ pub record NetworkValue : Type 0 where
 
 -- the leg and the product of a number; past the last one they have no name, no seats, no fare and no refund
 abbrev pub leg_of : NetworkValue → ℕ → Leg
-leg_of net i = unwrap_or (slice_get net.legs i) (record { name = []; seats = 0; authorised = 0; cuts = [] })
+leg_of net leg = unwrap_or (slice_get net.legs leg) (record { name = []; seats = 0; authorised = 0; cuts = [] })
 
 abbrev pub product_of : NetworkValue → ℕ → Product
-product_of net j = unwrap_or (slice_get net.products j) (record { name = []; fare = 0; refund = 0; legs = [] })
+product_of net product = unwrap_or (slice_get net.products product) (record { name = []; fare = 0; refund = 0; legs = [] })
 
 -- the number of the leg, or of the product, that has the name, if one has it
 abbrev pub leg_named : NetworkValue → List ℕ → Option ℕ
@@ -35,4 +35,4 @@ least_of (x ∷ y ∷ more) = min x (least_of (y ∷ more))
 
 -- the least authorised seats among a product's legs
 abbrev pub least_authorised_of : NetworkValue → ℕ → ℕ
-least_authorised_of net j = least_of (map (λ i. (leg_of net i).authorised) (product_of net j).legs)
+least_authorised_of net product = least_of (map (λ leg. (leg_of net leg).authorised) (product_of net product).legs)

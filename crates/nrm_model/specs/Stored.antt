@@ -13,7 +13,7 @@ legs_alone products = record { authorised = []; fares = []; legs = map (λ (prod
 
 -- the numbers of those among them that use a leg
 abbrev pub numbers_using : List Product → ℕ → List ℕ
-numbers_using products i = products_on (legs_alone products) i
+numbers_using products leg = products_on (legs_alone products) leg
 
 -- the network is within the limits, the tables hold its names in the order of the legs and the products, and the lists have, leg by leg,
 -- the products that use it

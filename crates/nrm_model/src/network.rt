@@ -194,7 +194,7 @@ impl Network {
     /// The number of the product of this name. `None` exactly where no product has it.
     pub fn find_product(&self, name: &Name) -> Option<u16>
         ensures number { result ≡ product_named self.now name.now }
-        ensures within { IfSome result (λ j. j < length self.now.products) }
+        ensures within { IfSome result (λ product. product < length self.now.products) }
     {
         match self.product_names.number_of(name) {
             Some(j) => Some(j as u16),
@@ -205,7 +205,7 @@ impl Network {
     /// The number of the leg of this name. `None` exactly where no leg has it.
     pub fn find_leg(&self, name: &Name) -> Option<u8>
         ensures number { result ≡ leg_named self.now name.now }
-        ensures within { IfSome result (λ i. i < length self.now.legs) }
+        ensures within { IfSome result (λ leg. leg < length self.now.legs) }
     {
         match self.leg_names.number_of(name) {
             Some(i) => Some(i as u8),

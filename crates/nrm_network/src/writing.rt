@@ -60,8 +60,8 @@ fn push_leg(text: &mut Vec<u8>, leg: &Leg) -> Result<(), AllocError>
 }
 
 fn push_leg_names(text: &mut Vec<u8>, net: &Network, legs: &[u8]) -> Result<(), AllocError>
-    requires { All (λ i. i < length net.now.legs) legs.now }
-    ensures { OnOk result (text.new.items ≡ text.old.items ++ after_commas (map (λ i. (leg_of net.now i).name) legs.now)) }
+    requires { All (λ leg. leg < length net.now.legs) legs.now }
+    ensures { OnOk result (text.new.items ≡ text.old.items ++ after_commas (map (λ leg. (leg_of net.now leg).name) legs.now)) }
 {
     for i in legs {
         push_field(text, net.leg_at(*i).name.bytes())?;
@@ -70,7 +70,7 @@ fn push_leg_names(text: &mut Vec<u8>, net: &Network, legs: &[u8]) -> Result<(), 
 }
 
 fn push_product(text: &mut Vec<u8>, net: &Network, product: &Product) -> Result<(), AllocError>
-    requires { All (λ i. i < length net.now.legs) product.now.legs }
+    requires { All (λ leg. leg < length net.now.legs) product.now.legs }
     ensures { OnOk result (text.new.items ≡ text.old.items ++ row_text (product_fields net.now product.now)) }
 {
     text.extend_from_slice(b"product")?;
@@ -164,7 +164,7 @@ fn push_refunds(text: &mut Vec<u8>, net: &Network) -> Result<(), AllocError>
 fn push_demands(text: &mut Vec<u8>, net: &Network) -> Result<(), AllocError>
     ensures { OnOk result (text.new.items
         ≡ text.old.items
-        ++ flat_map (λ j. flat_map (history_text net.now j) (range_with_len 0 net.now.histories))
+        ++ flat_map (λ product. flat_map (history_text net.now product) (range_with_len 0 net.now.histories))
         (range_with_len 0 (length net.now.products))) }
 {
     let products = net.product_count();

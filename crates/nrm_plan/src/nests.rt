@@ -57,7 +57,7 @@ fn protections_of_legs(
     requires table { IsTableOf net.now certificate.now buckets.now }
     requires period { IsInRange 1 net.now.periods period }
     ensures { IfOk result
-        (λ levels. map (λ v. v.items) levels.items ≡ map (λ i. protections_of net.now certificate.now i period)
+        (λ levels. map (λ v. v.items) levels.items ≡ map (λ leg. protections_of net.now certificate.now leg period)
         (range_with_len 0 (length net.now.legs))) }
 {
     let mut levels = Vec::new(alloc);
@@ -86,8 +86,8 @@ fn protected_at(
     leg: u8,
     product: u16,
 ) -> u16
-    requires nests { (cert : Cert) × (k : ℕ)
-        × AreNestsOf net.now k cert (record { buckets = buckets.now; protections = map (λ v. v.items) protections.now }) }
+    requires nests { (cert : Cert) × (period : ℕ)
+        × AreNestsOf net.now period cert (record { buckets = buckets.now; protections = map (λ v. v.items) protections.now }) }
     requires leg { leg < length net.now.legs }
     requires product { product < length net.now.products }
     requires uses { uses_leg (inventory_of net.now) leg product ≡ true }
@@ -107,8 +107,8 @@ fn put_leg(
     protections: &[Vec<u16>],
     leg: u8,
 )
-    requires nests { (cert : Cert) × (k : ℕ)
-        × AreNestsOf net.now k cert (record { buckets = buckets.now; protections = map (λ v. v.items) protections.now }) }
+    requires nests { (cert : Cert) × (period : ℕ)
+        × AreNestsOf net.now period cert (record { buckets = buckets.now; protections = map (λ v. v.items) protections.now }) }
     requires leg { leg < length net.now.legs }
     requires long { length protected.old.items ≡ length net.now.legs * length net.now.products }
     ensures { protected.new.items
@@ -135,8 +135,8 @@ fn protected_in_all(
     buckets: &BucketTable,
     protections: &[Vec<u16>],
 ) -> Result<Vec<u16>, AllocError>
-    requires { (cert : Cert) × (k : ℕ)
-        × AreNestsOf net.now k cert (record { buckets = buckets.now; protections = map (λ v. v.items) protections.now }) }
+    requires { (cert : Cert) × (period : ℕ)
+        × AreNestsOf net.now period cert (record { buckets = buckets.now; protections = map (λ v. v.items) protections.now }) }
     ensures { IfOk result (λ protected. AreProtectedInAll net.now
         (record { buckets = buckets.now; protections = map (λ v. v.items) protections.now }) protected.items) }
 {
@@ -195,8 +195,8 @@ impl Nests {
     /// The seats that are protected from a product on one of its legs: those protected for the buckets above its own.
     pub(crate) fn protected_from(&self, leg: u8, product: u16) -> u16
         requires { HasPair self.now.buckets leg product }
-        ensures { (b : ℕ) → bucket_in self.now.buckets leg product ≡ Some b
-            → result ≡ level_at (slice_index_or self.now.protections leg []) (b - 1) }
+        ensures { (bucket : ℕ) → bucket_in self.now.buckets leg product ≡ Some bucket
+            → result ≡ level_at (slice_index_or self.now.protections leg []) (bucket - 1) }
     {
         self.protected[leg as usize * self.products + product as usize]
     }

@@ -20,45 +20,47 @@ use Rattle.nrm_dual.specs.Texts.{certificate_text}
 
 -- how a leg stands: its physical seats, its authorised seats, and of those the ones sold and left
 abbrev pub leg_line : NetworkValue → List Booking → ℕ → List ℕ
-leg_line net bookings i =
-    text_line (codes "leg" ∷ (leg_of net i).name ∷ codes "seats" ∷ decimal (leg_of net i).seats
-    ∷ codes "authorised" ∷ decimal (leg_of net i).authorised ∷ codes "sold" ∷ decimal (sold_on (inventory_of net) bookings i) ∷ codes "left" ∷ decimal (left_on (inventory_of net) bookings i) ∷ [])
+leg_line net bookings leg =
+    text_line (codes "leg" ∷ (leg_of net leg).name ∷ codes "seats" ∷ decimal (leg_of net leg).seats
+    ∷ codes "authorised" ∷ decimal (leg_of net leg).authorised ∷ codes "sold" ∷ decimal (sold_on (inventory_of net) bookings leg)
+    ∷ codes "left" ∷ decimal (left_on (inventory_of net) bookings leg) ∷ [])
 
 -- a product on a leg with the seats that it has sold, and nothing if it has sold none
 abbrev pub sold_line : NetworkValue → ℕ → ℕ → ℕ → List ℕ
-sold_line net i j sold =
-    if sold == 0 then [] else text_line (codes "on" ∷ (leg_of net i).name ∷ (product_of net j).name ∷ decimal sold ∷ [])
+sold_line net leg product sold =
+    if sold == 0 then [] else text_line (codes "on" ∷ (leg_of net leg).name ∷ (product_of net product).name ∷ decimal sold ∷ [])
 
 abbrev pub on_line : NetworkValue → List Booking → ℕ → ℕ → List ℕ
-on_line net bookings i j = sold_line net i j (sold_of bookings j)
+on_line net bookings leg product = sold_line net leg product (sold_of bookings product)
 
 -- the leg text: the leg's line, then each product on it with a seat sold, in file order
 abbrev pub leg_text : NetworkValue → List Booking → ℕ → List ℕ
-leg_text net bookings i = leg_line net bookings i ++ flat_map (on_line net bookings i) (products_on (inventory_of net) i)
+leg_text net bookings leg = leg_line net bookings leg ++ flat_map (on_line net bookings leg) (products_on (inventory_of net) leg)
 
 -- a product in a nest: its adjusted fare and its bucket
 abbrev pub nest_line : NetworkValue → Certificate → ℕ → ℕ → List ℕ
-nest_line net cert i j =
-    text_line (codes "nest" ∷ (leg_of net i).name ∷ (product_of net j).name
-    ∷ fraction_text (adjusted_fare net cert i j over nat_abs cert.den) ∷ decimal (bucket_of net cert i j) ∷ [])
+nest_line net cert leg product =
+    text_line (codes "nest" ∷ (leg_of net leg).name ∷ (product_of net product).name
+    ∷ fraction_text (adjusted_fare net cert leg product over nat_abs cert.den) ∷ decimal (bucket_of net cert leg product) ∷ [])
 
 -- the protections of a leg, for each of its buckets but the last
 abbrev pub protect_line : NetworkValue → Certificate → ℕ → ℕ → List ℕ
-protect_line net cert k i = text_line (codes "protect" ∷ (leg_of net i).name ∷ map (λ seats. decimal seats) (protections_of net cert i k))
+protect_line net cert period leg =
+    text_line (codes "protect" ∷ (leg_of net leg).name ∷ map (λ seats. decimal seats) (protections_of net cert leg period))
 
 -- the nests: leg by leg each product on it, in file order; then the protections, leg by leg
 abbrev pub nests_text : NetworkValue → ℕ → Certificate → List ℕ
-nests_text net k cert =
-    flat_map (λ i. flat_map (nest_line net cert i) (products_on (inventory_of net) i)) (range_with_len 0 (length net.legs))
-    ++ flat_map (protect_line net cert k) (range_with_len 0 (length net.legs))
+nests_text net period cert =
+    flat_map (λ leg. flat_map (nest_line net cert leg) (products_on (inventory_of net) leg)) (range_with_len 0 (length net.legs))
+    ++ flat_map (protect_line net cert period) (range_with_len 0 (length net.legs))
 
 -- the plan text: the one word `first` where no linear program is solved; under bid-price control the certificate; and under virtual nesting
 -- the certificate and the nests
 abbrev pub text_of_plan : NetworkValue → Mode → ℕ → Option Certificate → List ℕ
-text_of_plan net m k None = codes "first\n"
-text_of_plan net mode.FirstCome k (Some cert) = certificate_text net cert
-text_of_plan net mode.Bid k (Some cert) = certificate_text net cert
-text_of_plan net mode.Davn k (Some cert) = certificate_text net cert ++ nests_text net k cert
+text_of_plan net m period None = codes "first\n"
+text_of_plan net mode.FirstCome period (Some cert) = certificate_text net cert
+text_of_plan net mode.Bid period (Some cert) = certificate_text net cert
+text_of_plan net mode.Davn period (Some cert) = certificate_text net cert ++ nests_text net period cert
 
 abbrev pub plan_text : NetworkValue → PlanValue → List ℕ
 plan_text net plan = text_of_plan net plan.mode plan.period plan.certificate

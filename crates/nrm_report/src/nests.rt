@@ -122,10 +122,10 @@ fn put_nests<K: Sink>(
 ) -> Result<(), Failed>
     requires { IsNested net.now certificate.now plan.now }
     ensures whole { OnOk result (Appends (K.held sink.old) (K.held sink.new)
-        (flat_map (λ i. flat_map (nest_line net.now certificate.now i) (products_on (inventory_of net.now) i))
+        (flat_map (λ leg. flat_map (nest_line net.now certificate.now leg) (products_on (inventory_of net.now) leg))
         (range_with_len 0 (length net.now.legs)))) }
     ensures cut { OnErr result (AppendsFront (K.held sink.old) (K.held sink.new)
-        (flat_map (λ i. flat_map (nest_line net.now certificate.now i) (products_on (inventory_of net.now) i))
+        (flat_map (λ leg. flat_map (nest_line net.now certificate.now leg) (products_on (inventory_of net.now) leg))
         (range_with_len 0 (length net.now.legs)))) }
     ensures cause { HasCause (K.faults sink.old) (K.faults sink.new) result }
 {

@@ -25,7 +25,7 @@ abbrev pub reply_in : ControlValue → Answered → Reply
 reply_in control answered.Bad = bad
 reply_in control answered.Unknown = unknown
 reply_in control (answered.Sold number) = sold number
-reply_in control (answered.NoLeg i) = no_leg (leg_of control.net i).name
+reply_in control (answered.NoLeg leg) = no_leg (leg_of control.net leg).name
 reply_in control answered.NoFare = no_fare
 reply_in control (answered.Cancelled number refund) = cancelled number refund
 reply_in control (answered.Optimised num den) = optimised (pos num over den)
@@ -33,13 +33,13 @@ reply_in control answered.OptimisedNone = optimised_none
 reply_in control answered.Overflow = overflow
 reply_in control answered.Memory = memory
 reply_in control (answered.Hindsight num den revenue withheld) = hindsight_told (pos num over den) revenue withheld
-reply_in control (answered.Leg i) = leg_told (leg_text control.net control.bookings i)
+reply_in control (answered.Leg leg) = leg_told (leg_text control.net control.bookings leg)
 reply_in control answered.Plan = plan_told (plan_text control.net control.plan)
 
 -- a leg that a reply names is one of the network, and a fraction has a denominator
 abbrev pub IsTellable : NetworkValue → Answered → Type 0
-IsTellable net (answered.NoLeg i) = i < length net.legs
-IsTellable net (answered.Leg i) = i < length net.legs
+IsTellable net (answered.NoLeg leg) = leg < length net.legs
+IsTellable net (answered.Leg leg) = leg < length net.legs
 IsTellable net answered.Bad = ⊤
 IsTellable net answered.Unknown = ⊤
 IsTellable net (answered.Sold number) = ⊤

@@ -19,9 +19,10 @@ use Rattle.nrm_session.specs.Step.{Step}
 
 -- the requests among some commands: the `book` lines for a product that the network has, sold or not, cancelled later or not
 abbrev pub request_in : NetworkValue → Command → List Request
-request_in net (command.Book name party) = option_map_or (λ j. record { product = j; party = party } ∷ []) (product_named net name) []
+request_in net (command.Book name party) =
+    option_map_or (λ product. record { product = product; party = party } ∷ []) (product_named net name) []
 request_in net (command.Cancel number) = []
-request_in net (command.Reoptimise k) = []
+request_in net (command.Reoptimise period) = []
 request_in net (command.Leg name) = []
 request_in net command.Hindsight = []
 request_in net command.Plan = []

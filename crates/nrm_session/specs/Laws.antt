@@ -18,7 +18,7 @@ use Rattle.nrm_session.specs.Run.{Run, RunBy}
 
 -- no leg of the network has more seats sold than are authorised
 abbrev pub NoLegOversold : NetworkValue → SeatState → Type 0
-NoLegOversold net s = (i : ℕ) → i < length net.legs → sold_on (inventory_of net) s.bookings i ≤ authorised_of (inventory_of net) i
+NoLegOversold net s = (leg : ℕ) → leg < length net.legs → sold_on (inventory_of net) s.bookings leg ≤ authorised_of (inventory_of net) leg
 
 -- the bookings are of the network's products, and no leg is oversold
 pub record IsKept (net : NetworkValue) (s : SeatState) : Type 0 where
@@ -45,7 +45,7 @@ RepliesAreDetermined = (net : NetworkValue) (s : SeatState) (commands : List Com
 -- a line for which a linear program is solved: one of hindsight, and one that optimises again from a period of the network, where the mode
 -- solves linear programs
 abbrev pub Solves : NetworkValue → SeatState → Command → Type 0
-Solves net s (command.Reoptimise k) = (s.plan.mode ≢ mode.FirstCome) × IsInRange 1 net.periods k
+Solves net s (command.Reoptimise period) = (s.plan.mode ≢ mode.FirstCome) × IsInRange 1 net.periods period
 Solves net s command.Hindsight = ⊤
 Solves net s (command.Book name party) = ⊥
 Solves net s (command.Cancel number) = ⊥

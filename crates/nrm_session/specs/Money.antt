@@ -17,7 +17,8 @@ use Rattle.nrm_session.specs.Step.{Step}
 
 -- what a line sold, by its reply: of a `book` line that was answered `ok` the party times the fare, and of no other line anything
 abbrev pub paid_for : NetworkValue → Command → Reply → ℕ
-paid_for net (command.Book name party) (sold number) = option_map_or (λ j. party * (product_of net j).fare) (product_named net name) 0
+paid_for net (command.Book name party) (sold number) =
+    option_map_or (λ product. party * (product_of net product).fare) (product_named net name) 0
 paid_for net command reply = 0
 
 -- what some lines sold in all

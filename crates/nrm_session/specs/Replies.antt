@@ -43,7 +43,7 @@ text_of (plan_told text) = text
 -- the reply to a request, by the answer that it got
 abbrev pub reply_to : NetworkValue → Answer → Reply
 reply_to net (answer.Sold number) = sold number
-reply_to net (answer.Leg i) = no_leg (leg_of net i).name
+reply_to net (answer.Leg leg) = no_leg (leg_of net leg).name
 reply_to net answer.Fare = no_fare
 
 -- the reply to an optimisation, by the mean value of its plan, if it solved a linear program

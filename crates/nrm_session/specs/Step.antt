@@ -22,14 +22,15 @@ use Rattle.nrm_session.specs.Replies.{reply_to}
 abbrev pub Gives : Reply → Reply → SeatState → SeatState → Type 0
 Gives expected reply s s' = (reply ≡ expected) × (s' ≡ s)
 
--- A network is optimised again, at the seats left and period k: the new plan is in force, and its mean value is told; or the
+-- A network is optimised again, at the seats left and from this period on: the new plan is in force, and its mean value is told; or the
 -- linear program is Large, and nothing changes; or memory runs out where a linear program is solved, and nothing changes. That is the one
 -- reply which is free, here and at a line of hindsight.
-pub data Reoptimises (net : NetworkValue) (s : SeatState) (k : ℕ) : Reply → SeatState → Type 0 where
-  optimises : (plan : PlanValue) → IsPlanFor net s.plan.mode (seats_left net s.bookings) k plan
-      → Reoptimises net s k (optimised_at (value_of net plan)) (with_plan s plan)
-  overflows : (n : ℕ) (number : ℤ) → PlanOverflows net s.plan.mode (seats_left net s.bookings) k n number → Reoptimises net s k overflow s
-  wants_memory : s.plan.mode ≢ mode.FirstCome → Reoptimises net s k memory s
+pub data Reoptimises (net : NetworkValue) (s : SeatState) (period : ℕ) : Reply → SeatState → Type 0 where
+  optimises : (plan : PlanValue) → IsPlanFor net s.plan.mode (seats_left net s.bookings) period plan
+      → Reoptimises net s period (optimised_at (value_of net plan)) (with_plan s plan)
+  overflows : (n : ℕ) (number : ℤ) → PlanOverflows net s.plan.mode (seats_left net s.bookings) period n number
+      → Reoptimises net s period overflow s
+  wants_memory : s.plan.mode ≢ mode.FirstCome → Reoptimises net s period memory s
 
 -- A line of hindsight: its value at the tallies of all requests so far, the revenue of the bookings that stand, and the sum withheld;
 -- or its linear program is Large; or memory runs out.
@@ -41,19 +42,20 @@ pub data LooksBack (net : NetworkValue) (s : SeatState) : Reply → Type 0 where
 
 -- a period that the network doesn't have
 abbrev pub lacks_period : NetworkValue → ℕ → Bool
-lacks_period net k = not (is_in_range 1 net.periods k)
+lacks_period net period = not (is_in_range 1 net.periods period)
 
 -- From s, the controller may give this reply to the command and go on to s'.
 abbrev pub Step : NetworkValue → SeatState → Command → Reply → SeatState → Type 0
 Step net s (command.Book name party) reply s' =
     MatchOption (product_named net name) (Gives unknown reply s s')
-    (λ j. (reply ≡ reply_to net (answer_in net s j party)) × (s' ≡ after_request net s j party))
+    (λ product. (reply ≡ reply_to net (answer_in net s product party)) × (s' ≡ after_request net s product party))
 Step net s (command.Cancel number) reply s' =
     MatchOption (booking_numbered s.bookings number) (Gives unknown reply s s')
     (λ booking. (reply ≡ cancelled number (refund_of net booking)) × (s' ≡ after_cancellation net s number))
-Step net s (command.Reoptimise k) reply s' = MatchBool (lacks_period net k) (Gives unknown reply s s') (Reoptimises net s k reply s')
+Step net s (command.Reoptimise period) reply s' =
+    MatchBool (lacks_period net period) (Gives unknown reply s s') (Reoptimises net s period reply s')
 Step net s (command.Leg name) reply s' =
-    MatchOption (leg_named net name) (Gives unknown reply s s') (λ i. Gives (leg_told (leg_text net s.bookings i)) reply s s')
+    MatchOption (leg_named net name) (Gives unknown reply s s') (λ leg. Gives (leg_told (leg_text net s.bookings leg)) reply s s')
 Step net s command.Hindsight reply s' = LooksBack net s reply × (s' ≡ s)
 Step net s command.Plan reply s' = Gives (plan_told (plan_text net s.plan)) reply s s'
 Step net s command.Bad reply s' = Gives bad reply s s'

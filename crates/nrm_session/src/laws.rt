@@ -2,7 +2,8 @@
 ghost use Rattle.nrm_session.specs.Headline.{RequestsAreAnswered};
 ghost use Rattle.nrm_session.specs.Hindsight.{HindsightBounds, HindsightBoundsOn};
 ghost use Rattle.nrm_session.specs.LastPlan.{PrintedFromOpeningPlans, PrintedPricesAreOptimal};
-ghost use Rattle.nrm_session.specs.Laws.{EachListHasARun, OtherLinesNeedNoMemory, PlansStayOptimal, RepliesAreDetermined, RunsHaveFirstParts};
+ghost use Rattle.nrm_session.specs.Laws.{EachListHasARun, OtherLinesNeedNoMemory, PlansStayOptimal, RepliesAreDetermined};
+ghost use Rattle.nrm_session.specs.Laws.{RunsHaveFirstParts};
 ghost use Rattle.nrm_session.specs.Laws.{RunsOversellNoLeg, StatesAreDetermined};
 ghost use Rattle.nrm_session.specs.Money.{MoneyAddsUp, MoneyGoesOn};
 ghost use Rattle.nrm_session.specs.PhysicalSeats.{PhysicalSeatsDecideNothing};

@@ -14,9 +14,9 @@ pub record HasPrices (limit legs : ℕ) (cert : Certificate) : Type 0 where
   pub some_den : pos 0 <ℤ cert.den
   pub den : cert.den <ℤ pos limit
 
--- the adjusted fare of product j on its leg i, over the certificate's denominator: its fare less the bid prices of its
+-- the adjusted fare of a product on its leg, over the certificate's denominator: its fare less the bid prices of its
 -- other legs
 abbrev pub adjusted_fare : NetworkValue → Certificate → ℕ → ℕ → ℤ
-adjusted_fare net cert i j =
-    pos (nat_abs cert.den * fare_of (inventory_of net) j)
-    -ℤ pos (price_sum (sizes cert.p) (filter (λ leg. not (leg == i)) (legs_of (inventory_of net) j)))
+adjusted_fare net cert leg product =
+    pos (nat_abs cert.den * fare_of (inventory_of net) product)
+    -ℤ pos (price_sum (sizes cert.p) (filter (λ other. not (other == leg)) (legs_of (inventory_of net) product)))

@@ -7,12 +7,12 @@ use Rattle.nrm_virtual.specs.Adjusted.{adjusted_fare}
 
 -- how many buckets a leg has: one more than its thresholds
 abbrev pub bucket_count : NetworkValue → ℕ → ℕ
-bucket_count net i = length (leg_of net i).cuts + 1
+bucket_count net leg = length (leg_of net leg).cuts + 1
 
 -- the bucket of a fare over a denominator: 1, and one more for each threshold that is greater than the fare
 abbrev pub bucket_of_fare : ℤ → ℕ → List ℕ → ℕ
 bucket_of_fare fare den cuts = 1 + count_by (λ cut. int_lt fare (pos (cut * den))) cuts
 
--- the bucket of product j on its leg i
+-- the bucket of a product on its leg
 abbrev pub bucket_of : NetworkValue → Certificate → ℕ → ℕ → ℕ
-bucket_of net cert i j = bucket_of_fare (adjusted_fare net cert i j) (nat_abs cert.den) (leg_of net i).cuts
+bucket_of net cert leg product = bucket_of_fare (adjusted_fare net cert leg product) (nat_abs cert.den) (leg_of net leg).cuts

@@ -10,8 +10,9 @@ use Rattle.nrm_lp.specs.Program.{price_sum}
 use Rattle.nrm_account.specs.Lines.{counted, ended}
 
 abbrev pub priced_line : NetworkValue → Certificate → ℕ → List ℕ
-priced_line net cert i =
-    ended (codes "price" ++ spaced (leg_of net i).name ++ spaced (fraction_text (pos (slice_index (sizes cert.p) i) over nat_abs cert.den)))
+priced_line net cert leg =
+    ended (codes "price" ++ spaced (leg_of net leg).name
+    ++ spaced (fraction_text (pos (slice_index (sizes cert.p) leg) over nat_abs cert.den)))
 
 abbrev pub priced_sum : ℕ → ℕ → ℕ → List ℕ
 priced_sum fare sum den =
@@ -20,6 +21,6 @@ priced_sum fare sum den =
     else spaced (codes "reaches")))
 
 abbrev pub priced_text : NetworkValue → Certificate → ℕ → List ℕ
-priced_text net cert j =
-    flat_map (priced_line net cert) (product_of net j).legs
-    ++ priced_sum (product_of net j).fare (price_sum (sizes cert.p) (product_of net j).legs) (nat_abs cert.den)
+priced_text net cert product =
+    flat_map (priced_line net cert) (product_of net product).legs
+    ++ priced_sum (product_of net product).fare (price_sum (sizes cert.p) (product_of net product).legs) (nat_abs cert.den)

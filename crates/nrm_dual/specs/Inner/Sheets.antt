@@ -16,14 +16,14 @@ use Rattle.nrm_dual.specs.declared.place.Place.TheVariants as kept
 -- the place that the code's stands for
 abbrev pub meant : Kept → Place
 meant kept.Value = the_value
-meant (kept.Product j) = of_product j
-meant (kept.Leg i) = of_leg i
+meant (kept.Product product) = of_product product
+meant (kept.Leg leg) = of_leg leg
 
 -- a place that a network has
 abbrev pub IsPlaceOf : NetworkValue → Kept → Type 0
 IsPlaceOf net kept.Value = ⊤
-IsPlaceOf net (kept.Product j) = j < length net.products
-IsPlaceOf net (kept.Leg i) = i < length net.legs
+IsPlaceOf net (kept.Product product) = product < length net.products
+IsPlaceOf net (kept.Leg leg) = leg < length net.legs
 
 -- a sheet with a row for each product and each leg
 pub record IsSheetOf (net : NetworkValue) (sheet : Sheet) : Type 0 where

@@ -8,12 +8,13 @@ use Rattle.nrm_virtual.specs.Adjusted.{adjusted_fare}
 use Rattle.nrm_virtual.specs.Buckets.{bucket_of}
 use Rattle.nrm_emsr.specs.declared.nest.Nested.{Nested}
 
--- what is found of product j on leg i, and of all products on it
+-- what is found of a product on a leg, and of all products on it
 abbrev pub nested_of : NetworkValue → Certificate → ℕ → ℕ → Nested
-nested_of net cert i j = record { product = j; bucket = bucket_of net cert i j; fare = adjusted_fare net cert i j }
+nested_of net cert leg product =
+    record { product = product; bucket = bucket_of net cert leg product; fare = adjusted_fare net cert leg product }
 
 abbrev pub nest_on : NetworkValue → Certificate → ℕ → List Nested
-nest_on net cert i = map (nested_of net cert i) (products_on (inventory_of net) i)
+nest_on net cert leg = map (nested_of net cert leg) (products_on (inventory_of net) leg)
 
 -- its product is one of so many, and its fare within its bound
 pub record IsKnown (products : ℕ) (nested : Nested) : Type 0 where

@@ -15,45 +15,46 @@ use Rattle.nrm_emsr.specs.Protections.{demand_above}
 use Rattle.nrm_emsr.specs.Inner.Nest.{in_buckets}
 use Rattle.nrm_emsr.specs.Inner.Ranked.{Falls}
 
--- of the products in the buckets from one to another, from period k on: their demand to come in a history, in all histories, and their
+-- of the products in the buckets from one to another, from this period on: their demand to come in a history, in all histories, and their
 -- fares, each as often as it
 abbrev pub nest_demand : NetworkValue → ℕ → List Nested → ℕ → ℕ → ℕ → ℕ
-nest_demand net k nest first last h = sum_by (λ (nested : Nested). demand_to_come net nested.product h k) (in_buckets nest first last)
+nest_demand net period nest first last history =
+    sum_by (λ (nested : Nested). demand_to_come net nested.product history period) (in_buckets nest first last)
 
 abbrev pub nest_weight : NetworkValue → ℕ → List Nested → ℕ → ℕ → ℕ
-nest_weight net k nest first last = sum_by (λ (nested : Nested). total_to_come net nested.product k) (in_buckets nest first last)
+nest_weight net period nest first last = sum_by (λ (nested : Nested). total_to_come net nested.product period) (in_buckets nest first last)
 
 abbrev pub nest_fares : NetworkValue → ℕ → List Nested → ℕ → ℕ → ℤ
-nest_fares net k nest first last =
-    sum_of (map (λ (nested : Nested). nested.fare *ℤ pos (total_to_come net nested.product k)) (in_buckets nest first last))
+nest_fares net period nest first last =
+    sum_of (map (λ (nested : Nested). nested.fare *ℤ pos (total_to_come net nested.product period)) (in_buckets nest first last))
 
 -- a mean fare is theirs, and within its bounds
-pub record IsMeanOf (net : NetworkValue) (k : ℕ) (nest : List Nested) (first last : ℕ) (mean : Mean) : Type 0 where
-  pub seats : mean.seats ≡ nest_weight net k nest first last
-  pub fares : mean.fares ≡ nest_fares net k nest first last
+pub record IsMeanOf (net : NetworkValue) (period : ℕ) (nest : List Nested) (first last : ℕ) (mean : Mean) : Type 0 where
+  pub seats : mean.seats ≡ nest_weight net period nest first last
+  pub fares : mean.fares ≡ nest_fares net period nest first last
   pub seats_size : mean.seats ≤ MOST_TOTAL_DEMAND * length (in_buckets nest first last)
   pub fares_size : unsigned_abs mean.fares ≤ 2 ^ 75 * MOST_TOTAL_DEMAND * length (in_buckets nest first last)
 
--- the sums over buckets 1 to b
-pub record AreSumsTo (net : NetworkValue) (k : ℕ) (nest : List Nested) (b : ℕ) (sums : Sums) : Type 0 where
-  pub above : IsMeanOf net k nest 1 b sums.above
-  pub demands : sums.demands.items ≡ map (nest_demand net k nest 1 b) (range_with_len 0 net.histories)
+-- the sums over buckets 1 to this one
+pub record AreSumsTo (net : NetworkValue) (period : ℕ) (nest : List Nested) (bucket : ℕ) (sums : Sums) : Type 0 where
+  pub above : IsMeanOf net period nest 1 bucket sums.above
+  pub demands : sums.demands.items ≡ map (nest_demand net period nest 1 bucket) (range_with_len 0 net.histories)
 
--- what decides on buckets 1 to b of a leg: the mean fares of them and of the next bucket, and their demands history by history, sorted
--- so that they fall
-pub record AreSumsOf (net : NetworkValue) (cert : Certificate) (i k b : ℕ) (above next : Mean) (ranked : List ℕ) : Type 0 where
-  pub seats : above.seats ≡ weight_of net cert i k 1 b
-  pub fares : above.fares ≡ weighted_fares net cert i k 1 b
-  pub next_seats : next.seats ≡ weight_of net cert i k (b + 1) (b + 1)
-  pub next_fares : next.fares ≡ weighted_fares net cert i k (b + 1) (b + 1)
-  pub demands : IsPermutation (map (demand_above net cert i k b) (range_with_len 0 net.histories)) ranked
+-- what decides on buckets 1 to this one of a leg: the mean fares of them and of the next bucket, and their demands history by history,
+-- sorted so that they fall
+pub record AreSumsOf (net : NetworkValue) (cert : Certificate) (leg period bucket : ℕ) (above next : Mean) (ranked : List ℕ) : Type 0 where
+  pub seats : above.seats ≡ weight_of net cert leg period 1 bucket
+  pub fares : above.fares ≡ weighted_fares net cert leg period 1 bucket
+  pub next_seats : next.seats ≡ weight_of net cert leg period (bucket + 1) (bucket + 1)
+  pub next_fares : next.fares ≡ weighted_fares net cert leg period (bucket + 1) (bucket + 1)
+  pub demands : IsPermutation (map (demand_above net cert leg period bucket) (range_with_len 0 net.histories)) ranked
   pub falls : Falls ranked
 
--- the fare of bucket b as a number over another and the certificate's denominator, from the fares in it and their demand
+-- the fare of a bucket as a number over another and the certificate's denominator, from the fares in it and their demand
 abbrev pub fare_by : ℤ → ℕ → List ℕ → ℕ → ℕ → ℤ × ℕ
-fare_by fares weight cuts den b =
-    if nat_lt b (length cuts + 1)
-    then (if weight == 0 then (pos (slice_index cuts (b - 1) * den), 1) else (fares, weight))
+fare_by fares weight cuts den bucket =
+    if nat_lt bucket (length cuts + 1)
+    then (if weight == 0 then (pos (slice_index cuts (bucket - 1) * den), 1) else (fares, weight))
     else (if (weight == 0) || int_lt fares (pos 0) then (pos 0, 1) else (fares, weight))
 
 -- a count times one fare is at most n times another, multiplied across

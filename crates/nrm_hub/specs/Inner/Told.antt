@@ -11,6 +11,6 @@ abbrev pub bound_text : Reply → List ℕ
 bound_text reply = flat_map spaced (bound_words reply) ++ 10 ∷ []
 
 abbrev pub available_text : ControlValue → ℕ → List ℕ
-available_text control j =
-    let party = largest_party control.net control.plan control.bookings j in
-    spaced (decimal party) ++ bound_text (beyond control.net control.plan control.bookings control.next j party)
+available_text control product =
+    let party = largest_party control.net control.plan control.bookings product in
+    spaced (decimal party) ++ bound_text (beyond control.net control.plan control.bookings control.next product party)

@@ -115,10 +115,10 @@ AddsProduct before after product =
 
 -- the percentage of one product, and all else as it was
 abbrev pub SetsRefund : Draft → Draft → ℕ → ℕ → Type 0
-SetsRefund before after j percentage =
-    ((product : Product) → slice_get before.products.items j ≡ Some product
-    → after.products.items ≡ slice_set before.products.items j (record product { refund = percentage }))
-    × (after.refunded.items ≡ slice_set before.refunded.items j true)
+SetsRefund before after number percentage =
+    ((product : Product) → slice_get before.products.items number ≡ Some product
+    → after.products.items ≡ slice_set before.products.items number (record product { refund = percentage }))
+    × (after.refunded.items ≡ slice_set before.refunded.items number true)
     × (after ≡ record before { products = after.products; refunded = after.refunded })
 
 -- the demand of one cell, a product in a history, and all else as it was

@@ -15,8 +15,9 @@ row_text fields = join_with_byte 44 fields ++ 10 ∷ []
 
 -- the row of a product in a history, which counts from 0
 abbrev pub history_fields : NetworkValue → ℕ → ℕ → Row
-history_fields net j h = codes "demand" ∷ (product_of net j).name ∷ decimal (h + 1) ∷ map decimal (demand_row net j h)
+history_fields net product history =
+    codes "demand" ∷ (product_of net product).name ∷ decimal (history + 1) ∷ map decimal (demand_row net product history)
 
 -- its text, and none where the demand is 0 in every period
 abbrev pub history_text : NetworkValue → ℕ → ℕ → List ℕ
-history_text net j h = if sum (demand_row net j h) == 0 then [] else row_text (history_fields net j h)
+history_text net product history = if sum (demand_row net product history) == 0 then [] else row_text (history_fields net product history)

@@ -9,7 +9,7 @@ use Rattle.nrm_plan.specs.Nesting.{NestsValue, level_at}
 
 -- those protected from a product on one of its legs: the seats protected for the buckets above its own
 abbrev pub protected_at : NestsValue → ℕ → ℕ → ℕ
-protected_at nests i j = level_at (slice_index_or nests.protections i []) (unwrap_or (bucket_in nests.buckets i j) 1 - 1)
+protected_at nests leg product = level_at (slice_index_or nests.protections leg []) (unwrap_or (bucket_in nests.buckets leg product) 1 - 1)
 
 -- leg by leg, and on each leg product by product: those protected from it, and 0 where it doesn't use the leg
 abbrev pub AreProtectedInAll : NetworkValue → NestsValue → List ℕ → Type 0
@@ -17,12 +17,12 @@ AreProtectedInAll net nests protected =
     AreWritten (uses_leg (inventory_of net)) (protected_at nests) (length net.legs) (length net.products) (length net.legs) protected
 
 -- the place of a pair in the list, where so many products are on each leg, and the seats there
-pub record IsProtectedAt (protected : List ℕ) (products i j seats : ℕ) : Type 0 where
-  pub within : i * products + j < length protected
-  pub seats_are : slice_index protected (i * products + j) ≡ seats
+pub record IsProtectedAt (protected : List ℕ) (products leg product seats : ℕ) : Type 0 where
+  pub within : leg * products + product < length protected
+  pub seats_are : slice_index protected (leg * products + product) ≡ seats
 
 -- each pair of the table has its seats in the list
 abbrev pub AreProtected : NestsValue → ℕ → List ℕ → Type 0
 AreProtected nests products protected =
-    (i j b : ℕ) → bucket_in nests.buckets i j ≡ Some b
-    → IsProtectedAt protected products i j (level_at (slice_index_or nests.protections i []) (b - 1))
+    (leg product bucket : ℕ) → bucket_in nests.buckets leg product ≡ Some bucket
+    → IsProtectedAt protected products leg product (level_at (slice_index_or nests.protections leg []) (bucket - 1))

@@ -16,8 +16,8 @@ pub record IsNested (net : NetworkValue) (cert : Certificate) (plan : PlanValue)
 
 -- the line of a leg's protections, where a plan has a certificate
 abbrev pub protections_line_by : NetworkValue → ℕ → Option Certificate → ℕ → List ℕ
-protections_line_by net k None i = []
-protections_line_by net k (Some cert) i = protect_line net cert k i
+protections_line_by net period None leg = []
+protections_line_by net period (Some cert) leg = protect_line net cert period leg
 
 abbrev pub protections_line : NetworkValue → PlanValue → ℕ → List ℕ
-protections_line net plan i = protections_line_by net plan.period plan.certificate i
+protections_line net plan leg = protections_line_by net plan.period plan.certificate leg
