@@ -79,8 +79,7 @@ fn push_nest_in_mode(
     ensures { OnOk result (text.new.items
         ≡ text.old.items ++ nest_in_mode net.now plan.now.mode plan.now.certificate plan.now.period leg product) }
 {
-    // For its clause alone: a network is within its limits.
-    let _ = net.n();
+    net.limits_hold();
     match (plan.mode(), plan.certificate()) {
         (Mode::Davn, Some(certificate)) => {
             push_nest(alloc, text, net, certificate, plan.period(), leg, product)

@@ -346,6 +346,14 @@ impl Controller {
         self.tallies[product as usize]
     }
 
+    /// It is a controller of a network within the limits. It does nothing.
+    pub fn limits_hold(&self)
+        ensures sound { IsControl self.now }
+    {
+        // For the controller's invariant alone.
+        let _ = &self.network;
+    }
+
     /// The network.
     pub fn network(&self) -> &Network
         ensures network { result.now ≡ self.now.net }

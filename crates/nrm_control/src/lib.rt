@@ -6,7 +6,7 @@
 //! - `reoptimise`, a new plan at the seats left;
 //! - `hindsight`, what past requests could have earned, `tally`, what was asked for of a product, and `withheld`, what cancellations
 //!   didn't give back;
-//! - `network`, `plan` and `book`, what is in force, to be told.
+//! - `network`, `plan` and `book`, what is in force, to be told; `limits_hold` says by its clause that it is within the limits.
 #![tactic(auto)]
 
 mod answer;

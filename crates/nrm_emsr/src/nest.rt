@@ -39,8 +39,7 @@ pub(crate) fn nested_on(
     ensures few { IfOk result (λ nest. length nest.items ≤ MOST_PRODUCTS) }
     ensures known { IfOk result (λ nest. All (IsKnown (length net.now.products)) nest.items) }
 {
-    // For its clauses alone: a network is within its limits.
-    let _ = net.product_count();
+    net.limits_hold();
     let mut nest = Vec::new(alloc);
     for product in net.products_on(leg) {
         nest.push(nested_at(net, cert, table, leg, *product))?;

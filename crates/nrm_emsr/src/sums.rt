@@ -83,8 +83,7 @@ fn add_bucket(demands: &mut Vec<u32>, net: &Network, nest: &[Nested], above: u8,
     ensures demands { demands.new.items
         ≡ map (nest_demand net.now period nest.now 1 (above + 1)) (range_with_len 0 net.now.histories) }
 {
-    // For its clause alone: a network is within its limits.
-    let _ = net.n();
+    net.limits_hold();
     let bucket = above + 1;
     let mut mean = Mean { fares: 0, seats: 0 };
     for nested in nest {

@@ -164,8 +164,7 @@ impl Register {
         requires { controller.next ≡ 1 }
         ensures { result ≡ new_register controller }
     {
-        // For its clause alone: this is a controller of a network within the limits.
-        let _ = controller.network();
+        controller.limits_hold();
         Register {
             controller,
             names: NameTable::new(alloc),

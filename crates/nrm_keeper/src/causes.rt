@@ -8,7 +8,7 @@ use crate::KeepFault;
 use sqlite::{Error, ErrorCode};
 
 /// Why a statement that was refused gives no answer.
-pub fn fault_of(error: Error) -> KeepFault
+pub(crate) fn fault_of(error: Error) -> KeepFault
     ensures { result ≡ fault_of error }
 {
     match error {
@@ -18,7 +18,7 @@ pub fn fault_of(error: Error) -> KeepFault
 }
 
 /// What a keeper answers to a statement that adds a row.
-pub fn added_by(executed: Result<usize, Error>) -> Result<(), KeepFault>
+pub(crate) fn added_by(executed: Result<usize, Error>) -> Result<(), KeepFault>
     ensures { result ≡ added_by executed }
 {
     match executed {
@@ -28,7 +28,7 @@ pub fn added_by(executed: Result<usize, Error>) -> Result<(), KeepFault>
 }
 
 /// What a keeper answers to a statement that took so many rows away.
-pub fn dropped_by(executed: Result<usize, Error>) -> Result<(), KeepFault>
+pub(crate) fn dropped_by(executed: Result<usize, Error>) -> Result<(), KeepFault>
     ensures { result ≡ dropped_by executed }
 {
     match executed {
@@ -39,7 +39,7 @@ pub fn dropped_by(executed: Result<usize, Error>) -> Result<(), KeepFault>
 }
 
 /// The answer, with one fault counted if it is that the keeper failed.
-pub fn raised<T>(faults: &mut u64, answer: Result<T, KeepFault>) -> Result<T, KeepFault>
+pub(crate) fn raised<T>(faults: &mut u64, answer: Result<T, KeepFault>) -> Result<T, KeepFault>
     ensures answer { result ≡ answer }
     ensures counts { faults.new ≡ counted (has_failed answer) faults.old }
 {

@@ -69,7 +69,7 @@ fn read_row(row: &Row) -> Option<KeptRow>
 ///
 /// # Errors
 /// `Failed` if one of them is no kept row, `NoMemory` if memory ran out.
-pub fn read_rows(alloc: Global, found: &[Row]) -> Result<Vec<KeptRow>, KeepFault>
+pub(crate) fn read_rows(alloc: Global, found: &[Row]) -> Result<Vec<KeptRow>, KeepFault>
     ensures { IfOk result (λ list. map shown list.items ≡ map front found.now) }
 {
     let mut rows = Vec::new(alloc);

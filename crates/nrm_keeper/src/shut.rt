@@ -11,7 +11,7 @@ use sqlite::{Alter, Connection};
 use std::alloc::Global;
 
 /// Keeps a row in the table.
-pub fn keep_in<S: Alter>(
+pub(crate) fn keep_in<S: Alter>(
     connection: &mut Option<Connection<S>>,
     row: &KeptRow,
 ) -> Result<(), KeepFault>
@@ -29,7 +29,7 @@ pub fn keep_in<S: Alter>(
 }
 
 /// Drops the row of a number from the table.
-pub fn drop_in<S: Alter>(
+pub(crate) fn drop_in<S: Alter>(
     connection: &mut Option<Connection<S>>,
     number: u64,
 ) -> Result<(), KeepFault>
@@ -47,7 +47,7 @@ pub fn drop_in<S: Alter>(
 }
 
 /// The kept row of a number, if there is one.
-pub fn find_in<S: Alter>(
+pub(crate) fn find_in<S: Alter>(
     alloc: Global,
     connection: &mut Option<Connection<S>>,
     number: u64,
@@ -65,7 +65,7 @@ pub fn find_in<S: Alter>(
 }
 
 /// Every row of the table.
-pub fn list_in<S: Alter>(
+pub(crate) fn list_in<S: Alter>(
     alloc: Global,
     connection: &mut Option<Connection<S>>,
 ) -> Result<Vec<KeptRow>, KeepFault>

@@ -35,7 +35,7 @@ fn party_value<'a>(party: u16) -> ValueRef<'a>
 }
 
 /// Makes the table, if it isn't there.
-pub fn create_table<S: Alter>(conn: &mut Connection<S>) -> Result<usize, Error>
+pub(crate) fn create_table<S: Alter>(conn: &mut Connection<S>) -> Result<usize, Error>
     ensures tells { Speaks (state S.Store conn.old) (state S.Store conn.new) →
         told (state S.Store conn.new).now ≡ told (state S.Store conn.old).now }
     ensures holds { Speaks (state S.Store conn.old) (state S.Store conn.new) →
@@ -51,7 +51,7 @@ pub fn create_table<S: Alter>(conn: &mut Connection<S>) -> Result<usize, Error>
 }
 
 /// Puts a row into the table.
-pub fn insert_row<S: Alter>(conn: &mut Connection<S>, row: &KeptRow) -> Result<usize, Error>
+pub(crate) fn insert_row<S: Alter>(conn: &mut Connection<S>, row: &KeptRow) -> Result<usize, Error>
     requires { row.now.number < 10 ^ 12 }
     ensures adds { Speaks (state S.Store conn.old) (state S.Store conn.new) →
         HoldsSome (state S.Store conn.old).now →
@@ -76,7 +76,7 @@ pub fn insert_row<S: Alter>(conn: &mut Connection<S>, row: &KeptRow) -> Result<u
 }
 
 /// Takes the row of a number out of the table, and answers how many rows went.
-pub fn delete_row<S: Alter>(conn: &mut Connection<S>, number: u64) -> Result<usize, Error>
+pub(crate) fn delete_row<S: Alter>(conn: &mut Connection<S>, number: u64) -> Result<usize, Error>
     requires { number < 10 ^ 12 }
     ensures drops { Speaks (state S.Store conn.old) (state S.Store conn.new) →
         HoldsSome (state S.Store conn.old).now →
@@ -96,7 +96,7 @@ pub fn delete_row<S: Alter>(conn: &mut Connection<S>, number: u64) -> Result<usi
 }
 
 /// Every row of the table, by rising number.
-pub fn select_rows<S: Alter>(conn: &mut Connection<S>) -> Result<Vec<Row>, Error>
+pub(crate) fn select_rows<S: Alter>(conn: &mut Connection<S>) -> Result<Vec<Row>, Error>
     ensures tells { Speaks (state S.Store conn.old) (state S.Store conn.new) →
         told (state S.Store conn.new).now ≡ told (state S.Store conn.old).now }
     ensures lists { Speaks (state S.Store conn.old) (state S.Store conn.new) →
@@ -113,7 +113,7 @@ pub fn select_rows<S: Alter>(conn: &mut Connection<S>) -> Result<Vec<Row>, Error
 }
 
 /// The rows of a number.
-pub fn find_row<S: Alter>(conn: &mut Connection<S>, number: u64) -> Result<Vec<Row>, Error>
+pub(crate) fn find_row<S: Alter>(conn: &mut Connection<S>, number: u64) -> Result<Vec<Row>, Error>
     requires { number < 10 ^ 12 }
     ensures tells { Speaks (state S.Store conn.old) (state S.Store conn.new) →
         told (state S.Store conn.new).now ≡ told (state S.Store conn.old).now }

@@ -15,7 +15,7 @@ use sqlite::{Alter, Connection};
 use std::alloc::Global;
 
 /// Keeps a row in the table.
-pub fn keep<S: Alter>(conn: &mut Connection<S>, row: &KeptRow) -> Result<(), KeepFault>
+pub(crate) fn keep<S: Alter>(conn: &mut Connection<S>, row: &KeptRow) -> Result<(), KeepFault>
     requires { row.now.number < 10 ^ 12 }
     ensures adds { Speaks (state S.Store conn.old) (state S.Store conn.new) →
         OnOk result (Adds row.now (told (state S.Store conn.old).now) (told (state S.Store conn.new).now)) }
@@ -31,7 +31,7 @@ pub fn keep<S: Alter>(conn: &mut Connection<S>, row: &KeptRow) -> Result<(), Kee
 }
 
 /// Drops the row of a number from the table. It is a fault if no row has the number.
-pub fn drop_kept<S: Alter>(conn: &mut Connection<S>, number: u64) -> Result<(), KeepFault>
+pub(crate) fn drop_kept<S: Alter>(conn: &mut Connection<S>, number: u64) -> Result<(), KeepFault>
     requires { number < 10 ^ 12 }
     ensures drops { Speaks (state S.Store conn.old) (state S.Store conn.new) →
         OnOk result (Drops number (told (state S.Store conn.old).now) (told (state S.Store conn.new).now)) }
@@ -47,7 +47,10 @@ pub fn drop_kept<S: Alter>(conn: &mut Connection<S>, number: u64) -> Result<(), 
 }
 
 /// Every row of the table, by rising number. It is a fault if one of them is no kept row.
-pub fn list<S: Alter>(alloc: Global, conn: &mut Connection<S>) -> Result<Vec<KeptRow>, KeepFault>
+pub(crate) fn list<S: Alter>(
+    alloc: Global,
+    conn: &mut Connection<S>,
+) -> Result<Vec<KeptRow>, KeepFault>
     ensures lists { Speaks (state S.Store conn.old) (state S.Store conn.new) →
         IfOk result (λ rows. Lists rows.items (told (state S.Store conn.old).now)) }
     ensures tells { Speaks (state S.Store conn.old) (state S.Store conn.new) →
@@ -66,7 +69,7 @@ pub fn list<S: Alter>(alloc: Global, conn: &mut Connection<S>) -> Result<Vec<Kep
 }
 
 /// The kept row of a number, if there is one. It is a fault if what is found is no kept row.
-pub fn row_of<S: Alter>(
+pub(crate) fn row_of<S: Alter>(
     alloc: Global,
     conn: &mut Connection<S>,
     number: u64,

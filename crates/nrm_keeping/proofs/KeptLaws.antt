@@ -15,7 +15,7 @@ use Rattle.nrm_hindsight.proofs.Choices.{all-chosen}
 use Rattle.nrm_plan.specs.Plans.{PlanValue}
 use Rattle.nrm_control.specs.State.{SeatState}
 use Rattle.nrm_stream.specs.declared.command.Command.{Command}
-use Rattle.nrm_session.specs.Laws.{IsKept}
+use Rattle.nrm_session.specs.Laws.{IsSound}
 use Rattle.nrm_session.specs.Replies.{Reply, bad, unknown, sold, no_leg, no_fare, cancelled, optimised, optimised_none, overflow, memory, hindsight_told, leg_told, plan_told}
 use Rattle.nrm_session.specs.Run.{Run}
 use Rattle.nrm_session.specs.Step.{Step}
@@ -101,7 +101,7 @@ within-loaded net l m (row ∷ rows) within loads = by (booking_of net l row) re
     by None e rest = absurd (let clash : Err row.number ≡ Ok m = rw e at loads in cc)
     by (Some b) e rest = rest b (within-more net l row b within e) (rw e at loads)
 
-loaded-kept : (net : NetworkValue) (plan : PlanValue) (rows : List KeptRow) (l : Loaded) → load net rows ≡ Ok l → IsKept net (loaded_state plan l)
+loaded-kept : (net : NetworkValue) (plan : PlanValue) (rows : List KeptRow) (l : Loaded) → load net rows ≡ Ok l → IsSound net (loaded_state plan l)
 loaded-kept net plan rows l loads =
     let none : Within net [] = record { products = All-nil (λ (b : Booking). b.product < length (inventory_of net).legs); seats = (kept.0 net plan).seats } in
     let all = within-loaded net nothing_loaded l rows none loads in

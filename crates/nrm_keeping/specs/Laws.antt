@@ -15,7 +15,7 @@ use Rattle.nrm_control.specs.State.{SeatState}
 use Rattle.nrm_stream.specs.declared.command.Command.{Command}
 use Rattle.nrm_stream.specs.declared.command.Command.TheVariants as command
 use Rattle.nrm_session.specs.Hindsight.{IsBounded, requests_in}
-use Rattle.nrm_session.specs.Laws.{HasFirstParts, IsKept}
+use Rattle.nrm_session.specs.Laws.{HasFirstParts, IsSound}
 use Rattle.nrm_session.specs.Replies.{Reply, memory, hindsight_told}
 use Rattle.nrm_session.specs.Run.{Run}
 use Rattle.nrm_book.specs.Bookings.{revenue_of}
@@ -48,9 +48,9 @@ FaultsLeaveNothing = (net : NetworkValue) (s s' : SeatState) (commands : List Co
 -- no leg has more seats sold than are authorised once rows have loaded, nor after any commands from there
 abbrev pub KeptRunsOversellNoLeg : Type 0
 KeptRunsOversellNoLeg = (net : NetworkValue) (plan : PlanValue) (rows : List KeptRow) (l : Loaded) → load net rows ≡ Ok l
-    → IsKept net (loaded_state plan l)
+    → IsSound net (loaded_state plan l)
     × ((s' : SeatState) (commands : List Command) (replies : List KeptReply) → KeptRun net (loaded_state plan l) commands replies s'
-    → IsKept net s')
+    → IsSound net s')
 
 -- At each line of hindsight that tells a value, no selection of the loaded bookings and of the requests since, each whole and at most once,
 -- that fits the authorised seats earns more; and the bookings that stand are such a selection, of the revenue that is told.

@@ -74,8 +74,7 @@ pub(crate) fn load_rows(controller: &mut Controller, rows: &[KeptRow]) -> Result
     ensures sound { IsControl controller.new }
     ensures low { controller.old.next ≤ LATEST_START → controller.new.next ≤ LATEST_START }
 {
-    // For its clause alone: this is a controller of a network within the limits.
-    let _ = controller.network();
+    controller.limits_hold();
     for row in rows {
         let Some(booking) = booking_of(controller, row) else {
             return Err(row.number);

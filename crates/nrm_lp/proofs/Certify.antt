@@ -22,7 +22,7 @@ use Rattle.nrm_fraction.proofs.Field.{ring_F, IsNonNegative}
 use Rattle.nrm_fraction.proofs.Embed.{W, W-den, den-dvd-common, over_common_at}
 use Rattle.nrm_fraction.proofs.Lowest.{common_pos}
 use Rattle.nrm_lp.proofs.Tables.{first_value_at, made_at}
-use Rattle.nrm_lp.proofs.Rule.{IsKept}
+use Rattle.nrm_lp.proofs.Rule.{IsSound}
 use Rattle.nrm_lp.proofs.Optimal.{p_at, cost_value}
 use Rattle.nrm_lp.proofs.Path.{path_kept, last_signs, path_ends_optimal}
 use Rattle.nrm_lp.proofs.Meeting.{ends_meet}
@@ -101,7 +101,7 @@ module _ (limit : ℕ) (room : 1 < limit) (a : ProgramValue) (ok : IsProgram a) 
   last : IsLast a t
   last = (n, closes.0.path, closes.1)
 
-  kept : IsKept a t
+  kept : IsSound a t
   kept = path_kept a n t closes.0.path
 
   abbrev q : ℕ

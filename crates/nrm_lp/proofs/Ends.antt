@@ -17,7 +17,7 @@ use Rattle.nrm_lp.proofs.Certify.{first_nought, last_value}
 use Rattle.nrm_lp.proofs.Measure.{AreBelow, IsBelow}
 use Rattle.nrm_lp.proofs.Path.{entering_is, path_kept}
 use Rattle.nrm_lp.proofs.Rising.{keys_below, value_bound, value_keys, value_number, value_number_below, value_number_rises}
-use Rattle.nrm_lp.proofs.Rule.{IsKept, IsLeaving, leaving_exists}
+use Rattle.nrm_lp.proofs.Rule.{IsSound, IsLeaving, leaving_exists}
 
 -- the columns of the key stand at or behind the first slack, and before the end of the row
 key_at : (a : ProgramValue) (k : ℕ) → k < length (key_columns a) → (product_count a ≤ get_or (key_columns a) k 0) × (get_or (key_columns a) k 0 < suc (right_side a))
@@ -62,7 +62,7 @@ rise_left limit a t = value_bound limit a - value_number limit a t
 pub rise_falls : (limit : ℕ) → 1 < limit → (a : ProgramValue) (n : ℕ) (t : Tableau) (s : ℕ) → Reaches limit a n t → entering t ≡ Some s → pivot_large limit a t ≡ None → rise_left limit a (pivot t (row_number (leaving a t s)) s) < rise_left limit a t
 unfolding rise_left
 rise_falls limit room a n t s r e small =
-    let h : IsKept a t = path_kept a n t r.path in
+    let h : IsSound a t = path_kept a n t r.path in
     let w : (i : ℕ) × (s ≡ 0 + i) × (suc i < length t.value) × _ = entering_is 0 t.value s e in
     let found : (k : ℕ) × IsLeaving a t s k = leaving_exists a t s h (omega (arith, w.1, w.2, h.value_width)) in
     let row : row_number (leaving a t s) ≡ found.0 = ap row_number (found.1).answer in

@@ -7,14 +7,14 @@ use Rattle.nrm_fraction.proofs.Sums.{sum_to}
 use Rattle.nrm_lp.specs.Program.{ProgramValue}
 use Rattle.nrm_lp.specs.Tableau.{Tableau, first_tableau, one_if, row_count, slack}
 use Rattle.nrm_lp.specs.Facts.{HasPathFacts, Leaves, PathHasFacts, basic, entry, total}
-use Rattle.nrm_lp.proofs.Rule.{IsKept, IsLeaving, leaving_exists}
+use Rattle.nrm_lp.proofs.Rule.{IsSound, IsLeaving, leaving_exists}
 use Rattle.nrm_lp.proofs.Path.{path_kept}
 
 total_is : (n : ℕ) (f : ℕ → Fraction) → sum_to n f ≡ total n f
 total_is zero f = refl
 total_is (suc n) f = ap (λ s. s +ᶠ f n) (total_is n f)
 
-has_facts : (a : ProgramValue) (t : Tableau) → IsKept a t → HasPathFacts a t
+has_facts : (a : ProgramValue) (t : Tableau) → IsSound a t → HasPathFacts a t
 has_facts a t h = record {
   rows = h.shape;
   widths = h.widths;

@@ -9,7 +9,7 @@ use Rattle.nrm_lp.specs.Closing.{product_values, leg_prices, value_over}
 use Rattle.nrm_lp.specs.Path.{IsLast}
 use Rattle.nrm_lp.specs.Certified.{Meet}
 use Rattle.nrm_fraction.proofs.Embed.{W, W-num}
-use Rattle.nrm_lp.proofs.Rule.{IsKept}
+use Rattle.nrm_lp.proofs.Rule.{IsSound}
 use Rattle.nrm_lp.proofs.Optimal.{is_allocation, are_prices, meets, cost_value}
 use Rattle.nrm_lp.proofs.Path.{path_kept, last_signs}
 use Rattle.nrm_lp.proofs.Slackness.{priced_legs_full, unmet_not_dear, used_not_cheap}
@@ -27,7 +27,7 @@ meet_of a ok q d x p allocation prices meets = record {
 }
 
 module _ (a : ProgramValue) (ok : IsProgram a) (t : Tableau) (last : IsLast a t) where
-  kept : IsKept a t
+  kept : IsSound a t
   kept = path_kept a last.0 t last.1
 
   abbrev q : ℕ

@@ -19,7 +19,7 @@ use Rattle.nrm_number.proofs.Totals.{sum_below, sum_front}
 use Rattle.nrm_lp.proofs.Duality.{dot_is, priced, weak_duality, optimal_allocation, optimal_prices}
 use Rattle.nrm_lp.proofs.Pivot.{Table}
 use Rattle.nrm_lp.proofs.Tables.{row, table, first_at, first_value_at, leg_entry, bound_entry, end_entry, row_bound-leg, row_bound-product, first_sign}
-use Rattle.nrm_lp.proofs.Rule.{IsKept}
+use Rattle.nrm_lp.proofs.Rule.{IsSound}
 use Rattle.nrm_fraction.proofs.Values.{same_value, IsValue_negative}
 use lib.IntN.{neg_ℤ-neg_ℤ, ◌*ℤ◌}
 use Rattle.nrm_fraction.proofs.Lowest.{common_pos}
@@ -112,7 +112,7 @@ neg_whole r =
     same_value (negative (whole (neg_ℤ (pos r)))) (W r) _ _ _ _ (IsValue_negative (whole (neg_ℤ (pos r))) _ _ (IsValue_whole (neg_ℤ (pos r)))) (IsValue_whole (pos r))
     (ap (λ z. z *ℤ pos 1) (neg_ℤ-neg_ℤ (pos r)))
 
-module _ (a : ProgramValue) (ok : IsProgram a) (t : Tableau) (h : IsKept a t) (below : (k : ℕ) → k < row_count a → get_or t.basis k 0 < right_side a) (signs : (c : ℕ) → c < right_side a → IsNonNegative (at t.value c)) where
+module _ (a : ProgramValue) (ok : IsProgram a) (t : Tableau) (h : IsSound a t) (below : (k : ℕ) → k < row_count a → get_or t.basis k 0 < right_side a) (signs : (c : ℕ) → c < right_side a → IsNonNegative (at t.value c)) where
   abbrev first : Table
   first = table (first_tableau a)
 

@@ -17,7 +17,7 @@ use Rattle.nrm_lp.proofs.Positive.{value_rises}
 use Rattle.nrm_lp.proofs.Measure.{IsBelow, AreBelow, number, number_below, number_rises}
 use Rattle.nrm_lp.proofs.Tables.{table, pivot_is}
 use Rattle.nrm_lp.proofs.Pivot.{IsPivot}
-use Rattle.nrm_lp.proofs.Rule.{IsKept, IsLeaving}
+use Rattle.nrm_lp.proofs.Rule.{IsSound, IsLeaving}
 use Rattle.nrm_lp.proofs.Path.{entering_is}
 use Rattle.nrm_number.proofs.Ring.{solve, ◌⊖◌, v0}
 use Rattle.nrm_number.proofs.Ring.Expr.{minus, e0}
@@ -58,7 +58,7 @@ pub value_number_below : (l : ℕ) (a : ProgramValue) (t : Tableau) → AreBelow
 unfolding value_number value_bound
 value_number_below l a t h = subst (λ n. number l (value_keys a t) < (2 * (l * (l * l))) ^ n) (length-map (key_columns a) (λ c. at t.value c)) (number_below l (value_keys a t) h)
 
-pub value_number_rises : (l : ℕ) (a : ProgramValue) (t : Tableau) (s r : ℕ) → IsKept a t → entering t ≡ Some s → IsLeaving a t s r → AreBelow l (value_keys a t) → AreBelow l (value_keys a (pivot t r s)) → value_number l a t < value_number l a (pivot t r s)
+pub value_number_rises : (l : ℕ) (a : ProgramValue) (t : Tableau) (s r : ℕ) → IsSound a t → entering t ≡ Some s → IsLeaving a t s r → AreBelow l (value_keys a t) → AreBelow l (value_keys a (pivot t r s)) → value_number l a t < value_number l a (pivot t r s)
 unfolding value_number
 value_number_rises l a t s r h e w small small' =
     number_rises l (value_keys a t) (value_keys a (pivot t r s))

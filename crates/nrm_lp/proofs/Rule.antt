@@ -63,7 +63,7 @@ leaving_least cs s k (xs ∷ rows) = choose (less (whole (pos 0)) (at xs s)) ref
     choose false e h = least_skip cs s k xs rows (leaving_from cs s (suc k) rows) (less_false (whole (pos 0)) (at xs s) e) h
 
 -- ---- what holds of each tableau of a program's path
-pub record IsKept (a : ProgramValue) (t : Tableau) : Type 0 where
+pub record IsSound (a : ProgramValue) (t : Tableau) : Type 0 where
   pub shape : length t.rows ≡ row_count a
   pub basis_shape : length t.basis ≡ row_count a
   pub facts : HasFacts (row_count a) (slack a) (table (first_tableau a)) (table t)
@@ -93,7 +93,7 @@ key_at a f j l =
 length-ratios : (cs : List ℕ) (s : ℕ) (xs ys : List Fraction) → length (ratios cs s xs) ≡ length (ratios cs s ys)
 length-ratios cs s xs ys = length-map cs (λ c. at xs c /ᶠ at xs s) ∙ sym (length-map cs (λ c. at ys c /ᶠ at ys s))
 
-module _ (a : ProgramValue) (t : Tableau) (s : ℕ) (h : IsKept a t) (before_end : s < right_side a) where
+module _ (a : ProgramValue) (t : Tableau) (s : ℕ) (h : IsSound a t) (before_end : s < right_side a) where
   some_row : (k : ℕ) × (k < row_count a) × IsPositive (at (row t k) s)
   some_row =
       let w : (i : ℕ) × (i < row_count a) × IsPositive (at (row (first_tableau a) i) s) = column_has_one a s before_end in
@@ -131,7 +131,7 @@ module _ (a : ProgramValue) (t : Tableau) (s : ℕ) (h : IsKept a t) (before_end
   leaving_exists = leaving_by (leaving a t s) refl (leaving_least (key_columns a) s 0 t.rows)
 
   -- the pivot on the leaving row keeps it all
-  pub pivot_keeps : (r : ℕ) → IsLeaving a t s r → IsKept a (pivot t r s)
+  pub pivot_keeps : (r : ℕ) → IsLeaving a t s r → IsSound a (pivot t r s)
   pivot_keeps r w = record {
     shape = length-set (map (combine s (unit_row s (row t r))) t.rows) r (unit_row s (row t r)) ∙ length-map t.rows (combine s (unit_row s (row t r))) ∙ h.shape;
     basis_shape = length-set t.basis r s ∙ h.basis_shape;
@@ -184,7 +184,7 @@ first_positive a i l = go (first_sign a i (right_side a) l)
     go (inl p) = inl p
     go (inr e) = inr (e, own)
 
-pub first_kept : (a : ProgramValue) → IsKept a (first_tableau a)
+pub first_kept : (a : ProgramValue) → IsSound a (first_tableau a)
 first_kept a = record {
   shape = first_rows a;
   basis_shape = length-map (range_with_len 0 (row_count a)) (slack a) ∙ length-range_with_len 0 (row_count a);

@@ -1,4 +1,4 @@
--- A network of flight legs, the products that are sold on it, and the demand that earlier seasons saw.
+-- A network of flight legs, the products that are sold on it, and the demand of past departures.
 use Rattle.std.specs.Prelude.{ℕ, List, [], ◌∷◌, Option, slice_get, unwrap_or, map, bytes_eq, min}
 use Rattle.std.specs.List.{position_from}
 use Rattle.nrm_model.specs.declared.leg.Leg.{Leg}

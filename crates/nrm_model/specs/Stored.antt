@@ -17,7 +17,7 @@ numbers_using products leg = products_on (legs_alone products) leg
 
 -- the network is within the limits, the tables hold its names in the order of the legs and the products, and the lists have, leg by leg,
 -- the products that use it
-pub record IsKept (net : NetworkValue) (leg_names product_names on_legs : List (List ℕ)) : Type 0 where
+pub record IsStored (net : NetworkValue) (leg_names product_names on_legs : List (List ℕ)) : Type 0 where
   pub network : IsNetwork net
   pub legs : leg_names ≡ map (λ (leg : Leg). leg.name) net.legs
   pub products : product_names ≡ map (λ (product : Product). product.name) net.products

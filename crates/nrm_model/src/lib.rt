@@ -1,9 +1,9 @@
-//! A network of flight legs, the products that are sold on it, and the demand that earlier seasons saw.
+//! A network of flight legs, the products that are sold on it, and the demand of past departures.
 //!
 //! A caller meets its calls in this order; src/tests.rt of nrm_samples, where networks are made, runs most of them.
 //! - `Network::new`, of `Leg`s and `Product`s, whose lists are `Thresholds` and `LegNumbers`; `NameTable` finds names before there
 //!   is a network;
-//! - `n`, `t`, `leg_count`, `product_count`: how much there is of each;
+//! - `n`, `t`, `leg_count`, `product_count`: how much there is of each, and `limits_hold`, which says by its clause that no more is;
 //! - `find_leg`, `find_product`, then `leg_at`, `product_at`: a leg or a product by its name, and by its number;
 //! - `uses_leg`, `products_on`, `least_authorised`: what a product takes, who takes a leg, and what a product at most gets;
 //! - `demand`, `to_come`, `total`: what was asked for, in a period, from one on, and in all histories;

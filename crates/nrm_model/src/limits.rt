@@ -2,7 +2,7 @@
 //! definitions and the code of all crates above name them. They keep every sum of the crates above within 64 bits, and a
 //! network within the memory of a small machine.
 
-/// Demand histories of a network: more seasons than stay alike.
+/// Demand histories of a network: more past departures than stay alike.
 pub const MOST_HISTORIES: u8 = 32;
 
 /// Booking periods of a history: a year by months, and its last weeks each.

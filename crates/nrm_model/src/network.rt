@@ -29,7 +29,7 @@ pub struct Network {
 impl Model for Network {
     ghost use Rattle.std.specs.Prelude.{map};
     ghost use Rattle.nrm_model.specs.Network.{NetworkValue};
-    ghost use Rattle.nrm_model.specs.Stored.{IsKept};
+    ghost use Rattle.nrm_model.specs.Stored.{IsStored};
 
     ghost Value = { NetworkValue };
 
@@ -41,7 +41,7 @@ impl Model for Network {
       demand = n.demand.items;
     } };
 
-    ghost invariant = { λ n. IsKept
+    ghost invariant = { λ n. IsStored
         (record {
           histories = n.histories;
           periods = n.periods;
@@ -122,6 +122,14 @@ impl Network {
             product_names,
             products_on_legs,
         })
+    }
+
+    /// The network is within its limits. It does nothing.
+    pub fn limits_hold(&self)
+        ensures limits { IsNetwork self.now }
+    {
+        // For the network's invariant alone.
+        let _ = &self.histories;
     }
 
     /// How many demand histories there are, N in the formulas: at least one.

@@ -95,8 +95,7 @@ impl Plan {
         ensures plan { IfOk result (IsPlanFor net.now mode left.now period) }
         ensures fault { IfErr result (IsPlanFault net.now mode left.now period) }
     {
-        // For its clause alone: a network is within its limits.
-        let _ = net.n();
+        net.limits_hold();
         let (certificate, nests) = solved(alloc, net, mode, left, period)?;
         Ok(Plan {
             mode,
@@ -184,8 +183,7 @@ impl Plan {
         ensures some { IfSome result (λ value. 0 < value.1) }
         ensures lowest { IfSome result (λ value. gcd value.0 value.1 ≡ 1) }
     {
-        // For its clause alone: a network is within its limits.
-        let _ = net.n();
+        net.limits_hold();
         let certificate = self.certificate.as_ref()?;
         Some(mean_value(net, certificate))
     }
@@ -197,8 +195,7 @@ impl Plan {
         requires product { product < length net.now.products }
         ensures { result ≡ fare_refuses net.now self.now product }
     {
-        // For its clause alone: a network is within its limits.
-        let _ = net.n();
+        net.limits_hold();
         match (self.mode, self.certificate.as_ref()) {
             (Mode::Bid, Some(certificate)) => below_bid_prices(net, certificate, product),
             _ => false,

@@ -25,8 +25,7 @@ pub fn plan_text<K: Sink>(net: &Network, plan: &Plan, sink: &mut K) -> Result<()
     ensures cut { OnErr result (AppendsFront (K.held sink.old) (K.held sink.new) (plan_text net.now plan.now)) }
     ensures cause { HasCause (K.faults sink.old) (K.faults sink.new) result }
 {
-    // For its clause alone: a network is within its limits.
-    let _ = net.n();
+    net.limits_hold();
     match (plan.mode(), plan.certificate()) {
         (Mode::Davn, Some(certificate)) => nested_text(net, plan, certificate, sink),
         (_, Some(certificate)) => certificate_text(net, certificate, sink),

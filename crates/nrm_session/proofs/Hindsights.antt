@@ -30,7 +30,7 @@ use Rattle.nrm_report.specs.Texts.{leg_text}
 use Rattle.nrm_stream.specs.declared.command.Command.{Command}
 use Rattle.nrm_stream.specs.declared.command.Command.TheVariants as command
 use Rattle.nrm_session.specs.Hindsight.{BoundsFrom, HindsightBounds, HindsightBoundsOn, request_in, requests_in}
-use Rattle.nrm_session.specs.Laws.{IsKept}
+use Rattle.nrm_session.specs.Laws.{IsSound}
 use Rattle.nrm_session.specs.Replies.{Reply, cancelled, hindsight_told, leg_told, reply_to, unknown}
 use Rattle.nrm_session.specs.Step.{LooksBack, Reoptimises, Step, is_large, lacks_memory, optimises, overflows, tells, wants_memory}
 use Rattle.nrm_session.specs.Step.{lacks_period}
@@ -160,7 +160,7 @@ control-bounds control is s stands = bounded control.net s is.network keeps stan
     within : (b : Booking) → b.product < length (inventory_of control.net).legs → b.product < length control.net.products
     within b below = omega (arith, length-map control.net.products (λ (p : Product). p.legs), below)
 
-    keeps : IsKept control.net s
+    keeps : IsSound control.net s
     keeps = record {
       products =
           subst (λ (bookings : List Booking). All (λ (b : Booking). b.product < length control.net.products) bookings) (sym stands.bookings)

@@ -26,17 +26,17 @@ use Rattle.nrm_report.specs.Texts.{leg_text}
 use Rattle.nrm_session.specs.Replies.{Reply, unknown, cancelled, leg_told, reply_to}
 use Rattle.nrm_session.specs.Step.{Reoptimises, Step, optimises, overflows, wants_memory, lacks_period}
 use Rattle.nrm_session.specs.Run.{Run}
-use Rattle.nrm_session.specs.Laws.{IsKept, NoLegOversold, RunsOversellNoLeg}
+use Rattle.nrm_session.specs.Laws.{IsSound, NoLegOversold, RunsOversellNoLeg}
 
 -- the bookings are of the network's products, and no leg is oversold
-record Kept (net : NetworkValue) (s : SeatState) : Type 0 where
+record Sound (net : NetworkValue) (s : SeatState) : Type 0 where
   products : AreProducts (inventory_of net) s.bookings
   seats : NoLegOversold net s
 
 -- a request that no leg refuses has the seats
-kept-sold : (net : NetworkValue) (s : SeatState) (j party number : ℕ) → Kept net s → j < length net.products
+kept-sold : (net : NetworkValue) (s : SeatState) (j party number : ℕ) → Sound net s → j < length net.products
     → find (leg_refuses net s.plan s.bookings j party) (product_of net j).legs ≡ None
-    → Kept net (after_answer s j party (answer.Sold number))
+    → Sound net (after_answer s j party (answer.Sold number))
 kept-sold net s j party number kept below none =
     let short : j < length (inventory_of net).legs = omega (arith, length-map net.products (λ (p : Product). p.legs), below) in
     let own : All (λ i. party ≤ left_on (inventory_of net) s.bookings i) (legs_of (inventory_of net) j) =
@@ -49,22 +49,22 @@ kept-sold net s j party number kept below none =
           short own (kept.seats i at);
     }
 
-kept-request : (net : NetworkValue) (s : SeatState) (j party : ℕ) → Kept net s → j < length net.products
-    → Kept net (after_request net s j party)
+kept-request : (net : NetworkValue) (s : SeatState) (j party : ℕ) → Sound net s → j < length net.products
+    → Sound net (after_request net s j party)
 kept-request net s j party kept below = by (find (leg_refuses net s.plan s.bookings j party) (product_of net j).legs) refl
   where
     by-fare : (refuses : Bool) → find (leg_refuses net s.plan s.bookings j party) (product_of net j).legs ≡ None
-        → Kept net (after_answer s j party (if refuses then answer.Fare else answer.Sold s.next))
+        → Sound net (after_answer s j party (if refuses then answer.Fare else answer.Sold s.next))
     by-fare true e = record { products = kept.products; seats = kept.seats }
     by-fare false e = kept-sold net s j party s.next kept below e
 
     by : (o : Option ℕ) → find (leg_refuses net s.plan s.bookings j party) (product_of net j).legs ≡ o
-        → Kept net (after_answer s j party (option_map_or answer.Leg o
+        → Sound net (after_answer s j party (option_map_or answer.Leg o
         (if fare_refuses net s.plan j then answer.Fare else answer.Sold s.next)))
     by None e = by-fare (fare_refuses net s.plan j) e
     by (Some i) e = record { products = kept.products; seats = kept.seats }
 
-kept-cancelled : (net : NetworkValue) (s : SeatState) (number : ℕ) → Kept net s → Kept net (after_cancellation net s number)
+kept-cancelled : (net : NetworkValue) (s : SeatState) (number : ℕ) → Sound net s → Sound net (after_cancellation net s number)
 kept-cancelled net s number kept = record {
   products = All-filter (λ (b : Booking). not (b.number == number)) (λ (b : Booking). b.product < length (inventory_of net).legs)
       s.bookings kept.products;
@@ -77,52 +77,52 @@ product-below net name j found =
     number-below (λ (p : Product). p.name) name net.products (map (λ (p : Product). p.name) net.products) j refl
     (sym (position_from-map (λ (p : Product). p.name) (λ other. bytes_eq other name) 0 net.products ∙ found))
 
-stays : (net : NetworkValue) (s s' : SeatState) → Kept net s → s' ≡ s → Kept net s'
-stays net s s' kept same = subst (Kept net) (sym same) kept
+stays : (net : NetworkValue) (s s' : SeatState) → Sound net s → s' ≡ s → Sound net s'
+stays net s s' kept same = subst (Sound net) (sym same) kept
 
-step-keeps : (net : NetworkValue) (s : SeatState) (c : Command) (reply : Reply) (s' : SeatState) → Kept net s → Step net s c reply s'
-    → Kept net s'
+step-keeps : (net : NetworkValue) (s : SeatState) (c : Command) (reply : Reply) (s' : SeatState) → Sound net s → Step net s c reply s'
+    → Sound net s'
 step-keeps net s (command.Book name party) reply s' kept step = by (product_named net name) refl step
   where
     by : (o : Option ℕ) → product_named net name ≡ o → MatchOption o ((reply ≡ unknown) × (s' ≡ s))
-        (λ j. (reply ≡ reply_to net (answer_in net s j party)) × (s' ≡ after_request net s j party)) → Kept net s'
+        (λ j. (reply ≡ reply_to net (answer_in net s j party)) × (s' ≡ after_request net s j party)) → Sound net s'
     by None e told = stays net s s' kept told.1
-    by (Some j) e told = subst (Kept net) (sym told.1) (kept-request net s j party kept (product-below net name j e))
+    by (Some j) e told = subst (Sound net) (sym told.1) (kept-request net s j party kept (product-below net name j e))
 step-keeps net s (command.Cancel number) reply s' kept step = by (booking_numbered s.bookings number) step
   where
     by : (o : Option Booking) → MatchOption o ((reply ≡ unknown) × (s' ≡ s))
-        (λ b. (reply ≡ cancelled number (refund_of net b)) × (s' ≡ after_cancellation net s number)) → Kept net s'
+        (λ b. (reply ≡ cancelled number (refund_of net b)) × (s' ≡ after_cancellation net s number)) → Sound net s'
     by None told = stays net s s' kept told.1
-    by (Some b) told = subst (Kept net) (sym told.1) (kept-cancelled net s number kept)
+    by (Some b) told = subst (Sound net) (sym told.1) (kept-cancelled net s number kept)
 step-keeps net s (command.Reoptimise k) reply s' kept step = by (lacks_period net k) step
   where
-    again : (told : Reply) (after : SeatState) → Reoptimises net s k told after → Kept net after
+    again : (told : Reply) (after : SeatState) → Reoptimises net s k told after → Sound net after
     again told after (optimises plan for) = record { products = kept.products; seats = kept.seats }
     again told after (overflows n number large) = kept
     again told after (wants_memory solves) = kept
 
-    by : (beyond : Bool) → MatchBool beyond ((reply ≡ unknown) × (s' ≡ s)) (Reoptimises net s k reply s') → Kept net s'
+    by : (beyond : Bool) → MatchBool beyond ((reply ≡ unknown) × (s' ≡ s)) (Reoptimises net s k reply s') → Sound net s'
     by true told = stays net s s' kept told.1
     by false made = again reply s' made
 step-keeps net s (command.Leg name) reply s' kept step = by (leg_named net name) step
   where
     by : (o : Option ℕ) → MatchOption o ((reply ≡ unknown) × (s' ≡ s)) (λ i. (reply ≡ leg_told (leg_text net s.bookings i)) × (s' ≡ s))
-        → Kept net s'
+        → Sound net s'
     by None told = stays net s s' kept told.1
     by (Some i) told = stays net s s' kept told.1
 step-keeps net s command.Hindsight reply s' kept step = stays net s s' kept step.1
 step-keeps net s command.Plan reply s' kept step = stays net s s' kept step.1
 step-keeps net s command.Bad reply s' kept step = stays net s s' kept step.1
 
-run-keeps : (net : NetworkValue) (s : SeatState) (commands : List Command) (replies : List Reply) (s' : SeatState) → Kept net s
-    → Run net s commands replies s' → Kept net s'
+run-keeps : (net : NetworkValue) (s : SeatState) (commands : List Command) (replies : List Reply) (s' : SeatState) → Sound net s
+    → Run net s commands replies s' → Sound net s'
 run-keeps net s [] [] s' kept run = stays net s s' kept run
 run-keeps net s [] (reply ∷ replies) s' kept run = absurd run
 run-keeps net s (c ∷ commands) [] s' kept run = absurd run
 run-keeps net s (c ∷ commands) (reply ∷ replies) s' kept (mid, step, run) =
     run-keeps net mid commands replies s' (step-keeps net s c reply mid kept step) run
 
-opens-kept : (net : NetworkValue) (plan : PlanValue) → Kept net (opening plan)
+opens-kept : (net : NetworkValue) (plan : PlanValue) → Sound net (opening plan)
 opens-kept net plan = record {
   products = All-nil (λ (b : Booking). b.product < length (inventory_of net).legs);
   seats = λ i at. let none = sold_on-by_booking (inventory_of net) i []
@@ -130,7 +130,7 @@ opens-kept net plan = record {
 }
 
 -- the inventory has a list of legs for each product
-out : (net : NetworkValue) (s : SeatState) → Kept net s → IsKept net s
+out : (net : NetworkValue) (s : SeatState) → Sound net s → IsSound net s
 out net s kept = record {
   products =
       All-weaker (λ (b : Booking). b.product < length (inventory_of net).legs) (λ (b : Booking). b.product < length net.products)
@@ -138,7 +138,7 @@ out net s kept = record {
   seats = kept.seats;
 }
 
-into : (net : NetworkValue) (s : SeatState) → IsKept net s → Kept net s
+into : (net : NetworkValue) (s : SeatState) → IsSound net s → Sound net s
 into net s kept = record {
   products =
       All-weaker (λ (b : Booking). b.product < length net.products) (λ (b : Booking). b.product < length (inventory_of net).legs)

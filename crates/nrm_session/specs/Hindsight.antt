@@ -12,7 +12,7 @@ use Rattle.nrm_plan.specs.Plans.{PlanValue}
 use Rattle.nrm_control.specs.State.{SeatState, opening}
 use Rattle.nrm_stream.specs.declared.command.Command.{Command}
 use Rattle.nrm_stream.specs.declared.command.Command.TheVariants as command
-use Rattle.nrm_session.specs.Laws.{IsKept}
+use Rattle.nrm_session.specs.Laws.{IsSound}
 use Rattle.nrm_session.specs.Replies.{Reply, hindsight_told}
 use Rattle.nrm_session.specs.Run.{Run}
 use Rattle.nrm_session.specs.Step.{Step}
@@ -52,5 +52,5 @@ HindsightBounds = (net : NetworkValue) (plan : PlanValue) → IsNetwork net → 
 
 -- And from each state whose bookings oversell no leg and are a choice of its requests.
 abbrev pub HindsightBoundsOn : Type 0
-HindsightBoundsOn = (net : NetworkValue) (s : SeatState) → IsNetwork net → IsKept net s → ChosenFrom s.requests (requests_of s.bookings)
+HindsightBoundsOn = (net : NetworkValue) (s : SeatState) → IsNetwork net → IsSound net s → ChosenFrom s.requests (requests_of s.bookings)
     → BoundsFrom net s

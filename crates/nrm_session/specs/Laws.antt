@@ -21,16 +21,16 @@ abbrev pub NoLegOversold : NetworkValue → SeatState → Type 0
 NoLegOversold net s = (leg : ℕ) → leg < length net.legs → sold_on (inventory_of net) s.bookings leg ≤ authorised_of (inventory_of net) leg
 
 -- the bookings are of the network's products, and no leg is oversold
-pub record IsKept (net : NetworkValue) (s : SeatState) : Type 0 where
+pub record IsSound (net : NetworkValue) (s : SeatState) : Type 0 where
   pub products : All (λ (booking : Booking). booking.product < length net.products) s.bookings
   pub seats : NoLegOversold net s
 
 -- the opening is such a state, whatever its plan, and whatever the commands, a run from such a state comes to such a state; and each
 -- first part of a run is a run
 abbrev pub RunsOversellNoLeg : Type 0
-RunsOversellNoLeg = ((net : NetworkValue) (plan : PlanValue) → IsKept net (opening plan))
-    × ((net : NetworkValue) (s s' : SeatState) (commands : List Command) (replies : List Reply) → IsKept net s
-    → Run net s commands replies s' → IsKept net s')
+RunsOversellNoLeg = ((net : NetworkValue) (plan : PlanValue) → IsSound net (opening plan))
+    × ((net : NetworkValue) (s s' : SeatState) (commands : List Command) (replies : List Reply) → IsSound net s
+    → Run net s commands replies s' → IsSound net s')
 
 -- no line wanted for memory
 abbrev pub MemorySuffices : List Reply → Type 0

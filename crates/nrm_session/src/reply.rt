@@ -184,8 +184,7 @@ pub fn carry_out(alloc: Global, controller: &mut Controller, command: &Command) 
     ensures tellable { IsTellable controller.new.net result }
     ensures sound { IsControl controller.new }
 {
-    // For its clause alone: this is a controller of a network within the limits.
-    let _ = controller.network();
+    controller.limits_hold();
     match command {
         Command::Book { product, party } => book(controller, product, *party),
         Command::Cancel { number } => cancel(controller, *number),

@@ -213,7 +213,6 @@ pub fn serve<S: Source, K: Sink>(
     ensures hindsight { (s : SeatState) → StandsFor controller.old s → BoundsFrom controller.old.net s }
     ensures sound { IsControl controller.new }
 {
-    // For its clause alone: this is a controller of a network within the limits.
-    let _ = controller.network();
+    controller.limits_hold();
     serve_by::<Alone, (), S, K>(alloc, controller, &mut (), source, sink, limit)
 }

@@ -11,13 +11,13 @@ use Rattle.nrm_lp.specs.Limits.{IsLimited}
 use Rattle.nrm_lp.specs.Tableau.{Tableau, entering, first_tableau, leaving, right_side}
 use Rattle.nrm_lp.specs.Path.{row_number}
 use Rattle.nrm_lp.proofs.Path.{entering_is, path_kept}
-use Rattle.nrm_lp.proofs.Rule.{IsKept, IsLeaving, leaving_exists}
+use Rattle.nrm_lp.proofs.Rule.{IsSound, IsLeaving, leaving_exists}
 use Rattle.nrm_tableau.specs.Value.{TableauValue, IsOnPath}
 
 pub first_on_path : (a : ProgramValue) → IsLimited a → IsOnPath (record { program = a; table = first_tableau a })
 first_on_path a limits = record { limits = limits; pivots = zero; reached = record { path = refl; small = λ m u l e. absurd (omega (arith, l)) } }
 
-pub kept : (s : TableauValue) → IsOnPath s → IsKept s.program s.table
+pub kept : (s : TableauValue) → IsOnPath s → IsSound s.program s.table
 kept s h = path_kept s.program h.pivots s.table h.reached.path
 
 pub widths : (s : TableauValue) → IsOnPath s → All (λ (row : List Fraction). length row ≡ suc (right_side s.program)) s.table.rows

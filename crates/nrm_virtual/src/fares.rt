@@ -35,8 +35,7 @@ pub fn bucket(net: &Network, cert: &Certificate, leg: u8, product: u16) -> u8
     ensures bucket { result ≡ bucket_of net.now cert.now leg product }
     ensures within { IsInRange 1 (bucket_count net.now leg) result }
 {
-    // For its clause alone: a network is within its limits.
-    let _ = net.leg_count();
+    net.limits_hold();
     let fare = adjusted(net, cert, leg, product);
     fallen_into(
         fare,

@@ -9,7 +9,7 @@ pub push_nest-requires-clause-prices : goal.push_nest-requires-clause-prices
 push_nest-requires-clause-prices c =
     let has : c.args.plan.now.certificate ≡ Some c.in-Davn-Some.certificate.now = search in
     prices-of_shape size_limit (length c.args.net.now.products) (length c.args.net.now.legs) c.in-Davn-Some.certificate.now
-    (plan-shape c.args.net.now c.args.plan.now c.in-Davn-Some.certificate.now c.n.ensures.limits c.requires.plan has)
+    (plan-shape c.args.net.now c.args.plan.now c.in-Davn-Some.certificate.now c.limits_hold.ensures.limits c.requires.plan has)
 
 pub returns-in-Davn-Some : goal.returns-in-Davn-Some
 returns-in-Davn-Some c =

@@ -47,4 +47,4 @@ loop-product-preserved c =
     }
 
 pub returns-clause-few : goal.returns-clause-few
-returns-clause-few c = omega (arith, few-on-leg c.args.net.now c.args.leg, c.loop-product.invariant.few, c.loop-product.auto.product-index-end, ap length c.products_on-product-items.ensures)
+returns-clause-few c = omega (arith, c.limits_hold.ensures.limits.product_count, few-on-leg c.args.net.now c.args.leg, c.loop-product.invariant.few, c.loop-product.auto.product-index-end, ap length c.products_on-product-items.ensures)

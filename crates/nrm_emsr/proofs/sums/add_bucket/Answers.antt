@@ -30,8 +30,8 @@ add_product-seats-requires-clause-room c =
     let many : length (take k nest) ≤ 256 = omega (arith, length-take k nest, c.requires.few) in
     all-below (λ h. nest_demand net c.args.period nest 1 c.args.above h + nest_demand net c.args.period (take k nest) b b h) net.histories (2 ^ 31) c.loop-nested.demands.items c.loop-nested.invariant.demands
     (λ h history.
-    let so_far = nest-small net c.args.period h nest c.n.ensures.limits history c.requires.known 1 c.args.above in
-    let own = nest-small net c.args.period h (take k nest) c.n.ensures.limits history (All-take (IsKnown (length net.products)) k nest c.requires.known) b b in
+    let so_far = nest-small net c.args.period h nest c.limits_hold.ensures.limits history c.requires.known 1 c.args.above in
+    let own = nest-small net c.args.period h (take k nest) c.limits_hold.ensures.limits history (All-take (IsKnown (length net.products)) k nest c.requires.known) b b in
     omega (arith, so_far, own, many, c.requires.few))
 
 pub with-mean-requires-clause-fares : goal.with-mean-requires-clause-fares

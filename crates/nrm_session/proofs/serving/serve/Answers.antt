@@ -7,4 +7,4 @@ pub serve_by-requires-clause-meanings : goal.serve_by-requires-clause-meanings
 serve_by-requires-clause-meanings g c = refines-are
 
 pub returns-clause-hindsight : goal.returns-clause-hindsight
-returns-clause-hindsight g c = control-bounds c.args.controller.now c.network.ensures.sound
+returns-clause-hindsight g c = control-bounds c.args.controller.now c.limits_hold.ensures.sound

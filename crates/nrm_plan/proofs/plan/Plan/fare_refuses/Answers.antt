@@ -8,4 +8,4 @@ pub below_bid_prices-requires-clause-prices : goal.below_bid_prices-requires-cla
 below_bid_prices-requires-clause-prices c =
     let has : c.args.self.now.certificate ≡ Some c.in-Bid-Some.certificate.now = search in
     prices-of_shape size_limit (length c.args.net.now.products) (length c.args.net.now.legs) c.in-Bid-Some.certificate.now
-    (plan-shape c.args.net.now c.args.self.now c.in-Bid-Some.certificate.now c.n.ensures.limits c.requires.plan has)
+    (plan-shape c.args.net.now c.args.self.now c.in-Bid-Some.certificate.now c.limits_hold.ensures.limits c.requires.plan has)
