@@ -8,3 +8,4 @@ pub mod Crossing  -- the comparison of two fractions is that of their parts, mul
 pub mod Whole  -- the whole demand of the buckets suffices: no history is over it, and the next bucket's fare isn't negative
 pub mod Examples  -- bucket fares and protections that a reader can check by hand
 pub mod HubExamples  -- the protections of a small hub over two periods, at opening and in the second period
+pub mod SeatlessNests  -- the buckets and protections of two networks that differ in their physical seats alone

@@ -6,3 +6,4 @@ pub mod NameLemmas  -- a name's number: the place at which it is found
 pub mod SeatLemmas  -- the least authorised seats of a few legs
 pub mod Lists  -- lists that are worked out number by number
 pub mod Used  -- the products that use a leg, product by product
+pub mod SeatlessLegs  -- what two networks that differ in their physical seats alone have alike: all else of their legs

@@ -12,9 +12,6 @@ pub mod PhysicalSeats  -- two networks that differ in their physical seats alone
 pub mod Pieces  -- what one call of the splitter adds to the lines that were answered
 pub mod PrintedPlans  -- the prices of a `plan` line are those of the last line that was answered `optimised`
 pub mod Runs  -- each list of commands has a run
-pub mod SeatlessLegs  -- what two networks that differ in their physical seats alone have alike: all else of their legs
-pub mod SeatlessNests  -- the buckets and protections of two such networks
-pub mod SeatlessPlans  -- the plans of two such networks, and their texts
 pub mod Seats  -- no step oversells a leg
 pub mod ServedBy  -- what follows from how a session was served, whatever was made of its commands
 pub mod SessionEnds  -- from the bytes that were taken so far to what each end of a session says

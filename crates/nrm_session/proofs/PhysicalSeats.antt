@@ -30,8 +30,9 @@ use Rattle.nrm_session.specs.Step.{Gives, LooksBack, Reoptimises, Step, is_large
 use Rattle.nrm_session.specs.Step.{wants_memory}
 use Rattle.nrm_session.specs.Run.{Run}
 use Rattle.nrm_session.specs.PhysicalSeats.{DifferInSeats, OpeningsAreSame, PhysicalSeatsDecideNothing, SameButLegText, SameButLegTexts, SessionsAreSame}
-use Rattle.nrm_session.proofs.SeatlessLegs.{AreSameLegs, with_legs, count-same, inventory-same, least-same, name-same, named-same}
-use Rattle.nrm_session.proofs.SeatlessPlans.{kept-same, plan_for-same, text-same}
+use Rattle.nrm_model.proofs.SeatlessLegs.{AreSameLegs, with_legs, count-same, inventory-same, least-same, name-same, named-same}
+use Rattle.nrm_plan.proofs.SeatlessPlans.{plan_for-same, protected-same}
+use Rattle.nrm_report.proofs.SeatlessTexts.{text-same}
 
 -- a step on another network, to the same state, whose reply is the same but for the text of a leg
 abbrev HasStep : NetworkValue → SeatState → Command → Reply → SeatState → Type 0
@@ -48,7 +49,7 @@ module _ (net : NetworkValue) (legs : List Leg) (same : AreSameLegs net.legs leg
   -- ---- requests
   answer-same : (s : SeatState) (j party : ℕ) → answer_in net s j party ≡ answer_in other s j party
   answer-same s j party = λ m. option_map_or answer.Leg
-      (find (λ i. nat_lt (left_on (inventory-same net legs same m) s.bookings i) (party + kept-same net legs same s.plan i j m))
+      (find (λ i. nat_lt (left_on (inventory-same net legs same m) s.bookings i) (party + protected-same net legs same s.plan i j m))
       (product_of net j).legs)
       (if fare_refuses net s.plan j then answer.Fare else answer.Sold s.next)
 

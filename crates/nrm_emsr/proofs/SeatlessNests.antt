@@ -14,8 +14,7 @@ use Rattle.nrm_virtual.specs.Buckets.{bucket_count, bucket_of, bucket_of_fare}
 use Rattle.nrm_virtual.specs.Table.{IsTableOf, TableValue, nest_of}
 use Rattle.nrm_emsr.specs.Fares.{bucket_fare, mean_fare, products_between, sum_of, weight_of, weighted_fares}
 use Rattle.nrm_emsr.specs.Protections.{at_most, demand_above, histories_over, least_from, protection_of, protections_of, seats_enough, suffices}
-use Rattle.nrm_plan.specs.Nesting.{AreNestsOf, NestsValue}
-use Rattle.nrm_session.proofs.SeatlessLegs.{AreSameLegs, with_legs, authorised-same, count-same, cuts-same}
+use Rattle.nrm_model.proofs.SeatlessLegs.{AreSameLegs, with_legs, authorised-same, count-same, cuts-same}
 
 module _ (net : NetworkValue) (legs : List Leg) (same : AreSameLegs net.legs legs) (cert : Certificate) where
   abbrev other : NetworkValue
@@ -74,9 +73,3 @@ module _ (net : NetworkValue) (legs : List Leg) (same : AreSameLegs net.legs leg
 
   pub protections-same : (i k : ℕ) → protections_of net cert i k ≡ protections_of other cert i k
   protections-same i k = λ m. map (λ b. protection-same i k b m) (range_with_len 1 (bucket_count-same i m - 1))
-
-  pub nests-same : (k : ℕ) (nests : NestsValue) → AreNestsOf net k cert nests → AreNestsOf other k cert nests
-  nests-same k nests are = record {
-    buckets = table-same nests.buckets are.buckets;
-    protections = are.protections ∙ (λ m. map (λ i. protections-same i k m) (range_with_len 0 (count-same net legs same m)));
-  }

@@ -1,5 +1,5 @@
--- The plans of two networks that differ in their physical seats alone, and what they are told as.
-use Rattle.std.proofs.Common.{ℕ, ◌≡◌, ◌∙◌, ◌-◌, ◌++◌, ◌∷◌, [], ◌<◌, List, length, map, Option, Some, None, refl, arith}
+-- What the plans of two networks that differ in their physical seats alone are told as.
+use Rattle.std.proofs.Common.{ℕ, ◌≡◌, ◌++◌, ◌∷◌, [], List, length, map, Option, Some, None, refl}
 use Rattle.std.specs.Prelude.{nat_abs, flat_map, decimal, codes}
 use Rattle.std.specs.List.{range_with_len}
 use Rattle.nrm_fraction.specs.Fraction.{◌over◌}
@@ -13,67 +13,16 @@ use Rattle.nrm_model.specs.Network.{NetworkValue, product_of}
 use Rattle.nrm_lp.specs.declared.certificate.Certificate.{Certificate}
 use Rattle.nrm_lp.specs.Means.{bid_price}
 use Rattle.nrm_virtual.specs.Adjusted.{adjusted_fare}
-use Rattle.nrm_virtual.specs.Buckets.{bucket_of}
-use Rattle.nrm_emsr.specs.Protections.{protection_of}
-use Rattle.nrm_plan.specs.Nesting.{NestsValue}
-use Rattle.nrm_plan.specs.Plans.{AreSeatsLeft, HasNests, IsPlanFor, IsPlanOf, PlanValue}
-use Rattle.nrm_plan.specs.Plans.{protected_from, seats_protected}
+use Rattle.nrm_plan.specs.Plans.{PlanValue}
 use Rattle.nrm_dual.specs.Texts.{certificate_text, product_line, value_line}
 use Rattle.nrm_report.specs.Texts.{nest_line, nests_text, plan_text, protect_line, text_of_plan}
-use Rattle.nrm_session.proofs.SeatlessLegs.{AreSameLegs, with_legs, authorised-same, count-same, name-same}
-use Rattle.nrm_session.proofs.SeatlessNests.{bucket-same, nests-same, protection-same, protections-same}
+use Rattle.nrm_model.proofs.SeatlessLegs.{AreSameLegs, with_legs, count-same, name-same}
+use Rattle.nrm_emsr.proofs.SeatlessNests.{bucket-same, protections-same}
 
 module _ (net : NetworkValue) (legs : List Leg) (same : AreSameLegs net.legs legs) where
   abbrev other : NetworkValue
   other = with_legs net legs
 
-  -- ---- plans
-  left-same : (left : List ℕ) → AreSeatsLeft net left → AreSeatsLeft other left
-  left-same left are = record {
-    legs = are.legs ∙ count-same net legs same;
-    seats = λ i below. let count = count-same net legs same in
-        let old : i < length net.legs = omega arith in
-        let least = are.seats i old in
-        let seats = authorised-same net legs same i in omega arith;
-  }
-
-  has-same : (k : ℕ) (m : Mode) (cert : Option Certificate) (nests : Option NestsValue) → HasNests net k m cert nests
-      → HasNests other k m cert nests
-  has-same k mode.FirstCome cert nests has = has
-  has-same k mode.Bid cert nests has = has
-  has-same k mode.Davn None nests has = absurd has
-  has-same k mode.Davn (Some cert) None has = absurd has
-  has-same k mode.Davn (Some cert) (Some nests) has = nests-same net legs same cert k nests has
-
-  plan-same : (plan : PlanValue) → IsPlanOf net plan → IsPlanOf other plan
-  plan-same plan is = record {
-    left = left-same plan.left is.left;
-    period = is.period;
-    certificate = is.certificate;
-    nests = has-same plan.period plan.mode plan.certificate plan.nests is.nests;
-  }
-
-  pub plan_for-same : (m : Mode) (left : List ℕ) (k : ℕ) (plan : PlanValue) → IsPlanFor net m left k plan → IsPlanFor other m left k plan
-  plan_for-same m left k plan for = record {
-    mode_is = for.mode_is;
-    left_is = for.left_is;
-    period_is = for.period_is;
-    planned = plan-same plan for.planned;
-  }
-
-  -- ---- the seats that a plan keeps
-  seats_protected-same : (m : Mode) (k : ℕ) (cert : Option Certificate) (i j : ℕ) → seats_protected net m k cert i j ≡ seats_protected other m k cert i j
-  seats_protected-same mode.FirstCome k cert i j = refl
-  seats_protected-same mode.Bid k cert i j = refl
-  seats_protected-same mode.Davn k None i j = refl
-  seats_protected-same mode.Davn k (Some cert) i j =
-      protection-same net legs same cert i k (bucket_of net cert i j - 1)
-      ∙ (λ m. protection_of other cert i k (bucket-same net legs same cert i j m - 1))
-
-  pub kept-same : (plan : PlanValue) (i j : ℕ) → protected_from net plan i j ≡ protected_from other plan i j
-  kept-same plan i j = seats_protected-same plan.mode plan.period plan.certificate i j
-
-  -- ---- the text of a plan
   certificate_text-same : (cert : Certificate) → certificate_text net cert ≡ certificate_text other cert
   certificate_text-same cert =
       λ m. value_line net cert
