@@ -7,7 +7,7 @@ without it.
 A season is some departures, ten if not said, sold under plans of one network file. The first file is made of as many
 departures' requests, each later one of what a way makes of the season before: of the requests, sold or not; of the
 sales as they are; of the `estimate` of `nrm-tools demand`; or of that with the file of the season `before`. All ways
-get the same customers. KIND is poisson, factor or rough: bench/departures.py says what they are. Told are, of the
+get the same customers. KIND is poisson, factor or rough: bench/departures.py says what they are. Prints, of the
 seasons behind the first --warm ones, what a departure earns in each way beside plans of the requests, how much of what
 the sales lose is regained, and how far the demand of dear and of cheap products is off; and of the seasons 1, 2, 3, 5
 and 10 by themselves what a departure earns by the sales beside the requests, and the opening prices of both.

@@ -1,5 +1,5 @@
 #!/usr/bin/env python3
-"""Want of memory at every place: `nrm_desks` as it is built, where one of the times that it takes memory fails.
+"""Memory runs out at every place: `nrm_desks` as it is built, where one of the times that it takes memory fails.
 
     tests/desks_memory.py [PATTERN] [--all] [--desks FILE]
 
@@ -223,7 +223,7 @@ def main():
     parser.add_argument("--desks")
     given = parser.parse_args()
     if not preload.is_there():
-        print(f"Want of memory wasn't tried: {preload.WANTING}.")
+        print(f"Running out of memory wasn't tried: {preload.WANTING}.")
         return 0
     if not given.desks and not checks.is_built([os.path.join(TOP, "nrm_desks")]):
         return checks.NOT_BUILT

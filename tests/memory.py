@@ -1,5 +1,5 @@
 #!/usr/bin/env python3
-"""Want of memory at every place: `nrm` and `nrm_why` as they are built, where one of the times that they take memory
+"""Memory runs out at every place: `nrm` and `nrm_why` as they are built, where one of the times that they take memory
 fails.
 
     tests/memory.py [PATTERN] [--all] [--program FILE] [--why FILE]
@@ -159,7 +159,7 @@ def places_for_memory(mode, lines, path):
 class Job:
     """One run: its words and standard input, and how it may end, each end with what it is called."""
     program = "nrm"
-    is_read_first = False  # whether lines may be read before it ends for want of memory
+    is_read_first = False  # whether lines may be read before it ends since memory ran out
 
     def __init__(self, name, words, output, status=0):
         self.name, self.words, self.stdin = name, words, b""
@@ -357,7 +357,7 @@ def words_given():
 def main():
     given = words_given()
     if not preload.is_there():
-        print(f"Want of memory wasn't tried: {preload.WANTING}.")
+        print(f"Running out of memory wasn't tried: {preload.WANTING}.")
         return 0
     passed = failed = 0
     with tempfile.TemporaryDirectory() as folder:

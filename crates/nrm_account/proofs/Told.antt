@@ -7,7 +7,7 @@ use Rattle.nrm_edge.specs.Causes.{HasCause, Rose}
 use Rattle.nrm_edge.specs.Pieces.{AppendsFront}
 use Rattle.nrm_model.specs.Network.{NetworkValue}
 use Rattle.nrm_control.specs.State.{SeatState}
-use Rattle.nrm_control.specs.Standing.{ControlValue, StandsFor}
+use Rattle.nrm_control.specs.Standing.{ControlValue, Represents}
 use Rattle.nrm_stream.specs.declared.command.Command.{Command}
 use Rattle.nrm_session.specs.Clerks.{AreMeanings, Answers, AnswersCut}
 use Rattle.nrm_session.specs.Replies.{Reply}
@@ -77,9 +77,9 @@ tells-are = record { nothing = tells-nothing; more = tells-more; then_cut = tell
 
 -- ---- one line
 module _ (old new : ControlValue × Teller) (c : Command) (reply : Reply) (ran_out : Bool) (passes : Passes old new c reply ran_out) where
-  -- what is written of a line, in each state that the controller stands for
+  -- what is written of a line, in each state that the controller represents
   abbrev Told : List ℕ → Type 0
-  Told text = (s : SeatState) → StandsFor old.0 s
+  Told text = (s : SeatState) → Represents old.0 s
       → ((text ≡ (if old.1.left == 1 then account_text old.0.net old.1.asked old.1.planned s c reply else [])) × (ran_out ≡ old.1.ran_out))
       ⊎ (((old.1.left ≡ 1) × (text ≡ [])) × (ran_out ≡ true))
 
@@ -150,8 +150,8 @@ module _ (old new : ControlValue × Teller) (c : Command) (reply : Reply) (ran_o
   put-cut (Ok value) text held held' faults faults' ready told front cause = tt
   put-cut (Err error) text held held' faults faults' ready told front cause = cut-told text held held' faults faults' ready told front cause.failed cause.later
 
--- what was made in a state that a controller stands for is the account in that state
-pub told-account : (control : ControlValue) (asked planned : ℕ) (c : Command) (reply : Reply) (front : List ℕ) (s : SeatState) → StandsFor control s
+-- what was made in a state that a controller represents is the account in that state
+pub told-account : (control : ControlValue) (asked planned : ℕ) (c : Command) (reply : Reply) (front : List ℕ) (s : SeatState) → Represents control s
     → front ≡ asked_line asked c ++ reasons control.net planned control.plan control.bookings control.next c
     → front ++ answer_text c reply ≡ account_text control.net asked planned s c reply
 told-account control asked planned c reply front s stands is =

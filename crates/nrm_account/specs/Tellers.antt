@@ -1,7 +1,7 @@
 -- What a teller promises of each line.
 use Rattle.std.specs.Prelude.{ℕ, ◌≡◌, ◌+◌, ◌-◌, ◌<◌, ◌≤◌, ◌^◌, Bool, List, ◌++◌, take}
 use Rattle.nrm_control.specs.State.{SeatState}
-use Rattle.nrm_control.specs.Standing.{ControlValue, IsControl, StandsFor}
+use Rattle.nrm_control.specs.Standing.{ControlValue, IsControl, Represents}
 use Rattle.nrm_stream.specs.declared.command.Command.{Command}
 use Rattle.nrm_session.specs.Answering.{Steps}
 use Rattle.nrm_session.specs.Replies.{Reply}
@@ -25,13 +25,13 @@ passed teller reply ran_out = record {
 abbrev pub can_tell : (ControlValue × Teller) → Type 0
 can_tell at = IsControl at.0 × (at.1.left ≤ at.1.asked) × (at.1.asked < 2 ^ 63)
 
--- The network stays, and the line that is asked for. From each state that the controller stood for, the commands are read with this output, and
--- the controller stands for the state that they are read to.
+-- The network stays, and the line that is asked for. From each state that the controller represented, the commands are read with this
+-- output, and the controller represents the state that they are read to.
 pub record Tells (old new : ControlValue × Teller) (commands : List Command) (output : List ℕ) : Type 0 where
   pub network : new.0.net ≡ old.0.net
   pub asked : new.1.asked ≡ old.1.asked
-  pub run : (s : SeatState) → StandsFor old.0 s
-      → (s' : SeatState) × StandsFor new.0 s' × Reads old.0.net old.1.asked (reading_of s old.1) commands output (reading_of s' new.1)
+  pub run : (s : SeatState) → Represents old.0 s
+      → (s' : SeatState) × Represents new.0 s' × Reads old.0.net old.1.asked (reading_of s old.1) commands output (reading_of s' new.1)
 
 -- the same of some first of the commands, of whose output a front was written
 pub record TellsCut (old new : ControlValue × Teller) (commands : List Command) (output : List ℕ) : Type 0 where

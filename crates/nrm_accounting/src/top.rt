@@ -26,7 +26,7 @@ use std::alloc::Global;
 /// The last line that can be asked for: no stream has more lines than it may have bytes.
 pub const LAST_LINE: u64 = 4_294_967_296;
 
-// What is written if the words ask for nothing that is known.
+// What is written on a usage error.
 const USAGE: &[u8] = b"usage: nrm_why MODE FILE NUMBER\n";
 
 /// What the words ask for: a mode, a network file, and the number of a line.

@@ -1,4 +1,4 @@
-//! The top call of the program: words, files, statuses, and what is written.
+//! The top call of `nrm`: words, files, statuses, and what is written.
 #![tactic(auto)]
 
 mod certificate;

@@ -11,7 +11,7 @@ pub enum Status {
     Done,
     /// A certificate fails a condition.
     Wrong,
-    /// The words ask for nothing that is known; the usage line was written.
+    /// Usage error: no such command. The usage line was written.
     Usage,
     /// A file is refused; a line says why.
     Refused,

@@ -23,7 +23,7 @@ use std::alloc::Global;
 // The last number that a network and its commands are made of.
 const LAST_MADE: u32 = u32::MAX;
 
-// What is written where the words ask for nothing that is known.
+// What is written on a usage error.
 const USAGE: &[u8] =
     b"usage: nrm run MODE FILE, plan MODE FILE, check FILE CERT, print FILE, gen MODE NUMBER, cuts FILE LEG GROUPS, dp FILE LEG\n";
 

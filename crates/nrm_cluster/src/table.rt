@@ -22,7 +22,7 @@ pub(crate) const NONE: Cell = Cell {
     first: 0,
 };
 
-// A piece of this cost and length in front of what one cell tells, if that is cheaper than what another tells.
+// A cell takes what another tells with a first piece of this cost and length put before it, if that is cheaper than its own.
 fn improve(cell: &mut Cell, cost: u64, first: u16, rest: &Cell)
     requires cost { cost < 2 ^ 58 }
     requires small { IsSmall rest.now }
@@ -38,8 +38,8 @@ fn improve(cell: &mut Cell, cost: u64, first: u16, rest: &Cell)
     }
 }
 
-// One more first piece, of this cost and length, in front of each division of the rest: a cell that it makes cheaper is
-// replaced.
+// Puts one more first piece, of this cost and length, before each division of the rest, and replaces the cells that it makes
+// cheaper.
 fn add_first(column: &mut [Cell], cost: u64, first: u16, rest: &[Cell])
     requires cost { cost < 2 ^ 58 }
     requires same { length rest.now ≡ length column.old }

@@ -1,4 +1,4 @@
--- The value of hindsight bounds the requests of each state that a controller stands for.
+-- The value of hindsight bounds the requests of each state that a controller represents.
 use Rattle.std.proofs.Common.{ℕ, ◌≤◌, List, Result, Ok, Err, IfOk, pos, refl, sym, subst}
 use Rattle.nrm_fraction.specs.Fraction.{Fraction, ◌over◌}
 use Rattle.nrm_model.specs.Inventory.{inventory_of, authorised_of}

@@ -1,4 +1,4 @@
--- What a controller stands for, and its verdicts, by hand.
+-- What a controller represents, and its verdicts, by hand.
 use Rattle.std.specs.Prelude.{◌≡◌, [], ◌∷◌, pos, ℕ, List, Some, None, get_or, refl}
 use Rattle.std.proofs.Common.{ap, arith}
 use Rattle.nrm_fraction.specs.Fraction.{◌over◌, ◌*ᶠ◌, less, whole}
@@ -11,7 +11,7 @@ use Rattle.nrm_hindsight.specs.Requests.{Request, requests_of, tallies_of}
 use Rattle.nrm_hindsight.specs.Selections.{ChosenFrom}
 use Rattle.nrm_hindsight.specs.Selections.ChosenFrom.{none, left_out, taken}
 use Rattle.nrm_control.specs.Refunds.{refund_of, withheld_by, withheld_of}
-use Rattle.nrm_control.specs.Standing.{ControlValue, StandsFor, with_request}
+use Rattle.nrm_control.specs.Standing.{ControlValue, Represents, with_request}
 use Rattle.nrm_control.specs.State.{SeatState, after_cancellation, opening, seats_left}
 use Rattle.nrm_control.specs.Verdict.{verdict_of}
 use Rattle.nrm_control.specs.declared.answer.Answer.TheVariants as answer
@@ -36,20 +36,20 @@ nested = record bid { mode = modes.Davn }
 abbrev begun : NetworkValue → PlanValue → ControlValue
 begun net plan = record { net = net; plan = plan; bookings = []; next = 1; tallies = tallies_of net []; withheld = 0 }
 
-stands_for_its_opening : (net : NetworkValue) (plan : PlanValue) → StandsFor (begun net plan) (opening plan)
-stands_for_its_opening net plan = record { plan = refl; bookings = refl; next = refl; tallies = refl; choice = none; withheld = refl }
+represents_its_opening : (net : NetworkValue) (plan : PlanValue) → Represents (begun net plan) (opening plan)
+represents_its_opening net plan = record { plan = refl; bookings = refl; next = refl; tallies = refl; choice = none; withheld = refl }
 
--- with a tally of ten for the first product, the seats of its leg, it stands for a request of ten and for one of eleven, and not for one of nine
+-- with a tally of ten for the first product, the seats of its leg, it represents a request of ten and one of eleven, and not one of nine
 abbrev tallied : PlanValue → ControlValue
 tallied plan = record (begun two_legs_five_products plan) { tallies = 10 ∷ 0 ∷ 0 ∷ 0 ∷ 0 ∷ [] }
 
-ten_asked : (plan : PlanValue) → StandsFor (tallied plan) (record (opening plan) { requests = record { product = 0; party = 10 } ∷ [] })
+ten_asked : (plan : PlanValue) → Represents (tallied plan) (record (opening plan) { requests = record { product = 0; party = 10 } ∷ [] })
 ten_asked plan = record { plan = refl; bookings = refl; next = refl; tallies = refl; choice = left_out none; withheld = refl }
 
-eleven_asked : (plan : PlanValue) → StandsFor (tallied plan) (record (opening plan) { requests = record { product = 0; party = 11 } ∷ [] })
+eleven_asked : (plan : PlanValue) → Represents (tallied plan) (record (opening plan) { requests = record { product = 0; party = 11 } ∷ [] })
 eleven_asked plan = record { plan = refl; bookings = refl; next = refl; tallies = refl; choice = left_out none; withheld = refl }
 
-nine_asked : (plan : PlanValue) → StandsFor (tallied plan) (record (opening plan) { requests = record { product = 0; party = 9 } ∷ [] }) → ⊥
+nine_asked : (plan : PlanValue) → Represents (tallied plan) (record (opening plan) { requests = record { product = 0; party = 9 } ∷ [] }) → ⊥
 nine_asked plan stands = let first = ap (λ (tallies : List ℕ). get_or tallies 0 0) stands.tallies in omega (arith, first)
 
 -- a booking was asked for
@@ -57,7 +57,7 @@ abbrev first_party : List Request → ℕ
 first_party [] = 0
 first_party (r ∷ rs) = r.party
 
-never_asked : (plan : PlanValue) → StandsFor (record (tallied plan) { bookings = record { number = 1; product = 0; party = 2 } ∷ [] }) (record (opening plan) { bookings = record { number = 1; product = 0; party = 2 } ∷ []; requests = record { product = 0; party = 10 } ∷ [] }) → ⊥
+never_asked : (plan : PlanValue) → Represents (record (tallied plan) { bookings = record { number = 1; product = 0; party = 2 } ∷ [] }) (record (opening plan) { bookings = record { number = 1; product = 0; party = 2 } ∷ []; requests = record { product = 0; party = 10 } ∷ [] }) → ⊥
 never_asked plan stands = by (record { product = 0; party = 10 } ∷ []) (requests_of (record { number = 1; product = 0; party = 2 } ∷ [])) refl refl stands.choice
   where
     by : (requests chosen : List Request) → requests ≡ record { product = 0; party = 10 } ∷ [] → chosen ≡ record { product = 0; party = 2 } ∷ [] → ChosenFrom requests chosen → ⊥
@@ -74,16 +74,16 @@ tallied_twice = refl
 tallied_full : with_request two_legs_five_products (3 ∷ 0 ∷ 0 ∷ 0 ∷ 0 ∷ []) 0 8 ≡ 10 ∷ 0 ∷ 0 ∷ 0 ∷ 0 ∷ []
 tallied_full = refl
 
-another_plan : (net : NetworkValue) → StandsFor (begun net first) (opening bid) → ⊥
+another_plan : (net : NetworkValue) → Represents (begun net first) (opening bid) → ⊥
 another_plan net stands = let mode = ap (λ (plan : PlanValue). plan.mode) stands.plan in cc
 
-another_number : (net : NetworkValue) (plan : PlanValue) → StandsFor (begun net plan) (record (opening plan) { next = 2 }) → ⊥
+another_number : (net : NetworkValue) (plan : PlanValue) → Represents (begun net plan) (record (opening plan) { next = 2 }) → ⊥
 another_number net plan stands = cc stands.next
 
-one_booking_more : (net : NetworkValue) (plan : PlanValue) → StandsFor (begun net plan) (record (opening plan) { bookings = record { number = 1; product = 0; party = 2 } ∷ [] }) → ⊥
+one_booking_more : (net : NetworkValue) (plan : PlanValue) → Represents (begun net plan) (record (opening plan) { bookings = record { number = 1; product = 0; party = 2 } ∷ [] }) → ⊥
 one_booking_more net plan stands = cc stands.bookings
 
-another_sum_withheld : (net : NetworkValue) (plan : PlanValue) → StandsFor (begun net plan) (record (opening plan) { withheld = 1 }) → ⊥
+another_sum_withheld : (net : NetworkValue) (plan : PlanValue) → Represents (begun net plan) (record (opening plan) { withheld = 1 }) → ⊥
 another_sum_withheld net plan stands = cc stands.withheld
 
 -- ---- ACL over both legs for 229, below 230; and BCL for 80, which equals its price

@@ -1,4 +1,4 @@
--- What callers see of a controller, and the states that it stands for.
+-- What callers see of a controller, and the states that it represents.
 use Rattle.std.specs.Prelude.{ℕ, ◌≡◌, ◌<◌, ◌≤◌, ◌+◌, ◌-◌, ◌*◌, List, ◌∷◌, [], ◌++◌, length, min, slice_index, slice_set, ⊤}
 use Rattle.nrm_fraction.specs.Fraction.{Fraction}
 use Rattle.nrm_model.specs.Inventory.{inventory_of}
@@ -33,9 +33,9 @@ pub record ControlValue : Type 0 where
 abbrev pub book_of : ControlValue → BookValue
 book_of control = record { inventory = inventory_of control.net; bookings = control.bookings; next = control.next }
 
--- A controller stands for each state that has its plan, its bookings, its number and its sum withheld, and requests with its tallies, of
+-- A controller represents each state that has its plan, its bookings, its number and its sum withheld, and requests with its tallies, of
 -- which the bookings are a choice. It keeps the tallies and not the requests, so they may be any such.
-pub record StandsFor (control : ControlValue) (s : SeatState) : Type 0 where
+pub record Represents (control : ControlValue) (s : SeatState) : Type 0 where
   pub plan : s.plan ≡ control.plan
   pub bookings : s.bookings ≡ control.bookings
   pub next : s.next ≡ control.next
@@ -90,10 +90,10 @@ with_answer control product party (answer.Sold number) = record control {
 with_answer control product party (answer.Leg leg) = record control { tallies = with_request control.net control.tallies product party }
 with_answer control product party answer.Fare = record control { tallies = with_request control.net control.tallies product party }
 
--- a fraction bounds what every selection of past requests earns, of each state that a controller stands for; and the bookings that stand
+-- a fraction bounds what every selection of past requests earns, of each state that a controller represents; and the bookings that stand
 -- are one of them
 abbrev pub BoundsRequests : ControlValue → Fraction → Type 0
-BoundsRequests control bound = (s : SeatState) → StandsFor control s
+BoundsRequests control bound = (s : SeatState) → Represents control s
     → BoundsSelections control.net s.requests bound × IsSelection control.net s.requests (requests_of s.bookings)
 
 -- a leg that refuses is one of the network
@@ -102,9 +102,9 @@ IsOnNetwork net (answer.Sold number) = ⊤
 IsOnNetwork net (answer.Leg leg) = leg < length net.legs
 IsOnNetwork net answer.Fare = ⊤
 
--- each controller stands for some state
-abbrev pub StandsForSome : Type 0
-StandsForSome = (control : ControlValue) → IsControl control → (s : SeatState) × StandsFor control s
+-- each controller represents some state
+abbrev pub RepresentsSome : Type 0
+RepresentsSome = (control : ControlValue) → IsControl control → (s : SeatState) × Represents control s
 
 -- why none begins: the opening plan's linear program is Large; or memory runs out, which may be for the book
 abbrev pub IsStartFault : NetworkValue → Mode → SolveFault → Type 0

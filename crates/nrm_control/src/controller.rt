@@ -186,7 +186,7 @@ impl Controller {
     ghost use Rattle.nrm_dlp.specs.Hindsight.{IsHindsight};
     ghost use Rattle.nrm_dlp.specs.Programs.{hindsight_program};
     ghost use Rattle.nrm_plan.specs.Plans.{IsOpeningPlan, value_of};
-    ghost use Rattle.nrm_control.specs.Standing.{book_of, BoundsRequests, IsControl, IsStartFault, StandsFor, with_answer};
+    ghost use Rattle.nrm_control.specs.Standing.{book_of, BoundsRequests, IsControl, IsStartFault, Represents, with_answer};
     ghost use Rattle.nrm_control.specs.State.{after_answer, after_cancellation, after_request, SeatState, with_plan};
 
     /// A controller of a network with nothing sold, and the plan of period 1 with every authorised seat left.
@@ -220,7 +220,7 @@ impl Controller {
         ensures leg { IsOnNetwork self.old.net result }
         ensures changed { self.new ≡ with_answer self.old product party result }
         ensures sound { IsControl self.new }
-        ensures state { (s : SeatState) → StandsFor self.old s → StandsFor self.new (after_request self.old.net s product party) }
+        ensures state { (s : SeatState) → Represents self.old s → Represents self.new (after_request self.old.net s product party) }
     {
         let place = product as usize;
         self.tallies[place] = tally_after(&self.network, self.tallies[place], product, party);
@@ -249,8 +249,8 @@ impl Controller {
         requires { IsLoadable (book_of self.old) booking }
         ensures loaded { self.new ≡ with_answer self.old booking.product booking.party (Answer.Sold booking.number) }
         ensures sound { IsControl self.new }
-        ensures state { (s : SeatState) → StandsFor self.old s
-            → StandsFor self.new (after_answer s booking.product booking.party (Answer.Sold booking.number)) }
+        ensures state { (s : SeatState) → Represents self.old s
+            → Represents self.new (after_answer s booking.product booking.party (Answer.Sold booking.number)) }
     {
         let place = booking.product as usize;
         self.tallies[place] = tally_after(
@@ -273,7 +273,7 @@ impl Controller {
             } }
         ensures dead { IfNone result (self.new ≡ self.old) }
         ensures sound { IsControl self.new }
-        ensures state { (s : SeatState) → StandsFor self.old s → StandsFor self.new (after_cancellation self.old.net s number) }
+        ensures state { (s : SeatState) → Represents self.old s → Represents self.new (after_cancellation self.old.net s number) }
     {
         let booking = self.book.remove(number)?;
         let product = self.network.product_at(booking.product);
@@ -304,7 +304,7 @@ impl Controller {
         ensures unchanged { OnErr result (self.new ≡ self.old) }
         ensures rest { self.new ≡ record self.old { plan = self.new.plan } }
         ensures sound { IsControl self.new }
-        ensures state { (s : SeatState) → StandsFor self.old s → StandsFor self.new (with_plan s self.new.plan) }
+        ensures state { (s : SeatState) → Represents self.old s → Represents self.new (with_plan s self.new.plan) }
     {
         let mode = self.plan.mode();
         self.plan = plan_again(alloc, &self.network, mode, &self.book, period)?;

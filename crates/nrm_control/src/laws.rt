@@ -1,8 +1,8 @@
 //! Laws of controllers and states. Each is the contract of a function that does nothing.
-ghost use Rattle.nrm_control.specs.Standing.{StandsForSome};
+ghost use Rattle.nrm_control.specs.Standing.{RepresentsSome};
 
-/// Each controller stands for some state, so that what is said of all states that it stands for isn't empty: there are
+/// Each controller represents some state, so that what is said of all states that it represents isn't empty: there are
 /// requests with its tallies, of which its bookings are a choice.
-pub fn stands_for_some()
-    ensures { StandsForSome }
+pub fn represents_some()
+    ensures { RepresentsSome }
 {}

@@ -15,7 +15,7 @@ mod laws;
 
 pub use answer::Answer;
 pub use controller::Controller;
-pub use laws::stands_for_some;
+pub use laws::represents_some;
 
 #[cfg(test)]
 mod tests;

@@ -3,7 +3,7 @@ use Rattle.std.specs.Prelude.{ℕ, ℤ, ◌≡◌, ◌⊎◌, false, List, Optio
 use Rattle.nrm_model.specs.Network.{NetworkValue}
 use Rattle.nrm_plan.specs.Plans.{IsOpeningPlan, OpeningOverflows, PlanValue}
 use Rattle.nrm_control.specs.State.{opening}
-use Rattle.nrm_control.specs.Standing.{ControlValue, IsControl, StandsFor}
+use Rattle.nrm_control.specs.Standing.{ControlValue, IsControl, Represents}
 use Rattle.nrm_frames.specs.Outgoing.{differs, no_row, output_text}
 use Rattle.nrm_outside.specs.Outside.{FilesFailed, LeftStream, OnFile, Outside, SinkFailed, SourceFailed, Wrote, WroteCut, WroteNothing}
 use Rattle.nrm_outside.specs.Refusals.{Refusal, file_fault_line, network_under, refusal_line}
@@ -20,7 +20,7 @@ use Rattle.nrm_desking.specs.declared.status.DesksStatus.TheVariants as status
 abbrev pub Opens : DesksJob → Outside → NetworkValue → Type 0
 Opens job before net = OnFile before.files job.file (λ contents. network_under contents ≡ Ok net)
 
--- the words ask for a job whose file gives this network, this is its opening plan, and the controller stands for the opening
+-- the words ask for a job whose file gives this network, this is its opening plan, and the controller represents the opening
 pub record Begins (asked : Option DesksJob) (before : Outside) : Type 0 where
   pub job : DesksJob
   pub asks : asked ≡ Some job
@@ -31,7 +31,7 @@ pub record Begins (asked : Option DesksJob) (before : Outside) : Type 0 where
   pub control : ControlValue
   pub is_control : IsControl control
   pub network : control.net ≡ net
-  pub stands : StandsFor control (opening plan)
+  pub stands : Represents control (opening plan)
 
 -- the source and the sink of what stands outside
 abbrev pub streams_at : Outside → Streams

@@ -23,7 +23,7 @@ use nrm_model::Mode;
 use nrm_outside::{mode_in, open_network};
 use std::alloc::Global;
 
-// What is written if the words ask for nothing that is known.
+// What is written on a usage error.
 const USAGE: &[u8] = b"usage: nrm_desks MODE FILE\n";
 
 /// What the words ask for: a mode and a network file.

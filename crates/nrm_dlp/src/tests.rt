@@ -90,7 +90,7 @@ fn optimises_by_hand(rt: HostRuntime) -> Result<(), Fail> {
     Ok(())
 }
 
-// The opening program of two legs and five products, which another program solved in exact fractions.
+// The opening linear program of two legs and five products, which another program solved in exact fractions.
 #[test]
 fn solves_five_products(rt: HostRuntime) -> Result<(), Fail> {
     let program = two_legs_five_products_program(rt.alloc())?;

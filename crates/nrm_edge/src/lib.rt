@@ -1,4 +1,4 @@
-//! The outside of the seat controller: where bytes come from, where they go, and files. Each is a trait with a count
+//! Where bytes come from, where they go, and files; what the bytes mean is known to the crates above. Each is a trait with a count
 //! of faults; there are implementations in memory, which tell their bytes, and over std, which count their failures, and a sink
 //! that gathers before another one.
 //!

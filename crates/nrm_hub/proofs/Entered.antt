@@ -24,7 +24,7 @@ use Rattle.nrm_stream.specs.declared.command.Command.TheVariants as command
 use Rattle.nrm_session.specs.Answering.{IsTellable, Steps, reply_in}
 use Rattle.nrm_session.specs.Replies.{Reply, bad, cancelled, hindsight_told, leg_told, memory, no_fare, no_leg, optimised, optimised_at, optimised_none}
 use Rattle.nrm_session.specs.Replies.{overflow, plan_told, reply_to, sold, unknown}
-use Rattle.nrm_session.specs.Step.{Gives, Reoptimises, Step, lacks_period, optimises, overflows, wants_memory}
+use Rattle.nrm_session.specs.Step.{Gives, Reoptimises, Step, lacks_period, optimises, overflows, runs_out_of_memory}
 use Rattle.nrm_session.specs.declared.reply.Reply.{Reply as Answered}
 use Rattle.nrm_session.specs.declared.reply.Reply.TheVariants as answered
 use Rattle.nrm_session.proofs.OtherLines.{other-lines}
@@ -104,7 +104,7 @@ short-either (Some x) reply none some s' kept changed at_none at_some given = su
 short-again : (net : NetworkValue) (s : SeatState) (k : ℕ) (reply : Reply) (s' : SeatState) → reply ≢ memory → Reoptimises net s k reply s' → IsShort reply
 short-again net s k reply s' apart (optimises plan for) = short-value (value_of net plan)
 short-again net s k reply s' apart (overflows n number large) = refl
-short-again net s k reply s' apart (wants_memory solves) = absurd (apart refl)
+short-again net s k reply s' apart (runs_out_of_memory solves) = absurd (apart refl)
 
 short-period : (net : NetworkValue) (s s' : SeatState) (k : ℕ) (reply : Reply) (beyond : Bool) → reply ≢ memory
     → MatchBool beyond (Gives unknown reply s s') (Reoptimises net s k reply s') → IsShort reply

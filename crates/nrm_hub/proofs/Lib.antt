@@ -19,7 +19,7 @@ pub mod ClientSeats  -- what stands of the clients at their places
 pub mod ClientsServed  -- what stands of the register and what stands of the clients, in one
 pub mod ClientsStand  -- whatever happens at the desks, each client is told the replies to its own lines
 pub mod RegisterStates  -- what leaves no row leaves the state as it is, so the rows give it
-pub mod Registers  -- what a register stands for in every world
+pub mod Registers  -- what a register represents in every world
 pub mod HubSteps
 pub mod HubTurns  -- what a turn leaves of a client
 pub mod DuePlaces  -- the places at which something is due, as clients change

@@ -8,7 +8,7 @@ use Rattle.std.proofs.lemmas.List.Elements.{All-get_or, All-nil, All-push, All-w
 use Rattle.std.proofs.lemmas.List.Quantifiers.{all_pairs_push}
 use Rattle.nrm_model.specs.Network.{NetworkValue}
 use Rattle.nrm_control.specs.State.{SeatState}
-use Rattle.nrm_control.specs.Standing.{ControlValue, StandsFor}
+use Rattle.nrm_control.specs.Standing.{ControlValue, Represents}
 use Rattle.nrm_stream.specs.declared.command.Command.{Command}
 use Rattle.nrm_session.specs.Answering.{Steps, reply_in}
 use Rattle.nrm_session.specs.Replies.{Reply, text_of}
@@ -307,7 +307,7 @@ module _ (old new : ControlValue) (desks : List DeskValue) (owners : List ℕ) (
   rise-more rise = all_pairs_push NumbersRise rows entry rise
       (λ k e short. rises (get_or rows k e) (All-get_or (IsOfDesk desks) rows k e short f.owned))
 
-module _ (start : ControlValue) (begun : (s : SeatState) × StandsFor start s) where
+module _ (start : ControlValue) (begun : (s : SeatState) × Represents start s) where
   pub fits-carried : (r r' : RegisterValue) (d n : ℕ) (c : Command) (a : Answered) (rows : List Entry) (turns : List Turn)
       → FitsIn start r rows turns → d < length r.desks → is_change c ≡ true → (desk_at r d).next ≤ n → Carries r r' d n c a
       → FitsIn start r' (rows ++ record { desk = name_at r d; sequence = n; command = c; reply = reply_in r'.control a } ∷ [])

@@ -4,7 +4,7 @@ use Rattle.std.proofs.Common.{append-nil, length-set}
 use Rattle.std.specs.Prelude.{⊤}
 use Rattle.std.proofs.lemmas.List.{get_or-set_same}
 use Rattle.nrm_control.specs.State.{SeatState}
-use Rattle.nrm_control.specs.Standing.{ControlValue, StandsFor}
+use Rattle.nrm_control.specs.Standing.{ControlValue, Represents}
 use Rattle.nrm_frames.specs.declared.rights.Rights.{Rights}
 use Rattle.nrm_stream.specs.declared.command.Command.{Command}
 use Rattle.nrm_session.specs.Answering.{reply_in}
@@ -55,7 +55,7 @@ pub record Became (start : ControlValue) (r r' : RegisterValue) (rows : List Ent
   pub text : r'.text ≡ r.text ++ rows_text (length rows) (entry_of e ++ [])
   pub longer : length r.desks ≤ length r'.desks
 
-module _ (start : ControlValue) (begun : (s : SeatState) × StandsFor start s) (r : RegisterValue) (rows : List Entry) (turns : List Turn)
+module _ (start : ControlValue) (begun : (s : SeatState) × Represents start s) (r : RegisterValue) (rows : List Entry) (turns : List Turn)
     (f : FitsIn start r rows turns) where
   abbrev said : ℕ → List ℕ → ℕ → List ℕ → How → List ℕ → Exchange
   said client desk n line how text = record { client = client; desk = desk; sequence = n; line = line; how = how; text = text }

@@ -16,7 +16,7 @@ use Rattle.nrm_stream.specs.declared.command.Command.TheVariants as command
 use Rattle.nrm_session.specs.Answering.{reply_in}
 use Rattle.nrm_session.specs.Replies.{Reply, bad, cancelled, hindsight_told, leg_told, memory, no_fare, no_leg, optimised, optimised_at, optimised_none}
 use Rattle.nrm_session.specs.Replies.{overflow, plan_told, reply_to, sold, unknown}
-use Rattle.nrm_session.specs.Step.{Gives, Reoptimises, Step, lacks_period, optimises, overflows, wants_memory}
+use Rattle.nrm_session.specs.Step.{Gives, Reoptimises, Step, lacks_period, optimises, overflows, runs_out_of_memory}
 use Rattle.nrm_session.specs.declared.reply.Reply.{Reply as Answered}
 use Rattle.nrm_session.specs.declared.reply.Reply.TheVariants as answered
 use Rattle.nrm_hub.specs.Asked.{is_change}
@@ -74,7 +74,7 @@ at-again : (net : NetworkValue) (s : SeatState) (k : ℕ) (reply : Reply) (s' : 
     → is_line reply ≡ true
 at-again net s k _ _ (optimises plan for) some = at-value (value_of net plan)
 at-again net s k _ _ (overflows n number large) some = refl
-at-again net s k _ _ (wants_memory solves) some = absurd (some refl)
+at-again net s k _ _ (runs_out_of_memory solves) some = absurd (some refl)
 
 by-period : (net : NetworkValue) (s s' : SeatState) (k : ℕ) (beyond : Bool) (reply : Reply)
     → MatchBool beyond (Gives unknown reply s s') (Reoptimises net s k reply s') → reply ≢ memory → is_line reply ≡ true

@@ -1,4 +1,4 @@
--- What a register stands for in every world: all that was carried out is one run, and the rows are just those of it.
+-- What a register represents in every world: all that was carried out is one run, and the rows are just those of it.
 use Rattle.std.proofs.Common.{ℕ, ◌≡◌, ◌∙◌, ◌+◌, ◌<◌, ◌≤◌, List, [], ◌∷◌, ◌++◌, All, AllPairs, flat_map, length, get_or, set, map, replicate, take}
 use Rattle.std.proofs.Common.{Option, Some, None, refl, sym, ap, ap₂, subst, arith, append_assoc, append-nil, length-append}
 use Rattle.std.proofs.lemmas.Grind.{flat_map-append}
@@ -6,7 +6,7 @@ use Rattle.std.proofs.lemmas.List.{map-append, take-append-le}
 use Rattle.std.proofs.lemmas.List.Elements.{All-nil, All-push, All-weaker}
 use Rattle.std.proofs.Math.Seq.{take-length}
 use Rattle.nrm_control.specs.State.{SeatState}
-use Rattle.nrm_control.specs.Standing.{ControlValue, IsControl, StandsFor}
+use Rattle.nrm_control.specs.Standing.{ControlValue, IsControl, Represents}
 use Rattle.nrm_control.proofs.States.{some-state}
 use Rattle.nrm_frames.specs.Frames.{Frame}
 use Rattle.nrm_frames.specs.Outgoing.{Output, close, keep, ready, send}
@@ -128,7 +128,7 @@ module _ (start : ControlValue) (w : World) (s : Stands start w) where
       still (set w.hub.clients place c) many inputs outputs came sent ins outs (set-nil w.hub.clients place c) (seats-set place c one)
 
   -- ---- rows are given again
-  on-again : (payload : List ℕ) (rows : List Entry) (r : RegisterValue) → (s : SeatState) × StandsFor start s → w.hub.clients ≡ []
+  on-again : (payload : List ℕ) (rows : List Entry) (r : RegisterValue) → (s : SeatState) × Represents start s → w.hub.clients ≡ []
       → w.hub.phase ≡ phase.Settled → w.hub.register.text ≡ [] → payload ≡ rows_text w.hub.register.rows rows
       → GivesAgain w.hub.register rows r
       → Stands start (record (after_frame w (frame (header.Again (length payload)) payload) (record w.hub { register = r })) {
@@ -213,7 +213,7 @@ module _ (start : ControlValue) (w : World) (s : Stands start w) where
   repeats-longer rows more e otherwise is = tt
 
   on-line : (place : ℕ) (c c' : ClientValue) (line rest : List ℕ) (r : RegisterValue) (how : How) (text : List ℕ)
-      → (s : SeatState) × StandsFor start s → client_at w.hub place ≡ Some c → TakesLine w.hub.register c line rest r c' how text
+      → (s : SeatState) × Represents start s → client_at w.hub place ≡ Some c → TakesLine w.hub.register c line rest r c' how text
       → Stands start (with_answered w place r c' (exchange_of r c c' line how text))
   on-line place c c' line rest r how text begun at takes =
       let e : Exchange = exchange_of r c c' line how text in
@@ -317,7 +317,7 @@ module _ (start : ControlValue) (w : World) (s : Stands start w) where
       }
 
 -- ---- whatever happens
-stands-on : (start : ControlValue) (w w' : World) → (s : SeatState) × StandsFor start s → Stands start w → Happens w w' → Stands start w'
+stands-on : (start : ControlValue) (w w' : World) → (s : SeatState) × Represents start s → Stands start w → Happens w w' → Stands start w'
 stands-on start w _ begun s (given_again payload rows r none settled empty payload_is again) =
     on-again start w s payload rows r begun none settled empty payload_is again
 stands-on start w _ begun s (readied none) = still start w s w.hub.clients w.hub.opened w.inputs (w.outputs ++ ready w.hub.register.rows ∷ [])
@@ -361,7 +361,7 @@ stands-on start w _ begun s (was_closed place c reason at closing settled) =
     changed start w s place None w.hub.opened w.inputs (w.outputs ++ close place reason ∷ []) w.came w.sent refl
     (no-rows-out w.outputs (close place reason) refl) tt
 
-stands-always : (start : ControlValue) (first w : World) → (s : SeatState) × StandsFor start s → Stands start first → Comes first w → Stands start w
+stands-always : (start : ControlValue) (first w : World) → (s : SeatState) × Represents start s → Stands start first → Comes first w → Stands start w
 stands-always start first _ begun s here = s
 stands-always start first _ begun s (then w w' comes happens) = stands-on start w w' begun (stands-always start first w begun s comes) happens
 

@@ -2,7 +2,7 @@
 use Rattle.std.specs.Prelude.{ℕ, ◌≡◌, ◌==◌, ◌<◌, ◌≤◌, false, List, [], ◌∷◌, ◌++◌, AllPairs, All, filter, flat_map, length, map, take, ⊤}
 use Rattle.nrm_model.specs.Network.{NetworkValue}
 use Rattle.nrm_control.specs.State.{SeatState}
-use Rattle.nrm_control.specs.Standing.{ControlValue, IsControl, StandsFor}
+use Rattle.nrm_control.specs.Standing.{ControlValue, IsControl, Represents}
 use Rattle.nrm_frames.specs.Outgoing.{Output, close, differs, keep, no_row, ready, send}
 use Rattle.nrm_frames.specs.Frames.{Frame}
 use Rattle.nrm_frames.specs.declared.header.Header.{Header}
@@ -90,12 +90,12 @@ lines_in answered = map (λ (e : Exchange). e.line) answered
 abbrev pub told_in : List Exchange → List ℕ
 told_in answered = flat_map (λ (e : Exchange). e.text) answered
 
--- (a) From each state that the controller stood for at the beginning, all that was carried out is one run of the session, in the order in which it
--- was taken, and the controller stands for the run's last state.
+-- (a) From each state that the controller represented at the beginning, all that was carried out is one run of the session, in the order in
+-- which it was taken, and the controller represents the run's last state.
 pub record IsOneRun (start control : ControlValue) (turns : List Turn) : Type 0 where
   pub network : control.net ≡ start.net
-  pub run : (s : SeatState) → StandsFor start s
-      → (s' : SeatState) × StandsFor control s' × Run start.net s (map (λ turn. turn.0) turns) (map (λ turn. turn.1) turns) s'
+  pub run : (s : SeatState) → Represents start s
+      → (s' : SeatState) × Represents control s' × Run start.net s (map (λ turn. turn.0) turns) (map (λ turn. turn.1) turns) s'
 
 -- (c) So many of the lines that were answered stand before the last word that all is kept, and what was sent to a client is a front of the
 -- replies to its own lines among these.

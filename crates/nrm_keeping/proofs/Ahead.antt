@@ -8,7 +8,7 @@ use Rattle.nrm_model.specs.Network.{product_named}
 use Rattle.nrm_book.specs.declared.booking.Booking.{Booking}
 use Rattle.nrm_book.specs.Bookings.{booking_numbered, without}
 use Rattle.nrm_control.specs.State.{SeatState, after_answer}
-use Rattle.nrm_control.specs.Standing.{ControlValue, IsControl, StandsFor}
+use Rattle.nrm_control.specs.Standing.{ControlValue, IsControl, Represents}
 use Rattle.nrm_control.specs.Verdict.{verdict_of}
 use Rattle.nrm_control.specs.declared.answer.Answer.{Answer}
 use Rattle.nrm_control.specs.declared.answer.Answer.TheVariants as answer
@@ -41,7 +41,7 @@ stays control rows rows' s s' same book are = same ∙ are ∙ ap (λ (bookings 
 -- a request that is answered so
 module _ (control : ControlValue) (name : List ℕ) (party j : ℕ) (rows rows' : Option (List KeptRow)) (found : product_named control.net name ≡ Some j) (given : Answer)
     (is : given ≡ verdict_of control.net control.plan control.bookings control.next j party) where
-  requested : (s s' : SeatState) (reply : Reply) → StandsFor control s → Step control.net s (command.Book name party) reply s' → s' ≡ after_answer s j party given
+  requested : (s s' : SeatState) (reply : Reply) → Represents control s → Step control.net s (command.Book name party) reply s' → s' ≡ after_answer s j party given
   requested s s' reply stands step =
       let gives = rw found at step in
       gives.1 ∙ ap (after_answer s j party) (answer-same control s j party stands ∙ sym is)
@@ -64,14 +64,14 @@ module _ (control : ControlValue) (name : List ℕ) (party j : ℕ) (rows rows' 
       grown ∙ ap (λ (r : KeptRow). Some (rows_of control.net control.bookings ++ r ∷ [])) row ∙ ap Some (sym (rows-more control.net control.bookings b)) ∙ ap (λ (bookings : List Booking). Some (rows_of control.net bookings)) (sym after)
 
   -- and it would change the book
-  pub sold-changes : (number : ℕ) → given ≡ answer.Sold number → (s : SeatState) → StandsFor control s → ChangesBook control.net s (command.Book name party)
+  pub sold-changes : (number : ℕ) → given ≡ answer.Sold number → (s : SeatState) → Represents control s → ChangesBook control.net s (command.Book name party)
   sold-changes number sells s stands =
       let next : number ≡ control.next = sold-next control.net control.plan control.bookings control.next party j number (sym sells ∙ is) in
       (j, found, answer-same control s j party stands ∙ sym is ∙ sells ∙ ap answer.Sold (next ∙ sym stands.next))
 
 -- ---- cancellations
 module _ (control : ControlValue) (number : ℕ) (rows rows' : Option (List KeptRow)) (b : Booking) (live : booking_numbered control.bookings number ≡ Some b) where
-  pub live-changes : (s : SeatState) → StandsFor control s → ChangesBook control.net s (command.Cancel number)
+  pub live-changes : (s : SeatState) → Represents control s → ChangesBook control.net s (command.Cancel number)
   live-changes s stands = (b, ap (λ (bookings : List Booking). booking_numbered bookings number) stands.bookings ∙ live)
 
   pub live-ahead : Drops number rows rows' → KeepsAhead control (command.Cancel number) rows rows'
@@ -123,26 +123,26 @@ module _ {P : Type 0} (keeps : Ghosts P) (old new : ControlValue × P) (c : Comm
   unkept-stay same rows_same =
       read-weaker keeps Same (StaysWithBook old.0 new.0) old.1 new.1 (λ a b rows are. rows ∙ are ∙ ap (λ (control : ControlValue). Some (rows_of control.net control.bookings)) (sym same)) rows_same
 
-  pub unkept-line : (reply : KeptReply) → ((s : SeatState) → StandsFor old.0 s → KeptStep old.0.net s c reply s) → new.0 ≡ old.0 → HoweverRead keeps Same old.1 new.1 → keeps.faults new.1 ≡ count_after (reply ∷ []) (keeps.faults old.1)
+  pub unkept-line : (reply : KeptReply) → ((s : SeatState) → Represents old.0 s → KeptStep old.0.net s c reply s) → new.0 ≡ old.0 → HoweverRead keeps Same old.1 new.1 → keeps.faults new.1 ≡ count_after (reply ∷ []) (keeps.faults old.1)
       → KeptRefines keeps old new (c ∷ []) (kept_text reply)
   unkept-line reply steps same rows_same counted = record {
     network = ap (λ (control : ControlValue). control.net) same;
     stays = unkept-stay same rows_same;
     run = λ s stands. (
       s,
-      subst (λ (control : ControlValue). StandsFor control s) (sym same) stands,
+      subst (λ (control : ControlValue). Represents control s) (sym same) stands,
       record { writes = record { replies = reply ∷ []; run = (s, steps s stands, refl); output = sym (append-nil (kept_text reply)) }; counted = counted },
     );
   }
 
-  pub unkept-line_cut : (reply : KeptReply) (count : ℕ) → ((s : SeatState) → StandsFor old.0 s → KeptStep old.0.net s c reply s) → new.0 ≡ old.0 → HoweverRead keeps Same old.1 new.1
+  pub unkept-line_cut : (reply : KeptReply) (count : ℕ) → ((s : SeatState) → Represents old.0 s → KeptStep old.0.net s c reply s) → new.0 ≡ old.0 → HoweverRead keeps Same old.1 new.1
       → keeps.faults new.1 ≡ count_after (reply ∷ []) (keeps.faults old.1) → count < length (kept_text reply) → KeptRefinesCut keeps old new (c ∷ []) (take count (kept_text reply))
   unkept-line_cut reply count steps same rows_same counted within = record {
     network = ap (λ (control : ControlValue). control.net) same;
     stays = unkept-stay same rows_same;
     run = λ s stands. (
       s,
-      subst (λ (control : ControlValue). StandsFor control s) (sym same) stands,
+      subst (λ (control : ControlValue). Represents control s) (sym same) stands,
       record {
         writes = record { before = []; cut = c; after = []; commands_are = refl; replies = []; mid = s; run = refl; reply = reply; step = steps s stands; count = count; short = within; output = refl };
         counted = counted;
@@ -175,7 +175,7 @@ module _ {P : Type 0} (keeps : Ghosts P) (old new : ControlValue × P) (c : Comm
     sound = sound;
   }
 
-  module _ (reply : KeptReply) (held held' : Option (List ℕ)) (sunk sunk' : ℕ) (sound : is_control new) (steps : (s : SeatState) → StandsFor old.0 s → KeptStep old.0.net s c reply s) (same : new.0 ≡ old.0)
+  module _ (reply : KeptReply) (held held' : Option (List ℕ)) (sunk sunk' : ℕ) (sound : is_control new) (steps : (s : SeatState) → Represents old.0 s → KeptStep old.0.net s c reply s) (same : new.0 ≡ old.0)
       (rows_same : HoweverRead keeps Same old.1 new.1) (counted : keeps.faults new.1 ≡ count_after (reply ∷ []) (keeps.faults old.1)) where
     pub line-unkept : {T E : Type 0} (result : Result T E) → OnOk result (Appends held held' (kept_text reply)) → HasCause sunk sunk' result → OnOk result (Answers (KeptRefines keeps) is_control old new (c ∷ []) held held' sunk sunk')
     line-unkept (Ok value) written cause = record {

@@ -12,7 +12,7 @@ use Rattle.nrm_hindsight.specs.Requests.{requests_of, tallies_of}
 use Rattle.nrm_hindsight.specs.Selections.{ChosenFrom}
 use Rattle.nrm_hindsight.specs.Selections.ChosenFrom.{none as none_chosen}
 use Rattle.nrm_control.specs.State.{SeatState}
-use Rattle.nrm_control.specs.Standing.{ControlValue, IsControl, IsStartFault, StandsFor}
+use Rattle.nrm_control.specs.Standing.{ControlValue, IsControl, IsStartFault, Represents}
 use Rattle.nrm_stream.specs.declared.command.Command.{Command}
 use Rattle.nrm_outside.specs.NetworkFile.{CountsFetch, OpensFile, reason_line}
 use Rattle.nrm_outside.specs.Outside.{LeftStream, OnFile, Wrote}
@@ -103,11 +103,11 @@ served-trusts keeps how start new listed ended before after limit e serves trust
     before after limit e serves
 
 module _ {P : Type 0} (keeps : Ghosts P) (how : Reading) (job : KeptJob) (before after : KeptOutside) (starts : Starts (Some job) before) (start new : ControlValue) (listed ended : P)
-    (network : start.net ≡ starts.begins.net) (plan : start.plan ≡ starts.begins.plan) (loaded : loaded_in start ≡ starts.loaded) (stands : StandsFor start (loaded_state start.plan (loaded_in start)))
+    (network : start.net ≡ starts.begins.net) (plan : start.plan ≡ starts.begins.plan) (loaded : loaded_in start ≡ starts.loaded) (stands : Represents start (loaded_state start.plan (loaded_in start)))
     (tells : (rows : List KeptRow) → before.rows ≡ Some rows → rows_by keeps how listed ≡ Some starts.rows) (count : keeps.faults listed ≡ before.store_faults) (rows_after : after.rows ≡ rows_by keeps how ended)
     (faults_after : after.store_faults ≡ keeps.faults ended) (trusted : Trusts keeps how ended) (kept : IsControl new) where
-  began : StandsFor start (loaded_state starts.begins.plan starts.loaded)
-  began = subst (λ (s : SeatState). StandsFor start s) (λ k. loaded_state (plan k) (loaded k)) stands
+  began : Represents start (loaded_state starts.begins.plan starts.loaded)
+  began = subst (λ (s : SeatState). Represents start s) (λ k. loaded_state (plan k) (loaded k)) stands
 
   -- the rows were those of the book before the first line
   rows-began : (rows : List KeptRow) → before.rows ≡ Some rows → AreRows start.net start.bookings (rows_by keeps how listed)
@@ -116,7 +116,7 @@ module _ {P : Type 0} (keeps : Ghosts P) (how : Reading) (job : KeptJob) (before
       tells rows told ∙ ap Some (sym all ∙ (λ k. rows_of (sym network k) (sym (ap (λ (l : Loaded). l.bookings) loaded) k)))
 
   -- and are those of the last state's
-  leaves : (last : SeatState) → StandsFor new last → new.net ≡ start.net → (AreRows start.net start.bookings (rows_by keeps how listed) → AreRows new.net new.bookings (rows_by keeps how ended)) → Leaves starts.begins.net before after last
+  leaves : (last : SeatState) → Represents new last → new.net ≡ start.net → (AreRows start.net start.bookings (rows_by keeps how listed) → AreRows new.net new.bookings (rows_by keeps how ended)) → Leaves starts.begins.net before after last
   leaves last stands' same stays =
       let net : new.net ≡ starts.begins.net = same ∙ network in
       let own : IsNetwork starts.begins.net = subst IsNetwork net kept.network in
@@ -157,7 +157,7 @@ module _ {P : Type 0} (keeps : Ghosts P) (how : Reading) (job : KeptJob) (before
 abbrev pub HasBegun : NetworkValue → ControlValue → Type 0
 HasBegun net start = start ≡ record { net = net; plan = start.plan; bookings = []; next = 1; tallies = tallies_of net []; withheld = 0 }
 
-pub begun-stands : (net : NetworkValue) (start : ControlValue) → HasBegun net start → StandsFor start (loaded_state start.plan (loaded_in start))
+pub begun-stands : (net : NetworkValue) (start : ControlValue) → HasBegun net start → Represents start (loaded_state start.plan (loaded_in start))
 begun-stands net start begun = record {
   plan = refl;
   bookings = refl;

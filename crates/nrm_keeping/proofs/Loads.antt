@@ -14,7 +14,7 @@ use Rattle.nrm_book.specs.Book.{IsLoadable}
 use Rattle.nrm_book.specs.Bookings.{left_on}
 use Rattle.nrm_hindsight.specs.Requests.{request_of, requests_of}
 use Rattle.nrm_control.specs.State.{SeatState, after_answer}
-use Rattle.nrm_control.specs.Standing.{ControlValue, IsControl, StandsFor, book_of, with_answer}
+use Rattle.nrm_control.specs.Standing.{ControlValue, IsControl, Represents, book_of, with_answer}
 use Rattle.nrm_control.specs.declared.answer.Answer.TheVariants as answer
 use Rattle.nrm_keeper.specs.declared.row.KeptRow.{KeptRow}
 use Rattle.nrm_keeping.specs.Inner.Parts.{loaded_in}
@@ -66,14 +66,14 @@ pub record IsLoading (old now : ControlValue) (rest all : List KeptRow) : Type 0
   pub network : now.net ≡ old.net
   pub plan : now.plan ≡ old.plan
   pub behind : load_behind old.net (loaded_in old) all ≡ load_behind old.net (loaded_in now) rest
-  pub stands : StandsFor now (loaded_state now.plan (loaded_in now))
+  pub stands : Represents now (loaded_state now.plan (loaded_in now))
   pub sound : IsControl now
   pub low : old.next ≤ 100000000000 → now.next ≤ 100000000000
 
 module _ (old now : ControlValue) (row : KeptRow) (rest all : List KeptRow) (so_far : IsLoading old now (row ∷ rest) all) where
   -- a row that gives a booking
   pub loading-more : (new : ControlValue) (b : Booking) → Some b ≡ booking_of now.net (loaded_in now) row → b.number ≤ 99999999999 → new ≡ with_answer now b.product b.party (answer.Sold b.number)
-      → ((s : SeatState) → StandsFor now s → StandsFor new (after_answer s b.product b.party (answer.Sold b.number))) → IsControl new → IsLoading old new rest all
+      → ((s : SeatState) → Represents now s → Represents new (after_answer s b.product b.party (answer.Sold b.number))) → IsControl new → IsLoading old new rest all
   loading-more new b gives low changed state sound =
       let here : booking_of old.net (loaded_in now) row ≡ Some b = ap (λ (net : NetworkValue). booking_of net (loaded_in now) row) (sym so_far.network) ∙ sym gives in
       let step : load_behind old.net (loaded_in now) (row ∷ rest) ≡ load_behind old.net (loaded_more (loaded_in now) b) rest = rw here refl in
@@ -86,7 +86,7 @@ module _ (old now : ControlValue) (row : KeptRow) (rest all : List KeptRow) (so_
         network = ap (λ (control : ControlValue). control.net) changed ∙ so_far.network;
         plan = planned ∙ so_far.plan;
         behind = so_far.behind ∙ step ∙ ap (λ (l : Loaded). load_behind old.net l rest) (sym grown);
-        stands = subst (λ (s : SeatState). StandsFor new s) (reached ∙ (λ k. loaded_state (sym planned k) (sym grown k))) (state (loaded_state now.plan (loaded_in now)) so_far.stands);
+        stands = subst (λ (s : SeatState). Represents new s) (reached ∙ (λ k. loaded_state (sym planned k) (sym grown k))) (state (loaded_state now.plan (loaded_in now)) so_far.stands);
         sound = sound;
         low = λ was. omega (arith, low, ap (λ (control : ControlValue). control.next) changed);
       }

@@ -3,7 +3,7 @@ ghost use Rattle.std.specs.Prelude.{◌≡◌, ◌<◌, ◌≤◌, OnErr, OnOk};
 ghost use Rattle.std.specs.Int.{IsInRange};
 ghost use Rattle.nrm_edge.specs.Causes.{counted};
 ghost use Rattle.nrm_model.specs.declared.limits.TheConstants.{BOOKING_LIMIT, LAST_BOOKING, MOST_PARTY};
-ghost use Rattle.nrm_control.specs.Standing.{StandsFor};
+ghost use Rattle.nrm_control.specs.Standing.{Represents};
 ghost use Rattle.nrm_control.specs.State.{SeatState};
 ghost use Rattle.nrm_stream.specs.Commands.{IsCommand};
 ghost use Rattle.nrm_stream.specs.declared.command.Command.TheVariants as command;
@@ -34,7 +34,7 @@ fn keep_sale<P: Keeper>(
     ensures kept { OnOk result
         (HoweverRead P.Keeper (KeepsAhead controller.now (command.Book product.now party)) keeper.old keeper.new) }
     ensures same { OnErr result (HoweverRead P.Keeper Same keeper.old keeper.new) }
-    ensures changes { OnErr result ((s : SeatState) → StandsFor controller.now s
+    ensures changes { OnErr result ((s : SeatState) → Represents controller.now s
         → ChangesBook controller.now.net s (command.Book product.now party)) }
     ensures counts { P.faults keeper.new ≡ counted (has_failed result) (P.faults keeper.old) }
 {
@@ -65,7 +65,7 @@ fn keep_cancellation<P: Keeper>(
     requires number { number ≤ LAST_BOOKING }
     ensures kept { OnOk result (HoweverRead P.Keeper (KeepsAhead controller.now (command.Cancel number)) keeper.old keeper.new) }
     ensures same { OnErr result (HoweverRead P.Keeper Same keeper.old keeper.new) }
-    ensures changes { OnErr result ((s : SeatState) → StandsFor controller.now s
+    ensures changes { OnErr result ((s : SeatState) → Represents controller.now s
         → ChangesBook controller.now.net s (command.Cancel number)) }
     ensures counts { P.faults keeper.new ≡ counted (has_failed result) (P.faults keeper.old) }
 {
@@ -86,7 +86,7 @@ fn keep<P: Keeper>(
     requires next { controller.now.next < BOOKING_LIMIT }
     ensures kept { OnOk result (HoweverRead P.Keeper (KeepsAhead controller.now command.now) keeper.old keeper.new) }
     ensures same { OnErr result (HoweverRead P.Keeper Same keeper.old keeper.new) }
-    ensures changes { OnErr result ((s : SeatState) → StandsFor controller.now s → ChangesBook controller.now.net s command.now) }
+    ensures changes { OnErr result ((s : SeatState) → Represents controller.now s → ChangesBook controller.now.net s command.now) }
     ensures counts { P.faults keeper.new ≡ counted (has_failed result) (P.faults keeper.old) }
 {
     match command {

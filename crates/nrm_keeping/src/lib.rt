@@ -1,5 +1,5 @@
-//! A session that keeps its bookings in a store, so that a later run goes on with them. What a line changes of the book is kept first, and
-//! only then carried out: a fault of the store changes nothing.
+//! The session of `nrm_kept`, which keeps its bookings, and not the store that it keeps them in, which is `nrm_keeper`'s. What a line
+//! changes of the book is kept first, and only then carried out: a fault of the store changes nothing. A later run goes on with them.
 #![tactic(auto)]
 
 mod keeping;

@@ -4,7 +4,7 @@ ghost use Rattle.std.specs.List.{list_all};
 ghost use Rattle.nrm_model.specs.Inventory.{inventory_of};
 ghost use Rattle.nrm_book.specs.Bookings.{left_on};
 ghost use Rattle.nrm_book.specs.Book.{IsLoadable};
-ghost use Rattle.nrm_control.specs.Standing.{IsControl, StandsFor, book_of};
+ghost use Rattle.nrm_control.specs.Standing.{IsControl, Represents, book_of};
 ghost use Rattle.nrm_session.specs.declared.serving.TheConstants.{LATEST_START};
 ghost use Rattle.nrm_keeping.specs.Inner.Parts.{loaded_in};
 ghost use Rattle.nrm_keeping.specs.Rows.{booking_of, load_behind, loaded_state, row_fits};
@@ -65,12 +65,12 @@ fn booking_of(controller: &Controller, row: &KeptRow) -> Option<Booking>
 /// # Errors
 /// The number of the first row that doesn't load.
 pub(crate) fn load_rows(controller: &mut Controller, rows: &[KeptRow]) -> Result<(), u64>
-    requires { StandsFor controller.old (loaded_state controller.old.plan (loaded_in controller.old)) }
+    requires { Represents controller.old (loaded_state controller.old.plan (loaded_in controller.old)) }
     ensures loaded { OnOk result (load_behind controller.old.net (loaded_in controller.old) rows.now ≡ Ok (loaded_in controller.new)) }
     ensures refused { IfErr result (λ number. load_behind controller.old.net (loaded_in controller.old) rows.now ≡ Err number) }
     ensures network { controller.new.net ≡ controller.old.net }
     ensures plan { controller.new.plan ≡ controller.old.plan }
-    ensures stands { StandsFor controller.new (loaded_state controller.new.plan (loaded_in controller.new)) }
+    ensures represents { Represents controller.new (loaded_state controller.new.plan (loaded_in controller.new)) }
     ensures sound { IsControl controller.new }
     ensures low { controller.old.next ≤ LATEST_START → controller.new.next ≤ LATEST_START }
 {

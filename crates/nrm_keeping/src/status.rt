@@ -9,7 +9,7 @@ use nrm_outside::Statuses;
 pub enum KeptStatus {
     /// The input was read to its end, and the replies were written whole.
     Done,
-    /// The words ask for nothing that is known; the usage line was written.
+    /// Usage error: the words ask for nothing that is known. The usage line was written.
     Usage,
     /// The network file is refused; a line says why.
     Refused,

@@ -26,7 +26,7 @@ use nrm_outside::{mode_in, open_network};
 use nrm_session::{End, serve_by};
 use std::alloc::Global;
 
-// What is written if the words ask for nothing that is known.
+// What is written on a usage error.
 const USAGE: &[u8] = b"usage: nrm_kept MODE FILE STORE\n";
 
 /// What the words ask for: a mode and a network file.

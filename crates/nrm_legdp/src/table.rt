@@ -26,7 +26,7 @@ fn threshold(pay: u128, row: &[u128]) -> usize
     last
 }
 
-// What x seats come to if a demand is sold what is left above y.
+// What `x` seats come to if a demand is sold what is left above `y`.
 fn one_sale(pay: u128, row: &[u128], y: usize, x: usize, demand: u16) -> u128
     requires pay { pay < 2 ^ 80 }
     requires worth { All (λ w. w < 2 ^ 87) row.now }
@@ -38,7 +38,7 @@ fn one_sale(pay: u128, row: &[u128], y: usize, x: usize, demand: u16) -> u128
     pay * (sold as u128) + row[x - sold]
 }
 
-// The same, over all histories.
+// The value over all histories of selling what is left above `y`.
 fn all_sales(pay: u128, row: &[u128], y: usize, x: usize, demands: &[u16]) -> u128
     requires pay { pay < 2 ^ 80 }
     requires worth { All (λ w. w < 2 ^ 87) row.now }

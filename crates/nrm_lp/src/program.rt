@@ -4,8 +4,8 @@ ghost use Rattle.std.specs.Prelude.{◌≡◌, ◌<◌, [], get_or, length, map,
 
 use std::marker::Model;
 
-/// A program within its limits: caps and bounds in seats of all histories, fares in whole currency units, and for each
-/// product its legs, no one twice.
+/// A linear program within its limits: caps and bounds in seats of all histories, fares in whole currency units, and for each
+/// product its legs, none twice.
 #[derive(Drop)]
 pub struct Program {
     caps: Vec<u32>,

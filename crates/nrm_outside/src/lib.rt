@@ -1,5 +1,6 @@
-//! What programs over a network have in common: from a file's name to its network, what they see of the outside, the words for modes, and
-//! a line with the status that goes with it, such as the one that says why there is no network.
+//! What all programs over a network have around a session, and no session, reply or store: from a file's name to its network, what they
+//! see of the outside, the words for modes, and a line with the status that goes with it, such as the one that says why there is no
+//! network.
 #![tactic(auto)]
 
 mod line;

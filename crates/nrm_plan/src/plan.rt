@@ -109,7 +109,7 @@ impl Plan {
     /// The plan before anything is sold: that of period 1 with every authorised seat left.
     ///
     /// # Errors
-    /// As of `make`.
+    /// As for `make`.
     pub fn opening(alloc: Global, net: &Network, mode: Mode) -> Result<Plan, SolveFault>
         ensures plan { IfOk result (IsOpeningPlan net.now mode) }
         ensures fault { IfErr result (IsPlanFault net.now mode (inventory_of net.now).authorised 1) }

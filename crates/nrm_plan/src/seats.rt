@@ -24,7 +24,7 @@ impl Model for SeatsLeft {
 }
 
 impl SeatsLeft {
-    /// Of no leg.
+    /// No legs yet.
     pub fn new() -> SeatsLeft
         ensures { result ≡ [] }
     {

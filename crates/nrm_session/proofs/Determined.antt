@@ -17,7 +17,7 @@ use Rattle.nrm_control.specs.State.{SeatState, seats_left, with_plan}
 use Rattle.nrm_stream.specs.declared.command.Command.{Command}
 use Rattle.nrm_stream.specs.declared.command.Command.TheVariants as command
 use Rattle.nrm_session.specs.Replies.{Reply, hindsight_told, memory, optimised_at, overflow, unknown}
-use Rattle.nrm_session.specs.Step.{Gives, LooksBack, Reoptimises, Step, is_large, lacks_memory, optimises, overflows, tells, wants_memory}
+use Rattle.nrm_session.specs.Step.{Gives, LooksBack, Reoptimises, Step, is_large, lacks_memory, optimises, overflows, tells, runs_out_of_memory}
 use Rattle.nrm_session.specs.Step.{lacks_period}
 use Rattle.nrm_session.specs.Run.{Run}
 use Rattle.nrm_session.specs.Laws.{RepliesAreDetermined, StatesAreDetermined}
@@ -61,15 +61,15 @@ module _ (net : NetworkValue) (s : SeatState) (k : ℕ) where
   again-same reply other s' s'' (optimises plan for) (optimises plan' for') agree =
       let same = once.plan plan plan' for for' in (ap (λ (p : PlanValue). optimised_at (value_of net p)) same, ap (with_plan s) same)
   again-same reply other s' s'' (optimises plan for) (overflows n number large) agree = absurd (once.apart plan n number for large)
-  again-same reply other s' s'' (optimises plan for) (wants_memory solves) agree =
+  again-same reply other s' s'' (optimises plan for) (runs_out_of_memory solves) agree =
       absurd (memory-alone (optimised_at (value_of net plan)) (some-plan (value_of net plan)) agree)
   again-same reply other s' s'' (overflows n number large) (optimises plan for) agree = absurd (once.apart plan n number for large)
   again-same reply other s' s'' (overflows n number large) (overflows n' number' large') agree = (refl, refl)
-  again-same reply other s' s'' (overflows n number large) (wants_memory solves) agree = absurd (memory-alone overflow (λ e. cc) agree)
-  again-same reply other s' s'' (wants_memory solves) (optimises plan for) agree =
+  again-same reply other s' s'' (overflows n number large) (runs_out_of_memory solves) agree = absurd (memory-alone overflow (λ e. cc) agree)
+  again-same reply other s' s'' (runs_out_of_memory solves) (optimises plan for) agree =
       absurd (alone-memory (optimised_at (value_of net plan)) (some-plan (value_of net plan)) agree)
-  again-same reply other s' s'' (wants_memory solves) (overflows n number large) agree = absurd (alone-memory overflow (λ e. cc) agree)
-  again-same reply other s' s'' (wants_memory solves) (wants_memory solves') agree = (refl, refl)
+  again-same reply other s' s'' (runs_out_of_memory solves) (overflows n number large) agree = absurd (alone-memory overflow (λ e. cc) agree)
+  again-same reply other s' s'' (runs_out_of_memory solves) (runs_out_of_memory solves') agree = (refl, refl)
 
   period-same : (beyond : Bool) (reply other : Reply) (s' s'' : SeatState)
       → MatchBool beyond (Gives unknown reply s s') (Reoptimises net s k reply s')

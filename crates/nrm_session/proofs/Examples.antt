@@ -26,7 +26,7 @@ use Rattle.nrm_stream.specs.declared.command.Command.{Command}
 use Rattle.nrm_session.specs.Replies.{Reply, bad, leg_told, unknown, sold, no_leg, no_fare, cancelled, hindsight_told, memory, optimised}
 use Rattle.nrm_session.specs.Replies.{optimised_at, optimised_none, overflow, plan_told, text_of}
 use Rattle.nrm_session.specs.Run.{Run}
-use Rattle.nrm_session.specs.Step.{LooksBack, Reoptimises, Step, is_large, lacks_memory, optimises, overflows, tells, wants_memory}
+use Rattle.nrm_session.specs.Step.{LooksBack, Reoptimises, Step, is_large, lacks_memory, optimises, overflows, tells, runs_out_of_memory}
 use Rattle.nrm_session.specs.declared.reply.Reply.TheVariants as answered
 
 abbrev there_and_back : NetworkValue
@@ -97,7 +97,7 @@ never_run_out s made = by memory s refl made
         planned None e = cc
         planned (Some cert) e = cc
     by reply s' e (overflows n number large) = cc
-    by reply s' e (wants_memory solves) = solves refl
+    by reply s' e (runs_out_of_memory solves) = solves refl
 
 -- a line of hindsight tells a value, or it is too large, or memory runs out; nothing else, and nothing changes
 never_bad : (net : NetworkValue) (s s' : SeatState) → Step net s command.Hindsight bad s' → ⊥
@@ -108,8 +108,8 @@ never_bad net s s' step = by bad refl step.0
     by reply e (is_large n number large) = cc
     by reply e lacks_memory = cc
 
-wants_for_memory : (net : NetworkValue) (s : SeatState) → Step net s command.Hindsight memory s
-wants_for_memory net s = (lacks_memory, refl)
+may_run_out : (net : NetworkValue) (s : SeatState) → Step net s command.Hindsight memory s
+may_run_out net s = (lacks_memory, refl)
 
 -- both requests are remembered, the refused one too; one for a product that isn't there is none
 both_asked : requests_in there_and_back (command.Book (codes "BACK") 1 ∷ command.Cancel 1 ∷ command.Book (codes "NONE") 1

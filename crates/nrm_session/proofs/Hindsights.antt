@@ -21,7 +21,7 @@ use Rattle.nrm_hindsight.specs.Selections.ChosenFrom.{none}
 use Rattle.nrm_hindsight.proofs.Choices.{chosen-push, kept-chosen, left-out-push}
 use Rattle.nrm_hindsight.proofs.Selections.{bookings-selected, selections-bounded}
 use Rattle.nrm_hindsight.proofs.Tallies.{tallies-capped}
-use Rattle.nrm_control.specs.Standing.{ControlValue, IsControl, StandsFor}
+use Rattle.nrm_control.specs.Standing.{ControlValue, IsControl, Represents}
 use Rattle.nrm_control.specs.Refunds.{refund_of}
 use Rattle.nrm_control.specs.State.{SeatState, after_answer, after_cancellation, after_request, answer_in, opening}
 use Rattle.nrm_control.specs.declared.answer.Answer.{Answer}
@@ -32,7 +32,7 @@ use Rattle.nrm_stream.specs.declared.command.Command.TheVariants as command
 use Rattle.nrm_session.specs.Hindsight.{BoundsFrom, HindsightBounds, HindsightBoundsOn, request_in, requests_in}
 use Rattle.nrm_session.specs.Laws.{IsSound}
 use Rattle.nrm_session.specs.Replies.{Reply, cancelled, hindsight_told, leg_told, reply_to, unknown}
-use Rattle.nrm_session.specs.Step.{LooksBack, Reoptimises, Step, is_large, lacks_memory, optimises, overflows, tells, wants_memory}
+use Rattle.nrm_session.specs.Step.{LooksBack, Reoptimises, Step, is_large, lacks_memory, optimises, overflows, tells, runs_out_of_memory}
 use Rattle.nrm_session.specs.Step.{lacks_period}
 use Rattle.nrm_session.specs.Run.{Run}
 use Rattle.nrm_session.proofs.Seats.{kept}
@@ -95,7 +95,7 @@ after-step net s (command.Reoptimise k) reply s' step = by (lacks_period net k) 
     again : (told : Reply) (after : SeatState) → Reoptimises net s k told after → Remembers s [] after
     again told after (optimises plan for) = record { requests = sym (append-nil s.requests); choice = λ choice. choice }
     again told after (overflows n number large) = same-requests s s refl
-    again told after (wants_memory solves) = same-requests s s refl
+    again told after (runs_out_of_memory solves) = same-requests s s refl
 
     by : (beyond : Bool) → MatchBool beyond ((reply ≡ unknown) × (s' ≡ s)) (Reoptimises net s k reply s') → Remembers s [] s'
     by true told = same-requests s s' told.1
@@ -153,8 +153,8 @@ bounded net s ok keeps choice commands replies mid after value revenue withheld 
 pub openings-bounded : HindsightBounds
 openings-bounded net plan ok = bounded net (opening plan) ok (kept.0 net plan) none
 
--- and from each state that a controller stands for
-pub control-bounds : (control : ControlValue) → IsControl control → (s : SeatState) → StandsFor control s → BoundsFrom control.net s
+-- and from each state that a controller represents
+pub control-bounds : (control : ControlValue) → IsControl control → (s : SeatState) → Represents control s → BoundsFrom control.net s
 control-bounds control is s stands = bounded control.net s is.network keeps stands.choice
   where
     within : (b : Booking) → b.product < length (inventory_of control.net).legs → b.product < length control.net.products

@@ -13,7 +13,7 @@ use Rattle.nrm_control.specs.declared.answer.Answer.TheVariants as answer
 use Rattle.nrm_stream.specs.declared.command.Command.{Command}
 use Rattle.nrm_stream.specs.declared.command.Command.TheVariants as command
 use Rattle.nrm_session.specs.Replies.{Reply, unknown}
-use Rattle.nrm_session.specs.Step.{Gives, Reoptimises, Step, optimises, overflows, wants_memory, lacks_period}
+use Rattle.nrm_session.specs.Step.{Gives, Reoptimises, Step, optimises, overflows, runs_out_of_memory, lacks_period}
 use Rattle.nrm_session.specs.Run.{Run}
 use Rattle.nrm_session.specs.Laws.{IsPlanned, PlansStayOptimal}
 
@@ -51,7 +51,7 @@ module _ (net : NetworkValue) (is : IsNetwork net) (m : Mode) where
       → IsPlanned net m s'
   again-keeps s k reply s' planned (optimises plan for) = planned-so s' (for.mode_is ∙ planned.mode_is) for.planned
   again-keeps s k reply s' planned (overflows n number large) = planned
-  again-keeps s k reply s' planned (wants_memory solves) = planned
+  again-keeps s k reply s' planned (runs_out_of_memory solves) = planned
 
   period-keeps : (beyond : Bool) (s : SeatState) (k : ℕ) (reply : Reply) (s' : SeatState) → IsPlanned net m s
       → MatchBool beyond (Gives unknown reply s s') (Reoptimises net s k reply s') → IsPlanned net m s'

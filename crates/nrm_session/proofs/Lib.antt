@@ -6,7 +6,7 @@ pub mod FirstParts  -- each first part of a run is a run
 pub mod Hindsights  -- the value of hindsight bounds every selection of the requests so far
 pub mod InForce  -- the plan in force stays one of the network
 pub mod Money  -- what was sold in all is the revenue, what was given back, and what is withheld
-pub mod OtherLines  -- lines that take no memory never want for it
+pub mod OtherLines  -- lines that take no memory never run out of it
 pub mod Periods  -- periods that a network has, and one that it lacks
 pub mod PhysicalSeats  -- two networks that differ in their physical seats alone have the same runs, but for the texts of legs
 pub mod Pieces  -- what one call of the splitter adds to the lines that were answered

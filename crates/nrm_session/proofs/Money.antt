@@ -28,7 +28,7 @@ use Rattle.nrm_session.specs.Money.{MoneyAddsUp, MoneyGoesOn, given_back, given_
 use Rattle.nrm_session.specs.Replies.{Reply, cancelled, hindsight_told, leg_told, optimised_at, overflow, memory, reply_to, sold, unknown}
 use Rattle.nrm_session.specs.Run.{Run}
 use Rattle.nrm_session.specs.Step.{LooksBack, Reoptimises, Step, is_large, lacks_memory, lacks_period, optimises, overflows, tells}
-use Rattle.nrm_session.specs.Step.{wants_memory}
+use Rattle.nrm_session.specs.Step.{runs_out_of_memory}
 use Rattle.nrm_session.proofs.Hindsights.{told-so}
 
 -- the numbers of the bookings rise, and stay below the next one: so a number is that of one booking at most
@@ -127,7 +127,7 @@ again-moves net s k reply s' numbered (optimises plan for) = record {
 }
 again-moves net s k reply s' numbered (overflows n number large) =
     stays net s (command.Reoptimise k) overflow overflow s numbered refl refl (refl, refl)
-again-moves net s k reply s' numbered (wants_memory solves) =
+again-moves net s k reply s' numbered (runs_out_of_memory solves) =
     stays net s (command.Reoptimise k) memory memory s numbered refl refl (refl, refl)
 
 none-looking : (net : NetworkValue) (s : SeatState) (reply : Reply) → LooksBack net s reply → given_back reply ≡ 0

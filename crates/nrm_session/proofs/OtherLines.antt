@@ -11,7 +11,7 @@ use Rattle.nrm_control.specs.declared.answer.Answer.TheVariants as answer
 use Rattle.nrm_stream.specs.declared.command.Command.TheVariants as command
 use Rattle.nrm_session.specs.Laws.{OtherLinesNeedNoMemory}
 use Rattle.nrm_session.specs.Replies.{Reply, memory, plan_told, bad, reply_to, unknown}
-use Rattle.nrm_session.specs.Step.{Gives, Reoptimises, lacks_period, optimises, overflows, wants_memory}
+use Rattle.nrm_session.specs.Step.{Gives, Reoptimises, lacks_period, optimises, overflows, runs_out_of_memory}
 use Rattle.std.specs.Int.{IsInRange}
 use Rattle.nrm_session.proofs.Periods.{had}
 use Rattle.nrm_session.proofs.Determined.{some-plan}
@@ -34,7 +34,7 @@ again : (net : NetworkValue) (s : SeatState) (k : ℕ) (reply : Reply) (s' : Sea
     → (s.plan.mode ≢ mode.FirstCome) × (s' ≡ s)
 again net s k reply s' is (optimises plan for) = absurd (some-plan (value_of net plan) (sym is))
 again net s k reply s' is (overflows n number large) = cc
-again net s k reply s' is (wants_memory solves) = (solves, refl)
+again net s k reply s' is (runs_out_of_memory solves) = (solves, refl)
 
 period : (net : NetworkValue) (s s' : SeatState) (k : ℕ) (beyond : Bool) → lacks_period net k ≡ beyond
     → MatchBool beyond (Gives unknown memory s s') (Reoptimises net s k memory s')

@@ -27,7 +27,7 @@ use Rattle.nrm_stream.specs.declared.command.Command.{Command}
 use Rattle.nrm_stream.specs.declared.command.Command.TheVariants as command
 use Rattle.nrm_session.specs.Replies.{Reply, leg_told, no_leg, plan_told, reply_to, unknown}
 use Rattle.nrm_session.specs.Step.{Gives, LooksBack, Reoptimises, Step, is_large, lacks_memory, lacks_period, optimises, overflows, tells}
-use Rattle.nrm_session.specs.Step.{wants_memory}
+use Rattle.nrm_session.specs.Step.{runs_out_of_memory}
 use Rattle.nrm_session.specs.Run.{Run}
 use Rattle.nrm_session.specs.PhysicalSeats.{DifferInSeats, OpeningsAreSame, PhysicalSeatsDecideNothing, SameButLegText, SameButLegTexts, SessionsAreSame}
 use Rattle.nrm_model.proofs.SeatlessLegs.{AreSameLegs, with_legs, count-same, inventory-same, least-same, name-same, named-same}
@@ -69,7 +69,7 @@ module _ (net : NetworkValue) (legs : List Leg) (same : AreSameLegs net.legs leg
       (plan_for-same net legs same s.plan.mode (seats_left net s.bookings) k plan for))
   again-same s k reply s' (overflows n number large) =
       overflows n number (subst (λ left. PlanOverflows other s.plan.mode left k n number) (seats_left-same s.bookings) large)
-  again-same s k reply s' (wants_memory solves) = wants_memory solves
+  again-same s k reply s' (runs_out_of_memory solves) = runs_out_of_memory solves
 
   -- ---- hindsight
   tallies-same : (requests : List Request) → tallies_of net requests ≡ tallies_of other requests

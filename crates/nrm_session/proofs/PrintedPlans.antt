@@ -21,7 +21,7 @@ use Rattle.nrm_control.specs.declared.answer.Answer.TheVariants as answer
 use Rattle.nrm_stream.specs.declared.command.Command.{Command}
 use Rattle.nrm_stream.specs.declared.command.Command.TheVariants as command
 use Rattle.nrm_session.specs.Replies.{Reply, bad, memory, optimised, optimised_at, optimised_none, overflow, plan_told, reply_to, unknown}
-use Rattle.nrm_session.specs.Step.{Gives, LooksBack, Reoptimises, Step, is_large, lacks_memory, optimises, overflows, tells, wants_memory}
+use Rattle.nrm_session.specs.Step.{Gives, LooksBack, Reoptimises, Step, is_large, lacks_memory, optimises, overflows, tells, runs_out_of_memory}
 use Rattle.nrm_session.specs.Step.{lacks_period}
 use Rattle.nrm_session.specs.Run.{Run}
 use Rattle.nrm_session.specs.LastPlan.{at_line, at_opening, IsPlannedFor, NoneTellsOfPlan, PrintedFromOpeningPlans, PrintedPricesAreOptimal, PrintsOptimalPrices}
@@ -75,7 +75,7 @@ again : (net : NetworkValue) (s : SeatState) (k : ℕ) (reply : Reply) (s' : Sea
     ⊎ Plans net s (command.Reoptimise k) reply s'
 again net s k reply s' (optimises plan for) = inr (record { period = k; line = refl; told = refl; for = for })
 again net s k reply s' (overflows n number large) = inl (record { plan = refl; none = not-told overflow (λ v e. cc) (λ e. cc) })
-again net s k reply s' (wants_memory solves) = inl (record { plan = refl; none = not-told memory (λ v e. cc) (λ e. cc) })
+again net s k reply s' (runs_out_of_memory solves) = inl (record { plan = refl; none = not-told memory (λ v e. cc) (λ e. cc) })
 
 in-period : (net : NetworkValue) (beyond : Bool) (s : SeatState) (k : ℕ) (reply : Reply) (s' : SeatState)
     → MatchBool beyond (Gives unknown reply s s') (Reoptimises net s k reply s')

@@ -24,7 +24,7 @@ use Rattle.nrm_stream.specs.declared.command.Command.{Command}
 use Rattle.nrm_stream.specs.declared.command.Command.TheVariants as command
 use Rattle.nrm_report.specs.Texts.{leg_text}
 use Rattle.nrm_session.specs.Replies.{Reply, unknown, cancelled, leg_told, reply_to}
-use Rattle.nrm_session.specs.Step.{Reoptimises, Step, optimises, overflows, wants_memory, lacks_period}
+use Rattle.nrm_session.specs.Step.{Reoptimises, Step, optimises, overflows, runs_out_of_memory, lacks_period}
 use Rattle.nrm_session.specs.Run.{Run}
 use Rattle.nrm_session.specs.Laws.{IsSound, NoLegOversold, RunsOversellNoLeg}
 
@@ -99,7 +99,7 @@ step-keeps net s (command.Reoptimise k) reply s' kept step = by (lacks_period ne
     again : (told : Reply) (after : SeatState) → Reoptimises net s k told after → Sound net after
     again told after (optimises plan for) = record { products = kept.products; seats = kept.seats }
     again told after (overflows n number large) = kept
-    again told after (wants_memory solves) = kept
+    again told after (runs_out_of_memory solves) = kept
 
     by : (beyond : Bool) → MatchBool beyond ((reply ≡ unknown) × (s' ≡ s)) (Reoptimises net s k reply s') → Sound net s'
     by true told = stays net s s' kept told.1

@@ -1,10 +1,10 @@
--- What follows from how a session was served, whatever was made of its commands; and what a controller stands for that has just begun.
+-- What follows from how a session was served, whatever was made of its commands; and what a controller represents that has just begun.
 use Rattle.std.proofs.Common.{ℕ, ◌≡◌, ◌∙◌, List, [], take, inl, inr, refl, sym, ap}
 use Rattle.nrm_model.specs.Network.{NetworkValue}
 use Rattle.nrm_hindsight.specs.Requests.{tallies_of}
 use Rattle.nrm_hindsight.specs.Selections.ChosenFrom.{none as none_chosen}
 use Rattle.nrm_control.specs.State.{opening}
-use Rattle.nrm_control.specs.Standing.{ControlValue, StandsFor}
+use Rattle.nrm_control.specs.Standing.{ControlValue, Represents}
 use Rattle.nrm_stream.specs.Commands.{commands_of, whole_commands}
 use Rattle.nrm_stream.specs.declared.command.Command.{Command}
 use Rattle.nrm_session.specs.Serving.{ServesBy, Streams}
@@ -37,7 +37,7 @@ served-as X whole cut w k before after limit end.TooLong (taken, output, took, l
 abbrev pub HasBegun : NetworkValue → ControlValue → Type 0
 HasBegun net start = start ≡ record { net = net; plan = start.plan; bookings = []; next = 1; tallies = tallies_of net []; withheld = 0 }
 
-pub opened : (start : ControlValue) (net : NetworkValue) → HasBegun net start → StandsFor start (opening start.plan)
+pub opened : (start : ControlValue) (net : NetworkValue) → HasBegun net start → Represents start (opening start.plan)
 opened start net begun = record {
   plan = refl;
   bookings = sym (ap (λ (c : ControlValue). c.bookings) begun);

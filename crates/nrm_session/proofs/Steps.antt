@@ -16,7 +16,7 @@ use Rattle.nrm_book.specs.declared.booking.Booking.{Booking}
 use Rattle.nrm_book.specs.Bookings.{booking_numbered, revenue_of, without}
 use Rattle.nrm_control.specs.Refunds.{refund_of, withheld_by}
 use Rattle.nrm_control.specs.State.{SeatState, after_cancellation, after_request, answer_in, seats_left, with_plan}
-use Rattle.nrm_control.specs.Standing.{ControlValue, StandsFor, with_answer}
+use Rattle.nrm_control.specs.Standing.{ControlValue, Represents, with_answer}
 use Rattle.nrm_control.specs.Verdict.{verdict_of}
 use Rattle.nrm_control.specs.declared.answer.Answer.{Answer}
 use Rattle.nrm_control.specs.declared.answer.Answer.TheVariants as answer
@@ -27,7 +27,7 @@ use Rattle.nrm_stream.specs.declared.command.Command.TheVariants as command
 use Rattle.nrm_session.specs.Replies.{Reply, unknown, no_leg, no_fare, cancelled, overflow, memory, hindsight_told, leg_told, optimised_at}
 use Rattle.nrm_session.specs.Replies.{reply_to}
 use Rattle.nrm_session.specs.Step.{Gives, LooksBack, Reoptimises, Step, is_large, lacks_memory, lacks_period, optimises, overflows, tells}
-use Rattle.nrm_session.specs.Step.{wants_memory}
+use Rattle.nrm_session.specs.Step.{runs_out_of_memory}
 use Rattle.std.specs.Int.{IsInRange}
 use Rattle.nrm_session.proofs.Periods.{has-not}
 use Rattle.nrm_session.specs.Answering.{Steps, reply_in}
@@ -36,7 +36,7 @@ use Rattle.nrm_session.specs.Inner.Solved.{reply_looking_back, reply_planned}
 -- a request that was refused leaves the network and the next number
 refused-steps : (old new : ControlValue) (name : List ℕ) (j party : ℕ) (given : Answer) → Some j ≡ product_named old.net name → given
     ≡ verdict_of old.net old.plan old.bookings old.next j party → new.net ≡ old.net → new.next ≡ old.next
-    → ((s : SeatState) → StandsFor old s → StandsFor new (after_request old.net s j party))
+    → ((s : SeatState) → Represents old s → Represents new (after_request old.net s j party))
     → Steps old new (command.Book name party) (reply_to new.net given)
 refused-steps old new name j party given found refuses net next stay =
     let reply : Reply = reply_to new.net given in
@@ -58,7 +58,7 @@ refused-steps old new name j party given found refuses net next stay =
 -- by a leg, and by the fare
 pub leg-refuses : (old new : ControlValue) (name : List ℕ) (j party leg : ℕ) → Some j ≡ product_named old.net name → answer.Leg leg
     ≡ verdict_of old.net old.plan old.bookings old.next j party → new ≡ with_answer old j party (answer.Leg leg)
-    → ((s : SeatState) → StandsFor old s → StandsFor new (after_request old.net s j party))
+    → ((s : SeatState) → Represents old s → Represents new (after_request old.net s j party))
     → Steps old new (command.Book name party) (no_leg (leg_of new.net leg).name)
 leg-refuses old new name j party leg found refuses changed =
     refused-steps old new name j party (answer.Leg leg) found refuses (ap (λ (control : ControlValue). control.net) changed)
@@ -66,7 +66,7 @@ leg-refuses old new name j party leg found refuses changed =
 
 pub fare-refuses : (old new : ControlValue) (name : List ℕ) (j party : ℕ) → Some j ≡ product_named old.net name → answer.Fare
     ≡ verdict_of old.net old.plan old.bookings old.next j party → new ≡ with_answer old j party answer.Fare
-    → ((s : SeatState) → StandsFor old s → StandsFor new (after_request old.net s j party))
+    → ((s : SeatState) → Represents old s → Represents new (after_request old.net s j party))
     → Steps old new (command.Book name party) no_fare
 fare-refuses old new name j party found refuses changed =
     refused-steps old new name j party answer.Fare found refuses (ap (λ (control : ControlValue). control.net) changed)
@@ -98,7 +98,7 @@ live-booking net (Some booking) refund is = (booking, refl, cc)
 pub cancel-steps : (old new : ControlValue) (number refund : ℕ) → Some refund
     ≡ option_map (refund_of old.net) (booking_numbered old.bookings number)
     → new ≡ record old { bookings = without old.bookings number; withheld = old.withheld + withheld_by old.net old.bookings number }
-    → ((s : SeatState) → StandsFor old s → StandsFor new (after_cancellation old.net s number))
+    → ((s : SeatState) → Represents old s → Represents new (after_cancellation old.net s number))
     → Steps old new (command.Cancel number) (cancelled number refund)
 cancel-steps old new number refund is removed stay =
     let (booking, live, given) = live-booking old.net (booking_numbered old.bookings number) refund is in
@@ -119,7 +119,7 @@ cancel-steps old new number refund is removed stay =
 
 -- ---- a line of hindsight, which changes nothing
 module _ (control : ControlValue) where
-  looks : (reply : Reply) → ((s : SeatState) → StandsFor control s → LooksBack control.net s reply)
+  looks : (reply : Reply) → ((s : SeatState) → Represents control s → LooksBack control.net s reply)
       → Steps control control command.Hindsight reply
   looks reply told = record { network = refl; next = omega arith; step = λ s stands. (s, (told s stands, refl), stands) }
 
@@ -159,14 +159,14 @@ module _ (old new : ControlValue) (k : ℕ) (within : IsInRange 1 old.net.period
   in-period s s' reply made = subst (λ (beyond : Bool). MatchBool beyond (Gives unknown reply s s') (Reoptimises old.net s k reply s'))
       (sym period) made
 
-  -- what holds of the controller's plan and bookings holds of a state's that it stands for
-  of-state : (P : Mode → List Booking → Type 0) (s : SeatState) → StandsFor old s → P old.plan.mode old.bookings → P s.plan.mode s.bookings
+  -- what holds of the controller's plan and bookings holds of a state's that it represents
+  of-state : (P : Mode → List Booking → Type 0) (s : SeatState) → Represents old s → P old.plan.mode old.bookings → P s.plan.mode s.bookings
   of-state P s stands holds =
       subst (λ (bookings : List Booking). P s.plan.mode bookings) (sym stands.bookings)
       (subst (λ (m : Mode). P m old.bookings) (ap (λ (plan : PlanValue). plan.mode) (sym stands.plan)) holds)
 
   planned-steps : IsPlanFor old.net old.plan.mode (seats_left old.net old.bookings) k new.plan → new ≡ record old { plan = new.plan }
-      → ((s : SeatState) → StandsFor old s → StandsFor new (with_plan s new.plan)) → (told : Option Fraction) → told
+      → ((s : SeatState) → Represents old s → Represents new (with_plan s new.plan)) → (told : Option Fraction) → told
       ≡ value_of old.net new.plan → Steps old new (command.Reoptimise k) (optimised_at told)
   planned-steps for rest stay told value = record {
     network = ap (λ (control : ControlValue). control.net) rest;
@@ -181,12 +181,12 @@ module _ (old new : ControlValue) (k : ℕ) (within : IsInRange 1 old.net.period
   }
 
   -- nothing changed
-  kept-steps : new ≡ old → (reply : Reply) → ((s : SeatState) → StandsFor old s → Reoptimises old.net s k reply s)
+  kept-steps : new ≡ old → (reply : Reply) → ((s : SeatState) → Represents old s → Reoptimises old.net s k reply s)
       → Steps old new (command.Reoptimise k) reply
   kept-steps same reply made = record {
     network = ap (λ (control : ControlValue). control.net) same;
     next = let next = ap (λ (control : ControlValue). control.next) same in omega (arith, next);
-    step = λ s stands. (s, in-period s s reply (made s stands), subst (λ (control : ControlValue). StandsFor control s) (sym same) stands);
+    step = λ s stands. (s, in-period s s reply (made s stands), subst (λ (control : ControlValue). Represents control s) (sym same) stands);
   }
 
   overflow-steps : new ≡ old → (n : ℕ) (number : ℤ) → PlanOverflows old.net old.plan.mode (seats_left old.net old.bookings) k n number
@@ -195,7 +195,7 @@ module _ (old new : ControlValue) (k : ℕ) (within : IsInRange 1 old.net.period
       (of-state (λ m bookings. PlanOverflows old.net m (seats_left old.net bookings) k n number) s stands large))
 
   memory-steps : new ≡ old → old.plan.mode ≢ mode.FirstCome → Steps old new (command.Reoptimise k) memory
-  memory-steps same solves = kept-steps same memory (λ s stands. wants_memory (of-state (λ m bookings. m ≢ mode.FirstCome) s stands solves))
+  memory-steps same solves = kept-steps same memory (λ s stands. runs_out_of_memory (of-state (λ m bookings. m ≢ mode.FirstCome) s stands solves))
 
   -- by what was answered
   pub replanned-steps : (answer : Result (Option (ℕ × ℕ)) SolveFault)
@@ -203,7 +203,7 @@ module _ (old new : ControlValue) (k : ℕ) (within : IsInRange 1 old.net.period
       → IfOk answer (λ told. option_map (λ value. pos value.0 over value.1) told ≡ value_of old.net new.plan)
       → IfErr answer (IsPlanFault old.net old.plan.mode (seats_left old.net old.bookings) k)
       → OnErr answer (new ≡ old) → new ≡ record old { plan = new.plan }
-      → ((s : SeatState) → StandsFor old s → StandsFor new (with_plan s new.plan))
+      → ((s : SeatState) → Represents old s → Represents new (with_plan s new.plan))
       → Steps old new (command.Reoptimise k) (reply_in new (reply_planned answer))
   replanned-steps (Ok (Some (num, den))) for value fault same rest stay = planned-steps for rest stay (Some (pos num over den)) value
   replanned-steps (Ok None) for value fault same rest stay = planned-steps for rest stay None value

@@ -4,7 +4,7 @@ use Rattle.std.specs.Io.KnownBytes.{Appends}
 use Rattle.nrm_edge.specs.Pieces.{AppendsFront}
 use Rattle.nrm_model.specs.Network.{NetworkValue, leg_of}
 use Rattle.nrm_control.specs.State.{SeatState}
-use Rattle.nrm_control.specs.Standing.{ControlValue, StandsFor}
+use Rattle.nrm_control.specs.Standing.{ControlValue, Represents}
 use Rattle.nrm_fraction.specs.Fraction.{◌over◌}
 use Rattle.nrm_report.specs.Texts.{leg_text, plan_text}
 use Rattle.nrm_stream.specs.declared.command.Command.{Command}
@@ -14,11 +14,11 @@ use Rattle.nrm_session.specs.Step.{Step}
 use Rattle.nrm_session.specs.declared.reply.Reply.{Reply as Answered}
 use Rattle.nrm_session.specs.declared.reply.Reply.TheVariants as answered
 
--- the controller makes the step that gives this reply, from each state that it stood for
+-- the controller makes the step that gives this reply, from each state that it represented
 pub record Steps (old new : ControlValue) (command : Command) (reply : Reply) : Type 0 where
   pub network : new.net ≡ old.net
   pub next : new.next ≤ old.next + 1
-  pub step : (s : SeatState) → StandsFor old s → (s' : SeatState) × Step old.net s command reply s' × StandsFor new s'
+  pub step : (s : SeatState) → Represents old s → (s' : SeatState) × Step old.net s command reply s' × Represents new s'
 
 -- the reply that a controller means, with its legs by their names and as they stand, and its plan as it is in force
 abbrev pub reply_in : ControlValue → Answered → Reply

@@ -32,7 +32,7 @@ RunsOversellNoLeg = ((net : NetworkValue) (plan : PlanValue) → IsSound net (op
     × ((net : NetworkValue) (s s' : SeatState) (commands : List Command) (replies : List Reply) → IsSound net s
     → Run net s commands replies s' → IsSound net s')
 
--- no line wanted for memory
+-- no line ran out of memory
 abbrev pub MemorySuffices : List Reply → Type 0
 MemorySuffices replies = All (λ reply. reply ≢ memory) replies
 

@@ -4,7 +4,7 @@ use Rattle.std.specs.Io.KnownBytes.{Appends, Consumes, IsAtEnd}
 use Rattle.nrm_edge.specs.Causes.{Rose}
 use Rattle.nrm_model.specs.Network.{NetworkValue}
 use Rattle.nrm_control.specs.State.{SeatState}
-use Rattle.nrm_control.specs.Standing.{ControlValue, StandsFor}
+use Rattle.nrm_control.specs.Standing.{ControlValue, Represents}
 use Rattle.nrm_stream.specs.Commands.{commands_of, whole_commands}
 use Rattle.nrm_stream.specs.declared.command.Command.{Command}
 use Rattle.nrm_session.specs.Replies.{text_of}
@@ -34,16 +34,16 @@ pub record CutBy {R : Type 0} (step_by : SeatState → Command → R → SeatSta
 abbrev pub WritesCut : NetworkValue → SeatState → List Command → List ℕ → SeatState → Type 0
 WritesCut net = CutBy (Step net) text_of
 
--- The network stays. From each state that the controller stood for, a run over the commands gives this output, and the controller
--- stands for the run's last state.
+-- The network stays. From each state that the controller represented, a run over the commands gives this output, and the controller
+-- represents the run's last state.
 pub record Refines (old new : ControlValue) (commands : List Command) (output : List ℕ) : Type 0 where
   pub network : new.net ≡ old.net
-  pub run : (s : SeatState) → StandsFor old s → (s' : SeatState) × StandsFor new s' × Writes old.net s commands output s'
+  pub run : (s : SeatState) → Represents old s → (s' : SeatState) × Represents new s' × Writes old.net s commands output s'
 
 -- the same of a run that was cut in a reply
 pub record RefinesCut (old new : ControlValue) (commands : List Command) (output : List ℕ) : Type 0 where
   pub network : new.net ≡ old.net
-  pub run : (s : SeatState) → StandsFor old s → (s' : SeatState) × StandsFor new s' × WritesCut old.net s commands output s'
+  pub run : (s : SeatState) → Represents old s → (s' : SeatState) × Represents new s' × WritesCut old.net s commands output s'
 
 -- What stands outside a session: the bytes to come and the bytes that were put, where they are told, and how often each side has failed.
 pub record Streams : Type 0 where

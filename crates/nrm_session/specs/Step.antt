@@ -30,7 +30,7 @@ pub data Reoptimises (net : NetworkValue) (s : SeatState) (period : ℕ) : Reply
       → Reoptimises net s period (optimised_at (value_of net plan)) (with_plan s plan)
   overflows : (n : ℕ) (number : ℤ) → PlanOverflows net s.plan.mode (seats_left net s.bookings) period n number
       → Reoptimises net s period overflow s
-  wants_memory : s.plan.mode ≢ mode.FirstCome → Reoptimises net s period memory s
+  runs_out_of_memory : s.plan.mode ≢ mode.FirstCome → Reoptimises net s period memory s
 
 -- A line of hindsight: its value at the tallies of all requests so far, the revenue of the bookings that stand, and the sum withheld;
 -- or its linear program is Large; or memory runs out.

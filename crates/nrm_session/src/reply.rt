@@ -27,7 +27,7 @@ const ROOM: usize = 128;
 
 const HINDSIGHT_ROOM: usize = 176;
 
-/// What a line is answered. Legs are named by their numbers in the network.
+/// The reply to a line. Legs are named by their numbers in the network.
 #[derive(Clone, Copy, Debug, PartialEq, Eq)]
 pub enum Reply {
     /// No command.

@@ -5,7 +5,7 @@ ghost use Rattle.nrm_edge.specs.Causes.{HasCause};
 ghost use Rattle.std.specs.Option.{option_to_list};
 ghost use Rattle.nrm_model.specs.declared.limits.TheConstants.{BOOKING_LIMIT};
 ghost use Rattle.nrm_control.specs.State.{SeatState};
-ghost use Rattle.nrm_control.specs.Standing.{IsControl, StandsFor};
+ghost use Rattle.nrm_control.specs.Standing.{IsControl, Represents};
 ghost use Rattle.nrm_stream.specs.Commands.{IsCommand};
 ghost use Rattle.nrm_session.specs.Hindsight.{BoundsFrom};
 ghost use Rattle.nrm_session.specs.Clerks.{AreMeanings, Answers, AnswersCut, stopped};
@@ -33,7 +33,7 @@ pub enum End {
     /// A take failed. The replies to the whole lines that were taken were written; the unfinished line has none.
     ReadFault,
     /// A put failed, or sending on what was put. The replies to the lines before one were written, and a front of its own; the
-    /// controller stands for the state after that line.
+    /// controller represents the state after that line.
     WriteFault,
     /// There are more bytes than the limit. The replies to the whole lines up to it were written.
     TooLong,
@@ -210,7 +210,7 @@ pub fn serve<S: Source, K: Sink>(
     ensures counts { let at = streams S.coming S.faults K.held K.faults in
         CountsFaults (at source.old sink.old) (at source.new sink.new) result }
     ensures sent { SentOn (K.unsent sink.old) (K.unsent sink.new) result }
-    ensures hindsight { (s : SeatState) → StandsFor controller.old s → BoundsFrom controller.old.net s }
+    ensures hindsight { (s : SeatState) → Represents controller.old s → BoundsFrom controller.old.net s }
     ensures sound { IsControl controller.new }
 {
     controller.limits_hold();

@@ -1,4 +1,4 @@
-//! The simplex method: a program's path to its end.
+//! The simplex method: a linear program's path to its end.
 #![tactic(auto)]
 
 mod fault;

@@ -1,4 +1,4 @@
-//! Programs whose answers were worked out without this code: by hand, and in exact fractions by another program.
+//! Linear programs whose answers were worked out without this code: by hand, and in exact fractions by another program.
 ghost use Rattle.std.specs.Prelude.{◌≡◌, ◌∷◌, ◌++◌, [], map, IfOk};
 ghost use Rattle.std.specs.List.{range_with_len};
 

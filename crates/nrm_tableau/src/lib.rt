@@ -1,4 +1,4 @@
-//! The tableau of the simplex method: the first tableau of a program, the column that enters and the row that leaves by
+//! The tableau of the simplex method: the first tableau of a linear program, the column that enters and the row that leaves by
 //! the lexicographic rule, and the pivot on them. Every tableau is one of its program's path, in exact fractions.
 //!
 //! `Tableau::first` makes the first one; as long as `entering` gives a column, `leaving` gives its row, and `pivot` the next tableau;

@@ -28,7 +28,7 @@ use Rattle.nrm_outside.specs.Refusals.{file_fault_line}
 use Rattle.nrm_outside.specs.Puts.{PutsIfSome, PutsLine, PutsUnplanned}
 use Rattle.nrm_findings.specs.Certificates.{certificate_under, lacking_line, no_certificate, refused_for, verdict_line}
 use Rattle.nrm_hindsight.specs.Requests.{tallies_of}
-use Rattle.nrm_control.specs.Standing.{ControlValue, IsControl, IsStartFault, StandsFor}
+use Rattle.nrm_control.specs.Standing.{ControlValue, IsControl, IsStartFault, Represents}
 use Rattle.nrm_control.specs.State.{SeatState}
 use Rattle.nrm_stream.specs.declared.command.Command.{Command}
 use Rattle.nrm_gen.specs.MadeCommands.{Making, command_count, commands_from}
@@ -147,12 +147,12 @@ total_of c = c.sold + c.no_leg + c.no_fare + c.cancelled + c.unknown + c.legs + 
 abbrev pub rest_of : Making → List Command
 rest_of making = commands_from (command_count - making.given) making.given making.state
 
--- these commands were answered, in each state that the controller stood for, with replies of which none runs out of memory: all but the last
--- were counted, and this is the last
+-- these commands were answered, in each state that the controller represented, with replies of which none runs out of memory: all but the
+-- last were counted, and this is the last
 pub record AnswersMade (old new : ControlValue) (commands : List Command) (counts : Counts) (last : Answered) : Type 0 where
   pub network : new.net ≡ old.net
   pub tellable : IsTellable new.net last
-  pub run : (s : SeatState) → StandsFor old s → (s' : SeatState) × (replies : List Reply) × StandsFor new s'
+  pub run : (s : SeatState) → Represents old s → (s' : SeatState) × (replies : List Reply) × Represents new s'
       × Run old.net s commands replies s' × MemorySuffices replies
       × (counts ≡ counts_from nothing_counted replies) × (last_of replies ≡ reply_in new last)
   pub sound : IsControl new

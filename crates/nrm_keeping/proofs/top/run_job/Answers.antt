@@ -74,7 +74,7 @@ returns-in-Ok-load_rows-clause-ends g c = λ how trusted.
       read.0,
       rw c.status_at.ensures
           (served-ends g.P.Keeper how (job_in c.args.job) before after starts c.load_rows.new.controller c.answer_stream.new.controller c.all.new.self c.answer_stream.new.keeper
-          (c.load_rows.ensures.network ∙ ap (λ (control : ControlValue). control.net) begun) c.load_rows.ensures.plan refl c.load_rows.ensures.stands
+          (c.load_rows.ensures.network ∙ ap (λ (control : ControlValue). control.net) begun) c.load_rows.ensures.plan refl c.load_rows.ensures.represents
           (list-told (rows_in c.args.keeper.now) (rows_in c.all.new.self) rows read.1.0 lists) c.in-Ok-all.ensures.counts refl refl trusted c.answer_stream.ensures.ready
           c.answer_stream.result c.answer_stream.ensures.serves c.answer_stream.ensures.counts),
     )
