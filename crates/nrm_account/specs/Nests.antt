@@ -36,8 +36,7 @@ nest_line net cert leg product =
 abbrev pub enough_line : NetworkValue → Certificate → ℕ → ℕ → ℕ → List ℕ
 enough_line net cert leg period bucket =
     ended (codes "enough" ++ spaced (leg_of net leg).name ++ counted (codes "seats") (protection_of net cert leg period bucket)
-    ++ counted (codes "buckets") bucket
-    ++ spaced (codes "mean") ++ spaced (fraction_text (mean_fare net cert leg period 1 bucket))
+    ++ counted (codes "buckets") bucket ++ spaced (codes "mean") ++ spaced (fraction_text (mean_fare net cert leg period 1 bucket))
     ++ spaced (codes "next") ++ spaced (fraction_text (bucket_fare net cert leg period (bucket + 1)))
     ++ counted (codes "histories") net.histories
     ++ counted (codes "over") (histories_over net cert leg period bucket (protection_of net cert leg period bucket)))

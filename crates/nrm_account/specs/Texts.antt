@@ -127,8 +127,7 @@ booking_line net booking =
     ++ counted (codes "worth") (worth_of (inventory_of net) booking) ++ counted (codes "refund") (product_of net booking.product).refund)
 
 abbrev pub back_line : NetworkValue → Booking → List ℕ
-back_line net booking =
-    ended (codes "back" ++ spaced (decimal (refund_of net booking)) ++ counted (codes "withheld") (withheld_of net booking))
+back_line net booking = ended (codes "back" ++ spaced (decimal (refund_of net booking)) ++ counted (codes "withheld") (withheld_of net booking))
 
 abbrev pub cancellation_text : NetworkValue → Booking → List ℕ
 cancellation_text net booking = booking_line net booking ++ back_line net booking

@@ -3,6 +3,7 @@ use Rattle.std.proofs.Common.{ℕ, ◌≡◌, ◌∙◌, ◌<◌, true, false, L
 use Rattle.std.specs.Prelude.{⊤}
 use Rattle.nrm_edge.specs.Causes.{Rose}
 use Rattle.nrm_model.specs.Network.{NetworkValue}
+use Rattle.nrm_model.specs.declared.limits.TheConstants.{MOST_STREAM_BYTES}
 use Rattle.nrm_simplex.specs.declared.fault.SolveFault.{SolveFault}
 use Rattle.nrm_simplex.specs.declared.fault.SolveFault.TheVariants as fault
 use Rattle.nrm_control.specs.State.{opening}
@@ -22,7 +23,7 @@ use Rattle.nrm_account.specs.Readings.{Reading, Reads}
 use Rattle.nrm_account.specs.declared.teller.Teller.{Teller}
 use Rattle.nrm_outside.specs.Puts.{PutsIfSome, PutsLine, status_for, unplanned_line}
 use Rattle.nrm_session.proofs.ServedBy.{HasBegun, opened, served-as, serves-weaker}
-use Rattle.nrm_accounting.specs.Ends.{Begins, Ends, Ran, ReadsCut, ReadsTo, file_fault, overflow, refused, stream_limit, streams_at, usage}
+use Rattle.nrm_accounting.specs.Ends.{Begins, Ends, Ran, ReadsCut, ReadsTo, file_fault, overflow, refused, streams_at, usage}
 use Rattle.nrm_accounting.specs.Ends.{Tells as TellsLine}
 use Rattle.nrm_accounting.specs.Jobs.{WhyJob, absent_line}
 use Rattle.nrm_accounting.specs.Inner.Parts.{EndsReading, EndsSession, accounted, lacking, ran_out}
@@ -83,25 +84,25 @@ module _ (asked : Option WhyJob) (before : Outside) (begins : Begins asked befor
       (cut.done, cut.after, cut.whole, cut.count, cut.commands_are, cut.front, reads-to (λ last. ⊤) (λ r left out. tt) cut.done cut.whole cut.tells)
 
   abbrev pub ran : (after : Outside) (P : Reading → Type 0) → ((r : Reading) → r.left ≡ now.left → r.ran_out ≡ now.ran_out → P r) → (e : End)
-      → ServesBy (Tells (start, teller) (new, now)) (TellsCut (start, teller) (new, now)) (streams_at before) (streams_at after) stream_limit e
+      → ServesBy (Tells (start, teller) (new, now)) (TellsCut (start, teller) (new, now)) (streams_at before) (streams_at after) MOST_STREAM_BYTES e
       → Ran asked before after P e
   ran after P has e serves = record {
     begins = begins;
-    serves = serves-weaker _ _ (ReadsTo begins P) (ReadsCut begins) (reads-to P has) reads-cut (streams_at before) (streams_at after) stream_limit e serves;
+    serves = serves-weaker _ _ (ReadsTo begins P) (ReadsCut begins) (reads-to P has) reads-cut (streams_at before) (streams_at after) MOST_STREAM_BYTES e serves;
   }
 
   -- the stream was read to its end, and what became of the account is said
   pub done-ends : (read after : Outside) (result : WhyStatus)
-      → ServesBy (Tells (start, teller) (new, now)) (TellsCut (start, teller) (new, now)) (streams_at before) (streams_at read) stream_limit end.Done
+      → ServesBy (Tells (start, teller) (new, now)) (TellsCut (start, teller) (new, now)) (streams_at before) (streams_at read) MOST_STREAM_BYTES end.Done
       → after.coming ≡ read.coming → after.source_faults ≡ read.source_faults → read.sink_faults ≡ before.sink_faults → now.asked ≡ begins.job.number
       → EndsReading now read.held after.held read.sink_faults after.sink_faults result → Ends asked before after result
   done-ends read after result serves coming source sank number (accounted left out is held faults) =
       rw is (ran after (λ last. (last.left ≡ 0) × (last.ran_out ≡ false)) (λ r l o. (l ∙ left, o ∙ out)) end.Done
-      (subst (λ (at : Streams). ServesBy (Tells (start, teller) (new, now)) (TellsCut (start, teller) (new, now)) (streams_at before) at stream_limit end.Done)
+      (subst (λ (at : Streams). ServesBy (Tells (start, teller) (new, now)) (TellsCut (start, teller) (new, now)) (streams_at before) at MOST_STREAM_BYTES end.Done)
       (λ n. record { coming = sym coming n; held = sym held n; source_faults = sym source n; sink_faults = sym faults n }) serves))
   done-ends read after result serves coming source sank number (ran_out out is held faults) =
       rw is (inr (ran after (λ last. last.ran_out ≡ true) (λ r l o. o ∙ out) end.Done
-      (subst (λ (at : Streams). ServesBy (Tells (start, teller) (new, now)) (TellsCut (start, teller) (new, now)) (streams_at before) at stream_limit end.Done)
+      (subst (λ (at : Streams). ServesBy (Tells (start, teller) (new, now)) (TellsCut (start, teller) (new, now)) (streams_at before) at MOST_STREAM_BYTES end.Done)
       (λ n. record { coming = sym coming n; held = sym held n; source_faults = sym source n; sink_faults = sym faults n }) serves)))
   done-ends read after result serves coming source sank number (lacking left out (inl (is, wrote, same))) =
       rw is (record {
@@ -121,7 +122,7 @@ module _ (asked : Option WhyJob) (before : Outside) (begins : Begins asked befor
 
   -- and so at each end
   pub session-ends : (read after : Outside) (e : End) (result : WhyStatus)
-      → ServesBy (Tells (start, teller) (new, now)) (TellsCut (start, teller) (new, now)) (streams_at before) (streams_at read) stream_limit e
+      → ServesBy (Tells (start, teller) (new, now)) (TellsCut (start, teller) (new, now)) (streams_at before) (streams_at read) MOST_STREAM_BYTES e
       → CountsFaults (streams_at before) (streams_at read) e
       → after.coming ≡ read.coming → after.source_faults ≡ read.source_faults → now.asked ≡ begins.job.number
       → EndsSession e now read.held after.held read.sink_faults after.sink_faults result → Ends asked before after result
@@ -130,19 +131,19 @@ module _ (asked : Option WhyJob) (before : Outside) (begins : Begins asked befor
       rw is (
         subst (λ (k : ℕ). Rose before.source_faults k) (sym source) counts.0,
         ran after (λ last. ⊤) (λ r l o. tt) end.ReadFault
-            (subst (λ (at : Streams). ServesBy (Tells (start, teller) (new, now)) (TellsCut (start, teller) (new, now)) (streams_at before) at stream_limit end.ReadFault)
+            (subst (λ (at : Streams). ServesBy (Tells (start, teller) (new, now)) (TellsCut (start, teller) (new, now)) (streams_at before) at MOST_STREAM_BYTES end.ReadFault)
             (λ n. record { coming = sym coming n; held = sym held n; source_faults = sym source n; sink_faults = sym faults n }) serves),
       )
   session-ends read after end.WriteFault result serves counts coming source number (is, held, faults) =
       rw is (
         subst (λ (k : ℕ). Rose before.sink_faults k) (sym faults) counts.0,
         inl (ran after (λ last. ⊤) (λ r l o. tt) end.WriteFault
-            (subst (λ (at : Streams). ServesBy (Tells (start, teller) (new, now)) (TellsCut (start, teller) (new, now)) (streams_at before) at stream_limit end.WriteFault)
+            (subst (λ (at : Streams). ServesBy (Tells (start, teller) (new, now)) (TellsCut (start, teller) (new, now)) (streams_at before) at MOST_STREAM_BYTES end.WriteFault)
             (λ n. record { coming = sym coming n; held = sym held n; source_faults = sym source n; sink_faults = sym faults n }) serves)),
       )
   session-ends read after end.TooLong result serves counts coming source number (is, held, faults) =
       rw is (ran after (λ last. ⊤) (λ r l o. tt) end.TooLong
-      (subst (λ (at : Streams). ServesBy (Tells (start, teller) (new, now)) (TellsCut (start, teller) (new, now)) (streams_at before) at stream_limit end.TooLong)
+      (subst (λ (at : Streams). ServesBy (Tells (start, teller) (new, now)) (TellsCut (start, teller) (new, now)) (streams_at before) at MOST_STREAM_BYTES end.TooLong)
       (λ n. record { coming = sym coming n; held = sym held n; source_faults = sym source n; sink_faults = sym faults n }) serves))
 
   -- all that was read is of the line that was asked for

@@ -16,10 +16,6 @@ use Rattle.nrm_accounting.specs.Jobs.{WhyJob, absent_line, usage_line}
 use Rattle.nrm_accounting.specs.declared.status.WhyStatus.{WhyStatus}
 use Rattle.nrm_accounting.specs.declared.status.WhyStatus.TheVariants as status
 
--- the most bytes of a stream
-abbrev pub stream_limit : ℕ
-stream_limit = MOST_STREAM_BYTES
-
 -- if the files are told, the file of a job gives this network
 abbrev pub Opens : WhyJob → Outside → NetworkValue → Type 0
 Opens job before net = OnFile before.files job.file (λ contents. network_under contents ≡ Ok net)
@@ -51,7 +47,7 @@ ReadsCut begins commands output =
 -- a session was read and ended so
 pub record Ran (asked : Option WhyJob) (before after : Outside) (P : Reading → Type 0) (e : End) : Type 0 where
   pub begins : Begins asked before
-  pub serves : ServesBy (ReadsTo begins P) (ReadsCut begins) (streams_at before) (streams_at after) stream_limit e
+  pub serves : ServesBy (ReadsTo begins P) (ReadsCut begins) (streams_at before) (streams_at after) MOST_STREAM_BYTES e
 
 -- a line, the status that goes with it, and why it is told
 pub data Tells (asked : Option WhyJob) (before after : Outside) : WhyStatus → List ℕ → Type 0 where

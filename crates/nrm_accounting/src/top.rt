@@ -4,10 +4,11 @@ ghost use Rattle.nrm_outside.specs.Outside.{SentOn, outside};
 ghost use Rattle.nrm_session.specs.Serving.{ServesBy, streams};
 ghost use Rattle.nrm_session.specs.declared.serving.TheConstants.{LATEST_START};
 ghost use Rattle.nrm_text.specs.Numbers.{whole_between};
+ghost use Rattle.nrm_model.specs.declared.limits.TheConstants.{MOST_STREAM_BYTES};
 ghost use Rattle.nrm_account.specs.Tellers.{Tells, TellsCut, can_tell};
 ghost use Rattle.nrm_account.specs.Laws.{AccountsAreOfTheirLines, AccountsGiveReplies, LargestPartiesAreSold, OutOfMemoryWritesNothing};
 ghost use Rattle.nrm_session.specs.Serving.{CountsFaults, SentOn as SentAtEnd};
-ghost use Rattle.nrm_accounting.specs.Ends.{Ends, stream_limit};
+ghost use Rattle.nrm_accounting.specs.Ends.{Ends};
 ghost use Rattle.nrm_accounting.specs.Inner.Parts.{job_in};
 ghost use Rattle.nrm_accounting.specs.Jobs.{why_job_of};
 
@@ -85,7 +86,7 @@ fn read_stream<S: Source, K: Sink>(
     requires ready { can_tell (controller.old, teller.old) }
     ensures serves { let at = streams S.coming S.faults K.held K.faults in
         ServesBy (Tells (controller.old, teller.old) (controller.new, teller.new)) (TellsCut (controller.old, teller.old) (controller.new, teller.new))
-        (at source.old sink.old) (at source.new sink.new) stream_limit result }
+        (at source.old sink.old) (at source.new sink.new) MOST_STREAM_BYTES result }
     ensures counts { let at = streams S.coming S.faults K.held K.faults in
         CountsFaults (at source.old sink.old) (at source.new sink.new) result }
     ensures sent { SentAtEnd (K.unsent sink.old) (K.unsent sink.new) result }

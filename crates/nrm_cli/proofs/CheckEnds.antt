@@ -15,8 +15,7 @@ use Rattle.nrm_outside.specs.Puts.{PutsIfSome, PutsLine}
 use Rattle.nrm_findings.specs.Certificates.{LacksCertificate, certificate_under, lacking_line, no_certificate, refused_for, verdict_line}
 use Rattle.nrm_cli.specs.Ends.{Ends, Failures, FilesFailedBefore, status_of}
 use Rattle.nrm_cli.specs.Jobs.{check_file}
-use Rattle.nrm_cli.specs.Inner.Parts.{ChecksFile, CountsCertificate, OpensCertificate, PutsVerdict, lack_line}
-use Rattle.nrm_cli.specs.Inner.Parts.{lack_status}
+use Rattle.nrm_cli.specs.Inner.Parts.{ChecksFile, CountsCertificate, OpensCertificate, PutsVerdict, lack_line, lack_status}
 use Rattle.nrm_cli.specs.Tells.{IsOfNetwork, Opens, Tells, TellsVerdict, lacking, optimal, wrong, of_network, file_fault}
 use Rattle.nrm_cli.specs.declared.certificate.NoCertificate.{NoCertificate}
 use Rattle.nrm_cli.specs.declared.certificate.NoCertificate.TheVariants as lacks

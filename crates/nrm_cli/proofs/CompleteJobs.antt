@@ -4,12 +4,13 @@ use Rattle.std.proofs.Common.{arith, append-nil, length-append, subst}
 use Rattle.std.specs.Io.KnownBytes.{Consumes, IsAtEnd}
 use Rattle.nrm_edge.specs.Fetch.{Folder}
 use Rattle.nrm_model.specs.Network.{NetworkValue}
+use Rattle.nrm_model.specs.declared.limits.TheConstants.{MOST_STREAM_BYTES}
 use Rattle.nrm_plan.specs.Plans.{IsOpeningPlan}
 use Rattle.nrm_outside.specs.Outside.{Outside, OnFile, Wrote}
 use Rattle.nrm_outside.specs.Refusals.{Refusal, network_under}
 use Rattle.nrm_stream.specs.Commands.{commands_of}
 use Rattle.nrm_cli.specs.Jobs.{Job, run_file, HasNetwork, HasNetworkFrom, NamesFile, Origin, of_file, of_number, TakesStream}
-use Rattle.nrm_cli.specs.Ends.{Completes, Ends, IsDone, NothingHinders, RunWrites, RunsThrough, Starts, stream_limit}
+use Rattle.nrm_cli.specs.Ends.{Completes, Ends, IsDone, NothingHinders, RunWrites, RunsThrough, Starts}
 use Rattle.nrm_cli.specs.Tells.{GivesNetwork, GivesNetworkFrom, Opens, Refuses, RefusesNetwork, RefusesNetworkFrom, Tells, TellsOf}
 use Rattle.nrm_cli.specs.Tells.{usage, refused, of_network, file_fault}
 use Rattle.nrm_cli.specs.declared.status.Status.{Status}
@@ -80,7 +81,7 @@ module _ (asked : Option Job) (before after : Outside) (job : Job) (net : Networ
 
   -- a run is that of the job, whose network has the plan by which it was started
   run-through : (s : Status) (st : Starts asked before)
-      → ((stream : List ℕ) → before.coming ≡ Some stream → length stream ≤ stream_limit
+      → ((stream : List ℕ) → before.coming ≡ Some stream → length stream ≤ MOST_STREAM_BYTES
       → (s ≡ status.Done) × (output : List ℕ) × RunWrites net st.plan (commands_of stream) output × Wrote before after output) → IsDone job net before after s
   run-through s st through =
       inr (subst (λ (j : Job). RunsThrough j.task net before after s) (same-job (run_file st.mode st.file) st.opens.0) (st.plan, started st, through))

@@ -8,6 +8,7 @@ use Rattle.nrm_model.specs.Network.{NetworkValue, leg_of}
 use Rattle.nrm_model.specs.Inventory.{inventory_of}
 use Rattle.nrm_model.specs.declared.mode.Mode.{Mode}
 use Rattle.nrm_model.specs.declared.mode.Mode.TheVariants as mode
+use Rattle.nrm_model.specs.declared.limits.TheConstants.{MOST_STREAM_BYTES}
 use Rattle.nrm_network.specs.Canonical.{canonical_file}
 use Rattle.nrm_network.specs.declared.fault.Why.TheVariants as why
 use Rattle.nrm_network.proofs.OnLiterals.{network_on_literals}
@@ -19,7 +20,7 @@ use Rattle.nrm_stream.specs.Commands.{commands_of}
 use Rattle.nrm_session.specs.Replies.{Reply, bad, unknown, sold, no_leg, no_fare, cancelled, optimised_none, overflow, hindsight_told, leg_told, plan_told}
 use Rattle.nrm_dual.specs.declared.verdict.Verdict.TheVariants as verdict
 use Rattle.nrm_outside.specs.Outside.{Outside, FilesFailed, SourceFailed, SinkFailed, Wrote}
-use Rattle.nrm_cli.specs.Ends.{Completes, Ends, Failures, IsDone, OrRanOut, OrRanOutTelling, RunWrites, status_of, stream_limit}
+use Rattle.nrm_cli.specs.Ends.{Completes, Ends, Failures, IsDone, OrRanOut, OrRanOutTelling, RunWrites, status_of}
 use Rattle.nrm_cli.specs.Jobs.{job_of, run_file, plan_file, check_file, print_file, run_made, cut_leg, value_leg}
 use Rattle.nrm_cli.specs.Tells.{IsOfNetwork, Tells, usage as tells_usage, refused as tells_refused, of_network as tells_of_network, file_fault as tells_file_fault}
 use Rattle.nrm_findings.specs.Summary.{nothing_counted}
@@ -218,10 +219,6 @@ words_of_values = refl
 values_of_no_name : job_of (codes "dp" ∷ codes "F" ∷ [] ∷ []) ≡ None
 values_of_no_name = refl
 
--- 4 GiB
-limit : stream_limit ≡ 4294967296
-limit = refl
-
 -- ---- a stream of 21 bytes is short enough, so its replies are written, or memory ran out
 abbrev over : Option (List ℕ) → Option (List ℕ) → Outside
 over coming held = record { files = Some (λ name. Some two_legs_file); coming = coming; held = held; file_faults = 0; source_faults = 0; sink_faults = 0 }
@@ -295,7 +292,7 @@ module _ (m : Mode) (file : List ℕ) (net : NetworkValue) (plan : PlanValue) (i
   planned_whole (inl (inr out)) = inr out
   planned_whole (inr never) = absurd never
 
-  answered_whole : (stream : List ℕ) → before.coming ≡ Some stream → length stream ≤ stream_limit → IsDone (run_file m file) net before after s
+  answered_whole : (stream : List ℕ) → before.coming ≡ Some stream → length stream ≤ MOST_STREAM_BYTES → IsDone (run_file m file) net before after s
       → OrRanOutTelling (λ goes output. (goes ≡ status.Done) × RunWrites net plan (commands_of stream) output) before after s
   answered_whole stream coming short (inl (inl (text, (n, number, large, overflowed, same), wrote))) = absurd (no-overflow n number large)
   answered_whole stream coming short (inl (inr out)) = inr out

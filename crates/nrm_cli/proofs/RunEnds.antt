@@ -2,6 +2,7 @@
 use Rattle.std.proofs.Common.{ℕ, ◌≡◌, List, take, Some, arith, inl, inr}
 use Rattle.nrm_model.specs.declared.mode.Mode.{Mode}
 use Rattle.nrm_model.specs.Network.{NetworkValue}
+use Rattle.nrm_model.specs.declared.limits.TheConstants.{MOST_STREAM_BYTES}
 use Rattle.nrm_control.specs.Standing.{ControlValue}
 use Rattle.nrm_outside.specs.Outside.{Goes, Outside}
 use Rattle.nrm_plan.specs.Plans.{IsOpeningPlan}
@@ -9,7 +10,7 @@ use Rattle.nrm_stream.specs.Commands.{commands_of, whole_commands}
 use Rattle.nrm_session.specs.Serving.{CountsFaults, Serves, Streams}
 use Rattle.nrm_session.specs.declared.serving.End.{End}
 use Rattle.nrm_session.specs.declared.serving.End.TheVariants as end
-use Rattle.nrm_cli.specs.Ends.{Ends, Failures, Starts, stream_limit}
+use Rattle.nrm_cli.specs.Ends.{Ends, Failures, Starts}
 use Rattle.nrm_cli.specs.Jobs.{run_file}
 use Rattle.nrm_cli.specs.Inner.Does.{Does}
 use Rattle.nrm_cli.specs.Inner.Parts.{HasBegun, ServesNetwork, status_at}
@@ -24,13 +25,13 @@ streams_of at = record { coming = at.coming; held = at.held; source_faults = at.
 
 module _ (mode : Mode) (file : List ℕ) (net : NetworkValue) (start new : ControlValue) (before after : Outside) where
   pub served-ends : HasBegun net start → Opens (Some (run_file mode file)) (run_file mode file) before net → IsOpeningPlan net mode start.plan
-      → (e : End) → Serves start new (streams_of before) (streams_of after) stream_limit e → CountsFaults (streams_of before) (streams_of after) e → Ends (Some (run_file mode file)) before after (status_at e)
+      → (e : End) → Serves start new (streams_of before) (streams_of after) MOST_STREAM_BYTES e → CountsFaults (streams_of before) (streams_of after) e → Ends (Some (run_file mode file)) before after (status_at e)
   served-ends begun opens planned e serves counts = by e serves counts
     where
       starts : Starts (Some (run_file mode file)) before
       starts = record { mode = mode; file = file; net = net; plan = start.plan; opens = opens; planned = planned }
 
-      by : (e : End) → Serves start new (streams_of before) (streams_of after) stream_limit e → CountsFaults (streams_of before) (streams_of after) e → Ends (Some (run_file mode file)) before after (status_at e)
+      by : (e : End) → Serves start new (streams_of before) (streams_of after) MOST_STREAM_BYTES e → CountsFaults (streams_of before) (streams_of after) e → Ends (Some (run_file mode file)) before after (status_at e)
       by end.Done (taken, output, did, ended, refines) counts = inl (record {
         starts = starts;
         taken = taken;
@@ -52,7 +53,7 @@ module _ (mode : Mode) (file : List ℕ) (net : NetworkValue) (start new : Contr
         inl (record { starts = starts; taken = taken; output = output; took = did.consumed; writes_it = (did.short, inr (ended, run-stops start new net (commands_of taken) output begun refines)); wrote = did.written }),
       )
       by end.TooLong (taken, output, took, long, wrote, refines) counts =
-          record { starts = starts; taken = taken; output = output; took = took; writes_it = (long, run-writes start new net (whole_commands (take stream_limit taken)) output begun refines); wrote = wrote }
+          record { starts = starts; taken = taken; output = output; took = took; writes_it = (long, run-writes start new net (whole_commands (take MOST_STREAM_BYTES taken)) output begun refines); wrote = wrote }
 
 -- and which counts stay
 pub served-failures : (before after : Outside) → after.file_faults ≡ before.file_faults → (e : End)

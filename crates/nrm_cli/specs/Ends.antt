@@ -20,10 +20,6 @@ use Rattle.nrm_cli.specs.Tells.{Opens, TellsOf, Told, ToldCut}
 use Rattle.nrm_cli.specs.declared.status.Status.{Status}
 use Rattle.nrm_cli.specs.declared.status.Status.TheVariants as status
 
--- the most bytes of a stream
-abbrev pub stream_limit : ℕ
-stream_limit = MOST_STREAM_BYTES
-
 -- the output of a run from the opening with a plan, over commands, and of a run that was cut in a reply
 abbrev pub RunWrites : NetworkValue → PlanValue → List Command → List ℕ → Type 0
 RunWrites net plan commands output = (last : SeatState) × Writes net (opening plan) commands output last
@@ -52,13 +48,13 @@ pub record Ran (asked : Option Job) (before after : Outside) (writes : NetworkVa
 -- the stream was taken to its end, and the replies to all its lines were written
 abbrev pub RanThrough : Option Job → Outside → Outside → Type 0
 RanThrough asked before after =
-    Ran asked before after (λ net plan taken output. (length taken ≤ stream_limit) × IsAtEnd after.coming
+    Ran asked before after (λ net plan taken output. (length taken ≤ MOST_STREAM_BYTES) × IsAtEnd after.coming
     × RunWrites net plan (commands_of taken) output)
 
 -- those to the whole lines that were taken
 abbrev pub RanSoFar : Option Job → Outside → Outside → Type 0
 RanSoFar asked before after =
-    Ran asked before after (λ net plan taken output. (length taken ≤ stream_limit) × RunWrites net plan (whole_commands taken) output)
+    Ran asked before after (λ net plan taken output. (length taken ≤ MOST_STREAM_BYTES) × RunWrites net plan (whole_commands taken) output)
 
 -- of some commands one was cut, since a put failed in its reply; or the replies to all were put, and only sending them on failed
 abbrev pub RunStops : NetworkValue → PlanValue → List Command → List ℕ → Type 0
@@ -66,14 +62,14 @@ RunStops net plan commands output = RunWritesCut net plan commands output ⊎ Ru
 
 -- so it is with the whole lines that were taken, or with all lines of a stream that was taken to its end
 abbrev pub RanCut : Option Job → Outside → Outside → Type 0
-RanCut asked before after = Ran asked before after (λ net plan taken output. (length taken ≤ stream_limit)
+RanCut asked before after = Ran asked before after (λ net plan taken output. (length taken ≤ MOST_STREAM_BYTES)
     × (RunStops net plan (whole_commands taken) output ⊎ (IsAtEnd after.coming × RunStops net plan (commands_of taken) output)))
 
 -- one byte more was taken than a stream may have, and the replies to the whole lines before that byte were written
 abbrev pub RanTooLong : Option Job → Outside → Outside → Type 0
 RanTooLong asked before after =
-    Ran asked before after (λ net plan taken output. (length taken ≡ stream_limit + 1)
-    × RunWrites net plan (whole_commands (take stream_limit taken)) output)
+    Ran asked before after (λ net plan taken output. (length taken ≡ MOST_STREAM_BYTES + 1)
+    × RunWrites net plan (whole_commands (take MOST_STREAM_BYTES taken)) output)
 
 -- memory ran out before anything was written, and before a byte of the stream was taken
 abbrev pub RanOut : Option Job → Outside → Outside → Type 0
@@ -138,7 +134,7 @@ OrRanOutTelling told before after s =
 abbrev pub RunsThrough : Task → NetworkValue → Outside → Outside → Status → Type 0
 RunsThrough (runs m) net before after s =
     (plan : PlanValue) × IsOpeningPlan net m plan
-    × ((stream : List ℕ) → before.coming ≡ Some stream → length stream ≤ stream_limit
+    × ((stream : List ℕ) → before.coming ≡ Some stream → length stream ≤ MOST_STREAM_BYTES
     → (s ≡ status.Done) × (output : List ℕ) × RunWrites net plan (commands_of stream) output × Wrote before after output)
 RunsThrough _ net before after s = ⊥
 

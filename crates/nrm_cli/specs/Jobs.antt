@@ -1,6 +1,5 @@
 -- What the words of the command line ask for.
-use Rattle.std.specs.Prelude.{ℕ, ⊤, ◌≡◌, List, [], ◌∷◌, bytes_eq, codes, Option, Some, None, option_map}
-use Rattle.std.specs.Prelude.{Ok, if◌then◌else◌}
+use Rattle.std.specs.Prelude.{ℕ, ⊤, ◌≡◌, List, [], ◌∷◌, bytes_eq, codes, Option, Some, None, option_map, Ok, if◌then◌else◌}
 use Rattle.std.specs.Int.{IsInRange}
 use Rattle.nrm_edge.specs.Fetch.{Folder}
 use Rattle.nrm_text.specs.Numbers.{whole_between}

@@ -1,8 +1,8 @@
 //! Serves the stream: the controller of a network file answers each line.
 ghost use Rattle.std.specs.Prelude.{◌≡◌, Some};
+ghost use Rattle.nrm_model.specs.declared.limits.TheConstants.{MOST_STREAM_BYTES};
 ghost use Rattle.nrm_session.specs.Serving.{CountsFaults, Serves, streams};
 ghost use Rattle.nrm_outside.specs.Outside.{SentOn, outside};
-ghost use Rattle.nrm_cli.specs.Ends.{stream_limit};
 ghost use Rattle.nrm_cli.specs.Inner.Does.{Does};
 ghost use Rattle.nrm_cli.specs.Jobs.{run_file as run_job};
 ghost use Rattle.nrm_cli.specs.Inner.Parts.{ServesNetwork, status_at};
@@ -37,7 +37,7 @@ fn answer_stream<S: Source, K: Sink>(
 ) -> End
     requires { controller.old.next ≡ 1 }
     ensures serves { let at = streams S.coming S.faults K.held K.faults in
-        Serves controller.old controller.new (at source.old sink.old) (at source.new sink.new) stream_limit result }
+        Serves controller.old controller.new (at source.old sink.old) (at source.new sink.new) MOST_STREAM_BYTES result }
     ensures counts { let at = streams S.coming S.faults K.held K.faults in
         CountsFaults (at source.old sink.old) (at source.new sink.new) result }
     ensures sent { SentOn Status.WriteFault (status_at result) (K.unsent sink.old) (K.unsent sink.new) }

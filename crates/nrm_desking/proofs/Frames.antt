@@ -15,8 +15,7 @@ use Rattle.nrm_frames.specs.declared.header.Header.TheVariants as header
 use Rattle.nrm_hub.proofs.Going.{goes-nothing, goes-then}
 use Rattle.nrm_hub.specs.Goes.{Goes, GoesTo, Puts, PutsCut}
 use Rattle.nrm_hub.specs.Hub.{HubValue}
-use Rattle.nrm_hub.specs.World.{World, after_frame, after_output, frame, here, none, readied, rows_again}
-use Rattle.nrm_hub.specs.World.{then as and_then}
+use Rattle.nrm_hub.specs.World.{World, after_frame, after_output, frame, here, none, readied, rows_again, then as and_then}
 use Rattle.nrm_desking.specs.Inner.Handling.{GoesOn, Handles, IsFresh, outcome_of}
 use Rattle.nrm_desking.specs.Inner.Serving.{PutsOrCut}
 use Rattle.nrm_desking.specs.Served.{is_ready}

@@ -11,8 +11,7 @@ use Rattle.nrm_text.proofs.Places.{found}
 use Rattle.nrm_text.specs.Names.{name_in}
 use Rattle.nrm_text.specs.Numbers.{is_whole, value_of}
 use Rattle.nrm_frames.specs.Cutting.{cut_at, cut_of, headed_by, no_frame, part, payload_of, whole}
-use Rattle.nrm_frames.specs.Headers.{header_of, header_of_words, opening_of, piece_of, place_in}
-use Rattle.nrm_frames.specs.Headers.{rights_in, size_in, size_of, some_of}
+use Rattle.nrm_frames.specs.Headers.{header_of, header_of_words, opening_of, piece_of, place_in, rights_in, size_in, size_of, some_of}
 use Rattle.nrm_frames.specs.declared.header.Header.{Header}
 use Rattle.nrm_frames.specs.declared.header.Header.TheVariants as header
 use Rattle.nrm_frames.specs.declared.limits.TheConstants.{MOST_HEADER, MOST_PAYLOAD}

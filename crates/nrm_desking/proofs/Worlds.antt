@@ -17,8 +17,7 @@ use Rattle.nrm_frames.specs.declared.header.Header.TheVariants as header
 use Rattle.nrm_session.specs.Serving.{Streams}
 use Rattle.nrm_hub.specs.Goes.{Goes, GoesTo, Puts}
 use Rattle.nrm_hub.specs.Hub.{HubValue, new_hub}
-use Rattle.nrm_hub.specs.World.{Comes, World, beginning, frame, here}
-use Rattle.nrm_hub.specs.World.{then as and_then}
+use Rattle.nrm_hub.specs.World.{Comes, World, beginning, frame, here, then as and_then}
 use Rattle.nrm_desking.specs.Inner.Handling.{GoesOn, GoesOnCut, IsFresh}
 use Rattle.nrm_desking.specs.Inner.Serving.{PutsOrCut, Stands, at_sink}
 use Rattle.nrm_desking.specs.Served.{HasEnded, Served, ServedCut, is_ready}

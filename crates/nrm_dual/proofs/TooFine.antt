@@ -18,9 +18,8 @@ use Rattle.nrm_fraction.proofs.Numerators.{found_behind}
 use Rattle.nrm_lp.proofs.Small.{reach_first, reach_parts, common_below}
 use Rattle.nrm_lp.specs.declared.certificate.Certificate.{Certificate}
 use Rattle.nrm_dual.specs.Reading.{certificate_or_refusal, certificate_over, small_or_refusal}
-use Rattle.nrm_dual.specs.Refusals.{cause_of}
+use Rattle.nrm_dual.specs.Refusals.{cause_of, AnswersCertificate, CertRefusal, too_fine}
 use Rattle.nrm_dual.specs.declared.fault.CertFault.{CertFault}
-use Rattle.nrm_dual.specs.Refusals.{AnswersCertificate, CertRefusal, too_fine}
 use Rattle.std.specs.Result.{IsErrAnd}
 use Rattle.std.proofs.lemmas.Option.{none-some}
 use Rattle.nrm_fraction.proofs.Reaching.{reaching_no}

@@ -38,8 +38,7 @@ least_from test (suc n) y = if test y then y else least_from test n (y + 1)
 -- those buckets have no demand
 abbrev pub seats_enough : NetworkValue → Certificate → ℕ → ℕ → ℕ → ℕ
 seats_enough net cert leg period bucket =
-    if weight_of net cert leg period 1 bucket == 0 then 0
-    else least_from (suffices net cert leg period bucket) (leg_of net leg).authorised 0
+    if weight_of net cert leg period 1 bucket == 0 then 0 else least_from (suffices net cert leg period bucket) (leg_of net leg).authorised 0
 
 -- the seats that are protected for buckets 1 to this one: enough for them, and never fewer than for fewer buckets
 abbrev pub protection_of : NetworkValue → Certificate → ℕ → ℕ → ℕ → ℕ

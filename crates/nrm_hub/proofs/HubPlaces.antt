@@ -8,8 +8,7 @@ use Rattle.std.proofs.lemmas.List.Elements.{All-append, All-get_or, All-replicat
 use Rattle.nrm_frames.specs.declared.why.Why.{Why}
 use Rattle.nrm_hub.specs.Clients.{ClientValue, closed_for}
 use Rattle.nrm_hub.specs.Inner.Seats.{ClosesAt, HasPlaces, closes, stays}
-use Rattle.nrm_hub.specs.Seats.{AreSeated, IsSeated}
-use Rattle.nrm_hub.specs.Seats.{IsBelow}
+use Rattle.nrm_hub.specs.Seats.{AreSeated, IsSeated, IsBelow}
 use Rattle.nrm_hub.specs.World.{TakesNothing}
 
 -- ---- whether something is there

@@ -22,8 +22,7 @@ use Rattle.nrm_hub.specs.Desks.{IsOneRun, NumbersRise, Turn, seller_of, turn_aga
 use Rattle.nrm_hub.specs.Register.{Carries, DeskValue, Joins, Passes, RegisterValue, added, desk_at, is_of_row, name_at, new_desk, new_register}
 use Rattle.nrm_hub.specs.Register.{owners_after, there, with_row}
 use Rattle.nrm_hub.specs.Rows.{Entry}
-use Rattle.nrm_hub.specs.World.{GivesAgain}
-use Rattle.nrm_hub.specs.World.{next as row_again, none as nothing_again}
+use Rattle.nrm_hub.specs.World.{GivesAgain, next as row_again, none as nothing_again}
 use Rattle.nrm_hub.specs.declared.row.Row.{Row}
 use Rattle.nrm_hub.proofs.RegisterLists.{EachIsFound, IsAmong, all-trimmed, among-last, among-longer, at-push, at-set, found-pushed, map-same, named}
 use Rattle.nrm_hub.proofs.RegisterLists.{named-at, named-longer, named-set, rel-set}

@@ -4,6 +4,7 @@ use Rattle.nrm_edge.specs.Causes.{counted}
 use Rattle.nrm_model.specs.Inventory.{inventory_of}
 use Rattle.nrm_model.specs.Limits.{IsNetwork}
 use Rattle.nrm_model.specs.Network.{NetworkValue}
+use Rattle.nrm_model.specs.declared.limits.TheConstants.{MOST_STREAM_BYTES}
 use Rattle.nrm_simplex.specs.declared.fault.SolveFault.{SolveFault}
 use Rattle.nrm_simplex.specs.declared.fault.SolveFault.TheVariants as fault
 use Rattle.nrm_book.specs.Book.{IsBook}
@@ -30,7 +31,7 @@ use Rattle.nrm_keeper.specs.declared.row.KeepFault.{KeepFault}
 use Rattle.nrm_keeper.specs.declared.row.KeepFault.TheVariants as keep
 use Rattle.nrm_keeper.specs.Rows.{Keeps, Lists, has_failed}
 use Rattle.nrm_outside.specs.Puts.{PutsIfSome, PutsLine, status_for, unplanned_line}
-use Rattle.nrm_keeping.specs.Ends.{Begins, Ends, KeptOutside, Leaves, NoSession, RowsStay, RunsOn, RunsOnCut, Starts, StoreDidNotFail, Tells, file_fault, overflow, refused, store_fault, store_refused, stream_limit, streams_at, usage}
+use Rattle.nrm_keeping.specs.Ends.{Begins, Ends, KeptOutside, Leaves, NoSession, RowsStay, RunsOn, RunsOnCut, Starts, StoreDidNotFail, Tells, file_fault, overflow, refused, store_fault, store_refused, streams_at, usage}
 use Rattle.nrm_keeping.specs.Jobs.{KeptJob, store_fault_line, store_refused_line}
 use Rattle.nrm_keeping.specs.Inner.Parts.{loaded_in, status_at, unlisted_line}
 use Rattle.nrm_keeping.specs.Inner.Keeping.{KeptRefines, KeptRefinesCut}
@@ -141,11 +142,11 @@ module _ {P : Type 0} (keeps : Ghosts P) (how : Reading) (job : KeptJob) (before
       subst (λ (net : NetworkValue). KeptWritesCut net (loaded_state starts.begins.plan starts.loaded) commands output last (keeps.faults listed) (keeps.faults ended)) network writes in
       (last, leaves last stands' refines.network (refines.stays how trusted).1, record { writes = on.writes; counted = faults_after ∙ on.counted ∙ ap (count_after (on.writes.replies ++ on.writes.reply ∷ [])) count })
 
-  pub served-ends : (e : End) → ServesBy (KeptRefines keeps (start, listed) (new, ended)) (KeptRefinesCut keeps (start, listed) (new, ended)) (streams_at before.at) (streams_at after.at) stream_limit e
+  pub served-ends : (e : End) → ServesBy (KeptRefines keeps (start, listed) (new, ended)) (KeptRefinesCut keeps (start, listed) (new, ended)) (streams_at before.at) (streams_at after.at) MOST_STREAM_BYTES e
       → CountsFaults (streams_at before.at) (streams_at after.at) e → Ends (Some job) before after (status_at e)
-  served-ends e serves counts = by e (serves-weaker _ _ (RunsOn (Some job) before after starts) (RunsOnCut (Some job) before after starts) runs-on runs-on_cut (streams_at before.at) (streams_at after.at) stream_limit e serves) counts
+  served-ends e serves counts = by e (serves-weaker _ _ (RunsOn (Some job) before after starts) (RunsOnCut (Some job) before after starts) runs-on runs-on_cut (streams_at before.at) (streams_at after.at) MOST_STREAM_BYTES e serves) counts
     where
-      by : (e : End) → ServesBy (RunsOn (Some job) before after starts) (RunsOnCut (Some job) before after starts) (streams_at before.at) (streams_at after.at) stream_limit e
+      by : (e : End) → ServesBy (RunsOn (Some job) before after starts) (RunsOnCut (Some job) before after starts) (streams_at before.at) (streams_at after.at) MOST_STREAM_BYTES e
           → CountsFaults (streams_at before.at) (streams_at after.at) e → Ends (Some job) before after (status_at e)
       by end.Done serves counts = record { starts = starts; serves = serves }
       by end.ReadFault serves counts = (counts.0, record { starts = starts; serves = serves })

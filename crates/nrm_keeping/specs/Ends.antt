@@ -23,10 +23,6 @@ use Rattle.nrm_keeping.specs.Run.{KeptWrites, KeptWritesCut}
 use Rattle.nrm_keeping.specs.declared.status.KeptStatus.{KeptStatus}
 use Rattle.nrm_keeping.specs.declared.status.KeptStatus.TheVariants as status
 
--- the most bytes of a stream
-abbrev pub stream_limit : ℕ
-stream_limit = MOST_STREAM_BYTES
-
 -- what stands outside, and the store: its rows, if they are told, and how often it has failed
 pub record KeptOutside : Type 0 where
   pub at : Outside
@@ -100,7 +96,7 @@ RunsOnCut asked before after starts commands output =
 pub record Ran (asked : Option KeptJob) (before after : KeptOutside) (e : End) : Type 0 where
   pub starts : Starts asked before
   pub serves : ServesBy (RunsOn asked before after starts) (RunsOnCut asked before after starts) (streams_at before.at) (streams_at after.at)
-      stream_limit e
+      MOST_STREAM_BYTES e
 
 -- a line, the status that goes with it, and why it is told
 pub data Tells (asked : Option KeptJob) (before after : KeptOutside) : KeptStatus → List ℕ → Type 0 where
@@ -196,7 +192,7 @@ RefusesRows job net before after s =
 abbrev pub AnswersAll : KeptJob → NetworkValue → KeptOutside → KeptOutside → KeptStatus → Type 0
 AnswersAll job net before after s =
     (plan : PlanValue) (rows : List KeptRow) (loaded : Loaded) (stream : List ℕ) → IsOpeningPlan net job.mode plan
-    → before.rows ≡ Some rows → load net rows ≡ Ok loaded → before.at.coming ≡ Some stream → length stream ≤ stream_limit
+    → before.rows ≡ Some rows → load net rows ≡ Ok loaded → before.at.coming ≡ Some stream → length stream ≤ MOST_STREAM_BYTES
     → ((s ≡ status.Done) × ((output : List ℕ) × (last : SeatState)
     × KeptWrites net (loaded_state plan loaded) (commands_of stream) output last before.store_faults after.store_faults
     × Wrote before.at after.at output)) ⊎ ((s ≡ status.NoMemory) × WroteNothing before.at after.at)

@@ -1,11 +1,12 @@
 //! The top call of the program that keeps its bookings.
 ghost use Rattle.std.specs.Prelude.{◌≡◌, ◌≤◌, Some, is_some, map, option_map, string_bytes};
+ghost use Rattle.nrm_model.specs.declared.limits.TheConstants.{MOST_STREAM_BYTES};
 ghost use Rattle.nrm_outside.specs.NetworkFile.{FilesGiveNetworks};
 ghost use Rattle.nrm_outside.specs.Outside.{Goes, SentOn};
 ghost use Rattle.nrm_session.specs.Clerks.{is_control};
 ghost use Rattle.nrm_session.specs.Serving.{CountsFaults, ServesBy, streams};
 ghost use Rattle.nrm_session.specs.declared.serving.TheConstants.{LATEST_START};
-ghost use Rattle.nrm_keeping.specs.Ends.{Ends, Failures, KeptCall, kept_outside, stream_limit};
+ghost use Rattle.nrm_keeping.specs.Ends.{Ends, Failures, KeptCall, kept_outside};
 ghost use Rattle.nrm_keeping.specs.Inner.Keeping.{KeptRefines, KeptRefinesCut};
 ghost use Rattle.nrm_keeping.specs.Inner.Parts.{job_in, status_at};
 ghost use Rattle.nrm_keeping.specs.Jobs.{kept_job_of};
@@ -84,7 +85,7 @@ fn answer_stream<S: Source, K: Sink, P: Keeper>(
     ensures serves { let at = streams S.coming S.faults K.held K.faults in
         ServesBy (KeptRefines P.Keeper (controller.old, keeper.old) (controller.new, keeper.new))
         (KeptRefinesCut P.Keeper (controller.old, keeper.old) (controller.new, keeper.new))
-        (at source.old sink.old) (at source.new sink.new) stream_limit result }
+        (at source.old sink.old) (at source.new sink.new) MOST_STREAM_BYTES result }
     ensures counts { let at = streams S.coming S.faults K.held K.faults in
         CountsFaults (at source.old sink.old) (at source.new sink.new) result }
     ensures sent { SentOn KeptStatus.WriteFault (status_at result) (K.unsent sink.old) (K.unsent sink.new) }

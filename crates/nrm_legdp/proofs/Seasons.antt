@@ -5,11 +5,10 @@ use Rattle.std.specs.List.{flat_map, sum_by}
 use Rattle.std.proofs.lemmas.List.{length-map, length-take-le, length-drop, length-append}
 use Rattle.std.proofs.lemmas.List.Concat.{flat_map-cons}
 use Rattle.std.proofs.lemmas.List.Sums.{sum_by-append, sum_by-cons, sum_by-le-sum_by}
-use Rattle.nrm_legdp.specs.Policies.{DemandValue, Policy, demands_after, earned, pay_after, value}
+use Rattle.nrm_legdp.specs.Policies.{DemandValue, Policy, demands_after, earned, pay_after, value, greatest}
 use Rattle.nrm_legdp.specs.Seasons.{EarnedOverSeasons, RememberingEarnsNoMore, earned_after, earned_in, seasons}
 use Rattle.nrm_legdp.specs.Table.{AreClasses}
 use Rattle.nrm_legdp.proofs.OneClass.{greatest-above, sale}
-use Rattle.nrm_legdp.specs.Policies.{greatest}
 
 same-sum : {X : Type 0} (f g : X → ℕ) (xs : List X) → ((x : X) → f x ≡ g x) → sum_by f xs ≡ sum_by g xs
 same-sum f g [] h = refl

@@ -22,9 +22,8 @@ use Rattle.nrm_network.specs.Checks.{why_refused}
 use Rattle.nrm_network.specs.File.{file_of, network_of, refusal_after, lacks_a_kind, leg_in, product_in, number_of_leg, refund_given, demand_given}
 use Rattle.nrm_network.specs.Canonical.{PrintedIsRead, periods_fields, leg_fields, product_fields, canonical_rows, canonical_file}
 use Rattle.nrm_network.specs.declared.fault.Why.TheVariants as why
-use Rattle.nrm_network.proofs.PlainRows.{records-plain, texts-short}
+use Rattle.nrm_network.proofs.PlainRows.{records-plain, texts-short, IsPlainRow}
 use Rattle.nrm_network.proofs.CanonicalRows.{demands-plain, leg-plain, periods-plain, product-plain}
-use Rattle.nrm_network.proofs.PlainRows.{IsPlainRow}
 use Rattle.nrm_network.proofs.NumberFields.{values-of, bytes-same}
 use Rattle.nrm_network.proofs.CanonicalChecks.{periods-accepted}
 use Rattle.nrm_network.proofs.LegNames.{leg-place}

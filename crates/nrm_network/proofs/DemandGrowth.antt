@@ -13,9 +13,8 @@ use Rattle.std.proofs.lemmas.List.Elements.{All-push}
 use Rattle.std.proofs.lemmas.List.Folds.{list_any-append, list_any_at, find-append}
 use Rattle.std.proofs.lemmas.Slice.Eq.{bytes_eq-Decides}
 use Rattle.nrm_text.specs.Numbers.{value_of}
-use Rattle.nrm_network.specs.Rows.{Row, demand_kind, field, begins, leg_rows, product_rows, demand_rows, refund_rows, version_in, histories_in}
-use Rattle.nrm_network.specs.Rows.{periods_in, is_named}
-use Rattle.nrm_network.specs.Rows.{further, further_numbers, gives_demand}
+use Rattle.nrm_network.specs.Rows.{Row, demand_kind, field, begins, leg_rows, product_rows, demand_rows, refund_rows, version_in}
+use Rattle.nrm_network.specs.Rows.{histories_in, periods_in, is_named, further, further_numbers, gives_demand}
 use Rattle.nrm_network.specs.Checks.{why_refused}
 use Rattle.nrm_network.specs.Inner.Draft.{Accepts, SetsDemand, Stands, names_of, demand_by, given_by}
 use Rattle.nrm_network.specs.Inner.Entries.{HasShape}

@@ -1,11 +1,10 @@
 -- Plans by hand, on two legs with ten seats each and five products: at bid prices of 150 and 80 a fare is compared with the sum on the
 -- product's legs.
-use Rattle.std.specs.Prelude.{◌≡◌, ◌∷◌, [], map, pos, Some, None, true, false, refl}
+use Rattle.std.specs.Prelude.{◌≡◌, ◌∷◌, [], map, pos, Some, None, true, false, refl, ℕ, ℤ}
 use Rattle.nrm_model.specs.declared.mode.Mode.{Mode}
 use Rattle.nrm_model.specs.declared.mode.Mode.TheVariants as mode
 use Rattle.nrm_lp.specs.declared.certificate.Certificate.{Certificate}
 use Rattle.nrm_samples.specs.Networks.{two_legs_five_products, two_legs_last_first}
-use Rattle.std.specs.Prelude.{ℕ, ℤ}
 use Rattle.nrm_fraction.specs.Fraction.{◌over◌}
 use Rattle.nrm_fraction.specs.Large.{size_limit}
 use Rattle.nrm_number.specs.Gcd.{gcd, in_lowest_terms}

@@ -2,7 +2,7 @@
 use Rattle.std.proofs.Common.{ℕ, zero, suc, ◌≡◌, ◌∙◌, ◌-◌, ◌*◌, ◌<◌, ◌≤◌, List, [], Option, Some, None, length, get_or, arith, refl, ap, sym, subst}
 use Rattle.std.proofs.lemmas.List.FromFn.{get_or-map-range_with_len, length-map-range_with_len}
 use Rattle.std.proofs.lemmas.List.Sums.{count_by-le-length}
-use Rattle.std.specs.Prelude.{pos, nat_abs, int_lt}
+use Rattle.std.specs.Prelude.{pos, nat_abs, int_lt, IsSome}
 use Rattle.std.proofs.lemmas.Option.{none-some}
 use Rattle.nrm_model.specs.Network.{NetworkValue, leg_of}
 use Rattle.nrm_model.specs.declared.mode.Mode.{Mode}
@@ -11,7 +11,6 @@ use Rattle.nrm_lp.specs.declared.certificate.Certificate.{Certificate}
 use Rattle.nrm_virtual.specs.Adjusted.{adjusted_fare}
 use Rattle.nrm_virtual.specs.Buckets.{bucket_count, bucket_of}
 use Rattle.nrm_emsr.specs.Protections.{protection_of, protections_of}
-use Rattle.std.specs.Prelude.{IsSome}
 use Rattle.nrm_virtual.specs.Table.{HasPair, IsTableOf, TableValue, bucket_in}
 use Rattle.nrm_virtual.proofs.Tables.{bucket-is}
 use Rattle.nrm_plan.specs.Laws.{AreThoseDefined, NestsAreThoseDefined}

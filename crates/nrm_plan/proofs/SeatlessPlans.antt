@@ -9,8 +9,7 @@ use Rattle.nrm_lp.specs.declared.certificate.Certificate.{Certificate}
 use Rattle.nrm_virtual.specs.Buckets.{bucket_of}
 use Rattle.nrm_emsr.specs.Protections.{protection_of}
 use Rattle.nrm_plan.specs.Nesting.{AreNestsOf, NestsValue}
-use Rattle.nrm_plan.specs.Plans.{AreSeatsLeft, HasNests, IsPlanFor, IsPlanOf, PlanValue}
-use Rattle.nrm_plan.specs.Plans.{protected_from, seats_protected}
+use Rattle.nrm_plan.specs.Plans.{AreSeatsLeft, HasNests, IsPlanFor, IsPlanOf, PlanValue, protected_from, seats_protected}
 use Rattle.nrm_model.proofs.SeatlessLegs.{AreSameLegs, with_legs, authorised-same, count-same}
 use Rattle.nrm_emsr.proofs.SeatlessNests.{bucket-same, protection-same, protections-same, table-same}
 

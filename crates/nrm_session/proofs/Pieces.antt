@@ -1,7 +1,6 @@
 -- What one call of the splitter adds to the lines that were answered: the steps of the two loops that serve a stream.
-use Rattle.std.proofs.Common.{ℕ, ◌≡◌, ◌∙◌, ◌+◌, ◌-◌, ◌<◌, ◌≤◌, true, false, ◌==◌, List, [], ◌∷◌, ◌++◌, length, take, drop, map}
-use Rattle.std.proofs.Common.{Option, Some, None, refl, sym, ap, subst, arith, inl, inr, append-nil, append_assoc}
-use Rattle.std.proofs.Common.{length-append, length-take}
+use Rattle.std.proofs.Common.{ℕ, ◌≡◌, ◌∙◌, ◌+◌, ◌-◌, ◌<◌, ◌≤◌, true, false, ◌==◌, List, [], ◌∷◌, ◌++◌, length, take, drop, map, Option}
+use Rattle.std.proofs.Common.{Some, None, refl, sym, ap, subst, arith, inl, inr, append-nil, append_assoc, length-append, length-take}
 use Rattle.std.specs.Option.{option_to_list}
 use Rattle.std.specs.Io.KnownBytes.{Keeps}
 use Rattle.nrm_edge.specs.Causes.{Rose}

@@ -13,6 +13,7 @@ use Rattle.nrm_simplex.specs.declared.fault.SolveFault.{SolveFault}
 use Rattle.nrm_plan.specs.Plans.{IsOpeningPlan, IsPlanFault, PlanValue}
 use Rattle.nrm_report.specs.Texts.{plan_text}
 use Rattle.nrm_fraction.specs.Large.{size_limit}
+use Rattle.nrm_model.specs.declared.limits.TheConstants.{MOST_STREAM_BYTES}
 use Rattle.nrm_lp.specs.declared.certificate.Certificate.{Certificate}
 use Rattle.nrm_lp.specs.Certified.{Certifies}
 use Rattle.nrm_dlp.specs.Programs.{opening_program}
@@ -40,7 +41,7 @@ use Rattle.nrm_session.specs.Serving.{CountsFaults, Serves, Streams}
 use Rattle.nrm_session.specs.declared.reply.Reply.{Reply as Answered}
 use Rattle.nrm_session.specs.declared.serving.End.{End}
 use Rattle.nrm_session.specs.declared.serving.End.TheVariants as end
-use Rattle.nrm_cli.specs.Ends.{status_of, stream_limit}
+use Rattle.nrm_cli.specs.Ends.{status_of}
 use Rattle.nrm_findings.specs.Summary.{nothing_counted}
 use Rattle.nrm_cli.specs.Made.{MadeRun, counts_from, last_of}
 use Rattle.nrm_findings.specs.declared.summary.Counts.{Counts}
@@ -187,7 +188,7 @@ pub record ServesFrom (net : NetworkValue) (m : Mode) (before after : Streams) (
   pub ended : End
   pub begun : HasBegun net start
   pub planned : IsOpeningPlan net m start.plan
-  pub serves : Serves start last before after stream_limit ended
+  pub serves : Serves start last before after MOST_STREAM_BYTES ended
   pub counts : CountsFaults before after ended
   pub status : result ≡ status_at ended
 

@@ -1,6 +1,5 @@
 -- The chosen division, from a table over how many values are left and numbers of pieces.
-use Rattle.std.specs.Prelude.{ℕ, zero, suc, ◌+◌, ◌-◌, List, []}
-use Rattle.std.specs.Prelude.{◌∷◌, length, Option, Some, None, nat_lt, if◌then◌else◌}
+use Rattle.std.specs.Prelude.{ℕ, zero, suc, ◌+◌, ◌-◌, List, [], ◌∷◌, length, Option, Some, None, nat_lt, if◌then◌else◌}
 use Rattle.std.specs.Option.{option_map}
 use Rattle.nrm_cluster.specs.Points.{PointsValue}
 use Rattle.nrm_cluster.specs.Divisions.{piece_cost}

@@ -6,8 +6,7 @@ use Rattle.nrm_text.specs.Names.{is_name}
 use Rattle.nrm_text.specs.Numbers.{is_whole, value_of}
 use Rattle.nrm_network.specs.Rows.{Row, Kind, periods_kind, leg_kind, product_kind, demand_kind, refund_kind, no_kind, kind_of, field}
 use Rattle.nrm_network.specs.Rows.{further, further_numbers, leg_rows, product_rows, version_in, histories_in, periods_in}
-use Rattle.nrm_network.specs.Checks.{NumberField, is_within, no_such_kind, out_of_order, miscounted, too_many}
-use Rattle.nrm_network.specs.Checks.{name_fields, number_fields}
+use Rattle.nrm_network.specs.Checks.{NumberField, is_within, no_such_kind, out_of_order, miscounted, too_many, name_fields, number_fields}
 use Rattle.nrm_network.specs.Inner.Faults.{Refuses}
 use Rattle.nrm_network.specs.File.{leg_in}
 use Rattle.nrm_network.specs.declared.fault.RowRefusal.{RowRefusal}

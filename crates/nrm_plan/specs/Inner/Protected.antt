@@ -1,6 +1,5 @@
 -- The seats that are protected from each product on each leg, in one list.
-use Rattle.std.specs.Prelude.{ℕ, ◌≡◌, ◌+◌, ◌-◌, ◌*◌, ◌<◌, List, [], Some, length}
-use Rattle.std.specs.Prelude.{slice_index, slice_index_or, unwrap_or}
+use Rattle.std.specs.Prelude.{ℕ, ◌≡◌, ◌+◌, ◌-◌, ◌*◌, ◌<◌, List, [], Some, length, slice_index, slice_index_or, unwrap_or}
 use Rattle.nrm_model.specs.Inventory.{inventory_of, uses_leg}
 use Rattle.nrm_model.specs.Network.{NetworkValue}
 use Rattle.nrm_virtual.specs.Table.{bucket_in}

@@ -5,8 +5,7 @@ use Rattle.nrm_number.specs.Gcd.{shrink}
 use Rattle.nrm_fraction.specs.Large.{fractions, gcd_all}
 use Rattle.nrm_row.specs.Numbers.{IsRow}
 use Rattle.nrm_row.specs.Inner.Crossed.{shrunk}
-use Rattle.nrm_row.proofs.LowestTerms.{loosened}
-use Rattle.nrm_row.proofs.LowestTerms.{small_is_row, lowest_same}
+use Rattle.nrm_row.proofs.LowestTerms.{loosened, small_is_row, lowest_same}
 use Rattle.nrm_row.proofs.lowest.lowest.Goals as goal
 
 common : (c : goal.After-quotient) → unsigned_abs (to_z w64 (of_z w64 c.divisor-common.result)) ≡ gcd_all (unsigned_abs c.args.den) c.args.nums.now

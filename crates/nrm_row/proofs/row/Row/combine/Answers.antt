@@ -3,8 +3,7 @@ use Rattle.std.proofs.Common.{rules, arith, ◌≡◌, ◌+◌, ◌*◌, ap, ap�
 use Rattle.std.proofs.lemmas.Result.{err_from_is_err_and}
 use mir.Val.{SFits}
 use Rattle.nrm_fraction.specs.Large.{fractions, large_number, size_limit, IsSmall}
-use Rattle.nrm_fraction.specs.Rows.{number_at}
-use Rattle.nrm_fraction.specs.Rows.{combine as combined}
+use Rattle.nrm_fraction.specs.Rows.{number_at, combine as combined}
 use Rattle.nrm_fraction.specs.Fault.{IsFault}
 use Rattle.nrm_fraction.proofs.Sizes.{small_same}
 use Rattle.nrm_row.specs.Numbers.{IsBoundedRow}
