@@ -2,7 +2,9 @@
 import argparse
 import os
 import shlex
+import shutil
 import subprocess
+import sys
 import tempfile
 
 TOP = os.path.dirname(os.path.dirname(os.path.realpath(__file__)))
@@ -56,14 +58,16 @@ def words_of(manual, others=None, **numbers):
     the environment names another; numbers likewise; and the program, else the script `nrm` at the top."""
     words = argparse.ArgumentParser(usage=manual)
     words.add_argument("pattern", nargs="?", default="")
-    for name, path in (others or {}).items():
-        words.add_argument(f"--{name}", nargs="+", default=named(f"NRM_{name.upper()}", path))
+    for name in others or ():
+        words.add_argument(f"--{name}", nargs="+")
     for name, number in numbers.items():
         words.add_argument(f"--{name}", type=int, default=number)
     add_program(words)
     given = words.parse_args()
-    for name in ("program", *(others or ())):
-        setattr(given, name, placed(getattr(given, name)))
+    given.program = placed(given.program)
+    for name, path in (others or {}).items():
+        said = getattr(given, name)
+        setattr(given, name, placed(said) if said else named(f"NRM_{name.upper()}", path))
     return given
 
 
@@ -84,13 +88,25 @@ def named(variable, path):
 
 
 def placed(words):
-    """The words of a program, which may run in another folder."""
-    return [os.path.abspath(it) if os.path.exists(it) else it for it in words]
+    """The words of a program, which may run in another folder; if it isn't there the tests end, and that is told."""
+    words = [os.path.abspath(it) if os.path.exists(it) else it for it in words]
+    if not shutil.which(words[0]):
+        sys.exit(f"{os.path.basename(sys.argv[0])}: {words[0]} isn't a program that can be run; the scripts at the top "
+                 "prove and build theirs, as `./nrm --build`")
+    return words
 
 
 def is_built(program):
     """Whether there is a program; its script builds it if need be."""
     return subprocess.run(program, stdin=subprocess.DEVNULL, stdout=subprocess.DEVNULL).returncode != NOT_BUILT
+
+
+def built(name, said=None):
+    """Where the program of a name is: the one that is said, else the one that its script builds if need be; None if it
+    can't be built."""
+    if not said and not is_built([os.path.join(TOP, name)]):
+        return None
+    return placed([said or os.path.join(TOP, "crates", name, "out", name)])[0]
 
 
 def tried(tests, place_of):

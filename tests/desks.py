@@ -23,7 +23,6 @@ the next, behind its blanks.
 """
 import os
 import re
-import shutil
 import subprocess
 import sys
 
@@ -1099,9 +1098,8 @@ def crowds_beside_the_second_account(place):
 
 def main():
     given = checks.words_of(__doc__, {"desks": os.path.join(TOP, "nrm_desks")}, tries=crowds.TRIES, seed=1)
-    if not shutil.which(given.desks[0]) or not checks.is_built(given.desks):
-        print(f"{given.desks[0]} isn't there or can't be built, and --desks or NRM_DESKS name another program")
-        return 1
+    if not checks.is_built(given.desks):
+        return checks.NOT_BUILT
     picked = test.picked(given.pattern)
     return checks.tried(picked, lambda folder: Place(folder, given))
 

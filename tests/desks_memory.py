@@ -22,8 +22,6 @@ import os
 import sys
 import tempfile
 
-HERE = os.path.dirname(os.path.realpath(__file__))
-TOP = os.path.dirname(HERE)
 sys.dont_write_bytecode = True
 import checks
 import frames
@@ -225,9 +223,9 @@ def main():
     if not preload.is_there():
         print(f"Running out of memory wasn't tried: {preload.WANTING}.")
         return 0
-    if not given.desks and not checks.is_built([os.path.join(TOP, "nrm_desks")]):
+    program = checks.built("nrm_desks", given.desks)
+    if program is None:
         return checks.NOT_BUILT
-    program = os.path.abspath(given.desks or os.path.join(TOP, "crates", "nrm_desks", "out", "nrm_desks"))
     passed = failed = 0
     with tempfile.TemporaryDirectory() as folder:
         try:

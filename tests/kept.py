@@ -51,8 +51,6 @@ import sys
 import tempfile
 import time
 
-HERE = os.path.dirname(os.path.realpath(__file__))
-TOP = os.path.dirname(HERE)
 sys.dont_write_bytecode = True
 import checks
 import power
@@ -1277,10 +1275,9 @@ def main():
     if not stores.is_there:
         print(f"Stores weren't tried: {stores.WANTING}.")
         return 0
-    script = os.path.join(TOP, "nrm_kept")  # builds the program where it isn't
-    if not given.program and not checks.is_built([script]):
+    given.program = checks.built("nrm_kept", given.program)
+    if given.program is None:
         return checks.NOT_BUILT
-    given.program = os.path.abspath(given.program or os.path.join(TOP, "crates", "nrm_kept", "out", "nrm_kept"))
     if given.disk:
         disk_alone(given)
         return 0

@@ -334,17 +334,6 @@ def tried(runs, job, is_all):
     return len(ends) - len(wrong), len(wrong)
 
 
-def programs_of(given, names):
-    """The programs of some names, which their scripts build where they aren't there; None where one can't be."""
-    found = {}
-    for name in names:
-        said = {"nrm": given.program, "nrm_why": given.why}[name]
-        if not said and not checks.is_built([os.path.join(TOP, name)]):
-            return None
-        found[name] = os.path.abspath(said or os.path.join(TOP, "crates", name, "out", name))
-    return found
-
-
 def words_given():
     parser = argparse.ArgumentParser(usage=__doc__)
     parser.add_argument("pattern", nargs="?", default="")
@@ -363,8 +352,9 @@ def main():
     with tempfile.TemporaryDirectory() as folder:
         try:
             jobs = [it for it in all_jobs(folder) if given.pattern in it.name]
-            programs = programs_of(given, sorted({it.program for it in jobs}))
-            if programs is None:
+            said = {"nrm": given.program, "nrm_why": given.why}
+            programs = {name: checks.built(name, said[name]) for name in sorted({it.program for it in jobs})}
+            if None in programs.values():
                 return checks.NOT_BUILT
             runs = Runs(programs, folder)
             for job in jobs:

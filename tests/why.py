@@ -375,10 +375,6 @@ def made_lines_agree(place, count):
 
 def main():
     given = checks.words_of(__doc__, {"why": BUILT}, lines=10_000)
-    if os.path.isabs(given.why[0]) and not os.access(given.why[0], os.X_OK):
-        print(f"{given.why[0]} isn't built, and nothing is built here: `./nrm_why --build` proves and builds it, and "
-              "--why or NRM_WHY name another program")
-        return 1
     picked = test.picked(given.pattern)
     if given.pattern in made_lines_agree.__name__:
         picked.append(lambda place: made_lines_agree(place, given.lines))
