@@ -5,8 +5,6 @@ mod handling;
 mod incoming;
 mod serving;
 mod status;
-#[cfg(test)]
-mod tests;
 mod top;
 
 pub use status::DesksStatus;

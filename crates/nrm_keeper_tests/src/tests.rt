@@ -19,6 +19,9 @@ use std::{env, fs};
 // The number, the product and the party of a row.
 type Line<'a> = (u16, &'a [u8], u16);
 
+// The first row of each run.
+const ONE: Line<'static> = (1, b"THRU", 2);
+
 fn named(bytes: &[u8]) -> Result<Name, Fail> {
     match name_of(bytes) {
         Some(name) => Ok(name),
@@ -67,15 +70,14 @@ fn drops<P: Keeper>(keeper: &mut P, alloc: Global, number: u16, wanted: &[Line<'
 
 // The same calls and answers over each keeper.
 fn first_run<P: Keeper>(keeper: &mut P, alloc: Global) -> Result<bool, Fail> {
-    let one = (1, b"THRU".as_slice(), 2);
     let two = (2, b"LOC".as_slice(), 1);
     let five = (5, b"THRU".as_slice(), 65535);
     Ok(
         keeps(keeper, alloc, &[])
-            && adds(keeper, alloc, one, &[one])?
-            && adds(keeper, alloc, two, &[one, two])?
-            && adds(keeper, alloc, five, &[one, two, five])?
-            && drops(keeper, alloc, 2, &[one, five])
+            && adds(keeper, alloc, ONE, &[ONE])?
+            && adds(keeper, alloc, two, &[ONE, two])?
+            && adds(keeper, alloc, five, &[ONE, two, five])?
+            && drops(keeper, alloc, 2, &[ONE, five])
             && drops(keeper, alloc, 1, &[five]),
     )
 }
@@ -286,67 +288,113 @@ fn holds(so: bool, what: &'static str) -> Result<(), Fail> {
     if so { Ok(()) } else { Err(Fail::from(what)) }
 }
 
-// A call that fails, and after which a keeper lets its connection go: no row has the number.
-fn lets_go<S: Beginning>(keeper: &mut FileKeeper<'_, S>, alloc: Global) -> Result<(), Fail> {
+// A call that fails, and after which a keeper of a file lets its connection go: no row has the number.
+fn lets_go<P: Keeper>(keeper: &mut P, alloc: Global) -> Result<(), Fail> {
     holds(
         matches!(keeper.drop_row(alloc, 9), Err(KeepFault::Failed)),
         "no row has the number",
     )
 }
 
-fn rows_in_a_file<S: Beginning>(rt: &HostRuntime, place: &Place) -> Result<(), Fail> {
-    let mut keeper = FileKeeper::<S>::new(rt, &place.store);
-    holds(first_run(&mut keeper, rt.alloc())?, "the first run")?;
-    drop(keeper);
-    let mut keeper = FileKeeper::<S>::new(rt, &place.store);
-    holds(second_run(&mut keeper, rt.alloc())?, "the second run")?;
-    lets_go(&mut keeper, rt.alloc())?;
+fn goes_on<P: Keeper>(keeper: &mut P, alloc: Global) -> Result<(), Fail> {
+    holds(second_run(keeper, alloc)?, "the second run")?;
+    lets_go(keeper, alloc)?;
     holds(
-        keeper.all(rt.alloc()).is_ok(),
+        keeper.all(alloc).is_ok(),
         "after a failed call the file is opened again",
     )
+}
+
+fn opened_late<P: Keeper>(keeper: &mut P, rt: &HostRuntime, folder: &str) -> Result<(), Fail> {
+    holds(
+        matches!(keeper.all(rt.alloc()), Err(KeepFault::Failed)),
+        "there is no folder",
+    )?;
+    fs::create_dir(rt, folder)?;
+    holds(keeps(keeper, rt.alloc(), &[]), "now there is one")
+}
+
+fn gone_and_back<P: Keeper>(keeper: &mut P, rt: &HostRuntime, place: &Place) -> Result<(), Fail> {
+    let away = format!(in rt.alloc(); "{}-away", place.store)?;
+    holds(adds(keeper, rt.alloc(), ONE, &[ONE])?, "a row is added")?;
+    lets_go(keeper, rt.alloc())?;
+    fs::rename(rt, &place.store, &away)?;
+    holds(keeper.all(rt.alloc()).is_err(), "the file is gone")?;
+    holds(fs::metadata(rt, &place.store).is_err(), "nothing is made")?;
+    fs::write(rt, &place.store, b"".as_slice())?;
+    holds(keeper.all(rt.alloc()).is_err(), "another file")?;
+    holds(fs::metadata(rt, &place.store)?.len() == 0, "it stays empty")?;
+    fs::rename(rt, &away, &place.store)?;
+    holds(keeps(keeper, rt.alloc(), &[ONE]), "the file is back")
+}
+
+// What is done to a keeper of a file, which is then let go.
+#[derive(Clone, Copy)]
+enum Work<'a> {
+    FirstRun,
+    GoesOn,
+    Keeps(&'a [Line<'a>]),
+    OpenedLate(&'a str),
+    GoneAndBack(&'a Place),
+    ListsWithoutEnd,
+}
+
+fn done<P: Keeper>(work: Work<'_>, keeper: &mut P, rt: &HostRuntime) -> Result<(), Fail> {
+    match work {
+        Work::FirstRun => holds(first_run(keeper, rt.alloc())?, "the first run"),
+        Work::GoesOn => goes_on(keeper, rt.alloc()),
+        Work::Keeps(rows) => holds(keeps(keeper, rt.alloc(), rows), "the rows are there"),
+        Work::OpenedLate(folder) => opened_late(keeper, rt, folder),
+        Work::GoneAndBack(place) => gone_and_back(keeper, rt, place),
+        Work::ListsWithoutEnd => holds(
+            matches!(keeper.all(rt.alloc()), Err(KeepFault::Failed)),
+            "a listing without end",
+        ),
+    }
+}
+
+// That a type is a keeper of a file is long to prove at each call, so the work is told, and done at one place.
+fn in_file<S: Beginning>(rt: &HostRuntime, path: &str, work: Work<'_>) -> Result<(), Fail> {
+    done(work, &mut FileKeeper::<S>::new(rt, path), rt)
 }
 
 #[test]
 fn rows_are_kept_in_a_file(rt: HostRuntime) -> Result<(), Fail> {
     let place = new_place(&rt, "nrm_keeper_rows")?;
-    rows_in_a_file::<Unknown>(&rt, &place)?;
+    in_file::<Unknown>(&rt, &place.store, Work::FirstRun)?;
+    in_file::<Unknown>(&rt, &place.store, Work::GoesOn)?;
     fs::remove_dir_all(&rt, &place.folder)?;
     Ok(())
-}
-
-fn opened_late<S: Beginning>(rt: &HostRuntime, place: &Place) -> Result<(), Fail> {
-    let beyond = format!(in rt.alloc(); "{}/store", place.store)?;
-    let mut keeper = FileKeeper::<S>::new(rt, &beyond);
-    holds(
-        matches!(keeper.all(rt.alloc()), Err(KeepFault::Failed)),
-        "there is no folder",
-    )?;
-    fs::create_dir(rt, &place.store)?;
-    holds(keeps(&mut keeper, rt.alloc(), &[]), "now there is one")
 }
 
 #[test]
 fn a_file_that_cannot_be_opened_is_a_fault(rt: HostRuntime) -> Result<(), Fail> {
     let place = new_place(&rt, "nrm_keeper_folder")?;
-    opened_late::<Unknown>(&rt, &place)?;
+    let beyond = format!(in rt.alloc(); "{}/store", place.store)?;
+    in_file::<Unknown>(&rt, &beyond, Work::OpenedLate(&place.store))?;
     fs::remove_dir_all(&rt, &place.folder)?;
     Ok(())
 }
 
-fn two_keepers<S: Beginning>(rt: &HostRuntime, place: &Place) -> Result<(), Fail> {
-    let one = (1, b"THRU".as_slice(), 2);
-    let mut first = FileKeeper::<S>::new(rt, &place.store);
-    holds(first.add(rt.alloc(), row(one)?).is_ok(), "a row is added")?;
-    lets_go(&mut first, rt.alloc())?;
-    let mut second = FileKeeper::<S>::new(rt, &place.store);
+fn first_has_it<P: Keeper>(first: &mut P, second: &mut P, alloc: Global) -> Result<(), Fail> {
+    holds(adds(first, alloc, ONE, &[ONE])?, "a row is added")?;
+    lets_go(first, alloc)?;
     holds(
-        matches!(second.all(rt.alloc()), Err(KeepFault::Failed)),
+        matches!(second.all(alloc), Err(KeepFault::Failed)),
         "the first has the store, though it has let its connection go",
     )?;
-    holds(keeps(&mut first, rt.alloc(), &[one]), "the first goes on")?;
-    holds(first.close().is_ok(), "the first is closed")?;
-    holds(keeps(&mut second, rt.alloc(), &[one]), "the second has it")
+    holds(keeps(first, alloc, &[ONE]), "the first goes on")
+}
+
+fn two_keepers<S: Beginning>(rt: &HostRuntime, place: &Place) -> Result<(), Fail> {
+    let mut first = FileKeeper::<S>::new(rt, &place.store);
+    let mut second = FileKeeper::<S>::new(rt, &place.store);
+    let told = first_has_it(&mut first, &mut second, rt.alloc());
+    let is_closed = first.close().is_ok();
+    let has_it = keeps(&mut second, rt.alloc(), &[ONE]);
+    told?;
+    holds(is_closed, "the first is closed")?;
+    holds(has_it, "the second has it")
 }
 
 #[test]
@@ -357,41 +405,21 @@ fn a_store_belongs_to_one_keeper_until_it_is_closed(rt: HostRuntime) -> Result<(
     Ok(())
 }
 
-fn gone_and_back<S: Beginning>(rt: &HostRuntime, place: &Place) -> Result<(), Fail> {
-    let away = format!(in rt.alloc(); "{}-away", place.store)?;
-    let one = (1, b"THRU".as_slice(), 2);
-    let mut keeper = FileKeeper::<S>::new(rt, &place.store);
-    holds(keeper.add(rt.alloc(), row(one)?).is_ok(), "a row is added")?;
-    lets_go(&mut keeper, rt.alloc())?;
-    fs::rename(rt, &place.store, &away)?;
-    holds(keeper.all(rt.alloc()).is_err(), "the file is gone")?;
-    holds(fs::metadata(rt, &place.store).is_err(), "nothing is made")?;
-    fs::write(rt, &place.store, b"".as_slice())?;
-    holds(keeper.all(rt.alloc()).is_err(), "another file")?;
-    holds(fs::metadata(rt, &place.store)?.len() == 0, "it stays empty")?;
-    fs::rename(rt, &away, &place.store)?;
-    holds(keeps(&mut keeper, rt.alloc(), &[one]), "the file is back")
-}
-
 #[test]
 fn a_store_that_is_gone_is_not_made_again(rt: HostRuntime) -> Result<(), Fail> {
     let place = new_place(&rt, "nrm_keeper_gone")?;
-    gone_and_back::<Unknown>(&rt, &place)?;
+    in_file::<Unknown>(&rt, &place.store, Work::GoneAndBack(&place))?;
     fs::remove_dir_all(&rt, &place.folder)?;
     Ok(())
 }
 
-fn closed_and_opened<S: Beginning>(rt: &HostRuntime, place: &Place) -> Result<(), Fail> {
-    let one = (1, b"THRU".as_slice(), 2);
-    let mut keeper = new_in_file::<S>(rt, &place.store);
-    holds(
-        add_shown_in_store(&mut keeper, rt.alloc(), row(one)?).is_ok(),
-        "a row is added",
-    )?;
-    holds(keeper.close().is_ok(), "it is closed")?;
-    fs::remove_file(rt, &place.log)?;
-    let mut keeper = FileKeeper::<S>::new(rt, &place.store);
-    holds(keeps(&mut keeper, rt.alloc(), &[one]), "the row is there")
+fn added_and_closed<S: Beginning>(rt: &HostRuntime, path: &str) -> Result<(), Fail> {
+    let one = row(ONE)?;
+    let mut keeper = new_in_file::<S>(rt, path);
+    let is_added = add_shown_in_store(&mut keeper, rt.alloc(), one).is_ok();
+    let is_closed = keeper.close().is_ok();
+    holds(is_added, "a row is added")?;
+    holds(is_closed, "it is closed")
 }
 
 // A path without its folder is a fault of each opening, and then it can be opened.
@@ -414,7 +442,9 @@ fn an_opener_may_succeed_after_a_fault(rt: HostRuntime) -> Result<(), Fail> {
 #[test]
 fn a_closed_store_needs_no_log(rt: HostRuntime) -> Result<(), Fail> {
     let place = new_place(&rt, "nrm_keeper_closed")?;
-    closed_and_opened::<Unknown>(&rt, &place)?;
+    added_and_closed::<Unknown>(&rt, &place.store)?;
+    fs::remove_file(&rt, &place.log)?;
+    in_file::<Unknown>(&rt, &place.store, Work::Keeps(&[ONE]))?;
     fs::remove_dir_all(&rt, &place.folder)?;
     Ok(())
 }
@@ -424,21 +454,13 @@ const ENDLESS: &str =
     "CREATE VIEW kept AS WITH RECURSIVE c(n) AS (SELECT 1 UNION ALL SELECT n + 1 FROM c)
     SELECT n AS number, 'LOC' AS product, 1 AS party FROM c";
 
-fn endless_listing<S: Beginning>(rt: &HostRuntime, place: &Place) -> Result<(), Fail> {
-    let mut keeper = FileKeeper::<S>::new(rt, &place.store);
-    holds(
-        matches!(keeper.all(rt.alloc()), Err(KeepFault::Failed)),
-        "a listing without end",
-    )
-}
-
 #[test]
 fn a_listing_without_end_is_a_fault(rt: HostRuntime) -> Result<(), Fail> {
     let place = new_place(&rt, "nrm_keeper_endless")?;
     let mut connection = Connection::open(&rt, &place.store)?;
     assert!(rt; connection.execute(ENDLESS, &[]).is_ok());
     drop(connection);
-    endless_listing::<Unknown>(&rt, &place)?;
+    in_file::<Unknown>(&rt, &place.store, Work::ListsWithoutEnd)?;
     fs::remove_dir_all(&rt, &place.folder)?;
     Ok(())
 }

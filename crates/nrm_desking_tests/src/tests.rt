@@ -1,5 +1,5 @@
 //! Desks over files and frames in memory, worked by hand.
-use crate::{DesksStatus, run_desks};
+use nrm_desking::{DesksStatus, run_desks};
 use nrm_edge::{MemFiles, MemSink, MemSource};
 use std::alloc::{AllocError, Global};
 use std::test::Fail;
