@@ -37,15 +37,31 @@ const LINES: [&[u8]; 12] = [
     b"hindsight\n",
 ];
 
-// The lines, but for one if its place is given.
-fn stream_without(alloc: Global, left_out: Option<usize>) -> Result<Vec<u8>, AllocError> {
+// Some lines as a stream: those from a place on, up to another, but for one if its place is given.
+fn stream_of(
+    alloc: Global,
+    lines: &[&[u8]],
+    from: usize,
+    to: usize,
+    left_out: Option<usize>,
+) -> Result<Vec<u8>, AllocError> {
     let mut stream = Vec::new(alloc);
-    for (place, line) in LINES.iter().enumerate() {
-        if left_out != Some(place) {
+    for (place, line) in lines.iter().enumerate() {
+        if from <= place && place < to && left_out != Some(place) {
             stream.extend_from_slice(line)?;
         }
     }
     Ok(stream)
+}
+
+// The lines, but for one if its place is given.
+fn stream_without(alloc: Global, left_out: Option<usize>) -> Result<Vec<u8>, AllocError> {
+    stream_of(alloc, &LINES, 0, 12, left_out)
+}
+
+// The lines from a place on, up to another.
+fn lines_from(alloc: Global, from: usize, to: usize) -> Result<Vec<u8>, AllocError> {
+    stream_of(alloc, &LINES, from, to, None)
 }
 
 // The files: one network under the name F.
@@ -222,14 +238,12 @@ fn served(
     }
 }
 
-// What a session without a store writes on the network with demand, and the controller after it.
-fn session(alloc: Global, mode: Mode, stream: &[u8]) -> Result<(Vec<u8>, Controller), Fail> {
-    let mut controller = begun(alloc, mode)?;
+// What a session without a store writes on the network with demand.
+fn session(alloc: Global, controller: &mut Controller, stream: &[u8]) -> Result<Vec<u8>, Fail> {
     let mut source = source(alloc, stream)?;
     let mut sink = sink(alloc)?;
-    served(alloc, &mut controller, &mut source, &mut sink)?;
-    let written = sink.held().to_vec(alloc)?;
-    Ok((written, controller))
+    served(alloc, controller, &mut source, &mut sink)?;
+    Ok(sink.held().to_vec(alloc)?)
 }
 
 // The place of the line that was answered `store`.
@@ -283,11 +297,15 @@ fn keeps_book(alloc: Global, keeper: &mut MemKeeper, controller: &Controller) ->
 }
 
 // What is wanted of a session in which the line at a place was answered `store`: that of a session without the line.
-fn wanted(alloc: Global, mode: Mode, place: Option<usize>) -> Result<(Vec<u8>, Controller), Fail> {
-    let (plain, controller) = session(alloc, mode, &stream_without(alloc, place)?)?;
+fn wanted(
+    alloc: Global,
+    controller: &mut Controller,
+    place: Option<usize>,
+) -> Result<Vec<u8>, Fail> {
+    let plain = session(alloc, controller, &stream_without(alloc, place)?)?;
     match place {
-        Some(place) => Ok((with_store(alloc, &plain, place)?, controller)),
-        None => Ok((plain, controller)),
+        Some(place) => Ok(with_store(alloc, &plain, place)?),
+        None => Ok(plain),
     }
 }
 
@@ -302,6 +320,18 @@ fn replies(
     sink.held().to_vec(alloc)
 }
 
+// Whether replies and rows are those that are wanted of a session in which the line at a place was answered `store`.
+fn is_wanted(
+    alloc: Global,
+    controller: &mut Controller,
+    keeper: &mut MemKeeper,
+    told: &[u8],
+    place: Option<usize>,
+) -> Result<bool, Fail> {
+    let wanted = wanted(alloc, controller, place)?;
+    Ok(told == wanted.as_slice() && keeps_book(alloc, keeper, controller))
+}
+
 // A call of the keeper fails. Gives the place of the line that was answered `store`, if one was, and whether replies, state and rows
 // are those that are wanted.
 fn fails_in_turn(
@@ -312,9 +342,10 @@ fn fails_in_turn(
     let mut keeper = empty(alloc, &[call])?;
     let told = replies(alloc, mode.1, &mut keeper, &stream_without(alloc, None)?)?;
     let place = unstored(&told);
-    let (wanted, controller) = wanted(alloc, mode.0, place)?;
-    let is_so = told == wanted && keeps_book(alloc, &mut keeper, &controller);
-    Ok((place, is_so))
+    let mut controller = begun(alloc, mode.0)?;
+    let is_so = is_wanted(alloc, &mut controller, &mut keeper, &told, place);
+    drop(controller);
+    Ok((place, is_so?))
 }
 
 // The calls behind the first, which lists the rows, until some come that are never made.
@@ -338,17 +369,6 @@ fn each_call_fails_in_turn(rt: HostRuntime) -> Result<(), Fail> {
     Ok(())
 }
 
-// The lines from a place on, up to another.
-fn lines_from(alloc: Global, from: usize, to: usize) -> Result<Vec<u8>, AllocError> {
-    let mut lines = Vec::new(alloc);
-    for (place, line) in LINES.iter().enumerate() {
-        if from <= place && place < to {
-            lines.extend_from_slice(line)?;
-        }
-    }
-    Ok(lines)
-}
-
 // First come, first served, a run is cut before a line, and another goes on with its rows: whether the replies are those of one run, but
 // for the line of hindsight, and the rows are those of its bookings.
 fn goes_on(alloc: Global, cut: usize, plain: &[u8], controller: &Controller) -> Result<bool, Fail> {
@@ -359,15 +379,22 @@ fn goes_on(alloc: Global, cut: usize, plain: &[u8], controller: &Controller) -> 
     Ok(told.starts_with(plain) && keeps_book(alloc, &mut keeper, controller))
 }
 
+// The first line before which a cut is seen, if there is one.
+fn cut_that_is_seen(alloc: Global, controller: &mut Controller) -> Result<Option<usize>, Fail> {
+    let plain = session(alloc, controller, &lines_from(alloc, 0, 11)?)?;
+    for cut in 0..11 {
+        if !goes_on(alloc, cut, &plain, controller)? {
+            return Ok(Some(cut));
+        }
+    }
+    Ok(None)
+}
+
 #[test]
 fn a_cut_run_is_gone_on_with(rt: HostRuntime) -> Result<(), Fail> {
-    let all = lines_from(rt.alloc(), 0, 11)?;
-    let (plain, controller) = session(rt.alloc(), Mode::FirstCome, &all)?;
-    for cut in 0..11 {
-        assert!(rt;
-            goes_on(rt.alloc(), cut, &plain, &controller)?,
-            "cut before line {cut}"
-        );
-    }
+    let mut controller = begun(rt.alloc(), Mode::FirstCome)?;
+    let seen = cut_that_is_seen(rt.alloc(), &mut controller);
+    drop(controller);
+    assert_eq!(rt; seen?, None);
     Ok(())
 }
