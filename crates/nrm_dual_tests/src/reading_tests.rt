@@ -1,21 +1,63 @@
 //! Certificate files of a small network, worked by hand.
 use nrm_dual::{CertFault, Verdict, check, read_certificate};
 use nrm_lp::Certificate;
-use nrm_model::Network;
 use nrm_samples::{two_legs_five_products, two_legs_five_products_program};
+use std::alloc::{AllocError, Global};
 use std::test::Fail;
 
-// Whether a certificate has these numbers.
-fn is_certificate(read: &Certificate, q: i64, x: &[i64], den: i64, p: &[i64], value: i64) -> bool {
-    let allocation = read.q == q && read.x.as_slice() == x;
-    let prices = read.den == den && read.p.as_slice() == p && read.value == value;
-    allocation && prices
+// What is read of a file.
+type Read = Result<Certificate, CertFault>;
+
+// Whether a certificate is read that has these numbers.
+fn has_numbers(read: &Read, (q, x): (i64, &[i64]), (den, p): (i64, &[i64]), value: i64) -> bool {
+    match read {
+        Ok(read) => {
+            let allocation = read.q == q && read.x.as_slice() == x;
+            let prices = read.den == den && read.p.as_slice() == p && read.value == value;
+            allocation && prices
+        }
+        Err(_) => false,
+    }
+}
+
+// Whether a certificate with these numbers is read of a file of the sample network.
+fn reads(
+    alloc: Global,
+    file: &[u8],
+    (q, x): (i64, &[i64]),
+    (den, p): (i64, &[i64]),
+    value: i64,
+) -> Result<bool, AllocError> {
+    let net = two_legs_five_products(alloc)?;
+    let read = read_certificate(alloc, &net, file);
+    Ok(has_numbers(&read, (q, x), (den, p), value))
+}
+
+// What the checker says of a certificate of the sample program, if one is read.
+fn checked(alloc: Global, read: &Read) -> Result<Option<Verdict>, AllocError> {
+    let program = two_legs_five_products_program(alloc)?;
+    match read {
+        Ok(read) => Ok(Some(check(&program, read))),
+        Err(_) => Ok(None),
+    }
+}
+
+// The same of a file of the sample network.
+fn verdict_of(alloc: Global, file: &[u8]) -> Result<Option<Verdict>, AllocError> {
+    let net = two_legs_five_products(alloc)?;
+    let read = read_certificate(alloc, &net, file);
+    drop(net);
+    checked(alloc, &read)
+}
+
+// The fault of a file of the sample network.
+fn fault_of(alloc: Global, file: &[u8]) -> Result<Option<CertFault>, AllocError> {
+    let net = two_legs_five_products(alloc)?;
+    Ok(read_certificate(alloc, &net, file).err())
 }
 
 #[test]
 fn files_are_read_and_checked(rt: HostRuntime) -> Result<(), Fail> {
-    let net = two_legs_five_products(rt.alloc())?;
-    let program = two_legs_five_products_program(rt.alloc())?;
     let files = [
         b"value 4130/1\nproduct ABH 3/1\nproduct ABL 3/1\nproduct ACH 4/1\nproduct BCL 6/1\nproduct ACL 0/1\n\
           leg AB 150/1\nleg BC 80/1\n"
@@ -28,53 +70,57 @@ fn files_are_read_and_checked(rt: HostRuntime) -> Result<(), Fail> {
             .as_slice(),
     ];
     for file in files {
-        let read = read_certificate(rt.alloc(), &net, file).expect(&rt, "a certificate");
-        assert!(rt; is_certificate(&read, 1, &[12, 12, 16, 24, 0], 1, &[150, 80], 16520));
-        assert_eq!(rt; check(&program, &read), Verdict::Optimal);
+        assert!(rt;
+            reads(
+                rt.alloc(),
+                file,
+                (1, &[12, 12, 16, 24, 0]),
+                (1, &[150, 80]),
+                16520
+            )?
+        );
+        assert_eq!(rt; verdict_of(rt.alloc(), file)?, Some(Verdict::Optimal));
     }
     Ok(())
 }
 
 #[test]
 fn fractions_are_brought_over_one_denominator(rt: HostRuntime) -> Result<(), Fail> {
-    let net = two_legs_five_products(rt.alloc())?;
     let halves =
         b"value 4130/1\nproduct ABH 1/8\nproduct ABL 3/1\nproduct ACH 4/1\nproduct BCL 6/1\nproduct ACL 0/1\n\
           leg AB 150/1\nleg BC 80/1\n";
-    let read = read_certificate(rt.alloc(), &net, halves).expect(&rt, "a certificate");
-    assert!(rt; is_certificate(&read, 2, &[1, 24, 32, 48, 0], 1, &[150, 80], 16520));
+    assert!(rt;
+        reads(
+            rt.alloc(),
+            halves,
+            (2, &[1, 24, 32, 48, 0]),
+            (1, &[150, 80]),
+            16520
+        )?
+    );
 
     let prices =
         b"value 1/8\nproduct ABH 3/1\nproduct ABL 3/1\nproduct ACH 4/1\nproduct BCL 6/1\nproduct ACL 0/1\nleg AB 1/3\n\
           leg BC 1/281474976710655\n";
-    let read = read_certificate(rt.alloc(), &net, prices).err();
-    assert_eq!(rt; read, Some(CertFault::TooFine));
+    assert_eq!(rt; fault_of(rt.alloc(), prices)?, Some(CertFault::TooFine));
 
     let finest =
         b"value 1/4\nproduct ABH 3/1\nproduct ABL 3/1\nproduct ACH 4/1\nproduct BCL 6/1\nproduct ACL 0/1\nleg AB 1/3\n\
           leg BC 1/281474976710655\n";
-    let read = read_certificate(rt.alloc(), &net, finest).expect(&rt, "a certificate");
     assert!(rt;
-        is_certificate(
-            &read,
-            1,
-            &[12, 12, 16, 24, 0],
-            281_474_976_710_655,
-            &[93_824_992_236_885, 1],
+        reads(
+            rt.alloc(),
+            finest,
+            (1, &[12, 12, 16, 24, 0]),
+            (281_474_976_710_655, &[93_824_992_236_885, 1]),
             281_474_976_710_655
-        )
+        )?
     );
     Ok(())
 }
 
-// The fault of a file.
-fn fault_of(rt: HostRuntime, net: &Network, file: &[u8]) -> Option<CertFault> {
-    read_certificate(rt.alloc(), net, file).err()
-}
-
 #[test]
 fn lines_are_refused(rt: HostRuntime) -> Result<(), Fail> {
-    let net = two_legs_five_products(rt.alloc())?;
     let cases = [
         (b"value 4130\n".as_slice(), CertFault::Line(1)),
         (b"value  4130/1\n".as_slice(), CertFault::Line(1)),
@@ -117,14 +163,13 @@ fn lines_are_refused(rt: HostRuntime) -> Result<(), Fail> {
         ),
     ];
     for (file, fault) in cases {
-        assert_eq!(rt; fault_of(rt, &net, file), Some(fault));
+        assert_eq!(rt; fault_of(rt.alloc(), file)?, Some(fault));
     }
     Ok(())
 }
 
 #[test]
 fn files_are_refused(rt: HostRuntime) -> Result<(), Fail> {
-    let net = two_legs_five_products(rt.alloc())?;
     let cases = [
         (b"".as_slice(), CertFault::NoValue),
         (
@@ -153,11 +198,11 @@ fn files_are_refused(rt: HostRuntime) -> Result<(), Fail> {
         ),
     ];
     for (file, fault) in cases {
-        assert_eq!(rt; fault_of(rt, &net, file), Some(fault));
+        assert_eq!(rt; fault_of(rt.alloc(), file)?, Some(fault));
     }
     let longest = vec![in rt.alloc(); b'\n'; 65_536]?;
-    assert_eq!(rt; fault_of(rt, &net, &longest), Some(CertFault::Line(1)));
+    assert_eq!(rt; fault_of(rt.alloc(), &longest)?, Some(CertFault::Line(1)));
     let long = vec![in rt.alloc(); b'\n'; 65_537]?;
-    assert_eq!(rt; fault_of(rt, &net, &long), Some(CertFault::Long));
+    assert_eq!(rt; fault_of(rt.alloc(), &long)?, Some(CertFault::Long));
     Ok(())
 }

@@ -33,48 +33,74 @@ fn certificate(
     })
 }
 
+// What the checker says of these numbers for a program.
+fn checked_on(
+    alloc: Global,
+    program: &Program,
+    (q, x): (i64, &[i64]),
+    (den, p): (i64, &[i64]),
+    value: i64,
+) -> Result<Verdict, AllocError> {
+    let certificate = certificate(alloc, (q, x), (den, p), value)?;
+    Ok(check(program, &certificate))
+}
+
+// The same for the sample program.
+fn checked(
+    alloc: Global,
+    (q, x): (i64, &[i64]),
+    (den, p): (i64, &[i64]),
+    value: i64,
+) -> Result<Verdict, AllocError> {
+    let program = two_legs_five_products_program(alloc)?;
+    checked_on(alloc, &program, (q, x), (den, p), value)
+}
+
 #[test]
 fn passes_in_any_terms(rt: HostRuntime) -> Result<(), Fail> {
-    let program = two_legs_five_products_program(rt.alloc())?;
-    let own = certificate(
+    let own = checked(
         rt.alloc(),
         (1, &[12, 12, 16, 24, 0]),
         (1, &[150, 80]),
         16_520,
     )?;
-    assert_eq!(rt; check(&program, &own), Verdict::Optimal);
-    let halves = certificate(
+    assert_eq!(rt; own, Verdict::Optimal);
+    let halves = checked(
         rt.alloc(),
         (2, &[24, 24, 32, 48, 0]),
         (1, &[150, 80]),
         16_520,
     )?;
-    assert_eq!(rt; check(&program, &halves), Verdict::Optimal);
-    let thirds = certificate(
+    assert_eq!(rt; halves, Verdict::Optimal);
+    let thirds = checked(
         rt.alloc(),
         (1, &[12, 12, 16, 24, 0]),
         (3, &[450, 240]),
         49_560,
     )?;
-    assert_eq!(rt; check(&program, &thirds), Verdict::Optimal);
+    assert_eq!(rt; thirds, Verdict::Optimal);
     Ok(())
+}
+
+// What the checker says of a price on a leg of no seats.
+fn verdict_at_price(alloc: Global, price: i64, value: i64) -> Result<Verdict, AllocError> {
+    let program = no_seats(alloc)?;
+    checked_on(alloc, &program, (1, &[0]), (1, &[price]), value)
 }
 
 #[test]
 fn passes_at_either_price(rt: HostRuntime) -> Result<(), Fail> {
-    let program = no_seats(rt.alloc())?;
     for price in [100, 150] {
-        let priced = certificate(rt.alloc(), (1, &[0]), (1, &[price]), 0)?;
-        assert_eq!(rt; check(&program, &priced), Verdict::Optimal, "at {price}");
+        let priced = verdict_at_price(rt.alloc(), price, 0)?;
+        assert_eq!(rt; priced, Verdict::Optimal, "at {price}");
     }
-    let cheap = certificate(rt.alloc(), (1, &[0]), (1, &[99]), 5)?;
-    assert_eq!(rt; check(&program, &cheap), Verdict::WrongProduct(0));
+    let cheap = verdict_at_price(rt.alloc(), 99, 5)?;
+    assert_eq!(rt; cheap, Verdict::WrongProduct(0));
     Ok(())
 }
 
 #[test]
 fn single_numbers_are_checked(rt: HostRuntime) -> Result<(), Fail> {
-    let program = two_legs_five_products_program(rt.alloc())?;
     for (q, den, value, verdict) in [
         (0, 1, 16_520, Verdict::WrongShape),
         (-1, 1, 16_520, Verdict::WrongShape),
@@ -90,48 +116,42 @@ fn single_numbers_are_checked(rt: HostRuntime) -> Result<(), Fail> {
         (1, 3, 16_520, Verdict::WrongProduct(1)),
         (2, 1, 16_520, Verdict::WrongLeg(0)),
     ] {
-        let changed = certificate(
+        let changed = checked(
             rt.alloc(),
             (q, &[12, 12, 16, 24, 0]),
             (den, &[150, 80]),
             value,
         )?;
-        assert_eq!(rt;
-            check(&program, &changed),
-            verdict,
-            "at {q}, {den}, {value}"
-        );
+        assert_eq!(rt; changed, verdict, "at {q}, {den}, {value}");
     }
     Ok(())
 }
 
 #[test]
 fn lists_have_the_programs_lengths(rt: HostRuntime) -> Result<(), Fail> {
-    let program = two_legs_five_products_program(rt.alloc())?;
-    let short_x = certificate(rt.alloc(), (1, &[12, 12, 16, 24]), (1, &[150, 80]), 16_520)?;
-    assert_eq!(rt; check(&program, &short_x), Verdict::WrongShape);
-    let long_x = certificate(
+    let short_x = checked(rt.alloc(), (1, &[12, 12, 16, 24]), (1, &[150, 80]), 16_520)?;
+    assert_eq!(rt; short_x, Verdict::WrongShape);
+    let long_x = checked(
         rt.alloc(),
         (1, &[12, 12, 16, 24, 0, 0]),
         (1, &[150, 80]),
         16_520,
     )?;
-    assert_eq!(rt; check(&program, &long_x), Verdict::WrongShape);
-    let short_p = certificate(rt.alloc(), (1, &[12, 12, 16, 24, 0]), (1, &[150]), 16_520)?;
-    assert_eq!(rt; check(&program, &short_p), Verdict::WrongShape);
-    let long_p = certificate(
+    assert_eq!(rt; long_x, Verdict::WrongShape);
+    let short_p = checked(rt.alloc(), (1, &[12, 12, 16, 24, 0]), (1, &[150]), 16_520)?;
+    assert_eq!(rt; short_p, Verdict::WrongShape);
+    let long_p = checked(
         rt.alloc(),
         (1, &[12, 12, 16, 24, 0]),
         (1, &[150, 80, 0]),
         16_520,
     )?;
-    assert_eq!(rt; check(&program, &long_p), Verdict::WrongShape);
+    assert_eq!(rt; long_p, Verdict::WrongShape);
     Ok(())
 }
 
 #[test]
 fn allotments_are_checked(rt: HostRuntime) -> Result<(), Fail> {
-    let program = two_legs_five_products_program(rt.alloc())?;
     for (x, verdict) in [
         ([-1, 12, 16, 24, 0].as_slice(), Verdict::WrongShape),
         ([12, 12, 16, 24, -1].as_slice(), Verdict::WrongShape),
@@ -153,15 +173,14 @@ fn allotments_are_checked(rt: HostRuntime) -> Result<(), Fail> {
         ([12, 13, 15, 25, 0].as_slice(), Verdict::WrongProduct(2)),
         ([11, 14, 15, 25, 0].as_slice(), Verdict::WrongProduct(0)),
     ] {
-        let changed = certificate(rt.alloc(), (1, x), (1, &[150, 80]), 16_520)?;
-        assert_eq!(rt; check(&program, &changed), verdict, "at {x:?}");
+        let changed = checked(rt.alloc(), (1, x), (1, &[150, 80]), 16_520)?;
+        assert_eq!(rt; changed, verdict, "at {x:?}");
     }
     Ok(())
 }
 
 #[test]
 fn prices_are_checked(rt: HostRuntime) -> Result<(), Fail> {
-    let program = two_legs_five_products_program(rt.alloc())?;
     for (p, verdict) in [
         ([-150, 80].as_slice(), Verdict::WrongShape),
         ([150, -80].as_slice(), Verdict::WrongShape),
@@ -170,16 +189,16 @@ fn prices_are_checked(rt: HostRuntime) -> Result<(), Fail> {
         ([151, 80].as_slice(), Verdict::WrongProduct(1)),
         ([150, 81].as_slice(), Verdict::WrongProduct(3)),
     ] {
-        let changed = certificate(rt.alloc(), (1, &[12, 12, 16, 24, 0]), (1, p), 16_520)?;
-        assert_eq!(rt; check(&program, &changed), verdict, "at {p:?}");
+        let changed = checked(rt.alloc(), (1, &[12, 12, 16, 24, 0]), (1, p), 16_520)?;
+        assert_eq!(rt; changed, verdict, "at {p:?}");
     }
     // product 1 is sold and cheap, product 2 is short and dear
-    let both = certificate(
+    let both = checked(
         rt.alloc(),
         (1, &[12, 13, 15, 25, 0]),
         (1, &[151, 80]),
         16_520,
     )?;
-    assert_eq!(rt; check(&program, &both), Verdict::WrongProduct(2));
+    assert_eq!(rt; both, Verdict::WrongProduct(2));
     Ok(())
 }
