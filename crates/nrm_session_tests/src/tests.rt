@@ -44,22 +44,24 @@ fn sink(alloc: Global, asked: &Asked<'_>) -> Result<MemSink, AllocError> {
 fn session_as(alloc: Global, mode: Mode, asked: &Asked<'_>) -> Result<(End, MemSink), SolveFault>
     requires { asked.now.limit ≤ 2 ^ 32 }
 {
-    serve_asked(alloc, begin(alloc, mode)?, asked)
+    let mut controller = begin(alloc, mode)?;
+    let told = serve_asked(alloc, &mut controller, asked);
+    drop(controller);
+    Ok(told?)
 }
 
 // The same of a controller that has begun.
 fn serve_asked(
     alloc: Global,
-    begun: Controller,
+    controller: &mut Controller,
     asked: &Asked<'_>,
-) -> Result<(End, MemSink), SolveFault>
-    requires next { begun.next ≡ 1 }
+) -> Result<(End, MemSink), AllocError>
+    requires next { controller.old.next ≡ 1 }
     requires limit { asked.now.limit ≤ 2 ^ 32 }
 {
-    let mut controller = begun;
     let mut source = source(alloc, asked)?;
     let mut sink = sink(alloc, asked)?;
-    let end = serve(alloc, &mut controller, &mut source, &mut sink, asked.limit);
+    let end = serve(alloc, controller, &mut source, &mut sink, asked.limit);
     Ok((end, sink))
 }
 
@@ -121,7 +123,10 @@ fn session_authorised(alloc: Global, stream: &[u8]) -> Result<(End, MemSink), So
         failing_puts: &[],
         limit: 512,
     };
-    serve_asked(alloc, begin_authorised(alloc)?, &asked)
+    let mut controller = begin_authorised(alloc)?;
+    let told = serve_asked(alloc, &mut controller, &asked);
+    drop(controller);
+    Ok(told?)
 }
 
 // Of 398 a third is given back, 131, and 267 withheld. Five local seats were asked for, of which four might have been sold.
