@@ -55,25 +55,12 @@ NPROC = "#!/bin/sh\necho 16\n"
 BUILT = [["lib", "--jobs", "4", "of", "nrm_low"], ["lib", "--jobs", "4", "of", "nrm_cli"],
          ["run", "--", "no-words", "of", "nrm"]]
 CRATES = "nrm_low:\nnrm_samples: nrm_low\nnrm_beside: nrm_low\nnrm_cli: nrm_low nrm_samples csv\nnrm: nrm_low nrm_cli\n"
-LIB = "mod list;\n#[cfg(test)]\nmod tests;\n\npub use list::len;\n"
-LIST = '''pub fn len() {
-}
-
-#[cfg(test)]
-mod tests {
-    use super::*;
-
-    #[test]
-    fn is_empty() {
-    }
-}
-'''
 LEMMAS = "mod Examples\npub mod Ends  -- of a list\npub mod LongExamples  -- by hand\n"
 FILES = {"bin/rt": RT, "bin/nproc": NPROC, "crates.txt": CRATES, "HANDLES": "Handles allowed: none.\n",
          "net.csv": "periods,1,1\n",
          **{f"crates/{it}/src/lib.rt": "pub mod it;\n" for it in ("nrm", "nrm_cli", "nrm_beside", "nrm_samples")},
-         "crates/nrm_low/src/lib.rt": LIB, "crates/nrm_low/src/list.rt": LIST,
-         "crates/nrm_low/src/tests.rt": "#[test]\n", "crates/nrm_low/proofs/tests/is_full/Lts.antt": "three\n",
+         "crates/nrm_low/src/lib.rt": "mod list;\n\npub use list::len;\n",
+         "crates/nrm_low/src/list.rt": "pub fn len() {\n}\n",
          "crates/nrm_low/specs/Low.antt": "one\n", "crates/nrm_low/proofs/list/Lts.antt": "two\n",
          "crates/nrm_low/proofs/Lib.antt": LEMMAS, "crates/nrm_low/proofs/Ends.antt": "four\n",
          "crates/nrm_low/proofs/Examples.antt": "five\n", "crates/nrm_low/proofs/LongExamples.antt": "six\n",
@@ -251,13 +238,12 @@ def a_source_of_another_program_does_not(door):
     want(door.called(), [])
 
 
-# What the program stands on, without tests, worked examples, wrong bodies and what was built before, but with the
+# What the program stands on, without worked examples, wrong bodies and what was built before, but with the
 # libraries of this build.
 PROVED = {"HANDLES": FILES["HANDLES"], "crates.txt": "nrm_low:\nnrm_cli: nrm_low csv\nnrm: nrm_low nrm_cli\n",
           "crates/nrm/src/lib.rt": "pub mod it;\n", "crates/nrm_cli/src/lib.rt": "pub mod it;\n",
           "crates/nrm_cli/out/rlib/built": "library nrm_cli\n", "crates/nrm_low/out/rlib/built": "library nrm_low\n",
-          "crates/nrm_low/src/lib.rt": "mod list;\n\npub use list::len;\n",
-          "crates/nrm_low/src/list.rt": "pub fn len() {\n}\n\n",
+          **{path: FILES[path] for path in ("crates/nrm_low/src/lib.rt", "crates/nrm_low/src/list.rt")},
           "crates/nrm_low/specs/Low.antt": "one\n", "crates/nrm_low/proofs/list/Lts.antt": "two\n",
           "crates/nrm_low/proofs/Lib.antt": "pub mod Ends  -- of a list\n", "crates/nrm_low/proofs/Ends.antt": "four\n"}
 

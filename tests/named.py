@@ -8,7 +8,8 @@ Of proofs.md and claims.md it checks each file of definitions or proofs (`nrm_lp
 `nrm_lp/specs`: `Ends`, `Laws`), each public function (`nrm_lp::weakly_dual`), and each clause that is named with a
 function (`nrm_cli::run`, clause `ends`, or clause `ends` of `run`). claims.md must name each file of definitions that a
 public contract reaches. Of the table in proofs.md it checks too that a file has the names that stand behind it. The
-table and the drawing of map.md are compared with crates.txt. Of CONTRIBUTING.md each path must be there
+table and the drawing of map.md are compared with crates.txt, and crates whose names end in `_tests` alone have tests.
+Of CONTRIBUTING.md each path must be there
 (`nrm_stream/src/command.rt`, `docs/commands.md`), and each clause that it quotes must be a line of the code. Each link
 of a page must lead to a file and to a heading in it, and to none that a release leaves out. What isn't so is printed;
 the last line is `N names, M not there`.
@@ -175,6 +176,14 @@ def look_in_map(document, names):
     names.look(document, "a row and a place in the drawing for each crate", should.count("\n| `nrm") == len(crates))
 
 
+def look_for_tests(document, names):
+    """Whether tests are in crates of their own alone, as a document says."""
+    for crate in listed_crates():
+        sources = Path(TOP, "crates", crate, "src").rglob("*.rt")
+        tested = any("#[test]" in path.read_text(encoding="utf-8") for path in sources)
+        names.look(document, f"{crate} with tests or without, as its name says", tested == crate.endswith("_tests"))
+
+
 def look_for_paths(document, names):
     """The paths that a document names: from the top, or of a file of a crate from crates/."""
     for path in re.findall(r"`((?:nrm\w*|crates|docs|tests|tools|python|bench|\.ci)/[\w./-]+)`", read(document)):
@@ -211,6 +220,7 @@ def main():
     look_for_definitions("docs/claims.md", names)
     look_in_table("docs/proofs.md", names)
     look_in_map("docs/map.md", names)
+    look_for_tests("docs/map.md", names)
     look_for_paths("CONTRIBUTING.md", names)
     look_for_clauses("CONTRIBUTING.md", names)
     look_at_links(names)

@@ -3,8 +3,6 @@
 
 mod put;
 mod status;
-#[cfg(test)]
-mod tests;
 mod top;
 
 pub use status::WhyStatus;

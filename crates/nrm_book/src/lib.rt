@@ -18,6 +18,3 @@ mod standing;
 pub use book::Book;
 pub use booking::Booking;
 pub use standing::Bookings;
-
-#[cfg(test)]
-mod tests;

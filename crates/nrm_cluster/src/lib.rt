@@ -10,8 +10,6 @@ mod limits;
 mod pieces;
 mod points;
 mod table;
-#[cfg(test)]
-mod tests;
 
 pub use cuts::{Cuts, best_cuts};
 pub use laws::{

@@ -16,6 +16,3 @@ mod laws;
 pub use answer::Answer;
 pub use controller::Controller;
 pub use laws::represents_some;
-
-#[cfg(test)]
-mod tests;

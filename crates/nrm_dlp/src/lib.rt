@@ -2,7 +2,7 @@
 //! histories, as the data of a program, and the authorised seats and the past requests as those of hindsight; and what
 //! solving one gives.
 //!
-//! A caller meets its calls in this order, and src/tests.rt runs each:
+//! A caller meets its calls in this order, and the tests run each:
 //! - `opening_program`, `program_at`: the program before anything is sold, and at some seats left from a period on;
 //! - `prices`, which solves the latter, and `mean_value`, what its certificate is worth in a history;
 //! - `hindsight_program`, the program of past requests, and `hindsight`, its value;
@@ -12,8 +12,6 @@
 mod laws;
 mod optimised;
 mod programs;
-#[cfg(test)]
-mod tests;
 
 pub use laws::{
     each_has_a_hindsight, hindsights_are_determined, hindsights_bound_allocations,

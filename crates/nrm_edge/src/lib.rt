@@ -5,7 +5,7 @@
 //! A caller makes its outside by `StdSource::new`, `StdSink::new` and `DirFiles::new`, or in memory by `MemSource::new`,
 //! `MemSink::new` and `MemFiles::new`, and may set a `GatheringSink::new` before a sink. Then it calls `Files::fetch`,
 //! `Source::take`, `put_all`, which is made of `Sink::put`, and `Sink::flush`, and sees what went out by `MemSink::held`, behind a
-//! gathering sink through `GatheringSink::sink`. `tests::a_gathering_sink_sends_on_in_few_pieces` runs such a sequence.
+//! gathering sink through `GatheringSink::sink`. The test `a_gathering_sink_sends_on_in_few_pieces` runs one.
 #![tactic(auto)]
 
 mod dir_files;
@@ -16,8 +16,6 @@ mod mem_streams;
 mod sink;
 mod source;
 mod std_streams;
-#[cfg(test)]
-mod tests;
 
 pub use dir_files::DirFiles;
 pub use files::{Fetched, FileFault, Files};

@@ -11,6 +11,3 @@ pub use certificates::{line_of_fault, line_of_verdict};
 pub use cuts::cuts_of;
 pub use summary::{Counts, line_of_summary};
 pub use values::{VALUES_ROOM, line_of_no_classes, values_on};
-
-#[cfg(test)]
-mod tests;

@@ -10,8 +10,6 @@ mod laws;
 mod limits;
 mod outgoing;
 mod rights;
-#[cfg(test)]
-mod tests;
 mod why;
 
 pub use cut::{Cut, cut_frame};

@@ -6,8 +6,6 @@ mod laws;
 mod maker;
 mod names;
 mod network;
-#[cfg(test)]
-mod tests;
 
 pub use laws::{made_networks_are_limited, products_use_one_leg_each_way};
 pub use maker::{Maker, made};

@@ -7,8 +7,6 @@ mod classes;
 mod laws;
 mod limits;
 mod table;
-#[cfg(test)]
-mod tests;
 
 pub use classes::{ClassFault, Classes, leg_classes};
 pub use laws::{

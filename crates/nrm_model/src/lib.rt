@@ -1,6 +1,6 @@
 //! A network of flight legs, the products that are sold on it, and the demand of past departures.
 //!
-//! A caller meets its calls in this order; src/tests.rt of nrm_samples, where networks are made, runs most of them.
+//! A caller meets its calls in this order; the tests of `nrm_samples`, where networks are made, run most of them.
 //! - `Network::new`, of `Leg`s and `Product`s, whose lists are `Thresholds` and `LegNumbers`; `NameTable` finds names before there
 //!   is a network;
 //! - `n`, `t`, `leg_count`, `product_count`: how much there is of each, and `limits_hold`, which says by its clause that no more is;

@@ -3,7 +3,5 @@
 #![tactic(auto)]
 
 mod euclid;
-#[cfg(test)]
-mod tests;
 
 pub use euclid::{gcd, short_gcd};

@@ -6,8 +6,6 @@
 mod line;
 mod network_file;
 mod put;
-#[cfg(test)]
-mod tests;
 mod words;
 
 pub use line::{line_of_overflow, send_line};

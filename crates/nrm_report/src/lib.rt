@@ -10,6 +10,3 @@ mod plan;
 pub use certificate::certificate_text;
 pub use leg::leg_text;
 pub use plan::plan_text;
-
-#[cfg(test)]
-mod tests;

@@ -20,8 +20,6 @@ mod lowest;
 mod numbers;
 mod ratios;
 mod row;
-#[cfg(test)]
-mod tests;
 
 pub use limits::MOST_COLUMNS;
 pub use nrm_fraction::RowFault;

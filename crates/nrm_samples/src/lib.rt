@@ -5,8 +5,6 @@
 mod networks;
 mod parts;
 mod programs;
-#[cfg(test)]
-mod tests;
 
 pub use networks::{two_legs, two_legs_authorised, two_legs_five_products, two_legs_last_first};
 pub use programs::two_legs_five_products_program;

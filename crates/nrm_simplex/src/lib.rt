@@ -3,8 +3,6 @@
 
 mod fault;
 mod path;
-#[cfg(test)]
-mod tests;
 
 pub use fault::SolveFault;
 pub use path::solve;

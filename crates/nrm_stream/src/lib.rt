@@ -2,8 +2,8 @@
 //!
 //! A session begins with `Splitter::new`, calls `Splitter::feed` on each piece until it is used up, and `Splitter::finish` at the
 //! end of the input. Who has all the bytes takes a line off them by `next_line`, and has its command from `command_of`; another
-//! reader of lines drops the carriage return by `without_carriage_return` and cuts words by `split_once`. The tests in `tests` run
-//! through both.
+//! reader of lines drops the carriage return by `without_carriage_return` and cuts words by `split_once`. The tests run through
+//! both.
 #![tactic(auto)]
 
 mod command;
@@ -12,8 +12,6 @@ mod laws;
 mod lines;
 mod parse;
 mod splitter;
-#[cfg(test)]
-mod tests;
 
 pub use command::Command;
 pub use cut::split_once;

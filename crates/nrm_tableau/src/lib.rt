@@ -13,8 +13,6 @@ mod leaving;
 mod pivot;
 mod row_set;
 mod tableau;
-#[cfg(test)]
-mod tests;
 mod walk;
 
 pub use laws::on_path_has_facts;

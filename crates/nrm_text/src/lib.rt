@@ -12,8 +12,6 @@ mod limits;
 mod line;
 mod name;
 mod number;
-#[cfg(test)]
-mod tests;
 mod word;
 
 pub use laws::{fractions_read_back, numbers_and_names_read_back, words_read_back};

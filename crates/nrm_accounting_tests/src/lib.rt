@@ -1,0 +1,5 @@
+//! The tests of accounts.
+#![tactic(auto)]
+
+#[cfg(test)]
+mod accounting;

@@ -1,0 +1,5 @@
+//! The tests of the outside.
+#![tactic(auto)]
+
+#[cfg(test)]
+mod edge;

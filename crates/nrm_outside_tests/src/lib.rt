@@ -1,0 +1,5 @@
+//! The tests of what the programs have in common.
+#![tactic(auto)]
+
+#[cfg(test)]
+mod outside;

@@ -1,0 +1,5 @@
+//! The tests of the texts of legs, certificates and plans.
+#![tactic(auto)]
+
+#[cfg(test)]
+mod report;

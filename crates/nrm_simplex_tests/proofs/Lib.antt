@@ -1,0 +1,1 @@
+pub mod TestPrograms  -- the programs of the tests are within the limits
