@@ -2,6 +2,7 @@
 use nrm_accounting::{WhyStatus, run_why};
 use nrm_edge::{MemFiles, MemSink, MemSource};
 use std::alloc::{AllocError, Global};
+use std::process::Abort;
 use std::test::Fail;
 
 // Legs AB with 3 seats and BC with 2, a through product for 500 and a local one for 200.
@@ -23,19 +24,35 @@ fn files(alloc: Global, network: &[u8]) -> Result<MemFiles, AllocError> {
     Ok(MemFiles::new(list, Vec::new(alloc)))
 }
 
-// How the program ends, and the sink that it wrote to.
-fn outcome(
+// How the program ends, which writes to the sink.
+fn status_of(
     alloc: Global,
     network: &[u8],
     given: &[&str],
     stream: &[u8],
-) -> Result<(WhyStatus, MemSink), AllocError> {
+    sink: &mut MemSink,
+) -> Result<WhyStatus, AllocError> {
     let words = words(alloc, given)?;
+    let stream = stream.to_vec(alloc)?;
     let mut files = files(alloc, network)?;
-    let mut source = MemSource::new(stream.to_vec(alloc)?, Vec::new(alloc), Vec::new(alloc));
+    let mut source = MemSource::new(stream, Vec::new(alloc), Vec::new(alloc));
+    Ok(run_why(alloc, &words, &mut files, &mut source, sink))
+}
+
+// The program ends so, and has written this.
+fn assert_outcome(
+    rt: &impl Abort,
+    alloc: Global,
+    network: &[u8],
+    given: &[&str],
+    stream: &[u8],
+    wanted: (WhyStatus, &[u8]),
+) -> Result<(), AllocError> {
     let mut sink = MemSink::new(alloc, 4096, Vec::new(alloc), Vec::new(alloc))?;
-    let status = run_why(alloc, &words, &mut files, &mut source, &mut sink);
-    Ok((status, sink))
+    let status = status_of(alloc, network, given, stream, &mut sink);
+    assert!(rt; status == Ok(wanted.0));
+    assert_eq!(rt; sink.held(), wanted.1);
+    Ok(())
 }
 
 // The second leg has one seat left of the two that are asked for; the third line is sold, and the fourth gives it back whole.
@@ -80,9 +97,14 @@ fn each_kind_of_line_is_accounted_for(rt: HostRuntime) -> Result<(), Fail> {
         ("8", b"line 8 bad\nanswer bad\n"),
     ];
     for (number, account) in accounts {
-        let (status, sink) = outcome(alloc, NETWORK, &["first", "F", number], STREAM)?;
-        assert_eq!(rt; status, WhyStatus::Done);
-        assert_eq!(rt; sink.held(), account);
+        assert_outcome(
+            &rt,
+            alloc,
+            NETWORK,
+            &["first", "F", number],
+            STREAM,
+            (WhyStatus::Done, account),
+        )?;
     }
     Ok(())
 }
@@ -110,9 +132,7 @@ fn what_is_not_there_is_told(rt: HostRuntime) -> Result<(), Fail> {
         (&["bid", "G", "1"], WhyStatus::Refused, b"refused no file\n"),
     ];
     for (given, wanted, line) in told {
-        let (status, sink) = outcome(alloc, NETWORK, given, STREAM)?;
-        assert_eq!(rt; status, wanted);
-        assert_eq!(rt; sink.held(), line);
+        assert_outcome(&rt, alloc, NETWORK, given, STREAM, (wanted, line))?;
     }
     Ok(())
 }
@@ -157,9 +177,14 @@ fn bid_prices_are_accounted_for(rt: HostRuntime) -> Result<(), Fail> {
         ),
     ];
     for (number, account) in accounts {
-        let (status, sink) = outcome(alloc, DEMANDED, &["bid", "F", number], DEMANDED_STREAM)?;
-        assert_eq!(rt; status, WhyStatus::Done);
-        assert_eq!(rt; sink.held(), account);
+        assert_outcome(
+            &rt,
+            alloc,
+            DEMANDED,
+            &["bid", "F", number],
+            DEMANDED_STREAM,
+            (WhyStatus::Done, account),
+        )?;
     }
     Ok(())
 }
@@ -197,9 +222,14 @@ fn nests_are_accounted_for(rt: HostRuntime) -> Result<(), Fail> {
         ),
     ];
     for (number, account) in accounts {
-        let (status, sink) = outcome(alloc, DEMANDED, &["davn", "F", number], DEMANDED_STREAM)?;
-        assert_eq!(rt; status, WhyStatus::Done);
-        assert_eq!(rt; sink.held(), account);
+        assert_outcome(
+            &rt,
+            alloc,
+            DEMANDED,
+            &["davn", "F", number],
+            DEMANDED_STREAM,
+            (WhyStatus::Done, account),
+        )?;
     }
     Ok(())
 }

@@ -66,28 +66,26 @@ fn with_caps_and_bounds(rt: HostRuntime) -> Result<(), Fail> {
     Ok(())
 }
 
-// What is optimised before anything is sold, and its mean value.
-fn optimised_at_opening(alloc: Global) -> Result<(Certificate, (u64, u64)), SolveFault> {
+fn assert_certificate(rt: &impl Abort, certificate: &Certificate) {
+    assert_eq!(rt; (certificate.q, certificate.den), (1, 1));
+    assert_eq!(rt; certificate.x.as_slice(), [4, 2].as_slice());
+    assert_eq!(rt; certificate.p.as_slice(), [200, 300].as_slice());
+    assert_eq!(rt; certificate.value, 2400);
+}
+
+// The mean value of what is optimised before anything is sold.
+fn mean_at_opening(rt: &impl Abort, alloc: Global) -> Result<(u64, u64), SolveFault> {
     let net = two_legs(alloc)?;
     let certificate = prices(alloc, &net, &[3, 2], 1)?;
-    let mean = mean_value(&net, &certificate);
-    Ok((certificate, mean))
+    assert_certificate(rt, &certificate);
+    Ok(mean_value(&net, &certificate))
 }
 
 // Four seats of the through product fill the second leg in both histories together, two of the local one what is left of
 // the first; so a seat of the first leg is worth the local fare, and one of the second the rest of the through fare.
 #[test]
-fn optimises_by_hand(rt: HostRuntime) -> Result<(), Fail> {
-    let optimised = optimised_at_opening(rt.alloc());
-    assert!(rt; optimised.is_ok());
-    if let Ok((certificate, mean)) = optimised {
-        assert_eq!(rt; (certificate.q, certificate.den), (1, 1));
-        assert_eq!(rt; certificate.x.as_slice(), [4, 2].as_slice());
-        assert_eq!(rt; certificate.p.as_slice(), [200, 300].as_slice());
-        assert_eq!(rt; certificate.value, 2400);
-        assert_eq!(rt; mean, (1200, 1));
-    }
-    Ok(())
+fn optimises_by_hand(rt: HostRuntime) {
+    assert!(rt; mean_at_opening(&rt, rt.alloc()) == Ok((1200, 1)));
 }
 
 // The opening linear program of two legs and five products, which another program solved in exact fractions.
@@ -103,25 +101,25 @@ fn solves_five_products(rt: HostRuntime) -> Result<(), Fail> {
     Ok(())
 }
 
-// The opening program where the authorised seats are not the physical ones, and the value that it is solved at.
-fn optimised_at_authorised(alloc: Global) -> Result<(Program, u64), SolveFault> {
+// The opening program where the authorised seats are not the physical ones, and the mean value of what is optimised there.
+fn program_at_authorised(alloc: Global) -> Result<Program, AllocError> {
     let net = two_legs_authorised(alloc)?;
-    let program = opening_program(alloc, &net)?;
+    opening_program(alloc, &net)
+}
+
+fn mean_at_authorised(alloc: Global) -> Result<(u64, u64), SolveFault> {
+    let net = two_legs_authorised(alloc)?;
     let certificate = prices(alloc, &net, &[4, 1], 1)?;
-    let (value, _) = mean_value(&net, &certificate);
-    Ok((program, value))
+    Ok(mean_value(&net, &certificate))
 }
 
 // BC has the one seat for a through request, at 500, and so AB three for local ones, at 199.
 #[test]
 fn caps_are_the_authorised_seats(rt: HostRuntime) -> Result<(), Fail> {
-    let optimised = optimised_at_authorised(rt.alloc());
-    assert!(rt; optimised.is_ok());
-    if let Ok((program, value)) = optimised {
-        assert_eq!(rt; program.caps(), [4, 1].as_slice());
-        assert_eq!(rt; program.bounds(), [2, 3].as_slice());
-        assert_eq!(rt; value, 1097);
-    }
+    let program = program_at_authorised(rt.alloc())?;
+    assert_eq!(rt; program.caps(), [4, 1].as_slice());
+    assert_eq!(rt; program.bounds(), [2, 3].as_slice());
+    assert!(rt; mean_at_authorised(rt.alloc()) == Ok((1097, 1)));
     Ok(())
 }
 
@@ -139,8 +137,9 @@ fn in_quarters(alloc: Global) -> Result<Certificate, AllocError>
 }
 
 fn mean_of_quarters(alloc: Global) -> Result<(u64, u64), AllocError> {
+    let quarters = in_quarters(alloc)?;
     let net = two_legs(alloc)?;
-    Ok(mean_value(&net, &in_quarters(alloc)?))
+    Ok(mean_value(&net, &quarters))
 }
 
 // Over two histories, 9604 quarters are 9604 eighths.

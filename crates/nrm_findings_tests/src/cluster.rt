@@ -1,27 +1,37 @@
 //! Thresholds of leg AB of a network of five products, worked by hand: the fares on it are 500, 400, 229 and 150, and 16, 12, no
 //! and 28 seats were asked for at them.
-ghost use Rattle.std.specs.Prelude.{◌<◌, length};
+ghost use Rattle.std.specs.Prelude.{IfOk};
 ghost use Rattle.std.specs.Int.{IsInRange};
+ghost use Rattle.nrm_cluster.specs.Points.{ArePoints};
 ghost use Rattle.nrm_cluster.specs.declared.limits.TheConstants.{MOST_GROUPS};
 
-use nrm_cluster::{Cuts, best_cuts, leg_points};
-use nrm_model::Network;
+use nrm_cluster::{Cuts, Points, best_cuts, leg_points};
 use nrm_samples::two_legs_five_products;
 use std::alloc::{AllocError, Global};
 use std::process::Abort;
 use std::test::Fail;
 
-// The cuts of a leg into so many groups, if a product uses it.
-fn cuts_of_leg(
-    alloc: Global,
-    net: &Network,
-    leg: u8,
-    groups: u8,
-) -> Result<Option<Cuts>, AllocError>
-    requires leg { leg < length net.now.legs }
-    requires groups { IsInRange 1 MOST_GROUPS groups }
+// The fares on the leg, with what was asked for at each.
+fn points_of_leg(alloc: Global) -> Result<Points, AllocError>
+    ensures { IfOk result ArePoints }
 {
-    let points = leg_points(alloc, net, leg)?;
+    let net = two_legs_five_products(alloc)?;
+    leg_points(alloc, &net, 0)
+}
+
+#[test]
+fn the_fares_of_a_leg_are_gathered(rt: HostRuntime) -> Result<(), Fail> {
+    let points = points_of_leg(rt.alloc())?;
+    assert!(rt; points.values.as_slice() == [500, 400, 229, 150].as_slice());
+    assert!(rt; points.weights.as_slice() == [16, 12, 0, 28].as_slice());
+    Ok(())
+}
+
+// The cuts of the leg into so many groups, if a product uses it.
+fn cuts_of_leg(alloc: Global, groups: u8) -> Result<Option<Cuts>, AllocError>
+    requires { IsInRange 1 MOST_GROUPS groups }
+{
+    let points = points_of_leg(alloc)?;
     if points.values.is_empty() {
         return Ok(None);
     }
@@ -36,30 +46,13 @@ fn assert_cuts(rt: &impl Abort, made: Option<Cuts>, cost: u64, cuts: &[u32], cen
 }
 
 #[test]
-fn the_fares_of_a_leg_are_gathered(rt: HostRuntime) -> Result<(), Fail> {
-    let alloc = rt.alloc();
-    let net = two_legs_five_products(alloc)?;
-    let points = leg_points(alloc, &net, 0)?;
-    assert!(rt; points.values.as_slice() == [500, 400, 229, 150].as_slice());
-    assert!(rt; points.weights.as_slice() == [16, 12, 0, 28].as_slice());
-    Ok(())
-}
-
-#[test]
 fn fares_are_cut_into_groups(rt: HostRuntime) -> Result<(), Fail> {
     let alloc = rt.alloc();
-    let net = two_legs_five_products(alloc)?;
-    assert_cuts(&rt, cuts_of_leg(alloc, &net, 0, 1)?, 8600, &[], &[400]);
+    assert_cuts(&rt, cuts_of_leg(alloc, 1)?, 8600, &[], &[400]);
+    assert_cuts(&rt, cuts_of_leg(alloc, 2)?, 1200, &[400], &[500, 150]);
     assert_cuts(
         &rt,
-        cuts_of_leg(alloc, &net, 0, 2)?,
-        1200,
-        &[400],
-        &[500, 150],
-    );
-    assert_cuts(
-        &rt,
-        cuts_of_leg(alloc, &net, 0, 10)?,
+        cuts_of_leg(alloc, 10)?,
         0,
         &[500, 400],
         &[500, 400, 150],

@@ -7,21 +7,26 @@ use nrm_findings::{
 use nrm_legdp::ClassFault;
 use nrm_model::Network;
 use nrm_samples::two_legs_five_products;
-use nrm_text::name_of;
+use nrm_text::{Line, Name, name_of};
 use std::alloc::{AllocError, Global};
 use std::process::Abort;
 use std::test::Fail;
 
-// The thresholds of a leg in two groups are this text, or no product uses the leg.
+// The thresholds of a leg in two groups, if a product uses it.
+fn cuts_text(alloc: Global, name: &Name) -> Result<Option<Line>, AllocError> {
+    let net = two_legs_five_products(alloc)?;
+    cuts_of(alloc, &net, name, 2)
+}
+
+// They are this text.
 fn assert_cuts(
     rt: &impl Abort,
     alloc: Global,
     leg: &[u8],
     wanted: Option<&[u8]>,
 ) -> Result<(), AllocError> {
-    let net = two_legs_five_products(alloc)?;
     let name = name_of(leg).unwrap_or_else(|| panic!(rt; "no name"));
-    let text = cuts_of(alloc, &net, &name, 2)?;
+    let text = cuts_text(alloc, &name)?;
     assert_eq!(rt; text.as_ref().map(|line| line.bytes()), wanted);
     Ok(())
 }

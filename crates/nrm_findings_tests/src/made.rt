@@ -5,7 +5,8 @@ use std::test::Fail;
 
 #[test]
 fn network_of_0(rt: HostRuntime) -> Result<(), Fail> {
-    let (net, _) = made(rt.alloc(), 0)?;
+    let made = made(rt.alloc(), 0)?;
+    let net = &made.0;
     assert_eq!(rt; (net.n(), net.t()), (8, 4));
     assert_eq!(rt; net.leg_at(0).name.bytes(), b"I1".as_slice());
     assert_eq!(rt; (net.leg_at(0).seats, net.leg_at(0).authorised), (40, 40));
@@ -14,7 +15,8 @@ fn network_of_0(rt: HostRuntime) -> Result<(), Fail> {
 
 #[test]
 fn network_of_1(rt: HostRuntime) -> Result<(), Fail> {
-    let (net, _) = made(rt.alloc(), 1)?;
+    let made = made(rt.alloc(), 1)?;
+    let net = &made.0;
     assert_eq!(rt; (net.leg_count(), net.product_count()), (12, 60));
     assert_eq!(rt; (net.leg_at(0).seats, net.leg_at(0).authorised), (78, 78));
     assert_eq!(rt; net.product_at(0).name.bytes(), b"I1-H".as_slice());
@@ -65,8 +67,8 @@ fn all_counted(maker: &mut Maker) -> Kinds {
 
 #[test]
 fn commands_of_1(rt: HostRuntime) -> Result<(), Fail> {
-    let (_, mut maker) = made(rt.alloc(), 1)?;
-    let kinds = all_counted(&mut maker);
+    let mut made = made(rt.alloc(), 1)?;
+    let kinds = all_counted(&mut made.1);
     let wanted = Kinds {
         books: 7_512,
         cancels: 1_972,
@@ -75,6 +77,6 @@ fn commands_of_1(rt: HostRuntime) -> Result<(), Fail> {
         hindsights: 1,
     };
     assert_eq!(rt; kinds, wanted);
-    assert_eq!(rt; maker.next(), None);
+    assert_eq!(rt; made.1.next(), None);
     Ok(())
 }

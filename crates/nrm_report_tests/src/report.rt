@@ -27,40 +27,11 @@ fn book_by_hand(rt: &impl Abort, alloc: Global, net: &Network) -> Result<Book, A
     Ok(book)
 }
 
-// A sink with room for each of the texts, of which the puts of these numbers fail.
-fn failing_sink(alloc: Global, failing: &[u64]) -> Result<MemSink, AllocError> {
-    MemSink::new(alloc, 400, Vec::new(alloc), failing.to_vec(alloc)?)
-}
-
-// The text of the first leg, where the puts of the numbers `failing` fail: whether it goes out whole, and what does.
-fn leg_goes_out(
-    rt: &impl Abort,
-    alloc: Global,
-    failing: &[u64],
-    wanted: (bool, &[u8]),
-) -> Result<(), AllocError> {
+// Puts the text of the first leg, and tells whether it goes out whole.
+fn put_leg(rt: &impl Abort, alloc: Global, sink: &mut MemSink) -> Result<bool, AllocError> {
     let net = two_legs_five_products(alloc)?;
-    let mut sink = failing_sink(alloc, failing)?;
     let book = book_by_hand(rt, alloc, &net)?;
-    let whole = leg_text(&net, &book, 0, &mut sink).is_ok();
-    assert_eq!(rt; (whole, sink.held()), wanted, "puts {failing:?} fail");
-    Ok(())
-}
-
-#[test]
-fn tells_by_hand(rt: HostRuntime) -> Result<(), Fail> {
-    let text = b"leg AB seats 10 authorised 10 sold 3 left 7\non AB ABL 1\non AB ACH 2\n";
-    leg_goes_out(&rt, rt.alloc(), &[], (true, text))?;
-    Ok(())
-}
-
-#[test]
-fn each_line_of_a_leg_goes_out_in_one_put(rt: HostRuntime) -> Result<(), Fail> {
-    let text = b"leg AB seats 10 authorised 10 sold 3 left 7\n";
-    leg_goes_out(&rt, rt.alloc(), &[2], (false, text))?;
-    let text = b"leg AB seats 10 authorised 10 sold 3 left 7\non AB ABL 1\n";
-    leg_goes_out(&rt, rt.alloc(), &[3], (false, text))?;
-    Ok(())
+    Ok(leg_text(&net, &book, 0, sink).is_ok())
 }
 
 // Over four histories, 12/2, 20/2, 0/2, 1/2 and 2/2 seats at 3004/4, and bid prices of 0/4 and 6/4.
@@ -76,18 +47,63 @@ fn hand_certificate(alloc: Global) -> Result<Certificate, AllocError>
     })
 }
 
-// The text of the certificate, where the puts of the numbers `failing` fail: whether it goes out whole, and what does.
-fn certificate_goes_out(
+// Puts the text of the certificate.
+fn put_certificate(alloc: Global, sink: &mut MemSink) -> Result<bool, AllocError> {
+    let certificate = hand_certificate(alloc)?;
+    let net = two_legs_five_products(alloc)?;
+    Ok(certificate_text(&net, &certificate, sink).is_ok())
+}
+
+// Puts the text of the opening plan under virtual nesting.
+fn put_plan(rt: &impl Abort, alloc: Global, sink: &mut MemSink) -> Result<bool, AllocError> {
+    let net = two_legs_five_products(alloc)?;
+    let Ok(plan) = Plan::opening(alloc, &net, Mode::Davn) else {
+        panic!(rt; "there is no plan");
+    };
+    Ok(plan_text(&net, &plan, sink).is_ok())
+}
+
+// A text of the network.
+#[derive(Clone, Copy)]
+enum Told {
+    Leg,
+    Certificate,
+    Plan,
+}
+
+// The text, where the puts of the numbers `failing` fail: whether it goes out whole, and what does.
+fn goes_out(
     rt: &impl Abort,
     alloc: Global,
+    told: Told,
     failing: &[u64],
     wanted: (bool, &[u8]),
 ) -> Result<(), AllocError> {
-    let net = two_legs_five_products(alloc)?;
-    let mut sink = failing_sink(alloc, failing)?;
-    let certificate = hand_certificate(alloc)?;
-    let whole = certificate_text(&net, &certificate, &mut sink).is_ok();
-    assert_eq!(rt; (whole, sink.held()), wanted, "puts {failing:?} fail");
+    let numbers = failing.to_vec(alloc)?;
+    let mut sink = MemSink::new(alloc, 400, Vec::new(alloc), numbers)?;
+    let whole = match told {
+        Told::Leg => put_leg(rt, alloc, &mut sink),
+        Told::Certificate => put_certificate(alloc, &mut sink),
+        Told::Plan => put_plan(rt, alloc, &mut sink),
+    };
+    assert!(rt; whole == Ok(wanted.0), "puts {failing:?} fail");
+    assert_eq!(rt; sink.held(), wanted.1, "puts {failing:?} fail");
+    Ok(())
+}
+
+#[test]
+fn tells_by_hand(rt: HostRuntime) -> Result<(), Fail> {
+    let text = b"leg AB seats 10 authorised 10 sold 3 left 7\non AB ABL 1\non AB ACH 2\n";
+    goes_out(&rt, rt.alloc(), Told::Leg, &[], (true, text))?;
+    Ok(())
+}
+
+#[test]
+fn each_line_of_a_leg_goes_out_in_one_put(rt: HostRuntime) -> Result<(), Fail> {
+    let text = b"leg AB seats 10 authorised 10 sold 3 left 7\n";
+    goes_out(&rt, rt.alloc(), Told::Leg, &[2], (false, text))?;
+    let text = b"leg AB seats 10 authorised 10 sold 3 left 7\non AB ABL 1\n";
+    goes_out(&rt, rt.alloc(), Told::Leg, &[3], (false, text))?;
     Ok(())
 }
 
@@ -95,7 +111,7 @@ fn certificate_goes_out(
 fn writes_a_certificate_by_hand(rt: HostRuntime) -> Result<(), Fail> {
     let text =
         b"value 751/4\nproduct ABH 3/2\nproduct ABL 5/2\nproduct ACH 0/1\nproduct BCL 1/8\nproduct ACL 1/4\nleg AB 0/1\nleg BC 3/2\n";
-    certificate_goes_out(&rt, rt.alloc(), &[], (true, text))?;
+    goes_out(&rt, rt.alloc(), Told::Certificate, &[], (true, text))?;
     Ok(())
 }
 
@@ -108,31 +124,19 @@ fn each_line_of_a_certificate_goes_out_in_one_put(rt: HostRuntime) -> Result<(),
         b"value 751/4\nproduct ABH 3/2\nproduct ABL 5/2\nproduct ACH 0/1\n".as_slice(),
     ];
     for (k, text) in lines.iter().enumerate() {
-        certificate_goes_out(&rt, rt.alloc(), &[k as u64 + 2], (false, text))?;
+        goes_out(
+            &rt,
+            rt.alloc(),
+            Told::Certificate,
+            &[k as u64 + 2],
+            (false, text),
+        )?;
     }
 
     // The put of the last line fails, behind one of a leg.
     let text =
         b"value 751/4\nproduct ABH 3/2\nproduct ABL 5/2\nproduct ACH 0/1\nproduct BCL 1/8\nproduct ACL 1/4\nleg AB 0/1\n";
-    certificate_goes_out(&rt, rt.alloc(), &[8], (false, text))?;
-    Ok(())
-}
-
-// The text of the opening plan under virtual nesting, where the puts of the numbers `failing` fail: whether it goes out
-// whole, and what does.
-fn plan_goes_out(
-    rt: &impl Abort,
-    alloc: Global,
-    failing: &[u64],
-    wanted: (bool, &[u8]),
-) -> Result<(), AllocError> {
-    let net = two_legs_five_products(alloc)?;
-    let mut sink = failing_sink(alloc, failing)?;
-    let Ok(plan) = Plan::opening(alloc, &net, Mode::Davn) else {
-        panic!(rt; "there is no plan");
-    };
-    let whole = plan_text(&net, &plan, &mut sink).is_ok();
-    assert_eq!(rt; (whole, sink.held()), wanted, "puts {failing:?} fail");
+    goes_out(&rt, rt.alloc(), Told::Certificate, &[8], (false, text))?;
     Ok(())
 }
 
@@ -143,7 +147,7 @@ fn writes_a_plan_with_its_nests(rt: HostRuntime) -> Result<(), Fail> {
         leg AB 150/1\nleg BC 80/1\nnest AB ABH 400/1 1\nnest AB ABL 150/1 2\nnest AB ACH 420/1 1\n\
         nest AB ACL 149/1 2\nnest BC ACH 350/1 1\nnest BC BCL 80/1 3\nnest BC ACL 79/1 3\nprotect AB 7 10\n\
         protect BC 4 6\n";
-    plan_goes_out(&rt, rt.alloc(), &[], (true, text))?;
+    goes_out(&rt, rt.alloc(), Told::Plan, &[], (true, text))?;
     Ok(())
 }
 
@@ -153,11 +157,11 @@ fn each_line_of_a_nest_goes_out_in_one_put(rt: HostRuntime) -> Result<(), Fail> 
     let text =
         b"value 4130/1\nproduct ABH 3/1\nproduct ABL 3/1\nproduct ACH 4/1\nproduct BCL 6/1\nproduct ACL 0/1\n\
         leg AB 150/1\nleg BC 80/1\nnest AB ABH 400/1 1\n";
-    plan_goes_out(&rt, rt.alloc(), &[10], (false, text))?;
+    goes_out(&rt, rt.alloc(), Told::Plan, &[10], (false, text))?;
     let text =
         b"value 4130/1\nproduct ABH 3/1\nproduct ABL 3/1\nproduct ACH 4/1\nproduct BCL 6/1\nproduct ACL 0/1\n\
         leg AB 150/1\nleg BC 80/1\nnest AB ABH 400/1 1\nnest AB ABL 150/1 2\nnest AB ACH 420/1 1\n\
         nest AB ACL 149/1 2\nnest BC ACH 350/1 1\nnest BC BCL 80/1 3\nnest BC ACL 79/1 3\nprotect AB 7 10\n";
-    plan_goes_out(&rt, rt.alloc(), &[17], (false, text))?;
+    goes_out(&rt, rt.alloc(), Told::Plan, &[17], (false, text))?;
     Ok(())
 }

@@ -1,17 +1,30 @@
 //! Rows small enough to work by hand, and rows at the limit.
-ghost use Rattle.std.specs.Prelude.{◌≡◌, IfOk, length};
+ghost use Rattle.std.specs.Prelude.{◌≡◌, ◌≤◌, ◌+◌, IfOk, length};
 ghost use Rattle.nrm_fraction.specs.Large.{IsSmall};
 
 use nrm_row::{Row, RowFault};
 use std::alloc::{AllocError, Global};
 use std::test::Fail;
 
-fn numbers(alloc: Global, row: &Row) -> Result<Vec<i64>, AllocError> {
-    let mut all = Vec::new(alloc);
+// Whether a row is these numbers over this denominator, the least.
+fn is_over(row: &Row, den: i64, numbers: &[i64]) -> bool {
     for col in 0..row.width() {
-        all.push(row.num(col))?;
+        if numbers.get(usize::from(col)) != Some(&row.num(col)) {
+            return false;
+        }
     }
-    Ok(all)
+    row.den() == den && usize::from(row.width()) == numbers.len()
+}
+
+// The same of some columns of a row.
+fn is_part_over(row: &Row, alloc: Global, from: u16, width: u16, den: i64, numbers: &[i64]) -> bool
+    requires some { 1 ≤ width }
+    requires within { from + width ≤ length row.now }
+{
+    match row.part(alloc, from, width) {
+        Ok(part) => is_over(&part, den, numbers),
+        Err(_) => false,
+    }
 }
 
 fn two(alloc: Global, first: i64, last: i64) -> Result<Row, AllocError>
@@ -44,17 +57,8 @@ fn is_combined_with_a_unit_row(rt: HostRuntime) -> Result<(), Fail> {
     let unit = row.unit(rt.alloc(), 0)?;
     assert_eq!(rt; unit.entries(), [(0, 1), (1, 2), (3, 3)].as_slice());
     assert!(rt; combined.combine(rt.alloc(), &unit, 0).is_ok());
-    assert_eq!(rt; combined.den(), 1);
-    assert_eq!(rt;
-        numbers(rt.alloc(), &combined)?.as_slice(),
-        [0, -1, 1, 2].as_slice()
-    );
-    let unit = unit.into_row();
-    assert_eq!(rt; unit.den(), 1);
-    assert_eq!(rt;
-        numbers(rt.alloc(), &unit)?.as_slice(),
-        [1, 2, 0, 3].as_slice()
-    );
+    assert!(rt; is_over(&combined, 1, &[0, -1, 1, 2]));
+    assert!(rt; is_over(&unit.into_row(), 1, &[1, 2, 0, 3]));
     Ok(())
 }
 
@@ -66,11 +70,7 @@ fn tells_least_denominators(rt: HostRuntime) -> Result<(), Fail> {
     let unit = row.unit(rt.alloc(), 0)?;
     let mut thirds = four(rt.alloc(), 2, 5, 7, 1)?;
     assert!(rt; thirds.combine(rt.alloc(), &unit, 0).is_ok());
-    assert_eq!(rt; thirds.den(), 3);
-    assert_eq!(rt;
-        numbers(rt.alloc(), &thirds)?.as_slice(),
-        [0, 13, 17, -9].as_slice()
-    );
+    assert!(rt; is_over(&thirds, 3, &[0, 13, 17, -9]));
     let mut nothing = row;
     assert!(rt; nothing.combine(rt.alloc(), &unit, 0).is_ok());
     assert_eq!(rt; nothing.den(), 1);
@@ -85,18 +85,9 @@ fn takes_a_part_in_its_own_lowest_terms(rt: HostRuntime) -> Result<(), Fail> {
     assert!(rt; row.is_positive(0));
     let sixths = row.unit(rt.alloc(), 0)?.into_row();
     assert_eq!(rt; sixths.den(), 6);
-    let inner = sixths.part(rt.alloc(), 1, 2)?;
-    assert_eq!(rt; inner.den(), 6);
-    assert_eq!(rt; numbers(rt.alloc(), &inner)?.as_slice(), [1, 2].as_slice());
-    let third = sixths.part(rt.alloc(), 2, 1)?;
-    assert_eq!(rt; third.den(), 3);
-    assert_eq!(rt; numbers(rt.alloc(), &third)?.as_slice(), [1].as_slice());
-    let all = sixths.part(rt.alloc(), 0, 4)?;
-    assert_eq!(rt; all.den(), 6);
-    assert_eq!(rt;
-        numbers(rt.alloc(), &all)?.as_slice(),
-        [6, 1, 2, 3].as_slice()
-    );
+    assert!(rt; is_part_over(&sixths, rt.alloc(), 1, 2, 6, &[1, 2]));
+    assert!(rt; is_part_over(&sixths, rt.alloc(), 2, 1, 3, &[1]));
+    assert!(rt; is_part_over(&sixths, rt.alloc(), 0, 4, 6, &[6, 1, 2, 3]));
     Ok(())
 }
 
@@ -108,10 +99,7 @@ fn is_large_at_the_limit(rt: HostRuntime) -> Result<(), Fail> {
     let unit = row.unit(rt.alloc(), 0)?;
     let mut below = two(rt.alloc(), 1, 281_474_976_710_654)?;
     assert!(rt; below.combine(rt.alloc(), &unit, 0).is_ok());
-    assert_eq!(rt;
-        numbers(rt.alloc(), &below)?.as_slice(),
-        [0, 281_474_976_710_655].as_slice()
-    );
+    assert!(rt; is_over(&below, 1, &[0, 281_474_976_710_655]));
     let mut at = two(rt.alloc(), 1, 281_474_976_710_655)?;
     match at.combine(rt.alloc(), &unit, 0) {
         Err(RowFault::Large { number }) => assert_eq!(rt; number, 281_474_976_710_656),

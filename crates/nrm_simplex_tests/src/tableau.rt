@@ -1,33 +1,18 @@
 //! Programs of few legs, from the first tableau to the closing.
 use nrm_lp::{Certificate, Program};
+use nrm_samples::two_legs_five_products_program;
 use nrm_tableau::Tableau;
-use std::alloc::{AllocError, Global};
+use std::alloc::Global;
 use std::test::Fail;
-
-// Two legs of 40 seats, and five products, of which nobody asks for the last.
-fn two_legs_five_products(alloc: Global) -> Result<Program, AllocError> {
-    let caps = vec![in alloc; 40, 40]?;
-    let bounds = vec![in alloc; 12, 28, 16, 32, 0]?;
-    let fares = vec![in alloc; 400, 150, 500, 80, 229]?;
-    let legs = vec![in alloc;
-        vec![in alloc; 0]?,
-        vec![in alloc; 0]?,
-        vec![in alloc; 0, 1]?,
-        vec![in alloc; 1]?,
-        vec![in alloc; 0, 1]?,
-    ]?;
-    Ok(Program::new(caps, bounds, fares, legs))
-}
 
 #[test]
 fn takes_the_pivots_of_two_legs(rt: HostRuntime) -> Result<(), Fail> {
     let alloc = rt.alloc();
-    let program = two_legs_five_products(alloc)?;
+    let program = two_legs_five_products_program(alloc)?;
     let mut tableau = Tableau::first(alloc, &program)?;
     for (col, row) in [(0, 2), (1, 3), (2, 0), (3, 5), (7, 1), (8, 1), (10, 4)] {
         let Some(enters) = tableau.entering() else {
-            assert!(rt; false, "no column enters at {col}");
-            return Ok(());
+            panic!(rt; "no column enters at {col}");
         };
         let leaves = tableau.leaving(enters);
         assert_eq!(rt; (enters, leaves), (col, row));
