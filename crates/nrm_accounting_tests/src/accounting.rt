@@ -41,17 +41,32 @@ fn status_of(
 
 // The program ends so, and has written this.
 fn assert_outcome(
-    rt: &impl Abort,
-    alloc: Global,
+    rt: &(impl Abort + AllocGlobal),
     network: &[u8],
     given: &[&str],
     stream: &[u8],
     wanted: (WhyStatus, &[u8]),
 ) -> Result<(), AllocError> {
+    let alloc = rt.alloc();
     let mut sink = MemSink::new(alloc, 4096, Vec::new(alloc), Vec::new(alloc))?;
     let status = status_of(alloc, network, given, stream, &mut sink);
     assert!(rt; status == Ok(wanted.0));
     assert_eq!(rt; sink.held(), wanted.1);
+    Ok(())
+}
+
+// In this mode the lines of the stream have these accounts, each under its number.
+fn assert_accounts(
+    rt: &(impl Abort + AllocGlobal),
+    network: &[u8],
+    mode: &str,
+    stream: &[u8],
+    accounts: &[(&str, &[u8])],
+) -> Result<(), AllocError> {
+    for &(number, account) in accounts {
+        let wanted = (WhyStatus::Done, account);
+        assert_outcome(rt, network, &[mode, "F", number], stream, wanted)?;
+    }
     Ok(())
 }
 
@@ -61,7 +76,6 @@ const STREAM: &[u8] =
 
 #[test]
 fn each_kind_of_line_is_accounted_for(rt: HostRuntime) -> Result<(), Fail> {
-    let alloc = rt.alloc();
     let accounts: [(&str, &[u8]); 8] = [
         (
             "1",
@@ -96,43 +110,23 @@ fn each_kind_of_line_is_accounted_for(rt: HostRuntime) -> Result<(), Fail> {
         ("7", b"line 7 plan\n"),
         ("8", b"line 8 bad\nanswer bad\n"),
     ];
-    for (number, account) in accounts {
-        assert_outcome(
-            &rt,
-            alloc,
-            NETWORK,
-            &["first", "F", number],
-            STREAM,
-            (WhyStatus::Done, account),
-        )?;
-    }
+    assert_accounts(&rt, NETWORK, "first", STREAM, &accounts)?;
     Ok(())
 }
 
+const USAGE: &[u8] = b"usage: nrm_why MODE FILE NUMBER\n";
+
 #[test]
 fn what_is_not_there_is_told(rt: HostRuntime) -> Result<(), Fail> {
-    let alloc = rt.alloc();
     let told: [(&[&str], WhyStatus, &[u8]); 5] = [
         (&["first", "F", "9"], WhyStatus::NoLine, b"absent line 9\n"),
-        (
-            &["first", "F", "0"],
-            WhyStatus::Usage,
-            b"usage: nrm_why MODE FILE NUMBER\n",
-        ),
-        (
-            &["first", "F"],
-            WhyStatus::Usage,
-            b"usage: nrm_why MODE FILE NUMBER\n",
-        ),
-        (
-            &["fast", "F", "1"],
-            WhyStatus::Usage,
-            b"usage: nrm_why MODE FILE NUMBER\n",
-        ),
+        (&["first", "F", "0"], WhyStatus::Usage, USAGE),
+        (&["first", "F"], WhyStatus::Usage, USAGE),
+        (&["fast", "F", "1"], WhyStatus::Usage, USAGE),
         (&["bid", "G", "1"], WhyStatus::Refused, b"refused no file\n"),
     ];
     for (given, wanted, line) in told {
-        assert_outcome(&rt, alloc, NETWORK, given, STREAM, (wanted, line))?;
+        assert_outcome(&rt, NETWORK, given, STREAM, (wanted, line))?;
     }
     Ok(())
 }
@@ -148,7 +142,6 @@ const DEMANDED_STREAM: &[u8] =
 // The bid price of AB is the fare of LOC, and that of BC is 0: a fare that equals it is sold.
 #[test]
 fn bid_prices_are_accounted_for(rt: HostRuntime) -> Result<(), Fail> {
-    let alloc = rt.alloc();
     let accounts: [(&str, &[u8]); 4] = [
         (
             "3",
@@ -176,16 +169,7 @@ fn bid_prices_are_accounted_for(rt: HostRuntime) -> Result<(), Fail> {
             largest 1 then no AB\nanswer ok 4\n",
         ),
     ];
-    for (number, account) in accounts {
-        assert_outcome(
-            &rt,
-            alloc,
-            DEMANDED,
-            &["bid", "F", number],
-            DEMANDED_STREAM,
-            (WhyStatus::Done, account),
-        )?;
-    }
+    assert_accounts(&rt, DEMANDED, "bid", DEMANDED_STREAM, &accounts)?;
     Ok(())
 }
 
@@ -193,7 +177,6 @@ fn bid_prices_are_accounted_for(rt: HostRuntime) -> Result<(), Fail> {
 // 1 history of 2 has more than no seat, and half of 500 is more than 200.
 #[test]
 fn nests_are_accounted_for(rt: HostRuntime) -> Result<(), Fail> {
-    let alloc = rt.alloc();
     let accounts: [(&str, &[u8]); 3] = [
         (
             "1",
@@ -221,15 +204,6 @@ fn nests_are_accounted_for(rt: HostRuntime) -> Result<(), Fail> {
             largest 1 then no AB\nanswer ok 4\n",
         ),
     ];
-    for (number, account) in accounts {
-        assert_outcome(
-            &rt,
-            alloc,
-            DEMANDED,
-            &["davn", "F", number],
-            DEMANDED_STREAM,
-            (WhyStatus::Done, account),
-        )?;
-    }
+    assert_accounts(&rt, DEMANDED, "davn", DEMANDED_STREAM, &accounts)?;
     Ok(())
 }

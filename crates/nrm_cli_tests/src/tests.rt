@@ -93,13 +93,13 @@ fn words_of(alloc: Global, text: &str) -> Result<Vec<String>, AllocError> {
 
 // The program, called with these words over an outside, must end so, and have written so much.
 fn ends_over(
-    rt: &impl Abort,
-    alloc: Global,
+    rt: &(impl Abort + AllocGlobal),
     words: &str,
     outside: &Outside<'_>,
     status: Status,
     written: &[u8],
 ) -> Result<(), Fail> {
+    let alloc = rt.alloc();
     let given = words_of(alloc, words)?;
     let mut files = files(alloc, outside.fetches)?;
     let mut source = source(alloc, outside.takes)?;
@@ -111,13 +111,12 @@ fn ends_over(
 
 // The same where nothing fails outside.
 fn ends(
-    rt: &impl Abort,
-    alloc: Global,
+    rt: &(impl Abort + AllocGlobal),
     words: &str,
     status: Status,
     written: &[u8],
 ) -> Result<(), Fail> {
-    ends_over(rt, alloc, words, &SOUND, status, written)
+    ends_over(rt, words, &SOUND, status, written)
 }
 
 // The replies to the stream, one after the other, and their lengths from none of them to all.
@@ -128,45 +127,39 @@ const REPLIED: [usize; 6] = [0, 5, 11, 16, 22, 30];
 // In each mode alike: nothing is to come, so no seat has a price; and no leg has a threshold, so nothing is protected.
 #[test]
 fn a_stream_is_answered(rt: HostRuntime) -> Result<(), Fail> {
-    ends(&rt, rt.alloc(), "run first F", Done, REPLIES)?;
-    ends(&rt, rt.alloc(), "run bid F", Done, REPLIES)?;
-    ends(&rt, rt.alloc(), "run davn F", Done, REPLIES)
+    ends(&rt, "run first F", Done, REPLIES)?;
+    ends(&rt, "run bid F", Done, REPLIES)?;
+    ends(&rt, "run davn F", Done, REPLIES)
 }
 
 #[test]
 fn a_plan_is_written(rt: HostRuntime) -> Result<(), Fail> {
-    ends(&rt, rt.alloc(), "plan bid DEMANDED", Done, OPTIMAL)?;
-    ends(&rt, rt.alloc(), "plan first DEMANDED", Done, b"first\n")
+    ends(&rt, "plan bid DEMANDED", Done, OPTIMAL)?;
+    ends(&rt, "plan first DEMANDED", Done, b"first\n")
 }
 
 #[test]
 fn a_network_is_printed(rt: HostRuntime) -> Result<(), Fail> {
-    ends(&rt, rt.alloc(), "print F", Done, PRINTED)
+    ends(&rt, "print F", Done, PRINTED)
 }
 
 #[test]
 fn a_certificate_is_checked(rt: HostRuntime) -> Result<(), Fail> {
-    ends(
-        &rt,
-        rt.alloc(),
-        "check DEMANDED OPTIMAL",
-        Done,
-        b"optimal\n",
-    )?;
+    ends(&rt, "check DEMANDED OPTIMAL", Done, b"optimal\n")?;
     let wrong = b"wrong product ABL\n";
-    ends(&rt, rt.alloc(), "check DEMANDED CHEAP", Wrong, wrong)
+    ends(&rt, "check DEMANDED CHEAP", Wrong, wrong)
 }
 
 #[test]
 fn a_certificate_is_refused(rt: HostRuntime) -> Result<(), Fail> {
     let line = b"refused certificate line 3\n";
-    ends(&rt, rt.alloc(), "check DEMANDED REPEATED", Refused, line)?;
+    ends(&rt, "check DEMANDED REPEATED", Refused, line)?;
     let line = b"refused certificate no file\n";
-    ends(&rt, rt.alloc(), "check DEMANDED NONE", Refused, line)?;
+    ends(&rt, "check DEMANDED NONE", Refused, line)?;
     let line = b"refused certificate too fine\n";
-    ends(&rt, rt.alloc(), "check DEMANDED FINE", Refused, line)?;
+    ends(&rt, "check DEMANDED FINE", Refused, line)?;
     let line = b"refused row 1 why 1 kind\n";
-    ends(&rt, rt.alloc(), "check OPTIMAL OPTIMAL", Refused, line)
+    ends(&rt, "check OPTIMAL OPTIMAL", Refused, line)
 }
 
 // The fetch of this number fails.
@@ -182,31 +175,10 @@ fn fetch_fails(number: &[u64]) -> Outside<'_> {
 fn a_fault_of_the_files_is_told_where_it_comes(rt: HostRuntime) -> Result<(), Fail> {
     let second = fetch_fails(&[2]);
     let line = b"refused row 1 why 1 kind\n";
-    ends_over(
-        &rt,
-        rt.alloc(),
-        "check OPTIMAL OPTIMAL",
-        &second,
-        Refused,
-        line,
-    )?;
+    ends_over(&rt, "check OPTIMAL OPTIMAL", &second, Refused, line)?;
     let line = b"file fault\n";
-    ends_over(
-        &rt,
-        rt.alloc(),
-        "check DEMANDED OPTIMAL",
-        &second,
-        FileFault,
-        line,
-    )?;
-    ends_over(
-        &rt,
-        rt.alloc(),
-        "print F",
-        &fetch_fails(&[1]),
-        FileFault,
-        line,
-    )
+    ends_over(&rt, "check DEMANDED OPTIMAL", &second, FileFault, line)?;
+    ends_over(&rt, "print F", &fetch_fails(&[1]), FileFault, line)
 }
 
 // What other words get.
@@ -215,8 +187,8 @@ const USAGE: &[u8] =
 
 #[test]
 fn other_words_get_the_usage_line(rt: HostRuntime) -> Result<(), Fail> {
-    ends(&rt, rt.alloc(), "run F", Usage, USAGE)?;
-    ends(&rt, rt.alloc(), "cuts DEMANDED AB 11", Usage, USAGE)
+    ends(&rt, "run F", Usage, USAGE)?;
+    ends(&rt, "cuts DEMANDED AB 11", Usage, USAGE)
 }
 
 // The sixth take is the one that would tell the end.
@@ -228,7 +200,7 @@ fn each_take_fails_once(rt: HostRuntime) -> Result<(), Fail> {
             ..SOUND
         };
         let written = REPLIES.get(..*length).unwrap_or(b"");
-        ends_over(&rt, rt.alloc(), "run first F", &outside, ReadFault, written)?;
+        ends_over(&rt, "run first F", &outside, ReadFault, written)?;
     }
     Ok(())
 }
@@ -246,14 +218,7 @@ fn each_put_fails_once(rt: HostRuntime) -> Result<(), Fail> {
     for (place, length) in REPLIED.iter().take(5).enumerate() {
         let number = [place as u64 + 1];
         let written = REPLIES.get(..*length).unwrap_or(b"");
-        ends_over(
-            &rt,
-            rt.alloc(),
-            "run first F",
-            &puts_fail(&number),
-            WriteFault,
-            written,
-        )?;
+        ends_over(&rt, "run first F", &puts_fail(&number), WriteFault, written)?;
     }
     Ok(())
 }
@@ -264,16 +229,9 @@ fn puts_may_be_short(rt: HostRuntime) -> Result<(), Fail> {
         put_cuts: &[1; 40],
         ..SOUND
     };
-    ends_over(&rt, rt.alloc(), "run first F", &outside, Done, REPLIES)?;
+    ends_over(&rt, "run first F", &outside, Done, REPLIES)?;
     let outside = Outside { room: 5, ..SOUND };
-    ends_over(
-        &rt,
-        rt.alloc(),
-        "run first F",
-        &outside,
-        WriteFault,
-        b"ok 1\n",
-    )
+    ends_over(&rt, "run first F", &outside, WriteFault, b"ok 1\n")
 }
 
 // The line that would tell why is what can't be written.
@@ -283,11 +241,11 @@ fn a_cut_line_tells_no_other_status(rt: HostRuntime) -> Result<(), Fail> {
         fetches: &[1],
         ..puts_fail(&[1])
     };
-    ends_over(&rt, rt.alloc(), "print F", &outside, WriteFault, b"")?;
+    ends_over(&rt, "print F", &outside, WriteFault, b"")?;
     let outside = puts_fail(&[1]);
-    ends_over(&rt, rt.alloc(), "fly", &outside, WriteFault, b"")?;
-    ends_over(&rt, rt.alloc(), "cuts F CD 1", &outside, WriteFault, b"")?;
-    ends_over(&rt, rt.alloc(), "dp F AB", &outside, WriteFault, b"")
+    ends_over(&rt, "fly", &outside, WriteFault, b"")?;
+    ends_over(&rt, "cuts F CD 1", &outside, WriteFault, b"")?;
+    ends_over(&rt, "dp F AB", &outside, WriteFault, b"")
 }
 
 #[test]
@@ -295,24 +253,24 @@ fn a_made_run_is_summed_up(rt: HostRuntime) -> Result<(), Fail> {
     let line =
         b"made lines 10000 ok 791 no 6721 fare 0 cancelled 397 unknown 1575 legs 512 optimised 3 overflow 0 \
         revenue 193932 hindsight 299535/1\n";
-    ends(&rt, rt.alloc(), "gen first 1", Done, line)
+    ends(&rt, "gen first 1", Done, line)
 }
 
 // ACL was never asked for, so its fare costs nothing wherever it is.
 #[test]
 fn the_fares_on_a_leg_are_cut(rt: HostRuntime) -> Result<(), Fail> {
     let lines = b"cuts AB 400\ncentres AB 500 150\ncost AB 1200\n";
-    ends(&rt, rt.alloc(), "cuts DEMANDED AB 2", Done, lines)?;
-    ends(&rt, rt.alloc(), "cuts DEMANDED CD 2", NoLeg, b"no leg\n")
+    ends(&rt, "cuts DEMANDED AB 2", Done, lines)?;
+    ends(&rt, "cuts DEMANDED CD 2", NoLeg, b"no leg\n")
 }
 
 // Of ABH 2, 4, 3 and 3 seats are asked for, and three of them are worth more than those of ABL.
 #[test]
 fn the_seats_of_a_leg_are_valued(rt: HostRuntime) -> Result<(), Fail> {
     let lines = b"class ABH 400\nclass ABL 150\nvalue AB 4175/2\nprotect AB 3\n";
-    ends(&rt, rt.alloc(), "dp DEMANDED AB", Done, lines)?;
-    ends(&rt, rt.alloc(), "dp F BC", NoClass, b"classes 0\n")?;
-    ends(&rt, rt.alloc(), "dp F CD", NoClass, b"classes 0\n")
+    ends(&rt, "dp DEMANDED AB", Done, lines)?;
+    ends(&rt, "dp F BC", NoClass, b"classes 0\n")?;
+    ends(&rt, "dp F CD", NoClass, b"classes 0\n")
 }
 
 #[test]

@@ -2,6 +2,7 @@
 use nrm_desking::{DesksStatus, run_desks};
 use nrm_edge::{MemFiles, MemSink, MemSource};
 use std::alloc::{AllocError, Global};
+use std::process::Abort;
 use std::test::Fail;
 
 // Legs AB with 3 seats and BC with 2, a through product for 500 and a local one for 200.
@@ -23,13 +24,14 @@ fn files(alloc: Global) -> Result<MemFiles, AllocError> {
     Ok(MemFiles::new(list, Vec::new(alloc)))
 }
 
-// How the program ends, and the sink that it wrote to, where the frames come in two takes, and all behind so many bytes in the second.
-fn outcome(
+// How the program ends, which writes to the sink, where the frames come in two takes.
+fn status_of(
     alloc: Global,
     given: &[&str],
     first: &[u8],
     second: &[u8],
-) -> Result<(DesksStatus, MemSink), AllocError> {
+    sink: &mut MemSink,
+) -> Result<DesksStatus, AllocError> {
     let words = words(alloc, given)?;
     let mut files = files(alloc)?;
     let mut frames = first.to_vec(alloc)?;
@@ -37,31 +39,38 @@ fn outcome(
     let mut cuts = Vec::new(alloc);
     cuts.push(first.len())?;
     let mut source = MemSource::new(frames, cuts, Vec::new(alloc));
+    Ok(run_desks(alloc, &words, &mut files, &mut source, sink))
+}
+
+// The program ends so, and has written this.
+fn assert_outcome(
+    rt: &(impl Abort + AllocGlobal),
+    given: &[&str],
+    first: &[u8],
+    second: &[u8],
+    wanted: (DesksStatus, &[u8]),
+) -> Result<(), AllocError> {
+    let alloc = rt.alloc();
     let mut sink = MemSink::new(alloc, 4096, Vec::new(alloc), Vec::new(alloc))?;
-    let status = run_desks(alloc, &words, &mut files, &mut source, &mut sink);
-    Ok((status, sink))
+    let status = status_of(alloc, given, first, second, &mut sink);
+    assert!(rt; status == Ok(wanted.0));
+    assert_eq!(rt; sink.held(), wanted.1);
+    Ok(())
 }
 
 // A row is given again, and the next line of the desk is the second row; it is sent once it is kept.
 #[test]
 fn desks_go_on_behind_their_rows(rt: HostRuntime) -> Result<(), Fail> {
-    let alloc = rt.alloc();
-    let (status, sink) = outcome(
-        alloc,
-        &["first", "F"],
-        b"again 28\n1\tDESK-A\t1\tbook THRU 1\tok 1\nagain 0\nopen 0 DESK-A book\ncame 0 12\nbook THRU 2\n",
-        b"kept\nend\n",
-    )?;
-    assert_eq!(rt; status, DesksStatus::Done);
-    let written: &[u8] =
-        b"ready 1\nkeep 29\n2\tDESK-A\t2\tbook THRU 2\tno BC\nsend 0 12 6\nno BC\n";
-    assert_eq!(rt; sink.held(), written);
+    let rows =
+        b"again 28\n1\tDESK-A\t1\tbook THRU 1\tok 1\nagain 0\nopen 0 DESK-A book\ncame 0 12\nbook THRU 2\n";
+    let written = b"ready 1\nkeep 29\n2\tDESK-A\t2\tbook THRU 2\tno BC\nsend 0 12 6\nno BC\n";
+    let wanted = (DesksStatus::Done, written.as_slice());
+    assert_outcome(&rt, &["first", "F"], rows, b"kept\nend\n", wanted)?;
     Ok(())
 }
 
 #[test]
 fn what_may_not_come_is_told(rt: HostRuntime) -> Result<(), Fail> {
-    let alloc = rt.alloc();
     let told: [(&[u8], &[u8], DesksStatus, &[u8]); 7] = [
         (b"again 0\n", b"", DesksStatus::Done, b"ready 0\n"),
         (b"again 0\n", b"kept\n", DesksStatus::NoFrame, b"ready 0\n"),
@@ -87,38 +96,23 @@ fn what_may_not_come_is_told(rt: HostRuntime) -> Result<(), Fail> {
         ),
     ];
     for (first, second, wanted, written) in told {
-        let (status, sink) = outcome(alloc, &["first", "F"], first, second)?;
-        assert_eq!(rt; status, wanted);
-        assert_eq!(rt; sink.held(), written);
+        assert_outcome(&rt, &["first", "F"], first, second, (wanted, written))?;
     }
     Ok(())
 }
 
+const USAGE: &[u8] = b"usage: nrm_desks MODE FILE\n";
+
 #[test]
 fn words_that_ask_for_no_desks_get_a_line(rt: HostRuntime) -> Result<(), Fail> {
-    let alloc = rt.alloc();
     let told: [(&[&str], DesksStatus, &[u8]); 4] = [
-        (
-            &["first"],
-            DesksStatus::Usage,
-            b"usage: nrm_desks MODE FILE\n",
-        ),
-        (
-            &["fast", "F"],
-            DesksStatus::Usage,
-            b"usage: nrm_desks MODE FILE\n",
-        ),
-        (
-            &["first", "F", "1"],
-            DesksStatus::Usage,
-            b"usage: nrm_desks MODE FILE\n",
-        ),
+        (&["first"], DesksStatus::Usage, USAGE),
+        (&["fast", "F"], DesksStatus::Usage, USAGE),
+        (&["first", "F", "1"], DesksStatus::Usage, USAGE),
         (&["bid", "G"], DesksStatus::Refused, b"refused no file\n"),
     ];
     for (given, wanted, line) in told {
-        let (status, sink) = outcome(alloc, given, b"again 0\n", b"end\n")?;
-        assert_eq!(rt; status, wanted);
-        assert_eq!(rt; sink.held(), line);
+        assert_outcome(&rt, given, b"again 0\n", b"end\n", (wanted, line))?;
     }
     Ok(())
 }

@@ -1,4 +1,5 @@
 //! Certificate files of a small network, worked by hand.
+use crate::tests::{ALLOTTED, PRICES};
 use nrm_dual::{CertFault, Verdict, check, read_certificate};
 use nrm_lp::Certificate;
 use nrm_samples::{two_legs_five_products, two_legs_five_products_program};
@@ -70,15 +71,7 @@ fn files_are_read_and_checked(rt: HostRuntime) -> Result<(), Fail> {
             .as_slice(),
     ];
     for file in files {
-        assert!(rt;
-            reads(
-                rt.alloc(),
-                file,
-                (1, &[12, 12, 16, 24, 0]),
-                (1, &[150, 80]),
-                16520
-            )?
-        );
+        assert!(rt; reads(rt.alloc(), file, (1, ALLOTTED), (1, PRICES), 16_520)?);
         assert_eq!(rt; verdict_of(rt.alloc(), file)?, Some(Verdict::Optimal));
     }
     Ok(())
@@ -89,15 +82,8 @@ fn fractions_are_brought_over_one_denominator(rt: HostRuntime) -> Result<(), Fai
     let halves =
         b"value 4130/1\nproduct ABH 1/8\nproduct ABL 3/1\nproduct ACH 4/1\nproduct BCL 6/1\nproduct ACL 0/1\n\
           leg AB 150/1\nleg BC 80/1\n";
-    assert!(rt;
-        reads(
-            rt.alloc(),
-            halves,
-            (2, &[1, 24, 32, 48, 0]),
-            (1, &[150, 80]),
-            16520
-        )?
-    );
+    let x = &[1, 24, 32, 48, 0];
+    assert!(rt; reads(rt.alloc(), halves, (2, x), (1, PRICES), 16_520)?);
 
     let prices =
         b"value 1/8\nproduct ABH 3/1\nproduct ABL 3/1\nproduct ACH 4/1\nproduct BCL 6/1\nproduct ACL 0/1\nleg AB 1/3\n\
@@ -107,15 +93,9 @@ fn fractions_are_brought_over_one_denominator(rt: HostRuntime) -> Result<(), Fai
     let finest =
         b"value 1/4\nproduct ABH 3/1\nproduct ABL 3/1\nproduct ACH 4/1\nproduct BCL 6/1\nproduct ACL 0/1\nleg AB 1/3\n\
           leg BC 1/281474976710655\n";
-    assert!(rt;
-        reads(
-            rt.alloc(),
-            finest,
-            (1, &[12, 12, 16, 24, 0]),
-            (281_474_976_710_655, &[93_824_992_236_885, 1]),
-            281_474_976_710_655
-        )?
-    );
+    let most = 281_474_976_710_655;
+    let p = &[93_824_992_236_885, 1];
+    assert!(rt; reads(rt.alloc(), finest, (1, ALLOTTED), (most, p), most)?);
     Ok(())
 }
 

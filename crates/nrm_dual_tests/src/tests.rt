@@ -6,6 +6,11 @@ use nrm_samples::two_legs_five_products_program;
 use std::alloc::{AllocError, Global};
 use std::test::Fail;
 
+// What the certificate allots to the products, and its prices of the legs.
+pub(crate) const ALLOTTED: &[i64] = &[12, 12, 16, 24, 0];
+
+pub(crate) const PRICES: &[i64] = &[150, 80];
+
 // One leg of no seats, and one product at 100.
 fn no_seats(alloc: Global) -> Result<Program, AllocError> {
     let caps = vec![in alloc; 0]?;
@@ -58,26 +63,11 @@ fn checked(
 
 #[test]
 fn passes_in_any_terms(rt: HostRuntime) -> Result<(), Fail> {
-    let own = checked(
-        rt.alloc(),
-        (1, &[12, 12, 16, 24, 0]),
-        (1, &[150, 80]),
-        16_520,
-    )?;
+    let own = checked(rt.alloc(), (1, ALLOTTED), (1, PRICES), 16_520)?;
     assert_eq!(rt; own, Verdict::Optimal);
-    let halves = checked(
-        rt.alloc(),
-        (2, &[24, 24, 32, 48, 0]),
-        (1, &[150, 80]),
-        16_520,
-    )?;
+    let halves = checked(rt.alloc(), (2, &[24, 24, 32, 48, 0]), (1, PRICES), 16_520)?;
     assert_eq!(rt; halves, Verdict::Optimal);
-    let thirds = checked(
-        rt.alloc(),
-        (1, &[12, 12, 16, 24, 0]),
-        (3, &[450, 240]),
-        49_560,
-    )?;
+    let thirds = checked(rt.alloc(), (1, ALLOTTED), (3, &[450, 240]), 49_560)?;
     assert_eq!(rt; thirds, Verdict::Optimal);
     Ok(())
 }
@@ -116,12 +106,7 @@ fn single_numbers_are_checked(rt: HostRuntime) -> Result<(), Fail> {
         (1, 3, 16_520, Verdict::WrongProduct(1)),
         (2, 1, 16_520, Verdict::WrongLeg(0)),
     ] {
-        let changed = checked(
-            rt.alloc(),
-            (q, &[12, 12, 16, 24, 0]),
-            (den, &[150, 80]),
-            value,
-        )?;
+        let changed = checked(rt.alloc(), (q, ALLOTTED), (den, PRICES), value)?;
         assert_eq!(rt; changed, verdict, "at {q}, {den}, {value}");
     }
     Ok(())
@@ -129,23 +114,14 @@ fn single_numbers_are_checked(rt: HostRuntime) -> Result<(), Fail> {
 
 #[test]
 fn lists_have_the_programs_lengths(rt: HostRuntime) -> Result<(), Fail> {
-    let short_x = checked(rt.alloc(), (1, &[12, 12, 16, 24]), (1, &[150, 80]), 16_520)?;
+    let short_x = checked(rt.alloc(), (1, &[12, 12, 16, 24]), (1, PRICES), 16_520)?;
     assert_eq!(rt; short_x, Verdict::WrongShape);
-    let long_x = checked(
-        rt.alloc(),
-        (1, &[12, 12, 16, 24, 0, 0]),
-        (1, &[150, 80]),
-        16_520,
-    )?;
+    let x = &[12, 12, 16, 24, 0, 0];
+    let long_x = checked(rt.alloc(), (1, x), (1, PRICES), 16_520)?;
     assert_eq!(rt; long_x, Verdict::WrongShape);
-    let short_p = checked(rt.alloc(), (1, &[12, 12, 16, 24, 0]), (1, &[150]), 16_520)?;
+    let short_p = checked(rt.alloc(), (1, ALLOTTED), (1, &[150]), 16_520)?;
     assert_eq!(rt; short_p, Verdict::WrongShape);
-    let long_p = checked(
-        rt.alloc(),
-        (1, &[12, 12, 16, 24, 0]),
-        (1, &[150, 80, 0]),
-        16_520,
-    )?;
+    let long_p = checked(rt.alloc(), (1, ALLOTTED), (1, &[150, 80, 0]), 16_520)?;
     assert_eq!(rt; long_p, Verdict::WrongShape);
     Ok(())
 }
@@ -173,7 +149,7 @@ fn allotments_are_checked(rt: HostRuntime) -> Result<(), Fail> {
         ([12, 13, 15, 25, 0].as_slice(), Verdict::WrongProduct(2)),
         ([11, 14, 15, 25, 0].as_slice(), Verdict::WrongProduct(0)),
     ] {
-        let changed = checked(rt.alloc(), (1, x), (1, &[150, 80]), 16_520)?;
+        let changed = checked(rt.alloc(), (1, x), (1, PRICES), 16_520)?;
         assert_eq!(rt; changed, verdict, "at {x:?}");
     }
     Ok(())
@@ -189,16 +165,12 @@ fn prices_are_checked(rt: HostRuntime) -> Result<(), Fail> {
         ([151, 80].as_slice(), Verdict::WrongProduct(1)),
         ([150, 81].as_slice(), Verdict::WrongProduct(3)),
     ] {
-        let changed = checked(rt.alloc(), (1, &[12, 12, 16, 24, 0]), (1, p), 16_520)?;
+        let changed = checked(rt.alloc(), (1, ALLOTTED), (1, p), 16_520)?;
         assert_eq!(rt; changed, verdict, "at {p:?}");
     }
     // product 1 is sold and cheap, product 2 is short and dear
-    let both = checked(
-        rt.alloc(),
-        (1, &[12, 13, 15, 25, 0]),
-        (1, &[151, 80]),
-        16_520,
-    )?;
+    let x = &[12, 13, 15, 25, 0];
+    let both = checked(rt.alloc(), (1, x), (1, &[151, 80]), 16_520)?;
     assert_eq!(rt; both, Verdict::WrongProduct(2));
     Ok(())
 }

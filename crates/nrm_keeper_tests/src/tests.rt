@@ -353,7 +353,7 @@ fn done<P: Keeper>(work: Work<'_>, keeper: &mut P, rt: &HostRuntime) -> Result<(
     }
 }
 
-// That a type is a keeper of a file is long to prove at each call, so the work is told, and done at one place.
+// That a type is a keeper of a file is long to prove in each function, so the work is told, and done at one place.
 fn in_file<S: Beginning>(rt: &HostRuntime, path: &str, work: Work<'_>) -> Result<(), Fail> {
     done(work, &mut FileKeeper::<S>::new(rt, path), rt)
 }

@@ -1,6 +1,6 @@
 //! Whole calls over files, a stream, a sink and a keeper in memory. The worked ones are on legs AB with 3 seats and BC with 2; the others
 //! compare a session over a store with the same session without one.
-ghost use Rattle.std.specs.Prelude.{◌<◌, true};
+ghost use Rattle.std.specs.Prelude.{◌≡◌, ◌<◌, IfOk};
 
 use nrm_control::Controller;
 use nrm_edge::{MemFiles, MemSink, MemSource};
@@ -11,6 +11,7 @@ use nrm_outside::open_network;
 use nrm_session::{End, serve};
 use nrm_text::name_of;
 use std::alloc::{AllocError, Global};
+use std::process::Abort;
 use std::test::Fail;
 
 const NETWORK: &[u8] =
@@ -56,7 +57,7 @@ fn stream_of(
 
 // The lines, but for one if its place is given.
 fn stream_without(alloc: Global, left_out: Option<usize>) -> Result<Vec<u8>, AllocError> {
-    stream_of(alloc, &LINES, 0, 12, left_out)
+    stream_of(alloc, &LINES, 0, LINES.len(), left_out)
 }
 
 // The lines from a place on, up to another.
@@ -98,7 +99,9 @@ fn outcome<P: Keeper>(
     Ok((status, sink))
 }
 
-fn row(number: u64, product: &[u8], party: u16) -> Result<KeptRow, Fail> {
+fn row(number: u64, product: &[u8], party: u16) -> Result<KeptRow, Fail>
+    ensures { IfOk result (λ row. row.number ≡ number) }
+{
     match name_of(product) {
         Some(product) => Ok(KeptRow {
             number,
@@ -130,45 +133,49 @@ fn empty(alloc: Global, failing: &[u64]) -> Result<MemKeeper, AllocError> {
     Ok(MemKeeper::new(Vec::new(alloc), failing.to_vec(alloc)?))
 }
 
+// First come, first served, the program ends so over a keeper, and has written this.
+fn assert_outcome(
+    rt: &(impl Abort + AllocGlobal),
+    keeper: &mut MemKeeper,
+    stream: &[u8],
+    wanted: (KeptStatus, &[u8]),
+) -> Result<(), AllocError> {
+    let (status, sink) = outcome(rt.alloc(), "first", NETWORK, keeper, stream)?;
+    assert_eq!(rt; status, wanted.0);
+    assert_eq!(rt; sink.held(), wanted.1);
+    Ok(())
+}
+
 #[test]
 fn a_later_run_goes_on(rt: HostRuntime) -> Result<(), Fail> {
-    let alloc = rt.alloc();
-    let mut keeper = empty(alloc, &[])?;
+    let mut keeper = empty(rt.alloc(), &[])?;
     let stream = b"book THRU 2\nbook LOC 1\ncancel 1\n";
-    let (status, sink) = outcome(alloc, "first", NETWORK, &mut keeper, stream)?;
-    assert_eq!(rt; status, KeptStatus::Done);
-    assert_eq!(rt; sink.held(), b"ok 1\nok 2\ncancelled 1 1000\n".as_slice());
-    assert!(rt; keeps(&mut keeper, alloc, &[(2, b"LOC", 1)]));
+    let text = b"ok 1\nok 2\ncancelled 1 1000\n";
+    assert_outcome(&rt, &mut keeper, stream, (KeptStatus::Done, text))?;
+    assert!(rt; keeps(&mut keeper, rt.alloc(), &[(2, b"LOC", 1)]));
     let stream = b"book THRU 2\nhindsight\n";
-    let (status, sink) = outcome(alloc, "first", NETWORK, &mut keeper, stream)?;
-    assert_eq!(rt; status, KeptStatus::Done);
-    assert_eq!(rt;
-        sink.held(),
-        b"ok 3\nhindsight 1200/1 revenue 1200 withheld 0\n".as_slice()
-    );
-    assert!(rt; keeps(&mut keeper, alloc, &[(2, b"LOC", 1), (3, b"THRU", 2)]));
+    let text = b"ok 3\nhindsight 1200/1 revenue 1200 withheld 0\n";
+    assert_outcome(&rt, &mut keeper, stream, (KeptStatus::Done, text))?;
+    assert!(rt; keeps(&mut keeper, rt.alloc(), &[(2, b"LOC", 1), (3, b"THRU", 2)]));
     Ok(())
 }
 
 // The first call lists the rows, the second adds one, and the third fails.
 #[test]
 fn a_booking_that_is_not_stored_is_not_made(rt: HostRuntime) -> Result<(), Fail> {
-    let alloc = rt.alloc();
-    let mut keeper = empty(alloc, &[3])?;
+    let mut keeper = empty(rt.alloc(), &[3])?;
     let stream = b"book THRU 2\nbook LOC 1\nbook LOC 1\n";
-    let (status, sink) = outcome(alloc, "first", NETWORK, &mut keeper, stream)?;
-    assert_eq!(rt; status, KeptStatus::Done);
-    assert_eq!(rt; sink.held(), b"ok 1\nstore\nok 2\n".as_slice());
-    assert!(rt; keeps(&mut keeper, alloc, &[(1, b"THRU", 2), (2, b"LOC", 1)]));
+    let text = b"ok 1\nstore\nok 2\n";
+    assert_outcome(&rt, &mut keeper, stream, (KeptStatus::Done, text))?;
+    assert!(rt; keeps(&mut keeper, rt.alloc(), &[(1, b"THRU", 2), (2, b"LOC", 1)]));
     Ok(())
 }
 
 #[test]
 fn a_store_that_fails_at_once_is_told(rt: HostRuntime) -> Result<(), Fail> {
     let mut keeper = empty(rt.alloc(), &[1])?;
-    let (status, sink) = outcome(rt.alloc(), "first", NETWORK, &mut keeper, b"book LOC 1\n")?;
-    assert_eq!(rt; status, KeptStatus::StoreFault);
-    assert_eq!(rt; sink.held(), b"store fault\n".as_slice());
+    let wanted = (KeptStatus::StoreFault, b"store fault\n".as_slice());
+    assert_outcome(&rt, &mut keeper, b"book LOC 1\n", wanted)?;
     Ok(())
 }
 
@@ -190,18 +197,13 @@ fn of_two(alloc: Global, one: KeptRow, other: KeptRow) -> Result<MemKeeper, Allo
 #[test]
 fn rows_that_do_not_load_are_refused(rt: HostRuntime) -> Result<(), Fail> {
     let alloc = rt.alloc();
+    let stream = b"book LOC 1\n";
+    let text = b"refused store number 5\n";
     let mut unknown = of_one(alloc, row(5, b"NONE", 1)?)?;
-    let (status, sink) = outcome(alloc, "first", NETWORK, &mut unknown, b"book LOC 1\n")?;
-    assert_eq!(rt; status, KeptStatus::StoreRefused);
-    assert_eq!(rt; sink.held(), b"refused store number 5\n".as_slice());
-    let local = row(1, b"LOC", 3)?;
-    let through = row(2, b"THRU", 1)?;
-    if local.number < through.number {
-        let mut full = of_two(alloc, local, through)?;
-        let (status, sink) = outcome(alloc, "first", NETWORK, &mut full, b"book LOC 1\n")?;
-        assert_eq!(rt; status, KeptStatus::StoreRefused);
-        assert_eq!(rt; sink.held(), b"refused store number 2\n".as_slice());
-    }
+    assert_outcome(&rt, &mut unknown, stream, (KeptStatus::StoreRefused, text))?;
+    let text = b"refused store number 2\n";
+    let mut full = of_two(alloc, row(1, b"LOC", 3)?, row(2, b"THRU", 1)?)?;
+    assert_outcome(&rt, &mut full, stream, (KeptStatus::StoreRefused, text))?;
     Ok(())
 }
 
@@ -374,7 +376,12 @@ fn each_call_fails_in_turn(rt: HostRuntime) -> Result<(), Fail> {
 fn goes_on(alloc: Global, cut: usize, plain: &[u8], controller: &Controller) -> Result<bool, Fail> {
     let mut keeper = empty(alloc, &[])?;
     let mut told = replies(alloc, "first", &mut keeper, &lines_from(alloc, 0, cut)?)?;
-    let late = replies(alloc, "first", &mut keeper, &lines_from(alloc, cut, 12)?)?;
+    let late = replies(
+        alloc,
+        "first",
+        &mut keeper,
+        &lines_from(alloc, cut, LINES.len())?,
+    )?;
     told.extend_from_slice(&late)?;
     Ok(told.starts_with(plain) && keeps_book(alloc, &mut keeper, controller))
 }

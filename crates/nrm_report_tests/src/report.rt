@@ -17,20 +17,20 @@ use std::process::Abort;
 use std::test::Fail;
 
 // The book of the network, where two seats of ACH are sold and one of ABL.
-fn book_by_hand(rt: &impl Abort, alloc: Global, net: &Network) -> Result<Book, AllocError>
+fn book_by_hand(rt: &(impl Abort + AllocGlobal), net: &Network) -> Result<Book, AllocError>
     requires { net.now ≡ two_legs_five_products }
     ensures { IfOk result (λ book. book.inventory ≡ inventory_of net.now) }
 {
-    let mut book = Book::new(alloc, net)?;
+    let mut book = Book::new(rt.alloc(), net)?;
     assert_eq!(rt; book.add(2, 2), 1);
     assert_eq!(rt; book.add(1, 1), 2);
     Ok(book)
 }
 
 // Puts the text of the first leg, and tells whether it goes out whole.
-fn put_leg(rt: &impl Abort, alloc: Global, sink: &mut MemSink) -> Result<bool, AllocError> {
-    let net = two_legs_five_products(alloc)?;
-    let book = book_by_hand(rt, alloc, &net)?;
+fn put_leg(rt: &(impl Abort + AllocGlobal), sink: &mut MemSink) -> Result<bool, AllocError> {
+    let net = two_legs_five_products(rt.alloc())?;
+    let book = book_by_hand(rt, &net)?;
     Ok(leg_text(&net, &book, 0, sink).is_ok())
 }
 
@@ -55,9 +55,9 @@ fn put_certificate(alloc: Global, sink: &mut MemSink) -> Result<bool, AllocError
 }
 
 // Puts the text of the opening plan under virtual nesting.
-fn put_plan(rt: &impl Abort, alloc: Global, sink: &mut MemSink) -> Result<bool, AllocError> {
-    let net = two_legs_five_products(alloc)?;
-    let Ok(plan) = Plan::opening(alloc, &net, Mode::Davn) else {
+fn put_plan(rt: &(impl Abort + AllocGlobal), sink: &mut MemSink) -> Result<bool, AllocError> {
+    let net = two_legs_five_products(rt.alloc())?;
+    let Ok(plan) = Plan::opening(rt.alloc(), &net, Mode::Davn) else {
         panic!(rt; "there is no plan");
     };
     Ok(plan_text(&net, &plan, sink).is_ok())
@@ -73,18 +73,18 @@ enum Told {
 
 // The text, where the puts of the numbers `failing` fail: whether it goes out whole, and what does.
 fn goes_out(
-    rt: &impl Abort,
-    alloc: Global,
+    rt: &(impl Abort + AllocGlobal),
     told: Told,
     failing: &[u64],
     wanted: (bool, &[u8]),
 ) -> Result<(), AllocError> {
+    let alloc = rt.alloc();
     let numbers = failing.to_vec(alloc)?;
     let mut sink = MemSink::new(alloc, 400, Vec::new(alloc), numbers)?;
     let whole = match told {
-        Told::Leg => put_leg(rt, alloc, &mut sink),
+        Told::Leg => put_leg(rt, &mut sink),
         Told::Certificate => put_certificate(alloc, &mut sink),
-        Told::Plan => put_plan(rt, alloc, &mut sink),
+        Told::Plan => put_plan(rt, &mut sink),
     };
     assert!(rt; whole == Ok(wanted.0), "puts {failing:?} fail");
     assert_eq!(rt; sink.held(), wanted.1, "puts {failing:?} fail");
@@ -94,16 +94,16 @@ fn goes_out(
 #[test]
 fn tells_by_hand(rt: HostRuntime) -> Result<(), Fail> {
     let text = b"leg AB seats 10 authorised 10 sold 3 left 7\non AB ABL 1\non AB ACH 2\n";
-    goes_out(&rt, rt.alloc(), Told::Leg, &[], (true, text))?;
+    goes_out(&rt, Told::Leg, &[], (true, text))?;
     Ok(())
 }
 
 #[test]
 fn each_line_of_a_leg_goes_out_in_one_put(rt: HostRuntime) -> Result<(), Fail> {
     let text = b"leg AB seats 10 authorised 10 sold 3 left 7\n";
-    goes_out(&rt, rt.alloc(), Told::Leg, &[2], (false, text))?;
+    goes_out(&rt, Told::Leg, &[2], (false, text))?;
     let text = b"leg AB seats 10 authorised 10 sold 3 left 7\non AB ABL 1\n";
-    goes_out(&rt, rt.alloc(), Told::Leg, &[3], (false, text))?;
+    goes_out(&rt, Told::Leg, &[3], (false, text))?;
     Ok(())
 }
 
@@ -111,7 +111,7 @@ fn each_line_of_a_leg_goes_out_in_one_put(rt: HostRuntime) -> Result<(), Fail> {
 fn writes_a_certificate_by_hand(rt: HostRuntime) -> Result<(), Fail> {
     let text =
         b"value 751/4\nproduct ABH 3/2\nproduct ABL 5/2\nproduct ACH 0/1\nproduct BCL 1/8\nproduct ACL 1/4\nleg AB 0/1\nleg BC 3/2\n";
-    goes_out(&rt, rt.alloc(), Told::Certificate, &[], (true, text))?;
+    goes_out(&rt, Told::Certificate, &[], (true, text))?;
     Ok(())
 }
 
@@ -124,19 +124,14 @@ fn each_line_of_a_certificate_goes_out_in_one_put(rt: HostRuntime) -> Result<(),
         b"value 751/4\nproduct ABH 3/2\nproduct ABL 5/2\nproduct ACH 0/1\n".as_slice(),
     ];
     for (k, text) in lines.iter().enumerate() {
-        goes_out(
-            &rt,
-            rt.alloc(),
-            Told::Certificate,
-            &[k as u64 + 2],
-            (false, text),
-        )?;
+        let failing = [k as u64 + 2];
+        goes_out(&rt, Told::Certificate, &failing, (false, text))?;
     }
 
     // The put of the last line fails, behind one of a leg.
     let text =
         b"value 751/4\nproduct ABH 3/2\nproduct ABL 5/2\nproduct ACH 0/1\nproduct BCL 1/8\nproduct ACL 1/4\nleg AB 0/1\n";
-    goes_out(&rt, rt.alloc(), Told::Certificate, &[8], (false, text))?;
+    goes_out(&rt, Told::Certificate, &[8], (false, text))?;
     Ok(())
 }
 
@@ -147,7 +142,7 @@ fn writes_a_plan_with_its_nests(rt: HostRuntime) -> Result<(), Fail> {
         leg AB 150/1\nleg BC 80/1\nnest AB ABH 400/1 1\nnest AB ABL 150/1 2\nnest AB ACH 420/1 1\n\
         nest AB ACL 149/1 2\nnest BC ACH 350/1 1\nnest BC BCL 80/1 3\nnest BC ACL 79/1 3\nprotect AB 7 10\n\
         protect BC 4 6\n";
-    goes_out(&rt, rt.alloc(), Told::Plan, &[], (true, text))?;
+    goes_out(&rt, Told::Plan, &[], (true, text))?;
     Ok(())
 }
 
@@ -157,11 +152,11 @@ fn each_line_of_a_nest_goes_out_in_one_put(rt: HostRuntime) -> Result<(), Fail> 
     let text =
         b"value 4130/1\nproduct ABH 3/1\nproduct ABL 3/1\nproduct ACH 4/1\nproduct BCL 6/1\nproduct ACL 0/1\n\
         leg AB 150/1\nleg BC 80/1\nnest AB ABH 400/1 1\n";
-    goes_out(&rt, rt.alloc(), Told::Plan, &[10], (false, text))?;
+    goes_out(&rt, Told::Plan, &[10], (false, text))?;
     let text =
         b"value 4130/1\nproduct ABH 3/1\nproduct ABL 3/1\nproduct ACH 4/1\nproduct BCL 6/1\nproduct ACL 0/1\n\
         leg AB 150/1\nleg BC 80/1\nnest AB ABH 400/1 1\nnest AB ABL 150/1 2\nnest AB ACH 420/1 1\n\
         nest AB ACL 149/1 2\nnest BC ACH 350/1 1\nnest BC BCL 80/1 3\nnest BC ACL 79/1 3\nprotect AB 7 10\n";
-    goes_out(&rt, rt.alloc(), Told::Plan, &[17], (false, text))?;
+    goes_out(&rt, Told::Plan, &[17], (false, text))?;
     Ok(())
 }

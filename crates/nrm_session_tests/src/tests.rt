@@ -27,6 +27,15 @@ struct Asked<'a> {
     limit: u64,
 }
 
+// A stream that is taken whole, a limit that is not reached, and nothing fails.
+const WHOLE: Asked<'static> = Asked {
+    stream: &[],
+    cuts: &[],
+    failing_takes: &[],
+    failing_puts: &[],
+    limit: 512,
+};
+
 // The stream, as it comes.
 fn source(alloc: Global, asked: &Asked<'_>) -> Result<MemSource, AllocError> {
     let takes = asked.failing_takes.to_vec(alloc)?;
@@ -65,19 +74,17 @@ fn serve_asked(
     Ok((end, sink))
 }
 
-// The same with a stream that is taken whole, and a limit that is not reached.
-fn session(
+// The same with a stream that is taken whole, where some puts fail.
+fn session<'a>(
     alloc: Global,
     mode: Mode,
-    stream: &[u8],
-    failing: &[u64],
+    stream: &'a [u8],
+    failing: &'a [u64],
 ) -> Result<(End, MemSink), SolveFault> {
     let asked = Asked {
         stream,
-        cuts: &[],
-        failing_takes: &[],
         failing_puts: failing,
-        limit: 512,
+        ..WHOLE
     };
     session_as(alloc, mode, &asked)
 }
@@ -116,13 +123,7 @@ fn begin_authorised(alloc: Global) -> Result<Controller, SolveFault>
 
 // Lines of a session by first come, first served on the network with authorised seats.
 fn session_authorised(alloc: Global, stream: &[u8]) -> Result<(End, MemSink), SolveFault> {
-    let asked = Asked {
-        stream,
-        cuts: &[],
-        failing_takes: &[],
-        failing_puts: &[],
-        limit: 512,
-    };
+    let asked = Asked { stream, ..WHOLE };
     let mut controller = begin_authorised(alloc)?;
     let told = serve_asked(alloc, &mut controller, &asked);
     drop(controller);
@@ -208,16 +209,10 @@ fn a_cut_stream_is_answered_alike(rt: HostRuntime) {
     let asked = Asked {
         stream: b"book THRU 2\r\nbook THRU 1\nbook LOC 1",
         cuts: &[2, 2, 2, 2, 2, 2, 2, 2, 2, 2, 2, 2, 2, 2, 2, 2, 2, 2],
-        failing_takes: &[],
-        failing_puts: &[],
-        limit: 512,
+        ..WHOLE
     };
-    assert_ends(
-        &rt,
-        session_as(rt.alloc(), Mode::FirstCome, &asked),
-        End::Done,
-        b"ok 1\nno BC\nok 2\n",
-    );
+    let given = session_as(rt.alloc(), Mode::FirstCome, &asked);
+    assert_ends(&rt, given, End::Done, b"ok 1\nno BC\nok 2\n");
 }
 
 // The third take fails, in the second line.
@@ -227,39 +222,24 @@ fn whole_lines_are_answered_before_a_take_fails(rt: HostRuntime) {
         stream: b"book LOC 1\nbook LOC 1\n",
         cuts: &[11, 4],
         failing_takes: &[3],
-        failing_puts: &[],
-        limit: 512,
+        ..WHOLE
     };
-    assert_ends(
-        &rt,
-        session_as(rt.alloc(), Mode::FirstCome, &asked),
-        End::ReadFault,
-        b"ok 1\n",
-    );
+    let given = session_as(rt.alloc(), Mode::FirstCome, &asked);
+    assert_ends(&rt, given, End::ReadFault, b"ok 1\n");
 }
 
 #[test]
 fn a_byte_past_the_limit_is_too_many(rt: HostRuntime) {
     let mut asked = Asked {
         stream: b"book LOC 1\n",
-        cuts: &[],
-        failing_takes: &[],
-        failing_puts: &[],
         limit: 11,
+        ..WHOLE
     };
-    assert_ends(
-        &rt,
-        session_as(rt.alloc(), Mode::FirstCome, &asked),
-        End::Done,
-        b"ok 1\n",
-    );
+    let given = session_as(rt.alloc(), Mode::FirstCome, &asked);
+    assert_ends(&rt, given, End::Done, b"ok 1\n");
     asked.stream = b"book LOC 1\nb";
-    assert_ends(
-        &rt,
-        session_as(rt.alloc(), Mode::FirstCome, &asked),
-        End::TooLong,
-        b"ok 1\n",
-    );
+    let given = session_as(rt.alloc(), Mode::FirstCome, &asked);
+    assert_ends(&rt, given, End::TooLong, b"ok 1\n");
 }
 
 // The second put fails, and the third line of the piece has no reply.
