@@ -4,6 +4,7 @@ pub mod HubPlaces
 pub mod HubPuts
 pub mod AskingWords  -- a line of more than three words asks nothing of the hub itself
 pub mod LineAnswers  -- one line of a client that is a desk, answered
+pub mod OfFields  -- the value of a hub, and of a register, out of its fields
 pub mod Entered  -- what holds of a register once something is entered
 pub mod ClientLines  -- the lines of one client
 pub mod AgainRows  -- rows that are given again

@@ -9,6 +9,7 @@ use Rattle.nrm_hub.specs.Inner.Rows.{RowsAgain}
 use Rattle.nrm_hub.specs.Seats.{AreSeated, IsSeated}
 use Rattle.nrm_hub.specs.World.{frame}
 use Rattle.nrm_hub.proofs.Going.{goes-again, goes-same}
+use Rattle.nrm_hub.proofs.OfFields.{hub_of}
 use Rattle.nrm_hub.proofs.hub.Hub.again.Goals as goal
 
 pub invariant_of-self : goal.invariant_of-self
@@ -20,12 +21,7 @@ invariant_of-self c =
 
 pub returns-clause-goes : goal.returns-clause-goes
 returns-clause-goes c =
-    let old : HubValue = record {
-      register = c.self.inside.register;
-      clients = c.self.inside.clients.items;
-      opened = c.self.inside.opened;
-      phase = c.self.inside.phase;
-    } in
+    let old : HubValue = hub_of c.self.inside.register c.self.inside.clients.items c.self.inside.opened c.self.inside.phase in
     let payload : List ℕ = c.args.payload.now in
     let new : HubValue = record old { register = c.give_again.new.register } in
     on_ok_weaker c.give_again.result

@@ -10,17 +10,13 @@ use Rattle.nrm_hub.specs.Register.{RegisterValue}
 use Rattle.nrm_hub.specs.declared.phase.Phase.TheVariants as phase
 use Rattle.nrm_hub.proofs.Going.{goes-asked, goes-same}
 use Rattle.nrm_hub.proofs.HubPuts.{puts-one, puts-one-cut}
+use Rattle.nrm_hub.proofs.OfFields.{hub_of}
 use Rattle.nrm_hub.proofs.hub.Hub.ask_to_keep.Goals as goal
 
 pub returns-clause-puts : goal.returns-clause-puts
 returns-clause-puts g c =
     let held = g.K.Sink.held in
-    let old : HubValue = record {
-      register = c.self.inside.register;
-      clients = c.self.inside.clients.items;
-      opened = c.self.inside.opened;
-      phase = c.self.inside.phase;
-    } in
+    let old : HubValue = hub_of c.self.inside.register c.self.inside.clients.items c.self.inside.opened c.self.inside.phase in
     let new : HubValue = record old { register = c.clear_text.new.self; phase = phase.Asked } in
     let goes : Goes c.args.self.now new [] (keep old.register.text ∷ []) =
     goes-same old c.args.self.now (record old { register = record old.register { text = [] }; phase = phase.Asked }) new [] (keep old.register.text ∷ [])
@@ -34,12 +30,7 @@ returns-clause-puts g c =
 pub returns-clause-cut : goal.returns-clause-cut
 returns-clause-cut g c =
     let held = g.K.Sink.held in
-    let old : HubValue = record {
-      register = c.self.inside.register;
-      clients = c.self.inside.clients.items;
-      opened = c.self.inside.opened;
-      phase = c.self.inside.phase;
-    } in
+    let old : HubValue = hub_of c.self.inside.register c.self.inside.clients.items c.self.inside.opened c.self.inside.phase in
     let new : HubValue = record old { register = c.clear_text.new.self; phase = phase.Asked } in
     let goes : Goes c.args.self.now new [] (keep old.register.text ∷ []) =
     goes-same old c.args.self.now (record old { register = record old.register { text = [] }; phase = phase.Asked }) new [] (keep old.register.text ∷ [])

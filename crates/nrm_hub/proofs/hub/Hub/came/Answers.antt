@@ -11,28 +11,19 @@ use Rattle.nrm_hub.specs.Seats.{AreSeated}
 use Rattle.nrm_hub.proofs.DuePlaces.{set-came}
 use Rattle.nrm_hub.proofs.HubPlaces.{at-place, none-of, seated-set, takes-nothing, unchanged}
 use Rattle.nrm_hub.proofs.HubSteps.{came-desk, goes-came, goes-came_past}
+use Rattle.nrm_hub.proofs.OfFields.{hub_of}
 use Rattle.nrm_hub.proofs.hub.Hub.came.Goals as goal
 
 pub returns-then-at-len-clause-goes : goal.returns-then-at-len-clause-goes
 returns-then-at-len-clause-goes c =
-    let old : HubValue = record {
-      register = c.self.inside.register;
-      clients = c.self.inside.clients.items;
-      opened = c.self.inside.opened;
-      phase = c.self.inside.phase;
-    } in
+    let old : HubValue = hub_of c.self.inside.register c.self.inside.clients.items c.self.inside.opened c.self.inside.phase in
     goes-same old c.args.self.now old c.args.self.now _ _ c.self.view_is c.self.view_is
     (goes-came_past old c.args.place c.args.piece.now
     (subst TakesNothing (sym (get_or_past old.clients c.args.place None (omega (arith, c.self.inside.clients.ok.0)))) tt))
 
 pub returns-then-is_none-clause-goes : goal.returns-then-is_none-clause-goes
 returns-then-is_none-clause-goes c =
-    let old : HubValue = record {
-      register = c.self.inside.register;
-      clients = c.self.inside.clients.items;
-      opened = c.self.inside.opened;
-      phase = c.self.inside.phase;
-    } in
+    let old : HubValue = hub_of c.self.inside.register c.self.inside.clients.items c.self.inside.opened c.self.inside.phase in
     let within : c.args.place < length old.clients = omega (arith, c.self.inside.clients.ok.0) in
     let new : HubValue = record old { clients = slice_set old.clients c.args.place (Some c.list_came.new.client) } in
     let there : client_at old c.args.place ≡ Some c.in-Some.client =
@@ -45,12 +36,7 @@ returns-then-is_none-clause-goes c =
 
 pub returns-else-is_none-clause-goes : goal.returns-else-is_none-clause-goes
 returns-else-is_none-clause-goes c =
-    let old : HubValue = record {
-      register = c.self.inside.register;
-      clients = c.self.inside.clients.items;
-      opened = c.self.inside.opened;
-      phase = c.self.inside.phase;
-    } in
+    let old : HubValue = hub_of c.self.inside.register c.self.inside.clients.items c.self.inside.opened c.self.inside.phase in
     let within : c.args.place < length old.clients = omega (arith, c.self.inside.clients.ok.0) in
     let read : Some c.in-Some.client ≡ get_or old.clients c.args.place (Some c.in-Some.client) =
     sym c.in-Some.is ∙ c.index_mut.ensures.value ∙ ap (λ (x : Option ClientValue). get_or old.clients c.args.place x) c.in-Some.is in
@@ -64,12 +50,7 @@ returns-else-is_none-clause-goes c =
 
 pub returns-in_default-clause-goes : goal.returns-in_default-clause-goes
 returns-in_default-clause-goes c =
-    let old : HubValue = record {
-      register = c.self.inside.register;
-      clients = c.self.inside.clients.items;
-      opened = c.self.inside.opened;
-      phase = c.self.inside.phase;
-    } in
+    let old : HubValue = hub_of c.self.inside.register c.self.inside.clients.items c.self.inside.opened c.self.inside.phase in
     let within : c.args.place < length old.clients = omega (arith, c.self.inside.clients.ok.0) in
     let new : HubValue = record old { clients = slice_set old.clients c.args.place c.index_mut.result.now } in
     goes-same old c.args.self.now old new _ _ c.self.view_is

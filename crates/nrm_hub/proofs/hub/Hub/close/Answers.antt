@@ -13,6 +13,7 @@ use Rattle.nrm_hub.proofs.DuePlaces.{closed-nobody, closed-now, closed-stays, se
 use Rattle.nrm_hub.proofs.HubPlaces.{place-within}
 use Rattle.nrm_hub.proofs.HubPuts.{puts-nothing, puts-one, puts-one-cut}
 use Rattle.nrm_hub.proofs.HubSteps.{goes-shut}
+use Rattle.nrm_hub.proofs.OfFields.{hub_of}
 use Rattle.nrm_hub.proofs.hub.Hub.close.Goals as goal
 
 pub returns-in_default-clause-puts : goal.returns-in_default-clause-puts
@@ -24,12 +25,7 @@ returns-in_default-closing-clause-puts g c = puts-nothing c.args.self.now (g.K.S
 pub returns-clause-puts : goal.returns-clause-puts
 returns-clause-puts g c =
     let held = g.K.Sink.held in
-    let old : HubValue = record {
-      register = c.self.inside.register;
-      clients = c.self.inside.clients.items;
-      opened = c.self.inside.opened;
-      phase = c.self.inside.phase;
-    } in
+    let old : HubValue = hub_of c.self.inside.register c.self.inside.clients.items c.self.inside.opened c.self.inside.phase in
     let new : HubValue = record old { clients = slice_set old.clients c.args.place None } in
     let output : Output = close c.args.place c.in-Some-closing.why in
     let goes : Goes c.args.self.now new [] (output ∷ []) =
@@ -41,12 +37,7 @@ returns-clause-puts g c =
 pub returns-clause-cut : goal.returns-clause-cut
 returns-clause-cut g c =
     let held = g.K.Sink.held in
-    let old : HubValue = record {
-      register = c.self.inside.register;
-      clients = c.self.inside.clients.items;
-      opened = c.self.inside.opened;
-      phase = c.self.inside.phase;
-    } in
+    let old : HubValue = hub_of c.self.inside.register c.self.inside.clients.items c.self.inside.opened c.self.inside.phase in
     let new : HubValue = record old { clients = slice_set old.clients c.args.place None } in
     let output : Output = close c.args.place c.in-Some-closing.why in
     let goes : Goes c.args.self.now new [] (output ∷ []) =

@@ -5,6 +5,7 @@ use Rattle.nrm_hub.specs.Hub.{HubValue}
 use Rattle.nrm_hub.proofs.Going.{goes-same}
 use Rattle.nrm_hub.proofs.HubPlaces.{closes-seated}
 use Rattle.nrm_hub.proofs.HubSteps.{goes-gone}
+use Rattle.nrm_hub.proofs.OfFields.{hub_of}
 use Rattle.nrm_hub.proofs.hub.Hub.gone.Goals as goal
 
 pub invariant_of-self : goal.invariant_of-self
@@ -16,11 +17,6 @@ invariant_of-self c = (
 
 pub returns-clause-goes : goal.returns-clause-goes
 returns-clause-goes c =
-    let old : HubValue = record {
-      register = c.self.inside.register;
-      clients = c.self.inside.clients.items;
-      opened = c.self.inside.opened;
-      phase = c.self.inside.phase;
-    } in
+    let old : HubValue = hub_of c.self.inside.register c.self.inside.clients.items c.self.inside.opened c.self.inside.phase in
     let new : HubValue = record old { clients = c.close_at.new.clients.items } in
     goes-same old c.args.self.now new new _ _ c.self.view_is refl (goes-gone old c.args.place new.clients c.close_at.ensures.closes)

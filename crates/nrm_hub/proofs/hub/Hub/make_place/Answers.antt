@@ -5,6 +5,7 @@ use Rattle.nrm_hub.proofs.DuePlaces.{places-due}
 use Rattle.nrm_hub.proofs.Going.{goes-same}
 use Rattle.nrm_hub.proofs.HubPlaces.{places-seated}
 use Rattle.nrm_hub.proofs.HubSteps.{goes-made}
+use Rattle.nrm_hub.proofs.OfFields.{hub_of}
 use Rattle.nrm_hub.proofs.hub.Hub.make_place.Goals as goal
 
 pub invariant_of-self : goal.invariant_of-self
@@ -17,11 +18,6 @@ invariant_of-self c = (
 
 pub returns-clause-goes : goal.returns-clause-goes
 returns-clause-goes c =
-    let old : HubValue = record {
-      register = c.self.inside.register;
-      clients = c.self.inside.clients.items;
-      opened = c.self.inside.opened;
-      phase = c.self.inside.phase;
-    } in
+    let old : HubValue = hub_of c.self.inside.register c.self.inside.clients.items c.self.inside.opened c.self.inside.phase in
     let new : HubValue = record old { clients = c.make_places.new.clients.items } in
     goes-same old c.args.self.now new new _ _ c.self.view_is refl (goes-made old new.clients c.make_places.ensures.made)

@@ -14,6 +14,7 @@ use Rattle.nrm_hub.proofs.DuePlaces.{none-waits, sent-already, sent-as, sent-nob
 use Rattle.nrm_hub.proofs.HubPlaces.{at-place, seated-set, unchanged}
 use Rattle.nrm_hub.proofs.HubPuts.{puts-nothing, puts-one, puts-one-cut, puts-still}
 use Rattle.nrm_hub.proofs.HubSteps.{goes-sent, same-clients}
+use Rattle.nrm_hub.proofs.OfFields.{hub_of}
 use Rattle.nrm_hub.proofs.hub.Hub.send.Goals as goal
 
 pub returns-then-at-len-clause-puts : goal.returns-then-at-len-clause-puts
@@ -21,12 +22,7 @@ returns-then-at-len-clause-puts g c = puts-nothing c.args.self.now (g.K.Sink.hel
 
 pub returns-in_default-clause-puts : goal.returns-in_default-clause-puts
 returns-in_default-clause-puts g c =
-    let old : HubValue = record {
-      register = c.self.inside.register;
-      clients = c.self.inside.clients.items;
-      opened = c.self.inside.opened;
-      phase = c.self.inside.phase;
-    } in
+    let old : HubValue = hub_of c.self.inside.register c.self.inside.clients.items c.self.inside.opened c.self.inside.phase in
     let within : c.args.place < length old.clients = omega (arith, c.self.inside.clients.ok.0) in
     let new : HubValue = record old { clients = slice_set old.clients c.args.place c.index_mut.result.now } in
     puts-still c.args.self.now new (g.K.Sink.held c.args.sink.now)
@@ -34,12 +30,7 @@ returns-in_default-clause-puts g c =
 
 pub returns-then-is_empty-clause-puts : goal.returns-then-is_empty-clause-puts
 returns-then-is_empty-clause-puts g c =
-    let old : HubValue = record {
-      register = c.self.inside.register;
-      clients = c.self.inside.clients.items;
-      opened = c.self.inside.opened;
-      phase = c.self.inside.phase;
-    } in
+    let old : HubValue = hub_of c.self.inside.register c.self.inside.clients.items c.self.inside.opened c.self.inside.phase in
     let within : c.args.place < length old.clients = omega (arith, c.self.inside.clients.ok.0) in
     let new : HubValue = record old { clients = slice_set old.clients c.args.place (Some c.in-Some.client) } in
     puts-still c.args.self.now new (g.K.Sink.held c.args.sink.now)
@@ -49,12 +40,7 @@ returns-then-is_empty-clause-puts g c =
 pub returns-clause-puts : goal.returns-clause-puts
 returns-clause-puts g c =
     let held = g.K.Sink.held in
-    let old : HubValue = record {
-      register = c.self.inside.register;
-      clients = c.self.inside.clients.items;
-      opened = c.self.inside.opened;
-      phase = c.self.inside.phase;
-    } in
+    let old : HubValue = hub_of c.self.inside.register c.self.inside.clients.items c.self.inside.opened c.self.inside.phase in
     let within : c.args.place < length old.clients = omega (arith, c.self.inside.clients.ok.0) in
     let new : HubValue = record old { clients = slice_set old.clients c.args.place (Some c.was_told.new.self) } in
     let there : client_at old c.args.place ≡ Some c.in-Some.client =
@@ -70,12 +56,7 @@ returns-clause-puts g c =
 pub returns-clause-cut : goal.returns-clause-cut
 returns-clause-cut g c =
     let held = g.K.Sink.held in
-    let old : HubValue = record {
-      register = c.self.inside.register;
-      clients = c.self.inside.clients.items;
-      opened = c.self.inside.opened;
-      phase = c.self.inside.phase;
-    } in
+    let old : HubValue = hub_of c.self.inside.register c.self.inside.clients.items c.self.inside.opened c.self.inside.phase in
     let within : c.args.place < length old.clients = omega (arith, c.self.inside.clients.ok.0) in
     let new : HubValue = record old { clients = slice_set old.clients c.args.place (Some c.was_told.new.self) } in
     let there : client_at old c.args.place ≡ Some c.in-Some.client =

@@ -9,16 +9,12 @@ use Rattle.nrm_hub.proofs.DuePlaces.{makes-on}
 use Rattle.nrm_hub.proofs.HubTurns.{took-so}
 use Rattle.nrm_hub.proofs.Going.{goes-on, goes-same}
 use Rattle.nrm_hub.proofs.HubSteps.{goes-take_line, goes-take_none}
+use Rattle.nrm_hub.proofs.OfFields.{hub_of}
 use Rattle.nrm_hub.proofs.hub.Hub.take_line.Goals as goal
 
 pub returns-in-Line-clause-goes : goal.returns-in-Line-clause-goes
 returns-in-Line-clause-goes c =
-    let old : HubValue = record {
-      register = c.self.inside.register;
-      clients = c.self.inside.clients.items;
-      opened = c.self.inside.opened;
-      phase = c.self.inside.phase;
-    } in
+    let old : HubValue = hub_of c.self.inside.register c.self.inside.clients.items c.self.inside.opened c.self.inside.phase in
     let unasked : old.phase ≢ phase.Asked = subst (λ (h : HubValue). h.phase ≢ phase.Asked) (sym c.self.view_is) c.requires in
     let taken : HubValue = record old {
       register = c.take_at-took.new.register;
@@ -32,12 +28,7 @@ returns-in-Line-clause-goes c =
 
 pub returns-in_default-clause-goes : goal.returns-in_default-clause-goes
 returns-in_default-clause-goes c =
-    let old : HubValue = record {
-      register = c.self.inside.register;
-      clients = c.self.inside.clients.items;
-      opened = c.self.inside.opened;
-      phase = c.self.inside.phase;
-    } in
+    let old : HubValue = hub_of c.self.inside.register c.self.inside.clients.items c.self.inside.opened c.self.inside.phase in
     let unasked : old.phase ≢ phase.Asked = subst (λ (h : HubValue). h.phase ≢ phase.Asked) (sym c.self.view_is) c.requires in
     let new : HubValue = record old { register = c.take_at-took.new.register; clients = c.take_at-took.new.clients.items } in
     goes-same old c.args.self.now new new [] [] c.self.view_is refl

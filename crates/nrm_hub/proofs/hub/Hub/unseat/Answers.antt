@@ -9,6 +9,7 @@ use Rattle.nrm_hub.proofs.DuePlaces.{closes-only}
 use Rattle.nrm_hub.proofs.Going.{goes-nothing, goes-same}
 use Rattle.nrm_hub.proofs.HubPlaces.{closes-seated}
 use Rattle.nrm_hub.proofs.HubSteps.{goes-elsewhere}
+use Rattle.nrm_hub.proofs.OfFields.{hub_of}
 use Rattle.nrm_hub.proofs.hub.Hub.unseat.Goals as goal
 
 pub returns-in_default-clause-goes : goal.returns-in_default-clause-goes
@@ -32,12 +33,7 @@ invariant_of-self c = (
 
 pub returns-in-Some-desk-clause-goes : goal.returns-in-Some-desk-clause-goes
 returns-in-Some-desk-clause-goes c =
-    let old : HubValue = record {
-      register = c.self.inside.register;
-      clients = c.self.inside.clients.items;
-      opened = c.self.inside.opened;
-      phase = c.self.inside.phase;
-    } in
+    let old : HubValue = hub_of c.self.inside.register c.self.inside.clients.items c.self.inside.opened c.self.inside.phase in
     let new : HubValue = record old { clients = c.close_at.new.clients.items } in
     let there : client_at old c.args.earlier ≡ Some c.in-Some.client.now =
     subst (λ (h : HubValue). client_at h c.args.earlier ≡ Some c.in-Some.client.now) (sym c.self.view_is) c.in-Some.ensures in

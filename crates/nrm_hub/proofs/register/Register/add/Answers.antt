@@ -3,29 +3,18 @@ use Rattle.std.proofs.Common.{ℕ, ◌≡◌, ◌∙◌, ◌<◌, ◌++◌, ◌�
 use Rattle.nrm_hub.specs.Register.{DeskValue, IsRegister, RegisterValue, desk_named, new_desk}
 use Rattle.nrm_hub.specs.declared.limits.TheConstants.{MOST_DESKS}
 use Rattle.nrm_hub.proofs.Entered.{added, names-added, not-named}
+use Rattle.nrm_hub.proofs.OfFields.{register_of}
 use Rattle.nrm_hub.proofs.register.Register.add.Goals as goal
 
 pub add-requires : goal.add-requires
 add-requires c =
-    let r : RegisterValue = record {
-      control = c.self.inside.controller;
-      desks = c.self.inside.desks.items;
-      owners = c.self.inside.owners.items;
-      rows = c.self.inside.rows;
-      text = c.self.inside.text.items;
-    } in
+    let r : RegisterValue = register_of c.self.inside.controller c.self.inside.desks.items c.self.inside.owners.items c.self.inside.rows c.self.inside.text.items in
     not-named r c.self.inside.names c.args.name.now c.self.invariant.1
     (subst (λ (r : RegisterValue). desk_named r c.args.name.now ≡ None) (sym c.self.view_is) c.requires.new)
 
 pub invariant_of-self-in-Ok : goal.invariant_of-self-in-Ok
 invariant_of-self-in-Ok c =
-    let r : RegisterValue = record {
-      control = c.self.inside.controller;
-      desks = c.self.inside.desks.items;
-      owners = c.self.inside.owners.items;
-      rows = c.self.inside.rows;
-      text = c.self.inside.text.items;
-    } in
+    let r : RegisterValue = register_of c.self.inside.controller c.self.inside.desks.items c.self.inside.owners.items c.self.inside.rows c.self.inside.text.items in
     let name : List ℕ = c.args.name.now in
     let items : c.push.new.self.items ≡ r.desks ++ new_desk name ∷ [] =
     c.in_ok-push.ensures.items ∙ ap (λ (d : DeskValue). r.desks ++ d ∷ []) c.new.ensures in

@@ -10,6 +10,7 @@ use Rattle.nrm_hub.specs.Inner.Answered.{CarriesOut, carried}
 use Rattle.nrm_hub.specs.Register.{Carries, DeskValue, IsRegister, RegisterValue, desk_at, is_of_row, new_desk}
 use Rattle.nrm_hub.specs.declared.limits.TheConstants.{MOST_ROWS}
 use Rattle.nrm_hub.proofs.Entered.{entered, entered-so, kept-all, kept-desk, name-kept, of-row, passed, ran-out}
+use Rattle.nrm_hub.proofs.OfFields.{register_of}
 use Rattle.nrm_hub.proofs.register.Register.carry.Goals as goal
 
 -- the desk as it was
@@ -20,13 +21,7 @@ desk-is r given desk read was same there at is =
 
 pub invariant_of-self-in-Memory : goal.invariant_of-self-in-Memory
 invariant_of-self-in-Memory c =
-    let r : RegisterValue = record {
-      control = c.self.inside.controller;
-      desks = c.self.inside.desks.items;
-      owners = c.self.inside.owners.items;
-      rows = c.self.inside.rows;
-      text = c.self.inside.text.items;
-    } in
+    let r : RegisterValue = register_of c.self.inside.controller c.self.inside.desks.items c.self.inside.owners.items c.self.inside.rows c.self.inside.text.items in
     let control = c.carry_out-reply.new.controller in
     let was : DeskValue = record { name = c.at.inside.name; next = c.at.inside.next; held = c.at.inside.held.items } in
     let at : was ≡ desk_at r c.args.desk =
@@ -43,13 +38,7 @@ invariant_of-self-in-Memory c =
 
 pub returns-in-Memory-clause-carries : goal.returns-in-Memory-clause-carries
 returns-in-Memory-clause-carries c =
-    let r : RegisterValue = record {
-      control = c.self.inside.controller;
-      desks = c.self.inside.desks.items;
-      owners = c.self.inside.owners.items;
-      rows = c.self.inside.rows;
-      text = c.self.inside.text.items;
-    } in
+    let r : RegisterValue = register_of c.self.inside.controller c.self.inside.desks.items c.self.inside.owners.items c.self.inside.rows c.self.inside.text.items in
     let control = c.carry_out-reply.new.controller in
     let was : DeskValue = record { name = c.at.inside.name; next = c.at.inside.next; held = c.at.inside.held.items } in
     let kept : DeskValue = record { name = c.at.inside.name; next = c.at.inside.next; held = c.make_room.new.held.items } in
@@ -78,13 +67,7 @@ row_line-line-requires c = record {
 }
 
 carries-now : (c : goal.After-self-2-1) → (
-    let r : RegisterValue = record {
-      control = c.self.inside.controller;
-      desks = c.self.inside.desks.items;
-      owners = c.self.inside.owners.items;
-      rows = c.self.inside.rows;
-      text = c.self.inside.text.items;
-    } in
+    let r : RegisterValue = register_of c.self.inside.controller c.self.inside.desks.items c.self.inside.owners.items c.self.inside.rows c.self.inside.text.items in
     Carries r (record {
       control = c.carry_out-reply.new.controller;
       desks = slice_set r.desks c.args.desk (record { name = c.at.inside.name; next = c.args.sequence + 1; held = c.hold.new.held.items });
@@ -93,13 +76,7 @@ carries-now : (c : goal.After-self-2-1) → (
       text = c.append.new.text.items;
     }) c.args.desk c.args.sequence c.args.command.now c.carry_out-reply.result)
 carries-now c =
-    let r : RegisterValue = record {
-      control = c.self.inside.controller;
-      desks = c.self.inside.desks.items;
-      owners = c.self.inside.owners.items;
-      rows = c.self.inside.rows;
-      text = c.self.inside.text.items;
-    } in
+    let r : RegisterValue = register_of c.self.inside.controller c.self.inside.desks.items c.self.inside.owners.items c.self.inside.rows c.self.inside.text.items in
     let control = c.carry_out-reply.new.controller in
     let was : DeskValue = record { name = c.at.inside.name; next = c.at.inside.next; held = c.at.inside.held.items } in
     let at : was ≡ desk_at r c.args.desk =
@@ -115,13 +92,7 @@ line-now c = of-row c.self.inside.controller c.carry_out-reply.new.controller c.
 
 pub invariant_of-self-2 : goal.invariant_of-self-2
 invariant_of-self-2 c =
-    let r : RegisterValue = record {
-      control = c.self.inside.controller;
-      desks = c.self.inside.desks.items;
-      owners = c.self.inside.owners.items;
-      rows = c.self.inside.rows;
-      text = c.self.inside.text.items;
-    } in
+    let r : RegisterValue = register_of c.self.inside.controller c.self.inside.desks.items c.self.inside.owners.items c.self.inside.rows c.self.inside.text.items in
     let was : DeskValue = record { name = c.at.inside.name; next = c.at.inside.next; held = c.at.inside.held.items } in
     let after : DeskValue = record { name = c.at.inside.name; next = c.args.sequence + 1; held = c.hold.new.held.items } in
     let at : was ≡ desk_at r c.args.desk =
@@ -135,13 +106,7 @@ invariant_of-self-2 c =
 
 pub returns : goal.returns
 returns c =
-    let old : RegisterValue = record {
-      control = c.self.inside.controller;
-      desks = c.self.inside.desks.items;
-      owners = c.self.inside.owners.items;
-      rows = c.self.inside.rows;
-      text = c.self.inside.text.items;
-    } in
+    let old : RegisterValue = register_of c.self.inside.controller c.self.inside.desks.items c.self.inside.owners.items c.self.inside.rows c.self.inside.text.items in
     let new : RegisterValue = record {
       control = c.carry_out-reply.new.controller;
       desks = slice_set old.desks c.args.desk (record { name = c.at.inside.name; next = c.args.sequence + 1; held = c.hold.new.held.items });
