@@ -31,7 +31,7 @@ pub record Begins (asked : Option DesksJob) (before : Outside) : Type 0 where
   pub control : ControlValue
   pub is_control : IsControl control
   pub network : control.net ≡ net
-  pub stands : Represents control (opening plan)
+  pub represents : Represents control (opening plan)
 
 -- the source and the sink of what stands outside
 abbrev pub streams_at : Outside → Streams

@@ -66,7 +66,7 @@ pub record IsLoading (old now : ControlValue) (rest all : List KeptRow) : Type 0
   pub network : now.net ≡ old.net
   pub plan : now.plan ≡ old.plan
   pub behind : load_behind old.net (loaded_in old) all ≡ load_behind old.net (loaded_in now) rest
-  pub stands : Represents now (loaded_state now.plan (loaded_in now))
+  pub represents : Represents now (loaded_state now.plan (loaded_in now))
   pub sound : IsControl now
   pub low : old.next ≤ 100000000000 → now.next ≤ 100000000000
 
@@ -86,7 +86,7 @@ module _ (old now : ControlValue) (row : KeptRow) (rest all : List KeptRow) (so_
         network = ap (λ (control : ControlValue). control.net) changed ∙ so_far.network;
         plan = planned ∙ so_far.plan;
         behind = so_far.behind ∙ step ∙ ap (λ (l : Loaded). load_behind old.net l rest) (sym grown);
-        stands = subst (λ (s : SeatState). Represents new s) (reached ∙ (λ k. loaded_state (sym planned k) (sym grown k))) (state (loaded_state now.plan (loaded_in now)) so_far.stands);
+        represents = subst (λ (s : SeatState). Represents new s) (reached ∙ (λ k. loaded_state (sym planned k) (sym grown k))) (state (loaded_state now.plan (loaded_in now)) so_far.represents);
         sound = sound;
         low = λ was. omega (arith, low, ap (λ (control : ControlValue). control.next) changed);
       }

@@ -32,7 +32,7 @@ returns-clause-ends g c =
       control = control;
       is_control = c.in-Ok-start.ensures.sound;
       network = ap (λ (k : ControlValue). k.net) c.in-Ok-start.ensures.begins;
-      stands = opened control c.in-Ok.net c.in-Ok-start.ensures.begins;
+      represents = opened control c.in-Ok.net c.in-Ok-start.ensures.begins;
     } in
     let serves : ServesTo control (streams_at before) (streams_at found) c.serve-end.result =
     subst (λ (k : ControlValue). ServesTo k (streams_at before) (streams_at found) c.serve-end.result) (ap (λ (h : HubValue). h.register.control) c.new-hub.ensures)
