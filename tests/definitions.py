@@ -2,9 +2,8 @@
 """Says of each file of definitions whether a public contract reaches it.
 
     tests/definitions.py            checks: a file outside specs/Inner that no public contract reaches, and one inside
-                                    it
-                                 that one does, is a fault (status 1)
-    tests/definitions.py --list     prints the files to read, crate by crate, lowest first, each with its first line
+                                    it that one does, is a fault (status 1)
+    tests/definitions.py --list     prints the files to read, layer by layer from below, each with its first line
 
 A public contract is a clause of a function, method or trait that leaves its crate, or a member of an `impl` of such a
 type. A clause reaches the files that its names come from, and each of those the files that it uses in its turn.
@@ -24,24 +23,9 @@ def read(path):
 
 
 def crate_order():
-    """The crates of crates.txt, each behind those that it stands on."""
-    needs = OrderedDict()
-    for line in read(os.path.join(TOP, "crates.txt")).splitlines():
-        name, _, rest = line.partition(":")
-        if name.strip():
-            needs[name.split()[0]] = rest.split()
-    order = []
-
-    def put(name):
-        if name in order or name not in needs:
-            return
-        for below in needs[name]:
-            put(below)
-        order.append(name)
-
-    for name in needs:
-        put(name)
-    return order
+    """The crates in the order of crates.txt, which is that of their layers."""
+    lines = read(os.path.join(TOP, "crates.txt")).splitlines()
+    return [line.partition(":")[0].split()[0] for line in lines if line.strip() and not line.startswith("#")]
 
 
 def spec_files(crate):

@@ -8,8 +8,8 @@ Of proofs.md and claims.md it checks each file of definitions or proofs (`nrm_lp
 `nrm_lp/specs`: `Ends`, `Laws`), each public function (`nrm_lp::weakly_dual`), and each clause that is named with a
 function (`nrm_cli::run`, clause `ends`, or clause `ends` of `run`). claims.md must name each file of definitions that a
 public contract reaches. Of the table in proofs.md it checks too that a file has the names that stand behind it. The
-table and the drawing of map.md are compared with crates.txt, and crates whose names end in `_tests` alone have tests.
-Of CONTRIBUTING.md each path must be there
+table and the drawing of map.md are compared with crates.txt, in which no crate may depend on one of a higher layer,
+and crates whose names end in `_tests` alone have tests. Of CONTRIBUTING.md each path must be there
 (`nrm_stream/src/command.rt`, `docs/commands.md`), and each clause that it quotes must be a line of the code. Each link
 of a page must lead to a file and to a heading in it, and to none that a release leaves out. What isn't so is printed;
 the last line is `N names, M not there`.
@@ -137,10 +137,23 @@ def look_in_table(document, names):
         names.items(document, path, ticked(listed))
 
 
+def listed_layers():
+    """The layers of crates.txt from below: of each its crates, and what these depend on, in the order of the file.
+
+    A comment right above crates is the name of their layer.
+    """
+    layers = {}
+    for block in read("crates.txt").split("\n\n"):
+        head, *rest = block.strip().splitlines()
+        crates = [line.partition(":") for line in rest if not line.startswith("#")]
+        if crates:
+            layers[head.lstrip("# ")] = {name.strip(): below.split() for name, _, below in crates}
+    return layers
+
+
 def listed_crates():
-    """What each crate of crates.txt stands on, in its order."""
-    lines = [line.partition(":") for line in read("crates.txt").splitlines() if line.strip()]
-    return {name.strip(): rest.split() for name, _, rest in lines}
+    """What each crate of crates.txt depends on, in its order."""
+    return {crate: below for crates in listed_layers().values() for crate, below in crates.items()}
 
 
 def drawing_of(crates):
@@ -163,6 +176,20 @@ def mapped(text, crates):
     for pattern, lines in ((drawn, drawing_of(crates)), (rows, table)):
         text = re.sub(pattern, lambda _: "\n".join(lines) + "\n", text, count=1, flags=re.M)
     return text
+
+
+def look_at_layers(document, names):
+    """Whether each crate depends on crates of its own layer and of lower ones alone, and stands behind them."""
+    layer_of = {crate: layer for layer, crates in listed_layers().items() for crate in crates}
+    behind = set()
+    for crate, below in listed_crates().items():
+        for it in below:
+            if it in layer_of:
+                names.look(document, f"{it} ({layer_of[it]}), on which {crate} ({layer_of[crate]}) depends, above it in "
+                           "the file", it in behind)
+        behind.add(crate)
+    folders = {path.name for path in Path(TOP, "crates").iterdir()}
+    names.look(document, f"a layer and a line for each folder of crates: {sorted(folders ^ behind)}", folders == behind)
 
 
 def look_in_map(document, names):
@@ -219,6 +246,7 @@ def main():
         look_everywhere(document, names)
     look_for_definitions("docs/claims.md", names)
     look_in_table("docs/proofs.md", names)
+    look_at_layers("crates.txt", names)
     look_in_map("docs/map.md", names)
     look_for_tests("docs/map.md", names)
     look_for_paths("CONTRIBUTING.md", names)
