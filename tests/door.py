@@ -54,11 +54,11 @@ NPROC = "#!/bin/sh\necho 16\n"
 # How `rt` is called to build.
 BUILT = [["lib", "--jobs", "4", "of", "nrm_low"], ["lib", "--jobs", "4", "of", "nrm_cli"],
          ["run", "--", "no-words", "of", "nrm"]]
-CRATES = "# what each depends on\n\n# low\nnrm_low:\nnrm_samples: nrm_low\n\n# high\nnrm_beside: nrm_low\nnrm_cli: nrm_low nrm_samples csv\nnrm: nrm_low nrm_cli\n"
+CRATES = "# what each depends on\n\n# low\nnrm_low:\n\n# high\nnrm_beside: nrm_low\nnrm_cli: nrm_low csv\nnrm: nrm_low nrm_cli\n"
 LEMMAS = "mod Examples\npub mod Ends  -- of a list\npub mod LongExamples  -- by hand\n"
 FILES = {"bin/rt": RT, "bin/nproc": NPROC, "crates.txt": CRATES, "HANDLES": "Handles allowed: none.\n",
          "net.csv": "periods,1,1\n",
-         **{f"crates/{it}/src/lib.rt": "pub mod it;\n" for it in ("nrm", "nrm_cli", "nrm_beside", "nrm_samples")},
+         **{f"crates/{it}/src/lib.rt": "pub mod it;\n" for it in ("nrm", "nrm_cli", "nrm_beside")},
          "crates/nrm_low/src/lib.rt": "mod list;\n\npub use list::len;\n",
          "crates/nrm_low/src/list.rt": "pub fn len() {\n}\n",
          "crates/nrm_low/specs/Low.antt": "one\n", "crates/nrm_low/proofs/list/Lts.antt": "two\n",

@@ -1,4 +1,3 @@
-mod Examples  -- seats left, by hand
 pub mod Sums  -- sums of sums, and what one number adds
 pub mod Sold  -- the seats sold on a leg, booking by booking
 pub mod Kept  -- what a sale and a cancellation keep

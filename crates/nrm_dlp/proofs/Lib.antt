@@ -1,5 +1,4 @@
 pub mod Attained  -- an allocation of the program of hindsight gains its value
 pub mod Bounds  -- the value of hindsight bounds each allocation of its program
-pub mod Examples  -- the programs of three networks, which a reader can check by hand
 pub mod Hindsights  -- hindsight: its program is within the limits, and it has one value, or is Large in one place
 pub mod Limited  -- the program of a network is within the limits

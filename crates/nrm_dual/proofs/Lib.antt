@@ -4,7 +4,6 @@ pub mod NamedIsThere  -- a product or a leg that is named is one of the program'
 pub mod SumSteps  -- the steps of the loops that add up loads and costs, and the sizes of what they add
 pub mod LeastSearch  -- the steps of a search for the least number at which a test holds
 pub mod Examples  -- the checker's verdicts worked: each condition failing first, with its least leg or product, and certificates that pass
-pub mod ReadingExamples  -- certificate files of a small network, worked: what is written, what is read, and each refusal
 pub mod LineWords  -- words of a line and of a fraction: too many of them, and words that are no name
 pub mod TooFine  -- a number of the certificate is Large exactly where one is found on the way to it
 pub mod ReadShape  -- what is read has the network's shape: a sheet keeps its lengths, and numbers that aren't Large are below the limit

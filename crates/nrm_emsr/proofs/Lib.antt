@@ -6,6 +6,5 @@ pub mod Least  -- the first number that passes a test
 pub mod Signs  -- which fares aren't negative: those of the buckets above the last
 pub mod Crossing  -- the comparison of two fractions is that of their parts, multiplied across
 pub mod Whole  -- the whole demand of the buckets suffices: no history is over it, and the next bucket's fare isn't negative
-pub mod Examples  -- bucket fares and protections that a reader can check by hand
 pub mod HubExamples  -- the protections of a small hub over two periods, at opening and in the second period
 pub mod SeatlessNests  -- the buckets and protections of two networks that differ in their physical seats alone

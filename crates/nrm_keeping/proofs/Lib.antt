@@ -1,4 +1,3 @@
-mod Examples  -- rows, steps and runs by hand
 pub mod KeptRows  -- the rows of a book: one more, one less, and those of what was loaded
 pub mod Again  -- the bookings of a book load again from their rows
 pub mod Readings  -- the rows of a keeper after a call, however they are read

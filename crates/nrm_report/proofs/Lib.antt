@@ -1,4 +1,3 @@
-pub mod Examples  -- the texts of a leg, of a plan and of its nests, worked by hand
 pub mod ListedLines  -- lines that are put for one number of a list after another
 pub mod NestLines  -- what is looked up in the nests of a plan, and the line of a leg's protections
 pub mod NumberedLines  -- lines that are put for one number after another are those of all numbers

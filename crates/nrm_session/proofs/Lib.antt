@@ -1,7 +1,6 @@
 pub mod Answered  -- commands that a controller answered one after another, and one of them that was cut
 pub mod Clerks  -- what a clerk's answers come to: one after another, cut, and sent on
 pub mod Determined  -- commands determine replies and states, where memory suffices
-pub mod Examples  -- lines answered on a small network, which a reader can check by hand
 pub mod FirstParts  -- each first part of a run is a run
 pub mod Hindsights  -- the value of hindsight bounds every selection of the requests so far
 pub mod InForce  -- the plan in force stays one of the network

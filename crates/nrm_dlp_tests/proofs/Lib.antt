@@ -1,0 +1,1 @@
+pub mod ProgramExamples  -- the programs of three networks, which a reader can check by hand

@@ -1,0 +1,1 @@
+pub mod ProtectionExamples  -- bucket fares and protections that a reader can check by hand

@@ -1,0 +1,1 @@
+pub mod KeptExamples  -- rows, steps and runs by hand
