@@ -9,7 +9,7 @@ from nrm import limits
 
 PLACES = [*sorted(TOP.glob("crates/*/src/limits.rt")), TOP / "crates/nrm_dual/src/written.rt",
           TOP / "crates/nrm_fraction/src/lib.rt", TOP / "crates/nrm_stream/src/parse.rt",
-          TOP / "crates/nrm_accounting/src/top.rt"]
+          TOP / "crates/nrm_why_cli/src/top.rt"]
 CONSTANT = re.compile(r"^(?:pub(?:\([a-z]+\))? )?const ([A-Z_]+): [a-z0-9]+ = (.*);$", re.M)
 NUMBERS = {"i64::MAX": str(2 ** 63 - 1), "u64::MAX": str(2 ** 64 - 1)}
 

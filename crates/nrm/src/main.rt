@@ -2,8 +2,8 @@
 #![tactic(auto)]
 
 use nrm_cli::{Status, asks_for_a_job, run};
+use nrm_common_cli::words_given;
 use nrm_edge::{DirFiles, GatheringSink, Sink, StdSink, StdSource};
-use nrm_outside::words_given;
 use std::io;
 use std::process::ExitCode;
 

@@ -9,9 +9,9 @@ use Rattle.nrm_dual.specs.Conditions.{verdict_on}
 use Rattle.nrm_dual.specs.Refusals.{CertRefusal, refusal_of}
 use Rattle.nrm_dual.specs.declared.verdict.Verdict.{Verdict}
 use Rattle.nrm_dual.specs.declared.verdict.Verdict.TheVariants as verdict
-use Rattle.nrm_outside.specs.Outside.{LeftStream, OnFile, Outside, WroteCut}
-use Rattle.nrm_outside.specs.Refusals.{file_fault_line}
-use Rattle.nrm_outside.specs.Puts.{PutsIfSome, PutsLine}
+use Rattle.nrm_common_cli.specs.Outside.{LeftStream, OnFile, Outside, WroteCut}
+use Rattle.nrm_common_cli.specs.Refusals.{file_fault_line}
+use Rattle.nrm_common_cli.specs.Puts.{PutsIfSome, PutsLine}
 use Rattle.nrm_findings.specs.Certificates.{LacksCertificate, certificate_under, lacking_line, no_certificate, refused_for, verdict_line}
 use Rattle.nrm_cli.specs.Ends.{Ends, Failures, FilesFailedBefore, status_of}
 use Rattle.nrm_cli.specs.Jobs.{check_file}

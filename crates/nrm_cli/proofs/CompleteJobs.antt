@@ -6,8 +6,8 @@ use Rattle.nrm_edge.specs.Fetch.{Folder}
 use Rattle.nrm_model.specs.Network.{NetworkValue}
 use Rattle.nrm_model.specs.declared.limits.TheConstants.{MOST_STREAM_BYTES}
 use Rattle.nrm_plan.specs.Plans.{IsOpeningPlan}
-use Rattle.nrm_outside.specs.Outside.{Outside, OnFile, Wrote}
-use Rattle.nrm_outside.specs.Refusals.{Refusal, network_under}
+use Rattle.nrm_common_cli.specs.Outside.{Outside, OnFile, Wrote}
+use Rattle.nrm_common_cli.specs.Refusals.{Refusal, network_under}
 use Rattle.nrm_stream.specs.Commands.{commands_of}
 use Rattle.nrm_cli.specs.Jobs.{Job, run_file, HasNetwork, HasNetworkFrom, NamesFile, Origin, of_file, of_number, TakesStream}
 use Rattle.nrm_cli.specs.Ends.{Completes, Ends, IsDone, NothingHinders, RunWrites, RunsThrough, Starts}

@@ -19,7 +19,7 @@ use Rattle.nrm_control.specs.State.{SeatState, opening, after_request, after_can
 use Rattle.nrm_stream.specs.Commands.{commands_of}
 use Rattle.nrm_session.specs.Replies.{Reply, bad, unknown, sold, no_leg, no_fare, cancelled, optimised_none, overflow, hindsight_told, leg_told, plan_told}
 use Rattle.nrm_dual.specs.declared.verdict.Verdict.TheVariants as verdict
-use Rattle.nrm_outside.specs.Outside.{Outside, FilesFailed, SourceFailed, SinkFailed, Wrote}
+use Rattle.nrm_common_cli.specs.Outside.{Outside, FilesFailed, SourceFailed, SinkFailed, Wrote}
 use Rattle.nrm_cli.specs.Ends.{Completes, Ends, Failures, IsDone, OrRanOut, OrRanOutTelling, RunWrites, status_of}
 use Rattle.nrm_cli.specs.Jobs.{job_of, run_file, plan_file, check_file, print_file, run_made, cut_leg, value_leg}
 use Rattle.nrm_cli.specs.Tells.{IsOfNetwork, Tells, usage as tells_usage, refused as tells_refused, of_network as tells_of_network, file_fault as tells_file_fault}
@@ -30,7 +30,7 @@ use Rattle.nrm_findings.specs.declared.summary.Counts.{Counts}
 use Rattle.nrm_cli.specs.Numbers.{number_of}
 use Rattle.nrm_cli.specs.declared.status.Status.{Status}
 use Rattle.nrm_cli.specs.declared.status.Status.TheVariants as status
-use Rattle.nrm_outside.specs.Refusals.{network_under, refusal_line, no_file, at_row, file_fault_line}
+use Rattle.nrm_common_cli.specs.Refusals.{network_under, refusal_line, no_file, at_row, file_fault_line}
 
 -- as a file of the first version, and as it is printed
 abbrev two_legs_file : List ℕ

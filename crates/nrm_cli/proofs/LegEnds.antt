@@ -1,7 +1,7 @@
 -- How a job ends that tells of its network and nothing else.
 use Rattle.std.proofs.Common.{ℕ, ◌≡◌, List, Some, inl, inr}
 use Rattle.nrm_model.specs.Network.{NetworkValue}
-use Rattle.nrm_outside.specs.Outside.{LeftStream, Outside}
+use Rattle.nrm_common_cli.specs.Outside.{LeftStream, Outside}
 use Rattle.nrm_cli.specs.Ends.{Ends, Failures}
 use Rattle.nrm_cli.specs.Inner.Parts.{PutsTold}
 use Rattle.nrm_cli.specs.Jobs.{Job}

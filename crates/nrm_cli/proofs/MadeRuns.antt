@@ -20,7 +20,7 @@ use Rattle.nrm_session.specs.Step.{Step}
 use Rattle.nrm_session.specs.declared.reply.Reply.{Reply as Answered}
 use Rattle.nrm_session.specs.declared.reply.Reply.TheVariants as answered
 use Rattle.nrm_session.proofs.Answered.{run-joined}
-use Rattle.nrm_outside.specs.Outside.{LeftStream, Outside}
+use Rattle.nrm_common_cli.specs.Outside.{LeftStream, Outside}
 use Rattle.nrm_gen.specs.MadeNetwork.{made_network}
 use Rattle.nrm_gen.specs.MadeCommands.{Making, after_next, command_at, command_count, made_commands, next_of}
 use Rattle.nrm_gen.proofs.OneByOne.{given-first, given-none}

@@ -2,13 +2,13 @@
 use Rattle.std.proofs.Common.{ℕ, ◌≡◌, ◌≤◌, List, Option, Result, Some, Ok, Err, inl, inr, refl}
 use Rattle.nrm_model.specs.Network.{NetworkValue}
 use Rattle.nrm_edge.specs.Fetch.{Folder}
-use Rattle.nrm_outside.specs.NetworkFile.{CountsFetch, OpensFile}
-use Rattle.nrm_outside.specs.Outside.{Outside, LeftStream, OnFile}
-use Rattle.nrm_outside.specs.Refusals.{Refusal, network_under, no_file, at_row, refusal_line, file_fault_line}
-use Rattle.nrm_outside.specs.declared.network_file.NoNetwork.{NoNetwork}
-use Rattle.nrm_outside.specs.declared.network_file.NoNetwork.TheVariants as none
-use Rattle.nrm_outside.specs.Puts.{PutsReason, TellsNoNetwork}
-use Rattle.nrm_outside.proofs.Opened.{opened-goes}
+use Rattle.nrm_common_cli.specs.NetworkFile.{CountsFetch, OpensFile}
+use Rattle.nrm_common_cli.specs.Outside.{Outside, LeftStream, OnFile}
+use Rattle.nrm_common_cli.specs.Refusals.{Refusal, network_under, no_file, at_row, refusal_line, file_fault_line}
+use Rattle.nrm_common_cli.specs.declared.network_file.NoNetwork.{NoNetwork}
+use Rattle.nrm_common_cli.specs.declared.network_file.NoNetwork.TheVariants as none
+use Rattle.nrm_common_cli.specs.Puts.{PutsReason, TellsNoNetwork}
+use Rattle.nrm_common_cli.proofs.Opened.{opened-goes}
 use Rattle.nrm_cli.specs.Ends.{Ends, Failures}
 use Rattle.nrm_cli.specs.Jobs.{Job, NamesFile}
 use Rattle.nrm_cli.specs.Inner.Does.{Does}

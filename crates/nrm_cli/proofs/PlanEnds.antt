@@ -8,9 +8,9 @@ use Rattle.nrm_simplex.specs.declared.fault.SolveFault.TheVariants as fault
 use Rattle.nrm_plan.specs.Plans.{IsPlanFault}
 use Rattle.nrm_control.specs.Standing.{IsStartFault}
 use Rattle.nrm_report.specs.Texts.{plan_text}
-use Rattle.nrm_outside.specs.Outside.{LeftStream, Outside}
-use Rattle.nrm_outside.specs.Words.{overflow_line, told_pivots}
-use Rattle.nrm_outside.specs.Puts.{PutsLine, PutsUnplanned, TellsUnplanned}
+use Rattle.nrm_common_cli.specs.Outside.{LeftStream, Outside}
+use Rattle.nrm_common_cli.specs.Words.{overflow_line, told_pivots}
+use Rattle.nrm_common_cli.specs.Puts.{PutsLine, PutsUnplanned, TellsUnplanned}
 use Rattle.nrm_cli.specs.Ends.{Ends, Failures}
 use Rattle.nrm_cli.specs.Jobs.{Job, plan_file}
 use Rattle.nrm_cli.specs.Inner.Parts.{PutsPlan}

@@ -17,8 +17,8 @@ use Rattle.nrm_dual.specs.Texts.{certificate_text}
 use Rattle.nrm_dual.specs.declared.verdict.Verdict.TheVariants.{Optimal}
 use Rattle.nrm_plan.specs.Plans.{HasCertificate, IsOpeningPlan, IsSolved, PlanValue}
 use Rattle.nrm_report.specs.Texts.{plan_text, text_of_plan}
-use Rattle.nrm_outside.specs.Outside.{OnFile, Outside, Wrote}
-use Rattle.nrm_outside.specs.Refusals.{network_under}
+use Rattle.nrm_common_cli.specs.Outside.{OnFile, Outside, Wrote}
+use Rattle.nrm_common_cli.specs.Refusals.{network_under}
 use Rattle.nrm_findings.specs.Certificates.{LacksCertificate, certificate_under, verdict_line}
 use Rattle.nrm_cli.specs.Ends.{Completes, Ends, IsDone, OrRanOut}
 use Rattle.nrm_cli.specs.Jobs.{Job, run_file, plan_file, check_file, plans, runs}
@@ -26,7 +26,7 @@ use Rattle.nrm_cli.specs.Own.{PlannedPasses, WasPlanned}
 use Rattle.nrm_cli.specs.Tells.{GivesNetwork, Tells, TellsOf, TellsVerdict, lacking, optimal, wrong, usage, refused, of_network, file_fault}
 use Rattle.nrm_cli.specs.declared.status.Status.{Status}
 use Rattle.nrm_cli.specs.declared.status.Status.TheVariants as status
-use Rattle.nrm_outside.proofs.Networks.{taken-network}
+use Rattle.nrm_common_cli.proofs.Networks.{taken-network}
 use Rattle.nrm_cli.proofs.OwnPasses.{own-passes}
 
 -- the certificate of an opening plan under bid-price control closes the opening linear program

@@ -4,7 +4,7 @@ use Rattle.nrm_model.specs.declared.mode.Mode.{Mode}
 use Rattle.nrm_model.specs.Network.{NetworkValue}
 use Rattle.nrm_model.specs.declared.limits.TheConstants.{MOST_STREAM_BYTES}
 use Rattle.nrm_control.specs.Standing.{ControlValue}
-use Rattle.nrm_outside.specs.Outside.{Goes, Outside}
+use Rattle.nrm_common_cli.specs.Outside.{Goes, Outside}
 use Rattle.nrm_plan.specs.Plans.{IsOpeningPlan}
 use Rattle.nrm_stream.specs.Commands.{commands_of, whole_commands}
 use Rattle.nrm_session.specs.Serving.{CountsFaults, Serves, Streams}

@@ -1,7 +1,7 @@
 -- A text that is told ends the call as it is defined, whole or cut.
 use Rattle.std.proofs.Common.{ℕ, ◌≡◌, List, Option, None, inl, inr}
-use Rattle.nrm_outside.specs.Outside.{NothingFailed, Outside, Wrote, LeftStream}
-use Rattle.nrm_outside.specs.Puts.{PutsLine}
+use Rattle.nrm_common_cli.specs.Outside.{NothingFailed, Outside, Wrote, LeftStream}
+use Rattle.nrm_common_cli.specs.Puts.{PutsLine}
 use Rattle.nrm_cli.specs.Ends.{Ends, Failures}
 use Rattle.nrm_model.specs.Network.{NetworkValue}
 use Rattle.nrm_cli.specs.Jobs.{Job}

@@ -1,6 +1,6 @@
 -- What one call of `run` says of what stands outside it.
 use Rattle.std.specs.Prelude.{Option}
-use Rattle.nrm_outside.specs.Outside.{Goes, Outside}
+use Rattle.nrm_common_cli.specs.Outside.{Goes, Outside}
 use Rattle.nrm_cli.specs.Ends.{Completes, Ends, Failures}
 use Rattle.nrm_cli.specs.Jobs.{Job}
 use Rattle.nrm_cli.specs.Own.{PlannedPasses}

@@ -12,9 +12,9 @@ use Rattle.nrm_session.specs.Serving.{WritesCut}
 use Rattle.nrm_dual.specs.declared.verdict.Verdict.{Verdict}
 use Rattle.nrm_dual.specs.declared.verdict.Verdict.TheVariants as verdict
 use Rattle.nrm_plan.specs.Plans.{IsOpeningPlan, PlanValue}
-use Rattle.nrm_outside.specs.Outside.{Outside, FilesFailed, SourceFailed, SinkFailed, NothingFailed, Wrote, WroteCut, WroteNothing}
-use Rattle.nrm_outside.specs.Outside.{LeftStream}
-use Rattle.nrm_outside.specs.Refusals.{file_fault_line}
+use Rattle.nrm_common_cli.specs.Outside.{Outside, FilesFailed, SourceFailed, SinkFailed, NothingFailed, Wrote, WroteCut, WroteNothing}
+use Rattle.nrm_common_cli.specs.Outside.{LeftStream}
+use Rattle.nrm_common_cli.specs.Refusals.{file_fault_line}
 use Rattle.nrm_cli.specs.Jobs.{Job, Task, runs, run_file, HasNetwork, NamesFile, TakesStream}
 use Rattle.nrm_cli.specs.Tells.{Opens, TellsOf, Told, ToldCut}
 use Rattle.nrm_cli.specs.declared.status.Status.{Status}

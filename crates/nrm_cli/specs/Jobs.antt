@@ -6,8 +6,8 @@ use Rattle.nrm_text.specs.Numbers.{whole_between}
 use Rattle.nrm_text.specs.Names.{name_in}
 use Rattle.nrm_model.specs.Network.{NetworkValue}
 use Rattle.nrm_model.specs.declared.mode.Mode.{Mode}
-use Rattle.nrm_outside.specs.Refusals.{network_under}
-use Rattle.nrm_outside.specs.Words.{mode_of}
+use Rattle.nrm_common_cli.specs.Refusals.{network_under}
+use Rattle.nrm_common_cli.specs.Words.{mode_of}
 use Rattle.nrm_cluster.specs.declared.limits.TheConstants.{MOST_GROUPS}
 use Rattle.nrm_gen.specs.MadeNetwork.{made_network}
 use Rattle.nrm_cli.specs.declared.words.Asked.{Asked}

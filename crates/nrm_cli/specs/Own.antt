@@ -16,7 +16,7 @@ use Rattle.nrm_dlp.specs.Programs.{opening_program}
 use Rattle.nrm_dual.specs.Conditions.{verdict_on}
 use Rattle.nrm_dual.specs.Texts.{certificate_text}
 use Rattle.nrm_dual.specs.declared.verdict.Verdict.TheVariants.{Optimal}
-use Rattle.nrm_outside.specs.Outside.{Outside, FilesFailed, SinkFailed}
+use Rattle.nrm_common_cli.specs.Outside.{Outside, FilesFailed, SinkFailed}
 use Rattle.nrm_findings.specs.Certificates.{certificate_under}
 use Rattle.nrm_cli.specs.Ends.{Ends, OrRanOut}
 use Rattle.nrm_cli.specs.Jobs.{Job, check_file, plan_file}

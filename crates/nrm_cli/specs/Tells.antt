@@ -14,9 +14,9 @@ use Rattle.nrm_plan.specs.Plans.{IsOpeningPlan, OpeningOverflows, PlanValue}
 use Rattle.nrm_report.specs.Texts.{plan_text}
 use Rattle.nrm_edge.specs.Fetch.{Folder}
 use Rattle.nrm_gen.specs.MadeNetwork.{made_network}
-use Rattle.nrm_outside.specs.Outside.{Outside, OnFile, FilesFailed, Wrote, WroteCut, LeftStream}
-use Rattle.nrm_outside.specs.Refusals.{Refusal, network_under, refusal_line, file_fault_line}
-use Rattle.nrm_outside.specs.Words.{overflow_line, told_pivots}
+use Rattle.nrm_common_cli.specs.Outside.{Outside, OnFile, FilesFailed, Wrote, WroteCut, LeftStream}
+use Rattle.nrm_common_cli.specs.Refusals.{Refusal, network_under, refusal_line, file_fault_line}
+use Rattle.nrm_common_cli.specs.Words.{overflow_line, told_pivots}
 use Rattle.nrm_findings.specs.Certificates.{LacksCertificate, certificate_under, lacking_line, verdict_line}
 use Rattle.nrm_cli.specs.Jobs.{Job, Task, runs, plans, checks, prints, runs_made, cuts, values, NamesFile}
 use Rattle.nrm_cli.specs.Jobs.{Origin, of_file, of_number, usage_line}

@@ -3,7 +3,7 @@ ghost use Rattle.std.specs.Prelude.{◌≡◌, ◌≤◌, IfOk, length};
 ghost use Rattle.nrm_fraction.specs.Large.{size_limit};
 ghost use Rattle.nrm_lp.specs.Shape.{HasShape};
 ghost use Rattle.nrm_dlp.specs.Programs.{opening_program};
-ghost use Rattle.nrm_outside.specs.Outside.{SentOn};
+ghost use Rattle.nrm_common_cli.specs.Outside.{SentOn};
 ghost use Rattle.nrm_cli.specs.Ends.{status_of};
 ghost use Rattle.nrm_cli.specs.Inner.Parts.{ChecksFile, PutsCompared, PutsVerdict};
 

@@ -8,7 +8,7 @@ ghost use Rattle.nrm_session.specs.Answering.{IsTellable, reply_in};
 ghost use Rattle.nrm_session.specs.declared.reply.Reply.TheVariants as answered;
 ghost use Rattle.nrm_findings.specs.Summary.{fraction_of};
 ghost use Rattle.nrm_gen.specs.MadeCommands.{command_count, made_commands};
-ghost use Rattle.nrm_outside.specs.Outside.{SentOn};
+ghost use Rattle.nrm_common_cli.specs.Outside.{SentOn};
 ghost use Rattle.nrm_cli.specs.Jobs.{run_made as made_job};
 ghost use Rattle.nrm_cli.specs.Made.{counted, hindsight_in};
 ghost use Rattle.nrm_cli.specs.Inner.Does.{DoesBeside, sink_beside};

@@ -5,7 +5,7 @@ ghost use Rattle.nrm_edge.specs.Causes.{HasCause};
 ghost use Rattle.nrm_edge.specs.Pieces.{AppendsCut};
 ghost use Rattle.nrm_plan.specs.Plans.{IsPlanOf};
 ghost use Rattle.nrm_report.specs.Texts.{plan_text};
-ghost use Rattle.nrm_outside.specs.Outside.{SentOn};
+ghost use Rattle.nrm_common_cli.specs.Outside.{SentOn};
 ghost use Rattle.nrm_cli.specs.Inner.Parts.{PutsPlan};
 
 use crate::Status;

@@ -2,17 +2,17 @@
 ghost use Rattle.std.specs.Prelude.{◌≡◌, Some};
 ghost use Rattle.nrm_model.specs.declared.limits.TheConstants.{MOST_STREAM_BYTES};
 ghost use Rattle.nrm_session.specs.Serving.{CountsFaults, Serves, streams};
-ghost use Rattle.nrm_outside.specs.Outside.{SentOn, outside};
+ghost use Rattle.nrm_common_cli.specs.Outside.{SentOn, outside};
 ghost use Rattle.nrm_cli.specs.Inner.Does.{Does};
 ghost use Rattle.nrm_cli.specs.Jobs.{run_file as run_job};
 ghost use Rattle.nrm_cli.specs.Inner.Parts.{ServesNetwork, status_at};
 
 use crate::Status;
 use crate::status::STATUSES;
+use nrm_common_cli::open_network;
 use nrm_control::Controller;
 use nrm_edge::{Files, Sink, Source};
 use nrm_model::{MOST_STREAM_BYTES, Mode, Network};
-use nrm_outside::open_network;
 use nrm_session::{End, serve};
 use std::alloc::Global;
 

@@ -2,7 +2,7 @@
 ghost use Rattle.std.specs.Prelude.{◌≡◌};
 ghost use Rattle.nrm_cli.specs.Numbers.{number_of};
 
-use nrm_outside::Statuses;
+use nrm_common_cli::Statuses;
 
 /// How the program ended. Those that come with a line of text write it to standard output.
 #[derive(Clone, Copy, Debug, PartialEq, Eq)]

@@ -5,8 +5,8 @@ ghost use Rattle.nrm_text.specs.Numbers.{whole_between};
 ghost use Rattle.nrm_cluster.specs.declared.limits.TheConstants.{MOST_GROUPS};
 ghost use Rattle.nrm_cli.specs.Inner.Does.{Does};
 ghost use Rattle.nrm_cli.specs.Jobs.{AsksWithin, cut_of, job_in, job_of, made_run_of, valuing_of};
-ghost use Rattle.nrm_outside.specs.Outside.{SentOn, outside};
-ghost use Rattle.nrm_outside.specs.Words.{mode_of};
+ghost use Rattle.nrm_common_cli.specs.Outside.{SentOn, outside};
+ghost use Rattle.nrm_common_cli.specs.Words.{mode_of};
 
 use crate::Status;
 use crate::made::run_made;
@@ -14,9 +14,9 @@ use crate::served::run_file;
 use crate::status::STATUSES;
 use crate::told::{Telling, tell_file};
 use nrm_cluster::MOST_GROUPS;
+use nrm_common_cli::mode_in;
 use nrm_edge::{Files, Sink, Source};
 use nrm_model::Mode;
-use nrm_outside::mode_in;
 use nrm_text::{Name, is_word, name_of, read_whole};
 use std::alloc::Global;
 

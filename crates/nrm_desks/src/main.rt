@@ -1,9 +1,9 @@
 //! `nrm_desks`, the program: the real files, standard input and standard output around the top call.
 #![tactic(auto)]
 
-use nrm_desking::{DesksStatus, asks_for_desks, run_desks};
+use nrm_common_cli::words_given;
+use nrm_desks_cli::{DesksStatus, asks_for_desks, run_desks};
 use nrm_edge::{DirFiles, GatheringSink, Sink, StdSink, StdSource};
-use nrm_outside::words_given;
 use std::io;
 use std::process::ExitCode;
 

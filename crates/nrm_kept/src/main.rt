@@ -1,10 +1,10 @@
 //! `nrm_kept`, the program: the real files, standard input, standard output and the store's file around the top call.
 #![tactic(auto)]
 
+use nrm_common_cli::words_given;
 use nrm_edge::{DirFiles, GatheringSink, StdSink, StdSource};
 use nrm_keeper::{Beginning, FileKeeper, Unknown};
-use nrm_keeping::{KeptStatus, asks_for_a_session, run_kept};
-use nrm_outside::words_given;
+use nrm_kept_cli::{KeptStatus, asks_for_a_session, run_kept};
 use std::io;
 use std::process::ExitCode;
 

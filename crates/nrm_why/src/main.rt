@@ -1,9 +1,9 @@
 //! `nrm_why`, the program: the real files, standard input and standard output around the top call.
 #![tactic(auto)]
 
-use nrm_accounting::{WhyStatus, asks_for_an_account, run_why};
+use nrm_common_cli::words_given;
 use nrm_edge::{DirFiles, GatheringSink, Sink, StdSink, StdSource};
-use nrm_outside::words_given;
+use nrm_why_cli::{WhyStatus, asks_for_an_account, run_why};
 use std::io;
 use std::process::ExitCode;
 

@@ -1,7 +1,7 @@
 -- What the parts of a call say of the job that they do, by the files and the sink that they are given.
 use Rattle.std.specs.Prelude.{ℕ, List, Option, Some}
 use Rattle.nrm_edge.specs.Fetch.{Folder}
-use Rattle.nrm_outside.specs.Outside.{Goes, Outside}
+use Rattle.nrm_common_cli.specs.Outside.{Goes, Outside}
 use Rattle.nrm_cli.specs.Ends.{Ends, Failures}
 use Rattle.nrm_cli.specs.Jobs.{Job}
 use Rattle.nrm_cli.specs.declared.status.Status.{Status}

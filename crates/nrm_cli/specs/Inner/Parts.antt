@@ -24,9 +24,9 @@ use Rattle.nrm_dual.specs.Refusals.{IsRefusedFor, refusal_of}
 use Rattle.nrm_dual.specs.declared.fault.CertFault.TheVariants as certificate
 use Rattle.nrm_dual.specs.declared.verdict.Verdict.{Verdict}
 use Rattle.nrm_dual.specs.declared.verdict.Verdict.TheVariants as verdict
-use Rattle.nrm_outside.specs.Outside.{OnFile}
-use Rattle.nrm_outside.specs.Refusals.{file_fault_line}
-use Rattle.nrm_outside.specs.Puts.{PutsIfSome, PutsLine, PutsUnplanned}
+use Rattle.nrm_common_cli.specs.Outside.{OnFile}
+use Rattle.nrm_common_cli.specs.Refusals.{file_fault_line}
+use Rattle.nrm_common_cli.specs.Puts.{PutsIfSome, PutsLine, PutsUnplanned}
 use Rattle.nrm_findings.specs.Certificates.{certificate_under, lacking_line, no_certificate, refused_for, verdict_line}
 use Rattle.nrm_hindsight.specs.Requests.{tallies_of}
 use Rattle.nrm_control.specs.Standing.{ControlValue, IsControl, IsStartFault, Represents}

@@ -4,7 +4,7 @@ use Rattle.nrm_lp.specs.Certified.{Certifies}
 use Rattle.nrm_lp.specs.Program.{ProgramValue}
 use Rattle.nrm_lp.specs.Shape.{HasShape}
 use Rattle.nrm_dual.specs.Conditions.{verdict_on}
-use Rattle.nrm_outside.specs.Puts.{PutsLine}
+use Rattle.nrm_common_cli.specs.Puts.{PutsLine}
 use Rattle.nrm_cli.specs.Ends.{status_of}
 use Rattle.nrm_cli.specs.Inner.Parts.{PutsCompared}
 use Rattle.nrm_cli.specs.declared.status.Status.{Status}

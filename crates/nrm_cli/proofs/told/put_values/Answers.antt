@@ -1,5 +1,5 @@
 use Rattle.std.proofs.Common.{ℕ, List, ◌≡◌, ◌∙◌, ap, inr, subst, sym}
-use Rattle.nrm_outside.specs.Puts.{PutsLine}
+use Rattle.nrm_common_cli.specs.Puts.{PutsLine}
 use Rattle.nrm_findings.specs.LegValues.{class_count, no_classes_line}
 use Rattle.nrm_cli.specs.LegTexts.{ValuesTold, no_classes, valued}
 use Rattle.nrm_cli.specs.declared.status.Status.TheVariants as status

@@ -1,8 +1,8 @@
 -- It is told of the network that was opened, or why there is no network.
 use Rattle.std.proofs.Common.{ℕ, ◌≡◌, List, Option, Ok, refl, subst, sym}
 use Rattle.nrm_edge.specs.Fetch.{Folder}
-use Rattle.nrm_outside.specs.Outside.{OnFile}
-use Rattle.nrm_outside.specs.Refusals.{network_under}
+use Rattle.nrm_common_cli.specs.Outside.{OnFile}
+use Rattle.nrm_common_cli.specs.Refusals.{network_under}
 use Rattle.nrm_cli.specs.Inner.Does.{DoesBeside, FilesAndSink}
 use Rattle.nrm_cli.specs.Jobs.{Job, telling_of}
 use Rattle.nrm_cli.specs.declared.status.Status.{Status}

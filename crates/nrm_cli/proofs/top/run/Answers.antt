@@ -15,7 +15,7 @@ use Rattle.nrm_findings.proofs.LegMeans.{values-are-means}
 use Rattle.nrm_cli.proofs.OneLegText.{leg-texts-determined}
 use Rattle.nrm_cli.proofs.OwnPasses.{optimal-pass, own-passes}
 use Rattle.nrm_cli.proofs.CompleteJobs.{completes, same-job-ends}
-use Rattle.nrm_outside.proofs.Networks.{taken-network}
+use Rattle.nrm_common_cli.proofs.Networks.{taken-network}
 use Rattle.nrm_cli.proofs.PlannedPasses.{planned-passes}
 use Rattle.nrm_cli.proofs.top.run.Goals as goal
 

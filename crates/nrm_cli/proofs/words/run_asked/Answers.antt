@@ -1,5 +1,5 @@
 use Rattle.std.proofs.Common.{◌≡◌, Option, Some, None, ap, arith, option_map, refl, subst, sym}
-use Rattle.nrm_outside.specs.Outside.{Outside}
+use Rattle.nrm_common_cli.specs.Outside.{Outside}
 use Rattle.nrm_cli.specs.Inner.Does.{Does}
 use Rattle.nrm_cli.specs.Jobs.{job_in, usage_line}
 use Rattle.nrm_cli.specs.Tells.{usage}

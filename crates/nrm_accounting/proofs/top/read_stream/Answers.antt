@@ -1,5 +1,0 @@
-use Rattle.nrm_account.proofs.Told.{tells-are}
-use Rattle.nrm_accounting.proofs.top.read_stream.Goals as goal
-
-pub serve_by-requires-clause-meanings : goal.serve_by-requires-clause-meanings
-serve_by-requires-clause-meanings g c = tells-are

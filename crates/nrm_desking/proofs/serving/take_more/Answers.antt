@@ -1,5 +1,0 @@
-use Rattle.nrm_desking.proofs.Rooms.{part-short}
-use Rattle.nrm_desking.proofs.serving.take_more.Goals as goal
-
-pub take-requires : goal.take-requires
-take-requires g c = part-short c.args.incoming.now c.requires

@@ -1,0 +1,109 @@
+-- Statuses, words and frames that may not come, which a reader can check by hand.
+use Rattle.std.proofs.Common.{◌≡◌, [], ◌∷◌, false, true, inl, inr, refl}
+use Rattle.std.specs.Prelude.{codes, Some, None}
+use Rattle.nrm_control.specs.Standing.{ControlValue}
+use Rattle.nrm_frames.specs.Headers.{no_rights}
+use Rattle.nrm_frames.specs.Outgoing.{close, differs, keep, no_row, ready, send}
+use Rattle.nrm_frames.specs.declared.header.Header.TheVariants as header
+use Rattle.nrm_frames.specs.declared.why.Why.TheVariants as why
+use Rattle.nrm_model.specs.declared.mode.Mode.TheVariants as mode
+use Rattle.nrm_hub.specs.World.{World, beginning}
+use Rattle.nrm_hub.specs.declared.phase.Phase.TheVariants as phase
+use Rattle.nrm_desks_cli.specs.Jobs.{desks_job_of, usage_line}
+use Rattle.nrm_desks_cli.specs.Numbers.{number_of}
+use Rattle.nrm_desks_cli.specs.Served.{MayNotCome, is_ready}
+use Rattle.nrm_desks_cli.specs.declared.status.DesksStatus.TheVariants as status
+
+-- ---- the exit statuses
+done : number_of status.Done ≡ 0
+done = refl
+
+usage : number_of status.Usage ≡ 2
+usage = refl
+
+refused : number_of status.Refused ≡ 3
+refused = refl
+
+read_fault : number_of status.ReadFault ≡ 4
+read_fault = refl
+
+write_fault : number_of status.WriteFault ≡ 5
+write_fault = refl
+
+memory : number_of status.NoMemory ≡ 6
+memory = refl
+
+overflow : number_of status.Overflow ≡ 7
+overflow = refl
+
+too_long : number_of status.TooLong ≡ 8
+too_long = refl
+
+file_fault : number_of status.FileFault ≡ 9
+file_fault = refl
+
+no_frame : number_of status.NoFrame ≡ 10
+no_frame = refl
+
+no_row_status : number_of status.NoRow ≡ 11
+no_row_status = refl
+
+differs_status : number_of status.Differs ≡ 12
+differs_status = refl
+
+-- ---- words
+usage_is : usage_line ≡ codes "usage: nrm_desks MODE FILE\n"
+usage_is = refl
+
+first : desks_job_of (codes "first" ∷ codes "net.csv" ∷ []) ≡ Some (record { mode = mode.FirstCome; file = codes "net.csv" })
+first = refl
+
+no_mode : desks_job_of (codes "fast" ∷ codes "net.csv" ∷ []) ≡ None
+no_mode = refl
+
+few_words : desks_job_of (codes "first" ∷ []) ≡ None
+few_words = refl
+
+many_words : desks_job_of (codes "first" ∷ codes "net.csv" ∷ codes "1" ∷ []) ≡ None
+many_words = refl
+
+-- ---- whether all rows were given again
+nothing_written : is_ready [] ≡ false
+nothing_written = refl
+
+readied : is_ready (ready 3 ∷ keep [] ∷ []) ≡ true
+readied = refl
+
+only_others : is_ready (keep [] ∷ send 0 3 [] ∷ close 0 why.Gone ∷ no_row 1 ∷ differs 1 ∷ []) ≡ false
+only_others = refl
+
+-- ---- frames that may not come
+module _ (control : ControlValue) where
+  -- all rows were given again, and nobody was opened
+  at_ready : World
+  at_ready = record (beginning control) { outputs = ready 0 ∷ [] }
+
+  piece_before_ready : MayNotCome (beginning control) (header.Came 0 5)
+  piece_before_ready = refl
+
+  open_before_ready : MayNotCome (beginning control) (header.Open 0 (codes "DESK-A") no_rights)
+  open_before_ready = inl refl
+
+  rows_behind_ready : MayNotCome at_ready (header.Again 5)
+  unfolding at_ready
+  rows_behind_ready = refl
+
+  kept_unawaited : MayNotCome at_ready header.Kept
+  unfolding at_ready
+  kept_unawaited = inr (λ (never : phase.Settled ≡ phase.Asked). cc)
+
+  rows_may_come : MayNotCome (beginning control) (header.Again 5) → ⊥
+  rows_may_come is = let never : false ≡ true = is in cc
+
+  open_may_come : MayNotCome at_ready (header.Open 7 (codes "DESK-A") no_rights) → ⊥
+  unfolding at_ready
+  open_may_come (inl is) = let never : true ≡ false = is in cc
+  open_may_come (inr taken) = taken refl
+
+end_may_come : (w : World) → MayNotCome w header.End → ⊥
+end_may_come w never = never

@@ -1,6 +1,0 @@
--- Money adds up over a store.
-use Rattle.nrm_keeping.proofs.KeptLaws.{money-adds-up}
-use Rattle.nrm_keeping.proofs.laws.kept_money_adds_up.Goals as goal
-
-pub returns : goal.returns
-returns c = money-adds-up

@@ -1,7 +1,0 @@
-use Rattle.std.proofs.Common.{drop}
-use Rattle.nrm_keeping.proofs.Loads.{IsLoading}
-use Rattle.nrm_keeping.proofs.loading.load_rows.Given as goal
-
--- the rows so far are loaded
-abbrev pub invariant-loop-row : goal.invariant-loop-row
-invariant-loop-row l = IsLoading l.initial.controller l.controller (drop l.row-index l.rows) l.rows

@@ -1,5 +1,0 @@
-use Rattle.nrm_keeping.proofs.KeptRuns.{keeping-means}
-use Rattle.nrm_keeping.proofs.top.answer_stream.Goals as goal
-
-pub serve_by-requires-clause-meanings : goal.serve_by-requires-clause-meanings
-serve_by-requires-clause-meanings g c = keeping-means g.P.Keeper
