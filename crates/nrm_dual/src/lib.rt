@@ -1,8 +1,8 @@
 //! Certificates and their checker: whether an allocation and bid prices, whoever made them, are optimal.
 //!
 //! `read_certificate` reads a certificate from a file, and `check` judges it against a linear program: the test
-//! `files_are_read_and_checked` of `nrm_dual_tests` calls both. The other functions are laws, of which the first four speak of what `check`
-//! answers, and the others of what is written and read.
+//! `files_are_read_and_checked` of `nrm_solver_tests` calls both. The other functions are laws, of which the first four speak of what
+//! `check` answers, and the others of what is written and read.
 #![tactic(auto)]
 
 mod amounts;

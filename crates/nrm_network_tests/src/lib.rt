@@ -1,5 +1,9 @@
-//! The tests of network files: what is read, printed and refused.
+//! The tests of network files, of streams and their lines, and of what is made of a number.
 #![tactic(auto)]
 
 #[cfg(test)]
-mod tests;
+mod made;
+#[cfg(test)]
+mod network;
+#[cfg(test)]
+mod stream;

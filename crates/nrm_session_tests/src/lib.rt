@@ -1,5 +1,7 @@
-//! The tests of sessions: streams and their replies, worked by hand.
+//! The tests of sessions, of streams and their replies, and of the texts of legs, certificates and plans, worked by hand.
 #![tactic(auto)]
 
 #[cfg(test)]
-mod tests;
+mod report;
+#[cfg(test)]
+mod session;

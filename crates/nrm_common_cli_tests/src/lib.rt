@@ -1,5 +1,0 @@
-//! The tests of what the programs have in common.
-#![tactic(auto)]
-
-#[cfg(test)]
-mod outside;

@@ -1,1 +1,0 @@
-pub mod ProgramExamples  -- the programs of three networks, which a reader can check by hand

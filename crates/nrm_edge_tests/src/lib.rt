@@ -1,5 +1,0 @@
-//! The tests of the outside.
-#![tactic(auto)]
-
-#[cfg(test)]
-mod edge;

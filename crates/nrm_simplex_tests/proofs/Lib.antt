@@ -1,1 +1,0 @@
-pub mod TestPrograms  -- the programs of the tests are within the limits

@@ -1,5 +1,0 @@
-//! The tests of accounts.
-#![tactic(auto)]
-
-#[cfg(test)]
-mod accounting;
