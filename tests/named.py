@@ -2,24 +2,24 @@
 """Whether what docs/proofs.md, docs/claims.md, docs/map.md and CONTRIBUTING.md name is there, and all links.
 
     tests/named.py           checks
-    tests/named.py --map     writes drawing and table of docs/map.md as crates.txt has them; what a crate holds stays
+    tests/named.py --map     writes the drawing of docs/map.md as crates.txt has the layers
 
 Of proofs.md and claims.md it checks each file of definitions or proofs (`nrm_lp/specs/Ends`, or in a list
 `nrm_lp/specs`: `Ends`, `Laws`), each public function (`nrm_lp::weakly_dual`), and each clause that is named with a
 function (`nrm_cli::run`, clause `ends`, or clause `ends` of `run`). claims.md must name each file of definitions that a
-public contract reaches. Of the table in proofs.md it checks too that a file has the names that stand behind it. The
-table and the drawing of map.md are compared with crates.txt, in which no crate may depend on one of a higher layer,
-and crates whose names end in `_tests` alone have tests. Of CONTRIBUTING.md each path must be there
-(`nrm_stream/src/command.rt`, `docs/commands.md`), and each clause that it quotes must be a line of the code. Each link
-of a page must lead to a file and to a heading in it, and to none that a release leaves out. What isn't so is printed;
-the last line is `N names, M not there`.
+public contract reaches. Of the table in proofs.md it checks too that a file has the names that stand behind it. In
+crates.txt no crate may depend on one of a higher layer, the drawing of map.md is compared with its layers, and each
+layer must have a paragraph there that names its crates; crates whose names end in `_tests` alone have tests. Of
+CONTRIBUTING.md each path must be there (`nrm_stream/src/command.rt`, `docs/commands.md`), and each clause that it
+quotes must be a line of the code. Each link of a page must lead to a file and to a heading in it, and to none that a
+release leaves out. What isn't so is printed; the last line is `N names, M not there`.
 """
-import functools
 import glob
 import os
 import re
 import subprocess
 import sys
+import textwrap
 from pathlib import Path
 
 import pages
@@ -156,26 +156,14 @@ def listed_crates():
     return {crate: below for crates in listed_layers().values() for crate, below in crates.items()}
 
 
-def drawing_of(crates):
-    """The layers of the crates, a line each: a crate is one above the highest that it depends on."""
-    @functools.lru_cache(None)
-    def layer(crate):
-        return 1 + max((layer(it) for it in crates[crate] if it in crates), default=0)
-
-    numbers = sorted({layer(it) for it in crates}, reverse=True)
-    return [f"     {number:2}  {'  '.join(it for it in crates if layer(it) == number)}" for number in numbers]
-
-
-def mapped(text, crates):
-    """The map with its drawing and its table as crates.txt has them; what a crate holds is what the map says of it."""
-    drawn = r"(?:^     [ \d]\d  nrm.*\n)+"
-    rows = r"(?:^\| `nrm.*\n)+"
-    holds = dict(re.findall(r"^\| `(nrm\w*)` \| (.*?) \|", text, re.M))
-    table = [f"| `{crate}` | {holds.get(crate, '')} |{''.join(f' `{it}`' for it in below)} |"
-             for crate, below in crates.items()]
-    for pattern, lines in ((drawn, drawing_of(crates)), (rows, table)):
-        text = re.sub(pattern, lambda _: "\n".join(lines) + "\n", text, count=1, flags=re.M)
-    return text
+def drawn(text):
+    """The map with its drawing of the layers as crates.txt has them, the highest first, without the crates of tests."""
+    layers = listed_layers()
+    width = max(map(len, layers))
+    lines = [textwrap.fill("  ".join(it for it in crates if not it.endswith("_tests")), 120,
+                           initial_indent=f"     {layer:{width}}  ", subsequent_indent=" " * (width + 7)) + "\n"
+             for layer, crates in reversed(layers.items())]
+    return re.sub(r"(?:^ {5,}.*  nrm.*\n)+", lambda _: "".join(lines), text, count=1, flags=re.M)
 
 
 def look_at_layers(document, names):
@@ -193,14 +181,15 @@ def look_at_layers(document, names):
 
 
 def look_in_map(document, names):
-    """The drawing and the table of the crates, each against crates.txt, line by line."""
-    text, crates = read(document), listed_crates()
-    should = mapped(text, crates)
-    for line in should.splitlines():
-        if re.match(r"     [ \d]\d  nrm|\| `nrm", line):
-            names.look(document, f"this line, which crates.txt wants: {line}", line in text.splitlines())
-    names.look(document, "the lines in the order of crates.txt, and no others", should == text)
-    names.look(document, "a row and a place in the drawing for each crate", should.count("\n| `nrm") == len(crates))
+    """The drawing of the layers, and a paragraph for each, from below, that names its crates."""
+    text, layers = read(document), listed_layers()
+    names.look(document, "the layers as crates.txt has them", drawn(text) == text)
+    paragraphs = dict(re.findall(r"^\*\*(.+?)\.\*\* ((?:.+\n)+)", text, re.M))
+    names.look(document, "a paragraph for each layer, from below", [it.lower() for it in paragraphs] == list(layers))
+    for layer, crates in layers.items():
+        named = re.findall(r"`(nrm\w*)`", paragraphs.get(layer.capitalize(), ""))
+        for crate in crates:
+            names.look(document, f"{crate} in the paragraph of its layer, {layer}", crate in named)
 
 
 def look_for_tests(document, names):
@@ -239,7 +228,7 @@ def look_at_links(names):
 
 def main():
     if sys.argv[1:] == ["--map"]:
-        Path(TOP, "docs", "map.md").write_text(mapped(read("docs/map.md"), listed_crates()), encoding="utf-8")
+        Path(TOP, "docs", "map.md").write_text(drawn(read("docs/map.md")), encoding="utf-8")
         return 0
     names = Names()
     for document in ("docs/proofs.md", "docs/claims.md"):
