@@ -176,7 +176,7 @@ def look_at_layers(document, names):
                 names.look(document, f"{it} ({layer_of[it]}), on which {crate} ({layer_of[crate]}) depends, above it in "
                            "the file", it in behind)
         behind.add(crate)
-    folders = {path.name for path in Path(TOP, "crates").iterdir()}
+    folders = {path.parent.name for path in Path(TOP, "crates").glob("*/src")}
     names.look(document, f"a layer and a line for each folder of crates: {sorted(folders ^ behind)}", folders == behind)
 
 
