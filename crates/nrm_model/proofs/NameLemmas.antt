@@ -1,10 +1,12 @@
 -- A name's number: the place at which it is found.
-use Rattle.std.proofs.Common.{ℕ, ◌≡◌, ◌≢◌, ◌∙◌, ◌+◌, ◌<◌, Bool, false, cond, ◌||◌, AllPairs, List, [], ◌∷◌, ◌++◌, length, get_or, map, take, Option, Some, inl, inr, refl, sym, ap, bytes_eq, arith, length-take}
+use Rattle.std.proofs.Common.{ℕ, zero, suc, ◌≡◌, ◌≢◌, ◌∙◌, ◌+◌, ◌-◌, ◌<◌, Bool, false, cond, ◌||◌, AllPairs, List, [], ◌∷◌, ◌++◌, length, get_or, map, take, Option, Some, inl, inr, refl, sym, ap, bytes_eq, arith, length-append, length-take, set}
+use Rattle.std.specs.Prelude.{slice_index_or, slice_set, swap_remove}
 use Rattle.std.specs.List.{list_any, position, position_from}
 use Rattle.std.specs.Cmp.Lexicographic.{nat_list_eq_equiv}
 use Rattle.std.proofs.lemmas.Bool.{cases_Bool}
+use Rattle.std.proofs.Math.Seq.{take-append_seam}
 use Rattle.std.proofs.lemmas.Iterator.Adapters.{position_from-zero}
-use Rattle.std.proofs.lemmas.List.{get_or-take, get_or-map, get_or_read, length-map, take-map}
+use Rattle.std.proofs.lemmas.List.{get_or-take, get_or-map, get_or_push, get_or_read, length-map, take-map}
 use Rattle.std.proofs.lemmas.List.Folds.{list_any_none}
 use Rattle.std.proofs.lemmas.List.Quantifiers.{position-Some}
 use Rattle.std.proofs.lemmas.Slice.Eq.{bytes_eq-Decides}
@@ -63,3 +65,18 @@ pub none-earlier : {X : Type 0} (name : X → List ℕ) (xs : List X) (i : ℕ) 
 none-earlier name xs i x names apart short is are =
     let at : name x ≡ get_or (map name xs) i (name x) = ap name is ∙ sym (get_or-map name xs i x (name x) short) in
     rw are (rw take-map at (none-before (map name xs) i (name x) apart (omega (arith, length-map xs name)) at))
+
+-- the last of a list takes the place of another one before it
+front-set : {X : Type 0} (xs more : List X) (i : ℕ) (z : X) → i < length xs → take (length xs) (set (xs ++ more) i z) ≡ set xs i z
+front-set [] more i z short = absurd (omega arith)
+front-set {X} (x ∷ xs) more zero z short = ap (λ (rest : List X). z ∷ rest) (take-append_seam xs more)
+front-set {X} (x ∷ xs) more (suc i) z short = ap (λ (rest : List X). x ∷ rest) (front-set xs more i z (omega arith))
+
+pub in-its-place : {X : Type 0} (xs : List X) (i : ℕ) (y d : X) → i < length xs → swap_remove (xs ++ y ∷ []) i d ≡ slice_set xs i y
+in-its-place {X} xs i y d short =
+    let count : length (xs ++ y ∷ []) ≡ length xs + 1 = length-append xs (y ∷ []) in
+    let last : length (xs ++ y ∷ []) - 1 ≡ length xs = omega (arith, count) in
+    let read : slice_index_or (xs ++ y ∷ []) (length (xs ++ y ∷ []) - 1) d ≡ y =
+    ap (λ (n : ℕ). get_or (xs ++ y ∷ []) n d) last ∙ get_or_push xs y d (length xs) refl in
+    ap (λ (n : ℕ). take n (set (xs ++ y ∷ []) i (slice_index_or (xs ++ y ∷ []) (length (xs ++ y ∷ []) - 1) d))) last
+    ∙ ap (λ (z : X). take (length xs) (set (xs ++ y ∷ []) i z)) read ∙ front-set xs (y ∷ []) i y short

@@ -1,5 +1,5 @@
 //! Names by number: an index set in the order in which the names came, so that a name's number is its place.
-ghost use Rattle.std.specs.Prelude.{◌≡◌, [], ◌∷◌, ◌++◌, OnOk, OnErr, bytes_eq, false};
+ghost use Rattle.std.specs.Prelude.{◌≡◌, ◌<◌, [], ◌∷◌, ◌++◌, OnOk, OnErr, bytes_eq, false, length, slice_set};
 ghost use Rattle.std.specs.List.{list_any, position_from};
 
 use indexmap::IndexSet;
@@ -48,6 +48,21 @@ impl NameTable {
         ensures unchanged { OnErr result (self.new ≡ self.old) }
     {
         self.names.insert(name)?;
+        Ok(())
+    }
+
+    /// Gives a number that is there to a name that isn't there, in the place of the name that has it.
+    ///
+    /// # Errors
+    /// Memory runs out; the names stay as they are.
+    pub fn rename(&mut self, number: usize, name: Name) -> Result<(), AllocError>
+        requires there { number < length self.old }
+        requires new { list_any (λ other. bytes_eq other name) self.old ≡ false }
+        ensures renamed { OnOk result (self.new ≡ slice_set self.old number name) }
+        ensures unchanged { OnErr result (self.new ≡ self.old) }
+    {
+        self.names.insert(name)?;
+        let _ = self.names.swap_remove_index(number);
         Ok(())
     }
 }
