@@ -1,4 +1,4 @@
-//! The tests of the top calls of `nrm`, `nrm_why` and `nrm_desks`, of what all have in common, of findings, and of frames.
+//! The tests of the top calls of `nrm` and `nrm_why`, of what all top calls have in common, and of findings.
 #![tactic(auto)]
 
 #[cfg(test)]
@@ -6,10 +6,6 @@ mod cli;
 #[cfg(test)]
 mod common;
 #[cfg(test)]
-mod desks;
-#[cfg(test)]
 mod findings;
-#[cfg(test)]
-mod frames;
 #[cfg(test)]
 mod why;
