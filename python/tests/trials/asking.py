@@ -23,6 +23,7 @@ class Around:
     final = ENDED
     seed: int
     pause: float
+    leaves = 0.0  # how often a desk leaves when it has its replies, and comes again
 
     def __init__(self) -> None:
         self.askers: list[Asker] = []
@@ -68,11 +69,14 @@ class Asker:
             self.is_asking = True
             await self.ask([self.line() for _ in range(self.draw.choices([1, 2, 5, 60], [60, 20, 20, 1])[0])])
             self.is_asking = False
+            if self.crowd.leaves and self.draw.random() < self.crowd.leaves:
+                self.leave()
             await asyncio.sleep(self.draw.expovariate(1 / self.crowd.pause) if self.crowd.pause else 0)
         self.close()
 
     async def ask(self, lines: Sequence[str]) -> None:
         """Asks some lines, and writes down the replies."""
+        self.heard.sent.update(enumerate(lines, self.sequence))
         asked = self.crowd.now()
         replies = await self.replies_to(lines)
         told = self.crowd.now()
@@ -138,6 +142,12 @@ class Asker:
         """Loses the connection, whatever is asked."""
         if self.streams:
             self.streams[1].transport.abort()
+
+    def leave(self) -> None:
+        """Leaves, and half of the time in the middle of a line."""
+        if self.streams and self.draw.random() < 0.5:
+            self.streams[1].write(self.line().encode()[:-1])
+        self.close()
 
     def close(self) -> None:
         if self.streams:

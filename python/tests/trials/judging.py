@@ -34,11 +34,12 @@ class Told:
 
 @dataclass(frozen=True)
 class Heard:
-    """What a desk of a network was told."""
+    """What a desk of a network was told, and what it has sent by number."""
     network: str
     desk: str
     replies: list[Told] = field(default_factory=list)
     looks: list[Told] = field(default_factory=list)
+    sent: dict[int, str] = field(default_factory=dict)
 
 
 class Case(NamedTuple):
@@ -87,7 +88,8 @@ def faults_of_copies(journal: Journal, copies: Sequence[Copied], cases: Sequence
         if of_copy("PRAGMA integrity_check") != [("ok",)]:
             faults.append(f"{copy} is damaged")
             continue
-        before = [Heard(it.network, it.desk, [told for told in it.replies if told.told < began]) for it in heard]
+        before = [Heard(it.network, it.desk, [told for told in it.replies if told.told < began], sent=it.sent)
+                  for it in heard]
         faults += [f"{copy}: {it}" for it in faults_of(of_copy, cases, before, program)]
         for name, rows in rows_by_network(of_copy).items():
             if rows != whole[name][:len(rows)]:
@@ -100,7 +102,7 @@ def judged(case: Case, rows: list[Row], head: object, heard: Sequence[Heard], pr
     network = Network.read(str(case.path))
     yield from (f"{case.name}: {it}" for it in [
         *order(rows, head), *plans(rows), *replies(case, rows, program), *oversold(rows, network),
-        *acknowledged(rows, heard), *looks(case, rows, network, heard)])
+        *acknowledged(rows, heard), *unsent(rows, heard), *looks(case, rows, network, heard)])
 
 
 def order(rows: list[Row], head: object) -> Iterator[str]:
@@ -173,6 +175,14 @@ def acknowledged(rows: list[Row], heard: Sequence[Heard]) -> Iterator[str]:
             found = stored.get((desk.desk, it.sequence))
             if found != (it.line, it.reply):
                 yield f"{desk.desk} {it.sequence} was told {it.reply!r} to {it.line!r}, and the journal has {found}"
+
+
+def unsent(rows: list[Row], heard: Sequence[Heard]) -> Iterator[str]:
+    """Each line but the server's own was sent by its desk, under its number."""
+    sent = {(it.desk, sequence): line for it in heard for sequence, line in it.sent.items()}
+    for number, desk, sequence, line, _ in rows:
+        if desk != CLOCK and sent.get((desk, sequence)) != line:
+            yield f"line {number}: {desk} {sequence} didn't send {line!r}"
 
 
 def looks(case: Case, rows: list[Row], network: Network, heard: Sequence[Heard]) -> Iterator[str]:

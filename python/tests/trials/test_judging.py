@@ -31,7 +31,8 @@ class Judging(PlaceTest):
             "halted FROM network": [("net", halted)] if halted else []}
         journal: Journal = lambda query: next(rows for part, rows in answers.items() if part in query)
         case = Case("net", "first", Path(self.file("net.csv", NETWORK)))
-        heard = [Heard("net", "D1", [*told], [*looks]), Heard("net", "D2", [Told(3, 4, 1, "book LOC 1", "ok 2")])]
+        heard = [Heard("net", "D1", [*told], [*looks], {it.sequence: it.line for it in TOLD}),
+                 Heard("net", "D2", [Told(3, 4, 1, "book LOC 1", "ok 2")], sent={1: "book LOC 1"})]
         return faults_of(journal, [case], heard, self.program)
 
     def test_a_right_journal_has_none(self) -> None:
@@ -53,6 +54,10 @@ class Judging(PlaceTest):
                     *RIGHT[:2], (3, "D1", 2, "book LOC 1", "ok 3"))}),
                 ("a reply that isn't in the journal", r"D1 2 was told 'cancelled 1 200' .* has None",
                  {"rows": RIGHT[:2]}),
+                ("a line that its desk didn't send", "line 4: D2 2 didn't send 'book LOC 1'", {"rows": (
+                    *RIGHT, (4, "D2", 2, "book LOC 1", "ok 3"))}),
+                ("another line than its desk sent", "line 3: D1 2 didn't send 'cancel 2'", {"rows": (
+                    *RIGHT[:2], (3, "D1", 2, "cancel 2", "cancelled 2 200"))}),
                 ("another reply than was told", "D1 1 was told 'ok 9' .* has .*'ok 1'", {"told": [other]}),
                 ("a look before what was answered", "sold 0 .*true of no moment from line 1 to 1", {"looks": [
                     Told(2.1, 2.2, 2, "leg AB", "leg AB seats 2 authorised 2 sold 0 left 2")]}),

@@ -59,10 +59,13 @@ class Session:
         self.keeper, self.network, self.state = keeper, network, RESTS
         self.places: dict[int, Client] = {}
         self.free: list[int] = []
+        self.parted: list[int] = []  # places that are free once what is held of their former clients is given
         self.coming: list[tuple[Client, bytes]] = []
         self.process: subprocess.Popen[bytes] | None = None
         self.input = self.output = -1
+        # `held` is to be given next: who came, what came from whom, and who is gone, in the order in which it happened
         self.out, self.held, self.frames = bytearray(), bytearray(), Frames()
+        self.held_of: set[int] = set()  # the places of whose clients bytes or the end are in it
         # until when those are waited for who were answered since the last rows were kept, and haven't asked again
         self.held_until, self.has_answered = 0.0, True
         self.awaited: set[int] = set()
@@ -78,7 +81,7 @@ class Session:
 
     def enter(self, client: Client, data: bytes) -> None:
         """Gives a client a place, or has it wait until the program answers."""
-        if self.state == ANSWERS and len(self.places) < frames.PLACES:
+        if self.state == ANSWERS and self.free:
             self.seat(client, data)
             return
         self.coming.append((client, data))
@@ -107,10 +110,11 @@ class Session:
         self.network, self.lines, self.state, self.begun_at = network, network.lines, BEGINS, self.keeper.loop.now
 
     def seat(self, client: Client, data: bytes) -> None:
-        """Gives a client a place."""
+        """Gives a client a place, of which the program hears behind all that is held."""
         place = heapq.heappop(self.free)
         self.places[place] = client
-        self.put(frames.opened(place, *self.desk_of(client, place)))
+        self.held += frames.opened(place, *self.desk_of(client, place))
+        self.hold()
         client.seat(self, place, data)
 
     def desk_of(self, client: Client, place: int) -> tuple[str, str]:
@@ -122,7 +126,7 @@ class Session:
 
     def seat_all(self) -> None:
         """Gives those who wait their places, as far as there are some."""
-        while self.coming and self.free:
+        while self.state == ANSWERS and self.coming and self.free:
             client, data = self.coming.pop(0)
             if client.is_waiting:
                 self.seat(client, data)
@@ -132,18 +136,19 @@ class Session:
     def give(self, client: Client, data: bytes) -> None:
         self.awaited.discard(client.place)
         self.held += frames.came(client.place, data)
-        if not self.is_held:
-            self.hold()
+        self.held_of.add(client.place)
+        self.hold()
 
     def part(self, client: Client) -> None:
         self.held += frames.gone(client.place)
-        if not self.is_held:
-            self.hold()
+        self.held_of.add(client.place)
+        self.hold()
 
     def hold(self) -> None:
         """Has what is held given when the next round may begin."""
-        self.is_held = True
-        self.keeper.loop.soon.append(self.release)
+        if not self.is_held:
+            self.is_held = True
+            self.keeper.loop.soon.append(self.release)
 
     def release(self) -> None:
         """Gives the program what came, unless its rows are still being written, or were just now and of those that got
@@ -156,9 +161,15 @@ class Session:
                 self.is_timed = True
                 self.keeper.loop.call_at(self.held_until, self.release_at_last)
             return
-        self.keeper.expected.add(self)
+        if self.held_of:  # to those who only came nothing is answered
+            self.keeper.expected.add(self)
         self.put(self.held)
         self.held.clear()
+        self.held_of.clear()
+        for place in self.parted:
+            heapq.heappush(self.free, place)
+        self.parted.clear()
+        self.seat_all()
 
     def release_at_last(self) -> None:
         """Waits for nobody any more."""
@@ -246,12 +257,7 @@ class Session:
             self.keeper.expected.discard(self)
             self.keeper.keep(self, data)
         elif kind == b"close":
-            place = int(words[1])
-            client = self.places.pop(place)
-            heapq.heappush(self.free, place)
-            client.closed(words[2].decode())
-            self.seat_all()
-            self.rests_since = self.keeper.loop.now
+            self.vacate(int(words[1]), words[2].decode())
         elif kind == b"ready":
             self.ready(int(words[1]))
         elif kind in (b"differs", b"no") and self.state == FOLLOWS:
@@ -261,6 +267,18 @@ class Session:
                              else "is none, or isn't the next")
         else:
             self.told = b" ".join(words).decode("latin-1")
+
+    def vacate(self, place: int, why: str) -> None:
+        """The program has closed a client. Its place is free for another once nothing of it is held any more."""
+        client = self.places.pop(place)
+        self.awaited.discard(place)
+        if place in self.held_of:
+            self.parted.append(place)
+        else:
+            heapq.heappush(self.free, place)
+        client.closed(why)
+        self.seat_all()
+        self.rests_since = self.keeper.loop.now
 
     def ready(self, rows: int) -> None:
         """The journal was given again."""
@@ -306,6 +324,9 @@ class Session:
         """The program has ended: its clients are told, and may come again."""
         status, was = self.wait(), self.state
         self.state, self.out, self.held, self.frames, self.again = RESTS, bytearray(), bytearray(), Frames(), None
+        self.held_of.clear()
+        self.parted.clear()
+        self.awaited.clear()
         self.is_keeping = False
         self.keeper.expected.discard(self)
         if was in (ENDS, FOLLOWS) or self.lost:

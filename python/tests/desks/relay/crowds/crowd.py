@@ -1,13 +1,15 @@
 """A crowd in trouble: desks book, cancel and look at many networks, while servers and programs are killed and worse.
 
     python3 -m desks.relay.crowds.crowd FOLDER [--networks N] [--desks N] [--kills N] [--troubles N] [--copies N]
-        [--rounds N] [--pause SECONDS] [--between SECONDS] [--seed N] [--only KIND,KIND..]
+        [--rounds N] [--pause SECONDS] [--between SECONDS] [--seed N] [--places N] [--strays N] [--only KIND,KIND..]
 
 FOLDER is made anew, with a journal and its networks. What a desk is told it writes down. At random moments, as many
 times as --kills says, the server is killed, or a program, or both, and the troubles of the head of `troubles.py` come,
 of each kind as many. Meanwhile the journal is copied. After the last trouble each desk must have its replies; then the
 journal and the copies are judged. --rounds has that done several times, each with a next seed and a journal of its own.
---only names the kinds, by which mistakes are tried. What doesn't hold is told, and the last line counts it.
+--places has a program hold so few clients, so that desks leave after nearly each reply and others have their places,
+and --strays so many more come who are closed in all ways, as the head of `strays.py` says. --only names the kinds, by
+which mistakes are tried. What doesn't hold is told, and the last line counts it.
 """
 from __future__ import annotations
 
@@ -18,6 +20,7 @@ import time
 from typing import Sequence
 
 import preload  # of the folder tests at the top
+from desks.relay.crowds.strays import Stray
 from desks.relay.crowds.troubles import KILLS, OTHERS, PERIODS, WITH_LIBRARY, Troubles
 from desks.relay.serves import PATIENT, rows_in
 from harness import program
@@ -27,7 +30,7 @@ from trials.judging import CLOCK, faults_of, faults_of_copies
 from trials.rounds import Trial, made_cases, see_that_none_failed, told_of, watched
 
 USUAL = {"networks": 20, "desks": 200, "kills": 6, "troubles": 11, "copies": 5, "rounds": 1, "pause": 0.5,
-         "between": 1.0, "seed": 1, "only": ""}
+         "between": 1.0, "seed": 1, "places": 0, "strays": 0, "only": ""}
 
 
 class Crowd(rounds.Crowd):
@@ -35,8 +38,11 @@ class Crowd(rounds.Crowd):
 
     def __init__(self, asked: argparse.Namespace, seed: int) -> None:
         super().__init__(asked, seed)
-        self.troubles = Troubles(self.folder, made_cases(self.draw, self.folder, asked.networks, PERIODS), self.draw)
+        cases = made_cases(self.draw, self.folder, asked.networks, PERIODS)
+        self.troubles = Troubles(self.folder, cases, self.draw, asked.places, asked.strays)
         self.troubles.seed, self.troubles.pause = seed, asked.pause
+        self.strays = [Stray(self.troubles, cases, at, token) for at, token in enumerate(self.troubles.tokens)]
+        self.troubles.heard += [heard for it in self.strays for heard in it.heard.values()]
 
     async def run(self) -> list[str]:
         """All from the first line to the last trouble; gives what doesn't hold."""
@@ -44,19 +50,20 @@ class Crowd(rounds.Crowd):
         it.may_ask.set()
         running = it.running = it.begun(it.cases, self.asked.desks)
         copying = asyncio.ensure_future(self.copy_now_and_then())
+        straying = [asyncio.ensure_future(stray.run()) for stray in self.strays]
         try:
-            async with watched(it, [*running, copying]):
+            async with watched(it, [*running, copying, *straying]):
                 await self.until_each_has_lines(running)
                 for kind in self.kinds():
                     await asyncio.sleep(self.draw.expovariate(1 / self.asked.between))
                     await it.trouble(kind)
                     self.events[kind] += 1
-                    see_that_none_failed(running)
+                    see_that_none_failed([*running, *straying])
                     if it.told:
                         break
                 await self.until_copied(copying, running)
                 it.is_over = True
-                await asyncio.wait_for(asyncio.gather(*running), TOO_LONG)
+                await asyncio.wait_for(asyncio.gather(*running, *straying), TOO_LONG)
                 it.server.end()
         finally:
             it.server.__exit__()
@@ -109,6 +116,7 @@ class Crowd(rounds.Crowd):
                         f"(SELECT count(*) FROM line WHERE desk = '{CLOCK}')")
         print(f"seed {self.seed}: {seconds:.0f} s, {lines} lines in {len(it.cases)} networks, {told_of(it.askers)}, "
               f"{plans} plans of the clock, {tenures} servers, {len(it.copies)} copies, "
+              f"{sum(stray.came for stray in self.strays)} times that strays came, "
               f"troubles {dict(sorted(self.events.items()))}", flush=True)
 
 

@@ -8,10 +8,13 @@ COMMITS, LOOKING, TABLES, STANDING, WRITING = (
     f"nrm/desks/journals/{it}.py" for it in ("commits", "looking", "tables", "times/standing", "writing"))
 HALL, SERVING, SESSIONS = (f"nrm/desks/relay/{it}.py" for it in ("hall", "serving", "sessions"))
 OF_MOMENTS, OF_PROMISES = "desks.relay.test_moments.Moments", "desks.relay.test_promises.Promises"
+OF_SESSIONS = "desks.relay.test_sessions.Places"
 OF_SERVING, OF_JOURNALS = "desks.relay.test_serving.Serving", "desks.journals.test_journal.Journals"
 SMALL = ("--networks", "3", "--desks", "30", "--pause", "0.3", "--copies", "0", "--kills", "4", "--troubles", "4")
 UNTRUE = r"was told '(leg|ask) .*', true of no moment"
 BUSY = "--pause", "0.02"
+SCARCE = *BUSY, "--places", "5", "--strays", "8"
+STAYS = "        if place in self.held_of:\n", "        if False:\n"
 NOT_HALTED = r"where the journal of net-\d was changed net-\d isn't 'closed halted'"
 GENEROUS = '''#!{python}
 """In place of the program: more seats may be sold by it than the network file says."""
@@ -106,6 +109,15 @@ FORMS = {
         "AssertionError: .* != ", (HALL, """                client.leave("stopping")
 """, """                client.finish("stopping")
 """)),
+    "who comes overtakes what is held of the last one at its place": form("program",
+        r"D\d+ \d+ didn't send|AT-\d+ \d+ didn't send|S\d+ of net-\d was told .* to its greeting",
+        (SESSIONS, """        self.held += frames.opened(place, *self.desk_of(client, place))
+        self.hold()
+""", """        self.put(frames.opened(place, *self.desk_of(client, place)))
+"""), (SESSIONS, *STAYS), more=SCARCE),
+    "a place is free while something of its client is held": form(
+        f"{OF_SESSIONS}.test_what_is_held_of_one_is_given_before_the_next_has_the_place", "Lists differ",
+        (SESSIONS, *STAYS)),
     "a program that is slow keeps others waiting": form(
         f"{OF_MOMENTS}.test_a_network_that_is_slow_keeps_no_other_waiting", "timed out",
         (HALL, "BEGIN_AT_ONCE = 2", "BEGIN_AT_ONCE = 1")),

@@ -22,6 +22,13 @@ class Crowds(ServeTest):
         """200 desks at 20 networks, with each kill twice and each other trouble once; at length, in 300 kills."""
         self.judged("--copies", 2, *(("--rounds", 6, "--kills", 50, "--troubles", 22) if IS_LONG else ()))
 
+    def test_nobody_is_taken_for_the_one_before_at_its_place(self) -> None:
+        """Places are few, so that they are used all the time, and strays are closed in all ways; at length with 200
+        desks at 20 networks, in 200 kills."""
+        few = ("--networks", 20, "--desks", 200, "--kills", 200, "--strays", 40) if IS_LONG else (
+            "--networks", 3, "--desks", 24, "--kills", 3, "--strays", 8)
+        self.judged("--places", 6, "--pause", 0.05, "--copies", 0, "--troubles", 0, *few)
+
     def test_copies_under_load_are_whole(self) -> None:
         self.judged(*CALM, "--copies", 100 if IS_LONG else 5, "--between", 0.1)
 

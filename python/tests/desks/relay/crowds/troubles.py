@@ -30,6 +30,7 @@ import preload  # of the folder tests at the top
 from desks.relay.faults import clock_off, failing, forcing, library, lose_power
 from desks.relay.serves import PATIENT, Serve, journal_of, rows_in
 from harness import SOURCES, program
+from nrm.desks.access import add_desk
 from nrm.desks.journals.tables import using
 from nrm.desks.journals.times.said import Times, set_times
 from nrm.network import Network
@@ -45,6 +46,8 @@ PERIODS = 6  # of each network; desks ask for plans of the first two, and the se
 BEGIN_WITHIN = 60  # seconds
 FAR = 30 * 86_400_000  # milliseconds to the departure
 EARLIER = "SELECT * FROM line WHERE epoch = (SELECT max(epoch) FROM tenure) AND at < (SELECT max(at) - 50000 FROM line)"
+LEAVES = 0.9  # how often a desk leaves where places are few
+FEW = "from nrm.desks import frames\nframes.PLACES = {places}\n"
 OTHER = """#!/bin/bash
 # answers otherwise: each fare has one figure more
 exec {words} "$1" <(sed -E 's/^(product,[^,]*,)/\\19/' "$2")
@@ -54,9 +57,12 @@ exec {words} "$1" <(sed -E 's/^(product,[^,]*,)/\\19/' "$2")
 class Troubles(Around):
     """The journal, its server, and what happens to both while desks ask."""
 
-    def __init__(self, folder: Path, cases: Sequence[Case], draw: random.Random) -> None:
+    def __init__(self, folder: Path, cases: Sequence[Case], draw: random.Random, places: int = 0,
+                 strays: int = 0) -> None:
         super().__init__()
         self.folder, self.cases, self.draw = folder, cases, draw
+        self.leaves = LEAVES if places else 0.0
+        self.tokens = [add_desk(str(folder / "desks"), f"S{at}", ["look"], False) for at in range(strays)]
         self.program = program("NRM_DESKS", "nrm_desks")
         self.journal = journal_of(folder / "journal", self.program,
                                   {name: (mode, path.read_bytes()) for name, mode, path in cases})
@@ -65,7 +71,11 @@ class Troubles(Around):
         self.other = folder / "other"
         self.other.write_text(OTHER.format(words=" ".join(self.program.words)))
         self.other.chmod(0o755)
-        (folder / "sitecustomize.py").write_text("import fcntl\nfcntl.flock = lambda *_: None\n")
+        # what a server begins by: with few places for clients, and where it is to see no lock
+        (folder / "few").mkdir()
+        few = FEW.format(places=places) if places else ""
+        (folder / "few" / "sitecustomize.py").write_text(few)
+        (folder / "sitecustomize.py").write_text(f"{few}import fcntl\nfcntl.flock = lambda *_: None\n")
         self.is_whole = asyncio.Lock()
         self.running: list[asyncio.Future[None]] = []  # the desks, each of which asks until it is over
         self.heard: list[Heard] = []  # what others were told
@@ -114,8 +124,10 @@ class Troubles(Around):
         """A server, on a socket of its own: so one that was stopped isn't in the way."""
         self.runs += 1
         answering = type(self.program)(tuple(words)) if words else self.program
-        server = Serve(self.folder, self.journal, answering, "--slow", "10", name=f"socket-{self.runs}",
-                       variables=variables, status=status)
+        guard = ("--desks", str(self.folder / "desks")) if self.tokens else ()
+        first = {"PYTHONPATH": f"{self.folder / 'few'}:{SOURCES}", **(variables or {})}
+        server = Serve(self.folder, self.journal, answering, "--slow", "10", *guard, name=f"socket-{self.runs}",
+                       variables=first, status=status)
         self.path = server.path if status is None else self.path
         return server
 
@@ -356,7 +368,7 @@ class Troubles(Around):
             stopped.process.send_signal(signal.SIGCONT)
             await asyncio.sleep(self.draw.uniform(0, 0.02))
             stopped.process.send_signal(signal.SIGSTOP)
-        self.server = await in_thread(lambda: self.begin({"PYTHONPATH": str(self.folder)}))
+        self.server = await in_thread(lambda: self.begin({"PYTHONPATH": f"{self.folder}:{SOURCES}"}))
         return stopped
 
     async def go_on(self, stopped: Serve) -> None:
