@@ -2,15 +2,19 @@
 from __future__ import annotations
 
 import signal
+import time
 from typing import Callable
 
 from desks.relay.serves import rows_in, talk
 from harness import meanwhile, wait_for
+from nrm.desks.access import add_desk
 from nrm.desks.desk import Desk
+from nrm.web.door.callers import Callers
 from web.webs import WebTest
 
 JSON = {"Accept": "application/json"}
 AT = "/networks/hub/desks/C-7/lines"
+SOON = 3  # seconds, which is less than wrong tokens wait by then
 REFUSALS = [  # what the server answers a line, the status, the word, and whether the request may come again soon
     ("closed network\n", 404, "network", False), ("closed old\n", 409, "old", False),
     ("closed sequence\n", 409, "sequence", False), ("closed elsewhere\n", 409, "elsewhere", False),
@@ -149,6 +153,61 @@ class DoorTest(WebTest):
                              (401, "token", "Bearer"))
             self.assertNotIn("wrong", told.text)
             self.assertEqual(heard[4:], ["token wrong"])
+
+    def test_wrong_tokens_are_in_nobodys_way(self) -> None:
+        """Neither by the door nor by the socket: a right one is answered while wrong ones wait."""
+        desks = str(self.folder / "desks")
+        token = add_desk(desks, "C-7", ["look"], False)
+        journal = self.journal("hub", mode="bid")
+        with self.served(journal, "--desks", desks, "--clients", "8") as serve:
+            with self.web(journal, serve.path, needs_token=True) as web:
+                callers = web.web.door.callers
+
+                def ask(number: int) -> None:
+                    web.post(f"/networks/hub/desks/E/lines/{number}", "plan", Authorization=f"Bearer no-{number}")
+
+                for number in range(1, 31):
+                    meanwhile(ask, number)
+                wait_for(lambda: callers.slowed.wrong.get("127.0.0.1") == 30, "their refusals")
+                began = time.monotonic()
+                told = web.post(f"{AT}/1", "ask HJ-Q", Authorization=f"Bearer {token}")
+                self.assertEqual((told.status, told.text), (200, "ask HJ-Q 60 leg HAM-FRA\n"))
+                self.assertEqual(talk(serve, b"token %s\n" % token.encode()), b"token C-7\n")
+                self.assertLess(time.monotonic() - began, SOON)
+                self.assertGreater(web.there(), 5, "wrong ones wait")
+
+    def test_callers_are_slowed_by_their_own_addresses(self) -> None:
+        """And only so many at a time, so that they don't take the connections of others."""
+        waits: list[float] = []
+        callers = Callers(1, lambda it: (waits.append(it), callers.refused("third") if it == 1 else None))
+        for _ in range(5):
+            callers.refused("third")
+            callers.refused("one")
+        callers.refused("two")
+        self.assertEqual(waits, [])
+        callers.refused("one")
+        self.assertEqual(waits, [1], "as many wait as may, so the third doesn't")
+        callers.refused("one")
+        self.assertEqual(waits, [1, 2])
+        callers.admitted("one")
+        callers.refused("one")
+        self.assertEqual(waits, [1, 2], "at once behind a right one")
+
+    def test_who_is_refused_makes_nobody_leave(self) -> None:
+        """As many connections are kept as may be. Those of others stay, and nothing is kept of the refused."""
+        heard: list[str] = []
+        with self.stub(lambda it: heard.append(it) or speaks()(it)) as place, self.web(self.journal(), place) as web:
+            kept = web.web.kept
+            kept.most = 2
+            for at, desk in enumerate(("A", "B"), 1):
+                web.post(f"/networks/hub/desks/{desk}/lines/{at}", "book HJ-Q 1")
+            for at in range(4):
+                told = web.post(f"{AT}/1", "book HJ-Q 1", Authorization=f"Bearer no-{at}")
+                self.assertEqual(told.status, 401)
+            self.assertEqual([it.desk for it in kept.entries], ["A", "B"])
+            heard.clear()
+            self.same_told(web.post("/networks/hub/desks/A/lines/2", "book HJ-Q 1"), 200, "ok 1\n")
+            self.assertEqual(heard, ["book HJ-Q 1"], "the connection is used again")
 
     def test_who_comes_from_beyond_needs_a_token(self) -> None:
         heard: list[str] = []

@@ -17,11 +17,13 @@ Pairs = Tuple[Tuple[str, str], ...]
 
 @dataclass(frozen=True)
 class Request:
-    """What was asked: the path without its query, the fields of the head with names in small letters, the body."""
+    """What was asked: the path without its query, the fields of the head with names in small letters, the body, and the
+    address of who asks."""
     method: str
     path: str
     head: Mapping[str, str] = field(default_factory=dict)
     body: bytes = b""
+    address: str = ""
 
     def wants_json(self) -> bool:
         """Whether the answer is to be JSON."""

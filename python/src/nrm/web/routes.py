@@ -67,11 +67,11 @@ class Web:
         self.name: str | None = None
         self.naming = threading.Lock()
         self.watch = Watch(self.following, Asked(partial(ask_status, settings.socket, settings.seconds)))
-        door = Door(self.kept, self.following, self.own, settings.needs_token)
+        self.door = Door(self.kept, self.following, self.own, settings.needs_token)
         self.looks = Looks(self.kept, self.own, self.following)
         self.pages = Pages(self.following, self.looks, settings.journal,
                            Accounts(settings.journal, settings.has_accounts))
-        self.routes = [*watching(self.watch), *of_door(door), *of_page(self.pages)]
+        self.routes = [*watching(self.watch), *of_door(self.door), *of_page(self.pages)]
 
     def own(self, network: str) -> Who:
         """In whose name this process looks: the desk of its token, or one that no other process has."""

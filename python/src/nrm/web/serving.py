@@ -138,7 +138,7 @@ class Handler(BaseHTTPRequestHandler):
         head = {name.lower(): value for name, value in self.headers.items()}
         asked = Request(self.command, self.path.partition("?")[0], head)
         try:
-            asked = Request(asked.method, asked.path, head, self.body())
+            asked = Request(asked.method, asked.path, head, self.body(), self.client_address[0])
             self.site.see_that_it_is_own(asked)
             return self.site.answering(asked)
         except Refusal as refusal:

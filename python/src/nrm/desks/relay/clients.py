@@ -8,15 +8,16 @@ from __future__ import annotations
 import re
 import socket
 import ssl
+import weakref
 from dataclasses import dataclass
 from typing import Protocol
 
 from nrm.desks.access import Right
 from nrm.desks.frames import MOST, WINDOW
 from nrm.desks.relay.doors.secure import RECORD, Secure
-from nrm.desks.relay.doors.tokens import FRONT, Tokens
+from nrm.desks.relay.doors.tokens import FRONT, HERE, Tokens
 from nrm.desks.relay.fleet.passing import PASSED
-from nrm.desks.relay.loop import READ, WRITE, Loop
+from nrm.desks.relay.loop import LEFT, READ, WRITE, Loop
 from nrm.desks.relay.telling.counters import Counters
 
 PIECE = 16_384  # bytes that are read at a time
@@ -25,7 +26,6 @@ NAMES_A_NETWORK = re.compile(rb"desk [a-z]")  # as no greeting of a desk alone d
 ASKS_STATUS = re.compile(rb"status\r?\n")
 FRONTS = (b"desk a", b"status\n", b"status\r\n")  # as long as what came is one of these, more must come
 LOOK = "look"  # the right that one needs who gave a token and asks for the status
-HERE = "here"  # the address of all who come by a Unix socket
 
 
 @dataclass(frozen=True)
@@ -100,6 +100,7 @@ class Client:
         self.right: Right | None = None  # by its token
         self.is_to_give_token = hall.tokens.access is not None and address != HERE
         self.may_give_token = True
+        self.is_refused = False  # the answer to its wrong token waits
         self.session: Session | None = None
         self.network: str | None = None  # its name, once it is known
         self.asks_status = self.is_told = False  # whether that it is closed was told
@@ -125,7 +126,14 @@ class Client:
                              or self.asks_status and self.out)
         what = (READ if self.is_heard else 0) | (WRITE if self.out else 0)
         what = self.secure.watched(what) if self.secure else what
-        self.hall.loop.want(self.file, what, self.read if what == READ else self.ready)
+        if self.is_refused and not self.is_done:
+            self.hall.loop.want(self.file, LEFT, self.go)
+        else:
+            self.hall.loop.want(self.file, what, self.read if what == READ else self.ready)
+
+    def go(self, _: int) -> None:
+        """It has left while its answer waited, and keeps no place."""
+        self.vanish()
 
     def ready(self, what: int) -> None:
         """Reads and sends what can be."""
@@ -222,11 +230,14 @@ class Client:
         return True
 
     def give_token(self, token: bytes) -> None:
-        """Has a token looked up. Nothing is read until it is answered, which may be later."""
+        """Has a token looked up. A wrong one may be answered later: nothing is read until then, and nothing of a client
+        that has left is kept for it."""
         self.is_waiting, self.may_give_token = True, False
         self.right, wait = self.hall.tokens.asked(self.address, token)
         if wait:
-            self.hall.loop.call_at(self.hall.loop.now + wait, self.answer_token)
+            self.is_refused = True
+            answer = weakref.WeakMethod(self.answer_token)
+            self.hall.loop.call_at(self.hall.loop.now + wait, lambda: call() if (call := answer()) else None)
             self.watch()
         else:
             self.answer_token()
@@ -235,7 +246,7 @@ class Client:
         """Says which desk it is, and goes on with what came behind; or ends it."""
         if not self.is_open or self.is_done:
             return
-        self.is_waiting = self.is_to_give_token = False
+        self.is_waiting = self.is_to_give_token = self.is_refused = False
         if not self.right:
             self.finish("token")
             return
@@ -401,7 +412,7 @@ class Client:
     def vanish(self) -> None:
         """The connection is no more. Its place is free once the program says so."""
         if self.is_open:
-            self.is_open = False
+            self.is_open = self.is_waiting = False
             self.hall.loop.forget(self.file)
             self.socket.close()
             self.out.clear()

@@ -10,6 +10,7 @@ import time
 from typing import Callable
 
 READ, WRITE = select.EPOLLIN, select.EPOLLOUT
+LEFT = select.EPOLLRDHUP  # the other side has ended, whatever is still to be read
 Call = Callable[[int], None]
 
 

@@ -1,8 +1,8 @@
 """A server of a journal from beginning to end: the doors by which clients come, signals, and the status.
 
 May use: nrm.desks.access, nrm.desks.journals.stores.kinds, nrm.desks.notify, nrm.desks.places, nrm.desks.relay.clients,
-nrm.desks.relay.doors.guards, nrm.desks.relay.fleet.fleet, nrm.desks.relay.hall, nrm.desks.relay.loop,
-nrm.desks.relay.telling.events.
+nrm.desks.relay.doors.guards, nrm.desks.relay.doors.tokens, nrm.desks.relay.fleet.fleet, nrm.desks.relay.hall,
+nrm.desks.relay.loop, nrm.desks.relay.telling.events.
 """
 from __future__ import annotations
 
@@ -18,8 +18,9 @@ from nrm.desks.access import Access
 from nrm.desks.journals.stores.kinds import Opened, Store
 from nrm.desks.notify import Manager
 from nrm.desks.places import Places, SocketPath, allow_files, tcp_socket
-from nrm.desks.relay.clients import HERE, Client, Limits
+from nrm.desks.relay.clients import Client, Limits
 from nrm.desks.relay.doors.guards import Guard, Watched
+from nrm.desks.relay.doors.tokens import HERE
 from nrm.desks.relay.fleet.fleet import Sharing
 from nrm.desks.relay.hall import Answering, Hall
 from nrm.desks.relay.loop import READ

@@ -1,8 +1,8 @@
 """Connections to the server, one a desk, kept and used again, one line at a time each.
 
 A desk that nobody asked in the name of for a minute goes; there are at most some hundreds, of which the one that was
-left alone for longest makes room. Nothing is tried twice under two numbers: the number of a line is said by who sends
-it. May use: nrm.desks.desk, nrm.web.messages.
+left alone for longest makes room for one that the server has taken. Nothing is kept of one that it refused. Nothing is
+tried twice under two numbers: the number of a line is said by who sends it. May use: nrm.desks.desk, nrm.web.messages.
 """
 from __future__ import annotations
 
@@ -100,20 +100,24 @@ class Kept:
     def asked(self, entry: Entry, who: Who, line: str, sequence: int | None) -> bytes:
         """The reply to a line, on the connection that is there if the line is the next one of it."""
         if entry.desk is None:
-            entry.desk = Desk(self.place, who.desk, who.network, sequence, self.seconds, who.token)
-        elif sequence is not None and entry.desk.sequence != sequence:
+            desk = Desk(self.place, who.desk, who.network, sequence, self.seconds, who.token)
+            with self.lock:
+                is_room = self.has_room()
+                entry.desk = desk if is_room else None
+            if not is_room:
+                desk.close()
+                raise Refusal(503, "desks", f"{self.most} desks are asked for already", PASSES)
+            return desk.reply(line)
+        if sequence is not None and entry.desk.sequence != sequence:
             entry.desk.close()
             entry.desk.sequence = sequence
         return entry.desk.reply(line)
 
     @contextlib.contextmanager
     def entry(self, who: Who) -> Iterator[Entry]:
-        """The place of a desk, which stays as long as it is used."""
+        """The place of a desk, which stays as long as it is used, and behind that as long as it has a connection."""
         with self.lock:
-            entry = self.entries.pop(who, None)
-            if entry is None:
-                self.make_room()
-                entry = Entry()
+            entry = self.entries.pop(who, None) or Entry()
             self.entries[who] = entry  # the last one now
             entry.users += 1
         try:
@@ -122,16 +126,19 @@ class Kept:
             with self.lock:
                 entry.users -= 1
                 entry.used = time.monotonic()
+                if not entry.users and entry.desk is None:
+                    del self.entries[who]
 
-    def make_room(self) -> None:
-        """Leaves the desk that was alone for longest, if as many are there as may be."""
-        if len(self.entries) < self.most:
-            return
-        for who, entry in self.entries.items():
-            if not entry.users:
+    def has_room(self) -> bool:
+        """Whether a further desk may have a connection, for which the one that was left alone for longest may go."""
+        connected = [who for who, it in self.entries.items() if it.desk]
+        if len(connected) < self.most:
+            return True
+        for who in connected:
+            if not self.entries[who].users:
                 self.leave(who)
-                return
-        raise Refusal(503, "desks", f"{self.most} desks are asked for already", PASSES)
+                return True
+        return False
 
     def leave(self, who: Who) -> None:
         """Ends the connection of a desk that nobody uses."""

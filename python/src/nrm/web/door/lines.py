@@ -1,7 +1,7 @@
 """Lines that come by HTTP, each in the name of a desk and under a number, so that it is carried out once.
 
-May use: nrm.desks.desk, nrm.network, nrm.web.asking.kept, nrm.web.door.fields, nrm.web.following.counts,
-nrm.web.following.journal, nrm.web.messages.
+May use: nrm.desks.desk, nrm.network, nrm.web.asking.kept, nrm.web.door.callers, nrm.web.door.fields,
+nrm.web.following.counts, nrm.web.following.journal, nrm.web.messages.
 """
 from __future__ import annotations
 
@@ -11,6 +11,7 @@ from typing import Callable
 from nrm.desks.desk import LAST_SEQUENCE
 from nrm.network import NAME
 from nrm.web.asking.kept import Kept, Who
+from nrm.web.door.callers import Callers
 from nrm.web.door.fields import told_of
 from nrm.web.following.counts import Booking
 from nrm.web.following.journal import Followed, Following
@@ -27,6 +28,7 @@ class Door:
 
     def __init__(self, kept: Kept, following: Following, own: Callable[[str], Who], needs_token: bool) -> None:
         self.kept, self.following, self.own, self.needs_token = kept, following, own, needs_token
+        self.callers = Callers()
 
     # Lines of desks
 
@@ -39,7 +41,19 @@ class Door:
             raise Refusal(401, "token", "each line through this door needs a token",
                           (("WWW-Authenticate", "Bearer"),))
         who = Who(network, name_of(desk, "desk"), token)
-        return told(asked, self.kept.reply(who, line_of(asked.body), int(sequence)))
+        return told(asked, self.reply(asked, who, line_of(asked.body), int(sequence)))
+
+    def reply(self, asked: Request, who: Who, line: str, sequence: int) -> bytes:
+        """The reply to a line. Who gives wrong tokens waits for being told so, and nobody else does."""
+        try:
+            reply = self.kept.reply(who, line, sequence)
+        except Refusal as refusal:
+            if who.token is not None and refusal.word == "token":
+                self.callers.refused(asked.address)
+            raise
+        if who.token is not None:
+            self.callers.admitted(asked.address)
+        return reply
 
     def line_by_key(self, asked: Request, network: str, desk: str) -> Response:
         """The same, with the number in the head."""

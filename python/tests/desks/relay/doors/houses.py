@@ -17,9 +17,10 @@ class Clock:
     def __init__(self) -> None:
         self.now, self.later = 1000.0, []
         self.wanted: dict[int, int] = {}
+        self.calls: dict[int, Callable[[int], None]] = {}
 
     def want(self, file: int, what: int, call: Callable[[int], None]) -> None:
-        self.wanted[file] = what
+        self.wanted[file], self.calls[file] = what, call
 
     def forget(self, file: int) -> None:
         self.wanted.pop(file, None)

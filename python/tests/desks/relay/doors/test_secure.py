@@ -21,6 +21,7 @@ from nrm.desks.frames import WINDOW
 from nrm.desks.relay.clients import Client
 from nrm.desks.relay.doors.secure import RECORD, context_of
 from nrm.desks.relay.loop import READ
+from nrm.desks.status import ask_status
 
 LEGS, PRODUCTS = range(64), range(256)
 LARGE = "\n".join([  # a network whose plan has some 54 KB, four records of TLS
@@ -237,6 +238,22 @@ class Secured(GuardedTest):
             wait_for(lambda: "certificate-fault" in serve.told(), "what is told")
             with self.by_tls(serve):
                 pass
+
+    def test_who_leaves_while_its_answer_waits_keeps_no_place(self) -> None:
+        """Answers to wrong tokens wait for up to 30 seconds by now."""
+        def clients() -> int:
+            return ask_status(str(serve.path), SECONDS).clients.now
+
+        with self.secured(self.journal(file=ONE.encode())) as serve:
+            for _ in range(5):
+                self.assertEqual(self.told_by_tls(serve, b"token odd\n"), b"closed token\n")
+            some = [self.by_tls(serve) for _ in range(6)]
+            for it in some:
+                it.sendall(b"token odd\n")
+            wait_for(lambda: clients() > 5, "some who wait")
+            for it in some:
+                it.close()
+            wait_for(lambda: clients() == 1, "their places", 6)
 
     def test_one_too_many_is_let_go(self) -> None:
         with self.secured(self.journal(file=ONE.encode()), "--clients", "1") as serve:

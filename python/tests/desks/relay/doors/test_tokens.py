@@ -2,9 +2,11 @@
 from __future__ import annotations
 
 import contextlib
+import gc
 import os
 import signal
 import socket
+import weakref
 from pathlib import Path
 from typing import Iterator
 
@@ -19,8 +21,9 @@ from nrm.desks.frames import WINDOW
 from nrm.desks.relay.clients import Client
 from nrm.desks.relay.doors.guards import Watched
 from nrm.desks.relay.doors.secure import RECORD
-from nrm.desks.relay.doors.tokens import MOST_ADDRESSES, Tokens
-from nrm.desks.relay.loop import READ
+from nrm.desks.relay.doors.slowing import MOST_ADDRESSES
+from nrm.desks.relay.doors.tokens import HERE, Tokens
+from nrm.desks.relay.loop import LEFT, READ
 
 MAY = {  # by right: the kinds of lines that it allows
     "look": {"leg", "plan", "hindsight", "ask"}, "book": {"book"}, "cancel-own": {"own"},
@@ -200,14 +203,14 @@ class Slowed(GuardedTest):
             return there.recv(1000)
         return None
 
-    def test_answers_wait_longer_and_longer_behind_wrong_tokens(self) -> None:
-        """Right or wrong, and others aren't kept waiting."""
+    def test_answers_to_wrong_tokens_wait_longer_and_longer(self) -> None:
+        """Right ones are answered at once, from the same address too, and end that."""
         loop = self.house.loop
         for wait in [0, 0, 0, 0, 0, 1, 2, 4, 8, 16, 30, 30]:
             with self.coming("one", b"token wrong\nmore\n") as (client, there):
                 self.assertEqual([when for when, _ in loop.later], [loop.now + wait] if wait else [])
                 if wait:
-                    self.assertEqual(loop.wanted.get(client.file, 0), 0, "nothing is read meanwhile")
+                    self.assertEqual(loop.wanted[client.file], LEFT, "nothing is read meanwhile")
                     loop.goes_on_to(loop.now + wait - 0.5)
                     client.look()
                     self.assertIsNone(self.heard(there), wait)
@@ -216,26 +219,37 @@ class Slowed(GuardedTest):
                     loop.goes_on_to(loop.now + 0.5)
                 self.assertEqual(self.heard(there), b"closed token\n", wait)
         with self.coming("one", b"token right\nask LOC\n") as (client, there):
-            loop.goes_on_to(loop.now + 29.5)
-            self.assertEqual((self.heard(there), self.house.entered), (None, []))
-            loop.goes_on_to(loop.now + 0.5)
-            self.assertEqual(self.heard(there), b"token D1\n")
+            self.assertEqual((self.heard(there), loop.later), (b"token D1\n", []))
             self.same(self.house.entered, (client, None, b"ask LOC\n"))
         with self.coming("one", b"token wrong\n") as (_, there):
             self.assertEqual(self.heard(there), b"closed token\n", "at once behind a right one")
 
+    def test_none_waits_on_the_unix_socket(self) -> None:
+        """Where wrong ones keep no place, so that those of the door of HTTP are in nobody's way."""
+        for _ in range(12):
+            with self.coming(HERE, b"token wrong\n") as (client, there):
+                self.assertEqual((self.heard(there), self.house.left.pop()), (b"closed token\n", client))
+        self.assertEqual(self.house.loop.later, [])
+
     def test_who_is_told_to_end_or_goes_while_an_answer_waits(self) -> None:
-        self.house.tokens.wrong["one"] = 5
-        with self.coming("one", b"token right\n") as (client, there):
+        """Nothing is kept of one that has gone."""
+        self.house.tokens.slowed.wrong["one"] = 5
+        with self.coming("one", b"token wrong\n") as (client, there):
             client.leave("stopping")
             self.assertEqual(self.heard(there), b"closed stopping\n")
             self.house.loop.goes_on_to(self.house.loop.now + 1)
-            self.assertEqual((self.heard(there), self.house.left), (b"", [client]))
-        self.house.tokens.wrong["one"] = 5
-        with self.coming("one", b"token right\n") as (client, there):
+            self.assertEqual((self.heard(there), self.house.left.pop()), (b"", client))
+        with self.coming("one", b"token wrong\nmore") as (client, there):
             there.close()
-            self.house.loop.goes_on_to(self.house.loop.now + 1)
+            self.house.loop.calls[client.file](LEFT)
+            self.assertEqual((self.house.left.pop(), client.is_waiting), (client, False))
             client.watch()
+            gone = weakref.ref(client)
+            self.house.loop.calls.clear()
+        del client
+        gc.collect()
+        self.assertIsNone(gone())
+        self.house.loop.goes_on_to(self.house.loop.now + 2)
 
     def test_so_many_addresses_are_remembered(self) -> None:
         """The one whose wrong token is the oldest goes."""
@@ -246,8 +260,9 @@ class Slowed(GuardedTest):
             tokens.asked(str(at), WRONG)
         self.assertEqual(tokens.asked("first", WRONG)[1], 1, "it is remembered, and the latest now")
         tokens.asked("new", WRONG)
-        self.assertEqual((len(tokens.wrong), "0" in tokens.wrong, tokens.asked("first", b"right")),
-                         (MOST_ADDRESSES, False, (HIS, 2)))
+        wrong = tokens.slowed.wrong
+        self.assertEqual((len(wrong), "0" in wrong, tokens.asked("first", b"right"), "first" in wrong),
+                         (MOST_ADDRESSES, False, (HIS, 0), False))
         for _ in range(2000):
             tokens.asked("first", WRONG)
         self.assertEqual(tokens.asked("first", WRONG)[1], 30)

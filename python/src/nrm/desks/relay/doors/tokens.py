@@ -1,6 +1,6 @@
-"""Whose token it is that a client gave, and how long its answer is put off where wrong ones came before.
+"""Whose token it is that a client gave, and how long the answer to a wrong one waits.
 
-May use: nrm.desks.access.
+May use: nrm.desks.access, nrm.desks.relay.doors.slowing.
 """
 from __future__ import annotations
 
@@ -8,11 +8,10 @@ from itertools import islice
 from typing import Callable, Tuple
 
 from nrm.desks.access import Access, Right
+from nrm.desks.relay.doors.slowing import Slowed
 
 FRONT = b"token "  # of the line that gives a token
-WRONG_AT_ONCE = 5  # wrong tokens from an address that are answered at once
-WAITS = 1, 2, 4, 8, 16, 30  # the seconds that the next ones wait, and all behind them
-MOST_ADDRESSES = 1000  # that are remembered
+HERE = "here"  # the address of all who come by a Unix socket
 MOST_TOLD = 10  # addresses in a line of the log
 
 
@@ -21,19 +20,18 @@ class Tokens:
 
     def __init__(self, tell: Callable[..., None], access: Access | None = None) -> None:
         self.tell, self.access = tell, access
-        self.wrong: dict[str, int] = {}  # by address, that of the latest behind the others
+        self.slowed = Slowed()
         self.refused: dict[str, int] = {}  # those since they were told last
 
     def asked(self, address: str, token: bytes) -> Tuple[Right | None, float]:
-        """Whose token it is that came from an address, and the seconds that the answer waits, be it right or wrong."""
+        """Whose token it is that came from an address, and the seconds that the answer to a wrong one waits. On the
+        Unix socket none does: those who may open it need no token, and the door of HTTP slows its callers itself."""
         right = self.access.named(token) if self.access else None
-        before = self.wrong.pop(address, 0)
-        if not right:
-            self.wrong[address] = before + 1
-            self.refused[address] = self.refused.get(address, 0) + 1
-            if len(self.wrong) > MOST_ADDRESSES:
-                del self.wrong[next(iter(self.wrong))]
-        return right, wait_after(before)
+        if right:
+            self.slowed.admitted(address)
+            return right, 0
+        self.refused[address] = self.refused.get(address, 0) + 1
+        return None, self.slowed.refused(address) if address != HERE else 0
 
     def tell_of_refused(self) -> None:
         """Tells how many wrong tokens came since this was told last, and from where, in one line."""
@@ -43,8 +41,3 @@ class Tokens:
         others = len(refused) - MOST_TOLD
         self.tell("token-refused", count=sum(refused.values()), addresses=",".join(islice(refused, MOST_TOLD)),
                   others=others if others > 0 else None)
-
-
-def wait_after(wrong: int) -> float:
-    """The seconds that an answer waits after so many wrong tokens."""
-    return WAITS[min(wrong - WRONG_AT_ONCE, len(WAITS) - 1)] if wrong >= WRONG_AT_ONCE else 0
