@@ -75,9 +75,9 @@ def token_in(path: str) -> str:
 
 
 OF_LIMITS: tuple[tuple[str, Callable[[str], float], str, str], ...] = (
-    ("clients", count, "N", "the most clients at a time"),
+    ("clients", count, "N", "the most clients at a time, the last tenth for --socket alone if --listen is there too"),
     ("unsent", count, "BYTES", "of replies that a client hasn't taken"),
-    ("slow", seconds, "SECONDS", "for the rest of a line, for taking replies, and for the end"),
+    ("slow", seconds, "SECONDS", "for a line once it begins, for saying who one is, taking replies, and the end"),
     ("idle", seconds, "SECONDS", "for a next line"),
     ("answer", seconds, "SECONDS", "for a program's next answer before it is ended"),
     ("linger", seconds, "SECONDS", "for which a program without clients stays"))  # each a field of `Limits`

@@ -34,7 +34,7 @@ class Limits:
 
     clients  the most at a time
     unsent   the bytes of replies that a client hasn't taken
-    slow     the seconds for the rest of a line, for taking replies, and for the end
+    slow     the seconds for a line once it has begun, for saying who it is, for taking replies, and for the end
     idle     those for a next line
     answer   those for a program's next frame before it is ended
     linger   those for which a program without clients stays
@@ -45,6 +45,10 @@ class Limits:
     idle: float = 3600
     answer: float = 3600
     linger: float = 600
+
+    def clients_of_ports(self) -> int:
+        """The most at a time where a further one comes by a port: the last tenth is for those of the Unix socket."""
+        return max(1, self.clients - max(1, self.clients // 10))
 
 
 class Session(Protocol):
@@ -111,6 +115,7 @@ class Client:
         self.is_heard = True
         self.is_open, self.has_ended, self.is_parting, self.is_done = True, False, False, False
         self.why: str | None = None  # it is cut off, once its lines are answered
+        # since when its time runs: from the connection until it is somebody, then from where a line begins or ends
         self.since = hall.loop.now
         self.full_since: float | None = None
         self.watch()
@@ -171,8 +176,9 @@ class Client:
     def choose(self, piece: bytes) -> None:
         """Finds the desk by the first line, if that has a token, and the network by the next one, if that names one, or
         by its first bytes."""
+        if not self.first and not self.is_to_give_token:
+            self.since = self.hall.loop.now
         self.first += piece
-        self.since = self.hall.loop.now
         if not self.is_passed and PASSED[:len(self.first)] == self.first[:len(PASSED)]:
             self.is_passed = len(self.first) >= len(PASSED)
             self.first = self.first[len(PASSED):] if self.is_passed else self.first
@@ -247,6 +253,7 @@ class Client:
         if not self.is_open or self.is_done:
             return
         self.is_waiting = self.is_to_give_token = self.is_refused = False
+        self.since = self.hall.loop.now
         if not self.right:
             self.finish("token")
             return
@@ -285,10 +292,11 @@ class Client:
         self.watch()
 
     def pass_on(self, piece: bytes) -> None:
-        """Gives the program a piece."""
+        """Gives the program a piece. Bytes within a line don't give it more time."""
         assert self.session
-        self.since = self.hall.loop.now
         size, last = len(piece), piece.rfind(b"\n")
+        if last >= 0 or not self.tail:
+            self.since = self.hall.loop.now
         self.unused += size
         self.tail = size - 1 - last if last >= 0 else self.tail + size
         self.session.give(self, piece)
@@ -423,7 +431,7 @@ class Client:
             self.session.part(self)
 
     def look(self) -> None:
-        """Cuts it off if it has been silent, in the middle of a line, or not taking its replies for too long."""
+        """Cuts it off if for too long it has been silent, in a line, nobody yet, or not taking its replies."""
         limits, now = self.hall.limits, self.hall.loop.now
         if not self.is_open:
             return

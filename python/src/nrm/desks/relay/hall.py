@@ -188,10 +188,6 @@ class Hall:
         """Whether the journal is reached, so that the clock's looks keep nobody waiting."""
         return self.owning.may_read()
 
-    def is_full_of_clients(self) -> bool:
-        """Whether as many are there as may be."""
-        return self.count_of_clients() >= self.limits.clients
-
     def count_of_clients(self) -> int:
         """How many are there, but for the clock's own."""
         return len(self.clients) + len(self.passed) - len(self.clock.asked)
@@ -501,10 +497,10 @@ class Hall:
         self.counters.unread += 1
         self.events.tell("unread")
 
-    def tell_of_turned_away(self) -> None:
-        """Counts and tells that a client is turned away, since as many as may be are there."""
+    def tell_of_turned_away(self, most: int) -> None:
+        """Counts and tells that a client is turned away, since as many are there as may be where it comes."""
         self.counters.turned_away += 1
-        self.events.tell("turned-away", most=self.limits.clients)
+        self.events.tell("turned-away", most=most)
 
     def status_text(self) -> bytes:
         """What is answered to a line `status`."""

@@ -85,7 +85,8 @@ class Server:
         loop turns, and of the end."""
         manager = Manager()
         wake_by_signals(hall, manager)
-        doors = [Door(hall, it, context) for it in listeners]
+        most = self.limits.clients_of_ports() if path else self.limits.clients
+        doors = [Door(hall, it, context, most) for it in listeners]
         hall.loop.looks += [*(it.open for it in doors), lambda: manager.works(status_of(hall))]
         manager.ready(status_of(hall))
         try:
@@ -153,9 +154,12 @@ def wake_by_signals(hall: Hall, manager: Manager) -> None:
 class Door:
     """A socket that listens. It takes a few clients at a time, so that a crowd of them doesn't keep others waiting."""
 
-    def __init__(self, hall: Hall, listener: socket.socket, context: Watched[ssl.SSLContext] | None) -> None:
+    def __init__(self, hall: Hall, listener: socket.socket, context: Watched[ssl.SSLContext] | None,
+                 most_of_ports: int) -> None:
         self.hall, self.listener = hall, listener
-        self.context = context if listener.family != socket.AF_UNIX else None
+        is_port = listener.family != socket.AF_UNIX
+        self.context = context if is_port else None
+        self.most = most_of_ports if is_port else hall.limits.clients  # that are there when it lets in no further one
         listener.setblocking(False)
         listener.listen(BACKLOG)
         name = listener.getsockname()
@@ -181,8 +185,8 @@ class Door:
                 hall.events.tell("waiting", why=fault.strerror)
                 hall.loop.forget(self.listener.fileno())  # until the next second
                 return
-            if hall.is_full_of_clients():
-                hall.tell_of_turned_away()
+            if hall.count_of_clients() >= self.most:
+                hall.tell_of_turned_away(self.most)
                 turn_away(connection, CLOSED if not self.context else b"")
             else:
                 self.let_in(connection, address[0] if address else HERE)

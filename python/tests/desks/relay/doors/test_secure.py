@@ -18,7 +18,7 @@ from harness import SECONDS, meanwhile, wait_for
 from nrm import Stop
 from nrm.desks.desk import Desk, Ended, Late, Sold, Strange
 from nrm.desks.frames import WINDOW
-from nrm.desks.relay.clients import Client
+from nrm.desks.relay.clients import Client, Limits
 from nrm.desks.relay.doors.secure import RECORD, context_of
 from nrm.desks.relay.loop import READ
 from nrm.desks.status import ask_status
@@ -254,6 +254,19 @@ class Secured(GuardedTest):
             for it in some:
                 it.close()
             wait_for(lambda: clients() == 1, "their places", 6)
+
+    def test_some_places_are_for_the_unix_socket_alone(self) -> None:
+        """The last tenth of them. Those who say nothing at the port take the others, for so many seconds."""
+        with self.secured(self.journal(file=ONE.encode()), "--clients", "20", "--slow", "3") as serve:
+            with contextlib.ExitStack() as all_:
+                some = [all_.enter_context(self.plain(serve)) for _ in range(19)]
+                wait_for(lambda: "turned-away most=18" in serve.told(), "what is told of one too many")
+                self.assertEqual(talk(serve, b"ask LOC\n"), b"ask LOC 300 leg AB\n")
+                for it in some:
+                    self.assertEqual(all_told(it), b"")
+            with self.by_tls(serve):
+                pass
+        self.assertEqual([Limits(clients=it).clients_of_ports() for it in (1, 2, 9, 20, 1000)], [1, 1, 8, 18, 900])
 
     def test_one_too_many_is_let_go(self) -> None:
         with self.secured(self.journal(file=ONE.encode()), "--clients", "1") as serve:

@@ -31,6 +31,13 @@ MAY = {  # by right: the kinds of lines that it allows
 WRONG = b"wrong"
 
 
+class Closing(Taken):
+    """A session in the place of one, which closes those that are gone."""
+
+    def part(self, client: Client) -> None:
+        client.closed("gone")
+
+
 class Known(GuardedTest):
     def test_who_comes_by_a_token(self) -> None:
         """On a Unix socket it may be left out."""
@@ -294,6 +301,46 @@ class Slowed(GuardedTest):
                 self.assertEqual((client.unused, self.house.loop.wanted.get(client.file, 0)), (WINDOW - least + 1, 0))
                 client.used(1, b"")
                 self.assertEqual(self.house.loop.wanted.get(client.file), READ)
+
+    def goes_on(self, client: Client, there: socket.socket, sent: bytes) -> bytes | None:
+        """What a client is told next that sends a byte each two seconds."""
+        self.heard(there)
+        for at in range(len(sent)):
+            self.house.loop.now += 2
+            there.sendall(sent[at:at + 1])
+            client.read(READ)
+            client.look()
+            if told := self.heard(there):
+                return told
+        return None
+
+    def test_a_byte_now_and_then_gives_no_more_time(self) -> None:
+        """A line is to end within `--slow` seconds of its beginning, and who must give a token is to within those of
+        the connection; five here."""
+        for address, first, sent, wanted in [
+                ("far", b"", b"token right", b"closed half\n"), ("far", b"tok", b"en right", b"closed half\n"),
+                ("far", b"token right\n", b"desk hub", b"closed half\n"), (HERE, b"token ", b"right", b"closed half\n"),
+                (HERE, b"", b"desk a", b"closed half\n"), (HERE, b"desk hub ", b"COUNTER-7", b"closed half\n"),
+                (HERE, b"status\n", b"status", b"closed half\n"), (HERE, b"", b"passed\ndesk a", b"closed half\n")]:
+            with self.subTest(address=address, first=first), self.coming(address, first) as (client, there):
+                self.assertEqual(self.goes_on(client, there, sent), wanted)
+        for first, sent, wanted in [(b"", b"book LOC 1", b"closed half\n"), (b"", b"\n" * 20, None),
+                                    (b"", b"b\n" * 20, None), (b"book", b" LOC 1\n", b"closed half\n")]:
+            with self.subTest(seated=first), self.coming(HERE, b"") as (client, there):
+                client.seat(Closing(), 0, first)
+                self.assertEqual(self.goes_on(client, there, sent), wanted)
+
+    def test_a_line_that_begins_late_has_its_time(self) -> None:
+        """Whether the program has it already or not."""
+        for is_seated in (False, True):
+            with self.coming(HERE, b"") as (client, there):
+                client.seat(Closing(), 0, b"") if is_seated else None
+                for after, sent, wanted in (30, b"de", None), (4, b"s", None), (2, b"", b"closed half\n"):
+                    self.house.loop.now += after
+                    there.sendall(sent)
+                    client.read(READ) if sent else None
+                    client.look()
+                    self.assertEqual(self.heard(there), wanted, (is_seated, after))
 
     def test_who_must_give_a_token_has_little_time_for_it(self) -> None:
         """And who needn't, as much as for any line."""
