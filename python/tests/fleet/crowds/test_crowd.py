@@ -16,7 +16,7 @@ A_MINUTE = ("--networks", 8, "--desks", 80, "--kills", 6, "--stops", 2, "--failo
 class Mistakes(unittest.TestCase):
     def test_each_is_one_of_the_code(self) -> None:
         """Where there is no database too."""
-        self.assertEqual(len(FORMS), 11)
+        self.assertEqual(len(FORMS), 12)
         for name, form in FORMS.items():
             self.assertEqual(not_there(form), [], name)
 

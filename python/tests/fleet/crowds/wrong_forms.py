@@ -12,6 +12,8 @@ from trials.mistakes import BLIND, LOST, TWICE, Form, main
 HALL, FLEET, OWNING = (f"nrm/desks/relay/{it}.py" for it in ("hall", "fleet/fleet", "fleet/owning"))
 POSTGRES = "nrm/desks/journals/stores/postgres"
 SMALL = ("--networks", "4", "--desks", "40", "--pause", "0.1", "--between", "1")
+COMMIT = """ "
+         "AND current_setting('synchronous_commit') IN ('on', 'remote_apply')")"""
 UNTOLD = "AssertionError: .*is answered before the fence is passed"
 
 
@@ -54,18 +56,23 @@ split_part(entry, E'\\t', 6) = ''
          r"concat_ws(E'\t', number, 'AGAIN', number,"),), trial(6, 0), TWICE),
     "no standby is waited for": Form((
         ("tests/databases.py", "synchronous_standby_names = 'ANY 1 ({names})'", "synchronous_standby_names = ''"),
-        (FLEET, "return seen.is_durable or self.sharing.is_alone", "return True"),
+        (FLEET, "return not seen.weakness or self.sharing.is_alone", "return True"),
         (f"{POSTGRES}/tables.py", "        if not self.is_alone:\n", "        if False:\n")), trial(0, 2), LOST),
     "waiting that is switched off counts as waiting": Form((
         (f"{POSTGRES}/tables.py", "self.is_weak = self.is_weak or not all(it[-1] == TRUE for it in [*rows, *after])",
          "pass"),),
         moment("test_databases.Databases.test_waiting_that_is_switched_off_is_no_commit"),
         "AssertionError: .*a line is told that no standby has"),
+    "what a session has been asked for counts as what it has": Form((
+        (f"{POSTGRES}/tables.py", COMMIT, '")'),),
+        moment("test_databases.Databases.test_a_session_that_has_lost_its_settings_answers_nothing"),
+        "AssertionError: .*a line is told that no standby has"),
     "a cancelled wait counts as written": Form((
         (f"{POSTGRES}/tables.py", "            made.add_notice_handler(self.notice)\n", ""),),
         moment("test_databases.Databases.test_a_cancelled_wait_is_no_commit"),
         "AssertionError: .*a line is told that no standby has"),
     "only lines wait for a standby": Form((
+        (f"{POSTGRES}/tables.py", COMMIT, '")'),
         (f"{POSTGRES}/addresses.py", "-c synchronous_commit=on", "-c synchronous_commit=local"),
         (f"{POSTGRES}/writing.py", "SELECT network, {WAITS} FROM passed", """SELECT network, {WAITS} FROM passed,
     (SELECT count(set_config('synchronous_commit', 'on', true)) FROM given WHERE count > 0) AS waits""")),

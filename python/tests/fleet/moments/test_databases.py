@@ -3,6 +3,7 @@ from __future__ import annotations
 
 import signal
 
+from desks.relay.fleet.pooler import Pooler
 from desks.relay.serves import Server
 from fleet.standing import COUNT, HALTED, LEASE, Fleet, FleetTest, asked, heard, rows_of, silent
 from harness import wait_for
@@ -77,6 +78,33 @@ class Databases(FleetTest):
         servers.asked(primary, "ALTER SYSTEM RESET synchronous_standby_names")
         servers.asked(primary, RELOAD)
         self.see_that_it_goes_on(fleet, one, lost)
+
+    def test_a_session_that_has_lost_its_settings_answers_nothing(self) -> None:
+        """A pooler drops what a session asks for, and the role has `synchronous_commit = off`: with all standbys lost a
+        commit is a success, and no standby has the line. A server that is there answers nothing, and none begins."""
+        fleet, servers = self.fleet(), self.databases
+        pooler = Pooler(servers.ports[servers.primary()])
+        self.addCleanup(pooler.close)
+        self.addCleanup(servers.asked, servers.primary(), "ALTER ROLE fleet RESET synchronous_commit")
+        one = fleet.start(0, uri=pooler.uri(fleet.uri))
+        self.assertEqual(asked([one], b"book LOC 1\n", 1), [b"ok 1"])
+        servers.asked(servers.primary(), "ALTER ROLE fleet SET synchronous_commit = off")
+        lost = servers.standbys()
+        for it in lost:
+            servers.kill(it)
+        pooler.cut()
+        self.see_that_nothing_is_told([one], b"desk net D1 2\nbook LOC 2\n", 2 * LEASE,
+                                      "a line is told that no standby has")
+        self.want_in(one.told(), "synchronous_commit is off in its sessions, though on was asked for")
+        refused = fleet.start(1, is_awaited=False, uri=pooler.uri(fleet.uri))
+        self.assertEqual(refused.process.wait(20), 1, refused.told())
+        self.want_in(refused.told(), "synchronous_commit is off in its sessions")
+        servers.asked(servers.primary(), "ALTER ROLE fleet RESET synchronous_commit")
+        for it in lost:
+            servers.start(it)
+        self.databases.wait_until_whole()
+        pooler.cut()
+        self.assertEqual(asked([one], b"book LOC 2\nbook LOC 1\n", 2, sequence=2), [b"ok 2", b"ok 3"])
 
     def see_that_it_goes_on(self, fleet: Fleet, one: Server, lost: list[str]) -> None:
         """With the standbys that were lost a second line is answered, which was sent before, and a third."""

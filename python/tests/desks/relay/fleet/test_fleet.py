@@ -183,7 +183,7 @@ def head(number: int, server: int | None, program: str = "p", lines: int = 5) ->
 
 
 def seen(members: list[Member], heads: list[Head], dead: frozenset[int] = frozenset(), is_sure: bool = True) -> Seen:
-    return Seen(members[0].server, tuple(members), dead, is_sure, tuple(heads), True, 0)
+    return Seen(members[0].server, tuple(members), dead, is_sure, tuple(heads), None, 0)
 
 
 class Owning(unittest.TestCase):

@@ -1,11 +1,13 @@
 """A journal in PostgreSQL: its tables, the fence of what writes, and one server alone."""
 from __future__ import annotations
 
+import contextlib
 import socket
 import time
 
 from desks.relay.fleet.databases import DatabaseTest
 from desks.relay.fleet.fleets import FleetTest
+from desks.relay.fleet.pooler import Pooler
 from desks.relay.serves import ONE
 from harness import SECONDS, meanwhile, wait_for
 from nrm import Stop
@@ -104,6 +106,43 @@ class Stores(FleetTest):
         thread.join(SECONDS)
         self.assertEqual([*map(str, found)], ["committed on the primary, and perhaps on no standby"])
         self.database.set("synchronous_standby_names", "")
+
+    def test_a_session_that_waits_for_no_disk_of_another_machine_commits_nothing(self) -> None:
+        """A pooler drops what is asked for, and the role has another setting: neither a row nor a taking counts, and
+        each look says why."""
+        store = store_of(self.behind_a_pooler())
+        for setting in "off", "local":
+            self.set_for_the_role(setting)
+            with contextlib.closing(store.writer("p")) as writer, self.subTest(setting):
+                self.assertRaises(Unknown, writer.write, [self.given(1, 0, b"")])
+            with contextlib.closing(store.members(Named("two", "", "p"))) as members, self.subTest(setting):
+                seen = members.beat(False)
+                self.assertRaises(Unknown, members.take, [(2, seen.heads[1].epoch)])
+                self.want_in(str(seen.weakness), f"synchronous_commit is {setting} in its sessions")
+
+    def test_which_settings_wait_for_the_disk_of_another_machine(self) -> None:
+        from nrm.desks.journals.stores.postgres.addresses import address_of
+        from nrm.desks.journals.stores.postgres.tables import Link
+        address = address_of(self.behind_a_pooler())
+        for setting, waits in ("off", False), ("local", False), ("remote_write", False), ("on", True), (
+                "remote_apply", True):
+            self.set_for_the_role(setting)
+            with contextlib.closing(Link(address)) as link, self.subTest(setting):
+                self.assertEqual(link.ask("SHOW synchronous_commit").fetchall(), [(setting,)])
+                self.assertEqual(link.weakness() is None, waits)
+
+    def behind_a_pooler(self) -> str:
+        """The journal behind what drops the settings of a session. Its database asks for a standby, and has none."""
+        pooler = Pooler(*self.database.servers.ports.values())
+        self.addCleanup(pooler.close)
+        self.addCleanup(self.database.ask, "ALTER ROLE fleet RESET synchronous_commit")
+        self.addCleanup(self.database.set, "synchronous_standby_names", "")
+        self.database.set("synchronous_standby_names", "nobody")
+        return pooler.uri(self.database.uri)
+
+    def set_for_the_role(self, setting: str) -> None:
+        """Has the sessions of the role begin with a setting, unless they ask for another."""
+        self.database.ask(f"SET synchronous_commit = off; ALTER ROLE fleet SET synchronous_commit = {setting}")
 
     def test_a_line_stays(self) -> None:
         self.writer.write([self.given(1, 0, ROW)])

@@ -227,7 +227,7 @@ class Seen:
     dead        servers that have died, whose networks nobody has
     is_sure     whether the others may be taken for dead: not soon after this server couldn't look itself
     heads       whose each network is
-    is_durable  whether a commit waits for another machine's disk
+    weakness    why a commit waits for no other machine's disk, if it doesn't
     size        the bytes of the journal
     """
     server: int
@@ -235,7 +235,7 @@ class Seen:
     dead: frozenset[int]
     is_sure: bool
     heads: tuple[Head, ...]
-    is_durable: bool
+    weakness: str | None
     size: int
 
 

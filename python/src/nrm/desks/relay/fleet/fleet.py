@@ -29,8 +29,7 @@ FEW = 1000  # lines that a network may have to be moved before its program has a
 LOADS = 2  # programs that are given their journals at a time to follow them
 TO_LEAVE = 60.0  # the most seconds for which a server that is to end waits for others to take its networks
 AT_END = 5.0  # and those in which it says that it leaves
-NOT_DURABLE = ("the database waits for no other machine: synchronous_standby_names is empty, and without --alone no "
-               "server answers from it")
+WEAK = "the database waits for no other machine: {}, and without --alone no server answers from it"
 
 
 @dataclass(frozen=True)
@@ -73,7 +72,7 @@ class Fleet:
         members = store.members(named)
         self.seen = members.beat(False)
         if not self.is_durable(self.seen):
-            raise Stop(NOT_DURABLE)
+            raise Stop(WEAK.format(self.seen.weakness))
         self.heads: dict[str, Head] = {it.name: it for it in self.seen.heads}
         self.by_number: dict[int, Head] = {it.number: it for it in self.seen.heads}
         self.owned: dict[int, int] = {}  # networks, by their epochs, whose takings were acknowledged
@@ -91,7 +90,7 @@ class Fleet:
 
     def is_durable(self, seen: Seen) -> bool:
         """Whether the database acknowledges nothing that one disk alone has, or may."""
-        return seen.is_durable or self.sharing.is_alone
+        return not seen.weakness or self.sharing.is_alone
 
     # What the server needs to know
 
@@ -178,7 +177,8 @@ class Fleet:
         if isinstance(fault, Replaced):
             self.keeper.fail(fault)
         elif fault or not seen or not self.is_durable(seen):  # nobody takes anything, nor is anything answered
-            self.keeper.events.tell("database", why=" ".join(str(fault or NOT_DURABLE).split()))
+            why = fault or WEAK.format(seen.weakness if seen else "")
+            self.keeper.events.tell("database", why=" ".join(str(why).split()))
             if self.is_leaving and not self.may_read():
                 self.keeper.stop()  # nobody can take anything
         else:

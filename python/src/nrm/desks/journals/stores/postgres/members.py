@@ -27,7 +27,7 @@ SELECT DISTINCT ON (name) server, name, address, program, leaving,
 FROM server WHERE seen > clock_timestamp() - %s * interval '1 second' ORDER BY name, server DESC"""
 HEADS = """
 SELECT coalesce(json_agg(json_build_array(network, name, mode, program, ended IS NOT NULL, halted, lines, epoch, server)
-    ORDER BY name), '[]')::text, current_setting('synchronous_standby_names'), pg_total_relation_size('line')
+    ORDER BY name), '[]')::text, pg_total_relation_size('line')
 FROM network JOIN head USING (network)"""
 REPLACED = """
 SELECT server FROM server WHERE server IN (SELECT server FROM head)
@@ -71,9 +71,9 @@ class Members:
         if at - self.beaten_at > LEASE / 2:
             self.sure_from = at + LEASE  # the others may have been as long without the database as this one
         self.beaten_at = at
-        [(heads, standbys, size)] = self.beats.ask(HEADS).fetchall()
+        [(heads, size)] = self.beats.ask(HEADS).fetchall()
         return Seen(self.server, members, frozenset(self.gone | self.replaced()), at >= self.sure_from,
-                    tuple(Head(*it) for it in json.loads(heads)), bool(standbys), size)
+                    tuple(Head(*it) for it in json.loads(heads)), self.takes.weakness(), size)
 
     def tell(self, is_leaving: bool) -> None:
         """Says that this server is alive, as a new one if the database has lost it."""

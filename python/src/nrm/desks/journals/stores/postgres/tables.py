@@ -31,7 +31,11 @@ SELECT string_agg(concat_ws(E'\t', number, desk, sequence, line, reply), E'\n' O
 FROM (SELECT number, desk, sequence, line, reply FROM line WHERE network = %s AND number > %s AND number <= %s
       ORDER BY number LIMIT %s) AS read"""
 MOST_LINES = 2**62
-WAITS = "current_setting('synchronous_standby_names') <> ''"  # whether a commit waits for the disk of another machine
+# whether a commit waits for the disk of another machine: that is asked for as a session begins, but what stands between
+# may drop it, and then the setting of the role or of the database counts. By `remote_write` another machine has the row
+# in its memory alone
+WAITS = ("current_setting('synchronous_standby_names') <> '' "
+         "AND current_setting('synchronous_commit') IN ('on', 'remote_apply')")
 TRUE = "t"
 
 
@@ -42,6 +46,8 @@ class Statement(NamedTuple):
 
 
 WAITING = Statement("waiting", f"SELECT {WAITS}")
+WEAKNESS = f"""
+SELECT {WAITS}, current_setting('synchronous_standby_names') = '', current_setting('synchronous_commit')"""
 
 
 class NotReached(psycopg.OperationalError):
@@ -137,6 +143,14 @@ class Link:
             self.connection, self.last, self.prepared = made, at, set()
             return made
         raise NotReached("; ".join(dict.fromkeys(why)))
+
+    def weakness(self) -> str | None:
+        """Why a commit waits for no other machine's disk, if it doesn't."""
+        [(waits, is_for_none, commit)] = self.ask(WEAKNESS).fetchall()
+        if waits:
+            return None
+        return "synchronous_standby_names is empty" if is_for_none else (
+            f"synchronous_commit is {commit} in its sessions, though on was asked for")
 
     def notice(self, told: psycopg.errors.Diagnostic) -> None:
         """Hears a warning of the database."""
