@@ -80,8 +80,20 @@ class Following(FleetTest):
         wait_for(lambda: other.answer(b"desk net D1\n") == b"closed halted\n", "a halted network", PATIENT)
 
 
-class Pasts(unittest.TestCase):
+class Feeds(unittest.TestCase):
     """Without a database."""
+
+    def test_a_program_keeps_up_that_lacks_what_came_last(self) -> None:
+        """Few rows, or those that have come since the time before; not one that is still given what was there then."""
+        asked: list[Callable[[object], None]] = []
+        asker = SimpleNamespace(ask=lambda work, then: asked.append(then))
+        feed = Feed(asker, 1, None, lambda: None, None, lambda: None)
+        for there, given, keeps_up in ((5000, 3000, False), (9000, 4000, False), (9000, 8500, True),
+                                       (20_000, 9000, True), (20_000, 10_000, False), (20_000, 20_000, True)):
+            feed.more(there)
+            asked.pop()(("past", given, [b"row\n" * (given - feed.read)]))
+            next(feed)
+            self.assertEqual(feed.keeps_up(1000), keeps_up, (there, given))
 
     def test_rows_of_another_past_than_the_taking_are_never_given(self) -> None:
         """As from a primary that is cut off, and that the connection which reads has kept to."""

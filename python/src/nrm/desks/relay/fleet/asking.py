@@ -164,7 +164,9 @@ class Feed:
         self.history, self.spoilt = history, spoilt
         self.pieces: deque[bytes] = deque()
         self.read = 0  # the number of the last row that was read
+        self.given = 0  # how many rows the program was given
         self.there = lines or 0  # how many are known to be there
+        self.before = 0  # and how many were by the count before that
         self.is_asked = self.is_over = False
         self.histories: set[str] = set()
         self.go_on()
@@ -176,6 +178,7 @@ class Feed:
         """The next piece, or an empty one."""
         if self.pieces:
             piece = self.pieces.popleft()
+            self.given += piece.count(b"\n")
             self.go_on()
             return piece
         if self.is_over or self.lines is not None and self.read >= self.lines:
@@ -185,11 +188,16 @@ class Feed:
 
     def more(self, there: int, is_all: bool = False) -> None:
         """So many lines are there, and if that is said they are all."""
-        self.there = max(self.there, there)
+        self.before, self.there = self.there or there, max(self.there, there)
         if is_all:
             self.lines = there
         self.go_on()
         self.wake()
+
+    def keeps_up(self, behind: int) -> bool:
+        """Whether the program lacks at most so many rows, or only rows that the count before didn't have: a network at
+        work always has such rows, and perhaps many."""
+        return self.given >= min(self.before, self.there - behind)
 
     def go_on(self) -> None:
         """Has the next rows read, if there are some and few wait."""

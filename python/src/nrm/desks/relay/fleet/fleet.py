@@ -25,7 +25,7 @@ from nrm.desks.status import Share
 
 BEAT = 0.5  # seconds between two heartbeats
 OLD = 3.0  # seconds after which a look says nothing more
-FEW = 1000  # lines that a network may have to be moved before its program has answered them again
+FEW = 1000  # lines that a program may still have to answer again when its network is moved
 LOADS = 2  # programs that are given their journals at a time to follow them
 TO_LEAVE = 60.0  # the most seconds for which a server that is to end waits for others to take its networks
 AT_END = 5.0  # and those in which it says that it leaves
@@ -361,9 +361,7 @@ class Fleet:
 
     def count_of_loading(self) -> int:
         """How many are being given what the journal has."""
-        behind = sum(network in self.by_number and feed.read < self.by_number[network].lines
-                     for network, feed in self.feeds.items())
-        return len(self.loading) + behind
+        return len(self.loading) + sum(not it.keeps_up(FEW) for it in self.feeds.values())
 
     def follow(self, head: Head) -> None:
         """Begins a program that is given a network's lines as they become part of the journal."""
@@ -396,9 +394,10 @@ class Fleet:
             session.kill()
 
     def may_move(self, head: Head) -> bool:
-        """Whether a network can be taken from a server that is alive so that its desks wait for little."""
+        """Whether a network can be taken from a server that is alive so that its desks wait for little: its program is
+        given what it lacks before it answers."""
         feed = self.feeds.get(head.number)
-        return head.lines < FEW or feed is not None and feed.read >= head.lines and not feed.pieces
+        return head.lines < FEW or feed is not None and feed.keeps_up(FEW)
 
     # Leaving
 
