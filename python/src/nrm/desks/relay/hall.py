@@ -73,7 +73,7 @@ class Hall:
         self.asker: Asker
         self.owning: Owning
         if store.is_shared:
-            self.asker = ByThread(self.loop, store.opened())
+            self.asker = ByThread(self, store.opened())
             self.owning = Fleet(self, store, Named(sharing.name, sharing.address, answering.checksum), sharing)
         else:
             self.asker, self.owning = AtOnce(self.reader), Sole(self, store, self.reader, self.writer)

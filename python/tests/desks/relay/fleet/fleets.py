@@ -73,9 +73,10 @@ class FleetTest(DatabaseTest, PlaceTest):
             for it in names:
                 put_network(tables, it, mode, file, program or self.desks_program.checksum())
 
-    def serve(self, name: str, *options: str) -> Server:
+    def serve(self, name: str, *options: str, uri: str = "") -> Server:
         """A server of a database that is alone."""
-        made = Server(self.folder, self.database.uri, self.desks_program, name, len(self.servers), "--alone", *options)
+        made = Server(self.folder, uri or self.database.uri, self.desks_program, name, len(self.servers), "--alone",
+                      *options)
         self.servers.append(made)
         return made
 

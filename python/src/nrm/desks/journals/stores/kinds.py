@@ -254,6 +254,10 @@ class Replaced(Stop):
 class Members(Protocol):
     """What servers that share a journal tell each other through it."""
 
+    @property
+    def faults(self) -> tuple[type[Exception], ...]:
+        """What goes wrong with the store itself."""
+
     def beat(self, is_leaving: bool) -> Seen:
         """Tells that this server is alive, and looks who else is and whose each network is. Replaced if a later start
         has its name."""

@@ -1,6 +1,7 @@
 """How a journal is asked: at once, or where that may take long by a thread, so that clients are heard meanwhile.
 
-May use: nrm.desks.journals.networks, nrm.desks.journals.stores.kinds, nrm.desks.relay.loop.
+May use: nrm.desks.journals.networks, nrm.desks.journals.stores.kinds, nrm.desks.relay.loop,
+nrm.desks.relay.telling.events.
 """
 from __future__ import annotations
 
@@ -15,8 +16,10 @@ from typing import Callable, Generic, Iterator, Protocol, TypeVar
 from nrm.desks.journals.networks import rows_of
 from nrm.desks.journals.stores.kinds import Tables
 from nrm.desks.relay.loop import READ, Loop
+from nrm.desks.relay.telling.events import Events
 
-PAUSE = 0.1  # the seconds before the journal is asked again, after its connection was lost
+PAUSE = 0.1  # the seconds before the journal is asked again, after its connection was lost or it refused to answer
+MOST_REFUSED = 10.0  # seconds for which it may refuse
 PIECES_AHEAD = 32  # of rows that are read before the program takes them
 Subject = TypeVar("Subject")
 Given = TypeVar("Given")
@@ -113,21 +116,45 @@ class AtOnce:
         """There is nothing to be ended."""
 
 
-class ByThread:
-    """Who is asked by a thread, again and again until the journal is reached."""
+class Keeper(Protocol):
+    """What is needed of the server."""
+    loop: Loop
+    events: Events
 
-    def __init__(self, loop: Loop, tables: Tables) -> None:
-        self.worker = Worker(loop, tables)
+    def fail(self, fault: Exception) -> None:
+        """Ends all."""
+
+
+class ByThread:
+    """Who is asked by a thread, again and again until the journal is reached. If the database refuses, as for a right
+    that was taken away, it is asked again for some seconds, and then all ends here, so that others take over."""
+
+    def __init__(self, keeper: Keeper, tables: Tables) -> None:
+        self.keeper, self.faults = keeper, tables.faults
+        self.worker = Worker(keeper.loop, tables)
         self.is_over = False
 
-    def ask(self, work: Callable[[Tables], Given], then: Callable[[Given], None]) -> None:
-        """Has the tables asked, and tells what they gave; what goes wrong but with the connection is a fault here."""
+    def ask(self, work: Callable[[Tables], Given], then: Callable[[Given], None], since: float | None = None) -> None:
+        """Has the tables asked, and tells what they gave. `since` is when they first refused, if they did."""
         def tell(given: Given | None, fault: Exception | None) -> None:
-            if fault:
+            if fault and isinstance(fault, self.faults):
+                now = self.keeper.loop.now
+                self.refused(fault, now if since is None else since, lambda first: self.ask(work, then, first))
+            elif fault:
                 raise fault
-            then(given)  # type: ignore[arg-type]  # what a work without a fault has given
+            else:
+                then(given)  # type: ignore[arg-type]  # what a work without a fault has given
 
         self.worker.ask(lambda tables: self.answer(tables, work), tell)
+
+    def refused(self, fault: Exception, since: float, again: Callable[[float], None]) -> None:
+        """Logs what the database refuses since some time, and asks again, or ends all."""
+        now = self.keeper.loop.now
+        self.keeper.events.tell("database", why=" ".join(str(fault).split()))
+        if now - since > MOST_REFUSED:
+            self.keeper.fail(fault)
+        else:
+            self.keeper.loop.call_at(now + PAUSE, lambda: again(since))
 
     def answer(self, tables: Tables, work: Callable[[Tables], Given]) -> Given:
         """What the tables give, once they are reached."""

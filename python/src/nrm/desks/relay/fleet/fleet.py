@@ -70,7 +70,10 @@ class Fleet:
     def __init__(self, keeper: Keeper, store: Store, named: Named, sharing: Sharing) -> None:
         self.keeper, self.store, self.named, self.sharing = keeper, store, named, sharing
         members = store.members(named)
-        self.seen = members.beat(False)
+        try:
+            self.seen = members.beat(False)
+        except members.faults as fault:
+            raise Stop(f"{store.place}: {' '.join(str(fault).split())}")
         if not self.is_durable(self.seen):
             raise Stop(WEAK.format(self.seen.weakness))
         self.heads: dict[str, Head] = {it.name: it for it in self.seen.heads}

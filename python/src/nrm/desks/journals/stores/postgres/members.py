@@ -51,6 +51,7 @@ NO_MORE = "UPDATE server SET seen = '-infinity' WHERE server = %s"
 
 class Members:
     """A server among others. Heartbeats wait for no standby, since nothing that is told stands on them; takings do."""
+    faults: tuple[type[Exception], ...] = (psycopg.Error,)
 
     def __init__(self, beats: Link, takes: Link, named: Named) -> None:
         self.beats, self.takes, self.named = beats, takes, named

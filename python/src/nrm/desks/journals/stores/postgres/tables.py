@@ -31,6 +31,9 @@ SELECT string_agg(concat_ws(E'\t', number, desk, sequence, line, reply), E'\n' O
 FROM (SELECT number, desk, sequence, line, reply FROM line WHERE network = %s AND number > %s AND number <= %s
       ORDER BY number LIMIT %s) AS read"""
 MOST_LINES = 2**62
+# after these another session is begun: the old one is lost, or was begun with a role or a search path by which it can't
+# find or use a table, and has them as long as it is there
+ANEW = psycopg.OperationalError, psycopg.ProgrammingError
 # whether a commit waits for the disk of another machine: that is asked for as a session begins, but what stands between
 # may drop it, and then the setting of the role or of the database counts. By `remote_write` another machine has the row
 # in its memory alone
@@ -81,7 +84,7 @@ class Link:
         self.is_weak = False
         try:
             cursor = connection.execute(statement, values or None)
-        except psycopg.OperationalError:
+        except ANEW:
             self.close()
             raise
         self.see_that_it_is_safe()
@@ -97,7 +100,7 @@ class Link:
         try:
             rows = self.rows(connection, statement, values)
             after = [] if self.is_alone else self.rows(connection, WAITING, ())
-        except psycopg.OperationalError:
+        except ANEW:
             self.close()
             raise
         if not self.is_alone:
