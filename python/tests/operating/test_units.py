@@ -8,11 +8,13 @@ from pathlib import Path
 
 from harness import TOP, PlaceTest
 from nrm.commands.live.web import words_of as words_of_web
+from nrm.desks.journals.stores.kinds import REPLACED
 from nrm.desks.relay.hall import JOURNAL_FAULT
 
 UNITS = {it: TOP / "examples" / "operating" / f"nrm-{it}.service" for it in ("serve", "web")}
 INSTALLED = "/opt/nrm/nrm-tools"
 MOST_EXPOSED = 15  # tenths, of 100
+USAGE = 2  # the status after wrong words
 
 
 def settings_of(path: Path) -> dict[str, list[str]]:
@@ -50,13 +52,14 @@ class Units(PlaceTest):
         for name, unit in UNITS.items():
             found = settings_of(unit)
             for setting, value in (("Type", "notify"), ("NotifyAccess", "main"), ("Restart", "on-failure"),
-                                   ("RestartPreventExitStatus", "2"), ("NoNewPrivileges", "yes"), ("PrivateTmp", "yes"),
-                                   ("ProtectSystem", "strict"), ("ProtectHome", "yes"), ("StateDirectory", "nrm")):
+                                   ("NoNewPrivileges", "yes"), ("PrivateTmp", "yes"), ("ProtectSystem", "strict"),
+                                   ("ProtectHome", "yes"), ("StateDirectory", "nrm")):
                 self.assertEqual(found[setting], [value], f"{name} {setting}")
             self.assertGreaterEqual(int(found["WatchdogSec"][0]), 30, "a disk may be slow")
         serve = settings_of(UNITS["serve"])
         self.assertEqual((serve["KillMode"], serve["RuntimeDirectory"]), (["mixed"], ["nrm"]))
-        self.assertNotIn(str(JOURNAL_FAULT), serve["RestartPreventExitStatus"][0].split())
+        self.assertEqual(serve["RestartPreventExitStatus"], [f"{USAGE} {REPLACED}"], f"and not {JOURNAL_FAULT}")
+        self.assertEqual(settings_of(UNITS["web"])["RestartPreventExitStatus"], [f"{USAGE}"])
         self.assertGreaterEqual(int(serve["TimeoutStopSec"][0]), 60, "twice what --slow says")
         self.assertNotIn("RuntimeDirectory", settings_of(UNITS["web"]), "its end would take the socket away")
 

@@ -416,7 +416,7 @@ class Hall:
         if self.fault:
             return
         self.fault = str(fault) if isinstance(fault, Stop) else f"{self.store.place}: {fault}"
-        self.status = 1 if isinstance(fault, Stop) else JOURNAL_FAULT
+        self.status = fault.status if isinstance(fault, Stop) else JOURNAL_FAULT
         if isinstance(fault, Stop):
             self.events.tell("lost", why=None if isinstance(fault, Fenced) else self.fault)
         else:

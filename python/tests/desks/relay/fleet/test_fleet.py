@@ -7,9 +7,9 @@ import unittest
 
 from desks.relay.fleet.fleets import FleetTest, Server, stopped
 from desks.relay.serves import PATIENT
-from harness import SECONDS, wait_for
+from harness import SECONDS, meanwhile, wait_for
 from nrm.desks.desk import Desk, Sold
-from nrm.desks.journals.stores.kinds import Head, Member, Seen
+from nrm.desks.journals.stores.kinds import REPLACED, Head, Member, Seen
 from nrm.desks.relay.fleet.owning import preferred, wanted_of
 from nrm.desks.status import ask_status
 
@@ -101,13 +101,34 @@ class Fleets(FleetTest):
             self.database.start()
 
     def test_another_start_by_the_same_name_is_the_one(self) -> None:
+        """The earlier one ends with a status of its own, by which it isn't begun again."""
         self.open("net")
         first = self.serve("one")
         self.assertEqual(first.answer(FIRST), b"at 1\nok 1\n")
         second = self.serve("one")
         self.assertEqual(second.answer(FIRST), b"at 1\nok 1\n")
-        first.end(1, None)
-        self.want_in(first.told(), "event=lost why=")
+        first.end(REPLACED, None)
+        self.want_in(first.told(), "event=lost why=\"another start of a server has the name one now, at "
+                     f"127.0.0.1:{second.port}: to begin this one again, give it a name of its own, or end the other\"")
+        self.assertEqual(second.talk(FIRST), b"at 1\nok 1\n")
+
+    def test_two_that_are_begun_again_take_a_name_once(self) -> None:
+        """Each by a supervisor that begins it again unless it ended as the unit says: the later one stays."""
+        self.open("net")
+        supervisors = [meanwhile(self.supervise, "one")]
+        wait_for(lambda: len(self.servers) == 1, "the first", PATIENT)
+        supervisors.append(meanwhile(self.supervise, "one"))
+        wait_for(lambda: len(self.servers) > 1, "the second", PATIENT)
+        supervisors[0].join(SECONDS)
+        self.assertEqual([it.is_alive() for it in supervisors], [False, True], "one takes the name from the other")
+        self.assertEqual(len(self.servers), 2)
+        self.assertEqual(self.servers[1].answer(FIRST), b"at 1\nok 1\n")
+        self.assertEqual([it.process.poll() for it in self.servers], [REPLACED, None])
+
+    def supervise(self, name: str) -> None:
+        """Begins a server again and again, but if it was killed, or another has its name."""
+        while self.serve(name).process.wait() not in (-signal.SIGKILL, REPLACED):
+            time.sleep(0.5)
 
     def test_the_database_is_lost_in_a_commit(self) -> None:
         """It is killed again and again, and comes back: each line is there once."""

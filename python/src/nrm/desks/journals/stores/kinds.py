@@ -199,6 +199,8 @@ class Writer(Protocol):
 
 # Several servers
 
+REPLACED = 78  # the status of a server whose name another has
+
 
 @dataclass(frozen=True)
 class Member:
@@ -248,7 +250,13 @@ class Named:
 
 
 class Replaced(Stop):
-    """Another start of a server has the name now."""
+    """Another start of a server has the name now. By the status a supervisor knows not to begin this one again: of two
+    that are both begun again, each takes the name from the other, for ever."""
+
+    def __init__(self, name: str, address: str) -> None:
+        there = f", at {address}" if address else ""
+        super().__init__(f"another start of a server has the name {name} now{there}: to begin this one again, give it "
+                         "a name of its own, or end the other", REPLACED)
 
 
 class Members(Protocol):

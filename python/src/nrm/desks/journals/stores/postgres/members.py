@@ -20,6 +20,7 @@ BEGIN = "INSERT INTO server (name, address, program) VALUES (%s, %s, %s) RETURNI
 BEAT = """
 UPDATE server SET seen = clock_timestamp(), leaving = %s WHERE server = %s
     AND NOT EXISTS (SELECT FROM server AS other WHERE other.name = %s AND other.server > %s) RETURNING server"""
+LATER = "SELECT address FROM server WHERE name = %s AND server > %s ORDER BY server DESC LIMIT 1"
 ALIVE = """
 SELECT DISTINCT ON (name) server, name, address, program, leaving,
     clock_timestamp() < began + %s * interval '1 second',
@@ -81,10 +82,9 @@ class Members:
         found = self.beats.ask(BEAT, [is_leaving, self.server, self.named.name, self.server]).fetchall()
         if found:
             return
-        later = self.beats.ask("SELECT FROM server WHERE name = %s AND server > %s",
-                               [self.named.name, self.server]).fetchall()
+        later = self.beats.ask(LATER, [self.named.name, self.server]).fetchall()
         if self.server and later:
-            raise Replaced(f"another start of a server has the name {self.named.name} now")
+            raise Replaced(self.named.name, later[0][0])
         [(self.server,)] = self.takes.ask(BEGIN, [self.named.name, self.named.address, self.named.program]).fetchall()
         self.locked_on = None
 
