@@ -13,8 +13,9 @@ import time
 
 from desks.relay.serves import ONE
 from harness import SECONDS, needs, wait_for
+from nrm.web.messages import MOST_HEAD
 from nrm.web.routes import DESCRIPTION
-from nrm.web.serving import FULL, MOST_HEAD, is_own_name
+from nrm.web.serving import FULL, is_own_name
 from web.webs import WebTest, passed
 
 HOST = b"Host: localhost\r\n"
@@ -37,7 +38,7 @@ class ServingTest(WebTest):
                     (line + b"Transfer-Encoding: chunked\r\n\r\n4\r\nplan\r\n0\r\n\r\n", 411),
                     (line + b"Content-Length: 4\r\nContent-Length: 5\r\n\r\nplan!", 400),
                     (line + b"Content-Length: -1\r\n\r\n", 400), (line + b"Content-Length: 4x\r\n\r\nplan", 400),
-                    (line + b"Content-Length: 4\r\nTransfer-Encoding: chunked\r\n\r\nplan", 411),
+                    (line + b"Content-Length: 4\r\nTransfer-Encoding: chunked\r\n\r\nplan", 400),
                     (b"what\r\n\r\n", 400), (b"GET / HTTP/9.9\r\n\r\n", 505)):
                 with self.subTest(sent=sent[:60]):
                     told = web.raw(sent)
@@ -84,20 +85,34 @@ class ServingTest(WebTest):
             wait_for(lambda: web.get("/openapi.json").status == 200, "room")
 
     def test_the_page_of_another_site_is_refused(self) -> None:
-        """By its origin, and by a name that isn't this machine's."""
+        """By its origin, and by a name that isn't the server's."""
         line = "/networks/hub/desks/A/lines/0"
         with self.web(self.journal()) as web:
             for path, head, status in (
                     (line, {"Origin": "http://evil.example"}, 403), (line, {"Origin": "null"}, 403),
                     (line, {"Origin": f"http://127.0.0.1:{web.port}"}, 400), (line, {}, 400),
-                    (line, {"Host": "evil.example"}, 403), (line, {"Host": f"localhost:{web.port}"}, 400),
-                    (line, {"Host": "evil.example", "Origin": "http://evil.example"}, 403)):
+                    (line, {"Host": "evil.example"}, 421), (line, {"Host": f"localhost:{web.port}"}, 400),
+                    (line, {"Host": "evil.example", "Origin": "http://evil.example"}, 421)):
                 self.assertEqual(web.post(path, "plan", **head).status, status, head)
-            self.assertEqual(web.get("/", Host="evil.example").status, 403)
-        with self.web(self.journal(at="beyond"), listening={"is_beyond_allowed": True}) as web:
-            self.assertEqual(web.get("/openapi.json", Host="sales.example").status, 200)
+            self.assertEqual(web.get("/", Host="evil.example").status, 421)
         names = ("[::1]:80", "127.9.9.9", "LOCALHOST:1", "", "10.0.0.1", "a.localhost")
         self.assertEqual([is_own_name(it) for it in names], [True, True, True, False, False, False])
+
+    def test_beyond_this_machine_it_is_asked_by_its_names_alone(self) -> None:
+        """Those that it was given, and the address that is asked; since a stranger's page may have a name that means
+        that address."""
+        listening = {"is_beyond_allowed": True, "hosts": ("sales.example", "10.1.2.3")}
+        with self.web(self.journal(), listening=listening) as web:
+            for name, status in (("sales.example", 200), ("SALES.example:443", 200), ("10.1.2.3:80", 200),
+                                 ("127.0.0.1", 200), ("evil.example", 421), ("sales.example.evil.example", 421),
+                                 ("", 421), ("10.1.2.4", 421)):
+                for path in ("/openapi.json", "/healthz", "/networks/hub/plan"):
+                    told = web.get(path, Host=name)
+                    self.assertEqual(told.status == 421, status == 421, (name, path, told))
+            self.assertEqual(web.post("/networks/hub/desks/A/lines/1", "plan", Host="evil.example").status, 421)
+        for host, name, is_own in (("[2001:db8::1]:80", "2001:DB8:0::1", True), ("10.9.9.9", "::ffff:10.9.9.9", True),
+                                   ("10.9.9.8", "::ffff:10.9.9.9", False), ("2001:db8::2", "2001:db8::1", False)):
+            self.assertEqual(is_own_name(host, (name,)), is_own, host)
 
     def test_nothing_is_left_of_a_fault_of_this_program(self) -> None:
         """It is told as such, and the next request is answered."""
@@ -170,7 +185,8 @@ class ServingTest(WebTest):
     def test_words_that_mean_nothing(self) -> None:
         journal, place = self.journal(file=ONE.encode()), ("--socket", "s", "--listen", "127.0.0.1:0")
         for words in ((), ("--socket", "s"), ("--socket", "s", "--listen", "127.0.0.1"), (*place, "--key", "a"),
-                      ("--socket", "", "--listen", "127.0.0.1:0"), ("--socket", "s", "--listen", "0.0.0.0:0")):
+                      ("--socket", "", "--listen", "127.0.0.1:0"), ("--socket", "s", "--listen", "0.0.0.0:0"),
+                      (*place, "--host", ""), (*place, "--host", "a b"), (*place, "--host", "sales.example:80")):
             self.stopped("web", journal, *words, status=2)
         self.stopped("web", "nowhere", *place, says="unable to open")
         self.stopped("web", journal, *place, "--token", self.file("empty", ""), says="has no token")

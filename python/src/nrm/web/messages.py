@@ -1,10 +1,13 @@
 """What is asked by HTTP and what is answered: a request, a response whole or bit by bit, and a refusal in a sentence.
 
-May use: nrm.desks.desk.
+Of a head each line is seen as it came. A proxy in front may end a head, a field or a body elsewhere than Python's
+parser does, where a line is none of those that HTTP knows: then what is a body to the one is a next request to the
+other. May use: nrm.desks.desk.
 """
 from __future__ import annotations
 
 import json
+import re
 from dataclasses import dataclass, field
 from typing import Callable, Iterator, Mapping, Tuple, Union
 
@@ -13,6 +16,12 @@ from nrm.desks.desk import TOKEN
 TEXT, JSON, HTML = "text/plain; charset=utf-8", "application/json", "text/html; charset=utf-8"
 PASSES = (("Retry-After", "1"),)  # with what may be asked again soon
 Pairs = Tuple[Tuple[str, str], ...]
+MOST_HEAD = 16_384  # bytes of a request before its body
+MOST_FIELDS = 99  # with a further one Python's parser gives up
+NAMED = rb"[!#$%&'*+.^_`|~0-9A-Za-z-]+"  # what HTTP calls a token
+BEGIN = re.compile(NAMED + rb" [!-~]+ HTTP/[0-9]\.[0-9]\r\n")
+FIELD = re.compile(NAMED + rb":[\t\x20-\x7e\x80-\xff]*\r\n")
+END = b"\r\n"
 
 
 @dataclass(frozen=True)
@@ -74,6 +83,42 @@ class Refusal(Exception):
         if is_json:
             return json_of({"error": self.word, "why": self.why}, self.status, self.head)
         return Response(f"{self.word}: {self.why}\n".encode(), TEXT, self.status, self.head)
+
+
+class Head:
+    """A head that comes line by line, and what has come of it."""
+
+    def __init__(self) -> None:
+        self.left, self.lines, self.hosts = MOST_HEAD, 0, 0
+
+    def taken(self, line: bytes) -> bytes:
+        """A next line, at most a byte longer than what is left; a Refusal if it mustn't come. No bytes are the end of
+        a connection, which may come before a head alone."""
+        self.left -= len(line)
+        if self.left < 0:
+            raise Refusal(431, "head", f"the head of a request has at most {MOST_HEAD} bytes")
+        if not line.endswith(b"\n") and (line or self.lines):
+            raise ConnectionError("the head broke off")
+        self.lines += 1
+        if line:
+            self.see_that_it_may_come(line)
+        return line
+
+    def see_that_it_may_come(self, line: bytes) -> None:
+        """A Refusal for a line that isn't of the form of HTTP, or is one too many."""
+        if self.lines == 1:
+            if not BEGIN.fullmatch(line):
+                raise Refusal(400, "head", "a request begins with a method, a path and `HTTP/1.1`, with one space "
+                                           "between each two, and ends its lines by CR and LF")
+        elif line == END:
+            if self.hosts != 1:
+                raise Refusal(400, "head", "a head has one field `Host`")
+        elif not FIELD.fullmatch(line):
+            raise Refusal(400, "head", "each line of a head is a name, a colon right behind it, and a value in one "
+                                       "line without control characters, and ends by CR and LF")
+        elif self.lines > MOST_FIELDS + 1:
+            raise Refusal(431, "head", f"the head of a request has at most {MOST_FIELDS} fields")
+        self.hosts += line[:5].lower() == b"host:"
 
 
 def json_of(value: object, status: int = 200, head: Pairs = ()) -> Response:

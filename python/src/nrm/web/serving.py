@@ -6,8 +6,8 @@ is answered is for `Answering` to say. May use: nrm, nrm.desks.places, nrm.web.m
 """
 from __future__ import annotations
 
-import http.client
 import io
+import ipaddress
 import re
 import socket
 import ssl
@@ -16,14 +16,13 @@ import threading
 import time
 from dataclasses import dataclass
 from http.server import BaseHTTPRequestHandler, ThreadingHTTPServer
-from typing import Any, Callable, cast
+from typing import Any, Callable, Sequence, cast
 
 from nrm import Stop
 from nrm.desks.places import is_loopback, tcp_socket
-from nrm.web.messages import PASSES, Answer, Refusal, Request, Stream
+from nrm.web.messages import PASSES, Answer, Head, Refusal, Request, Stream
 
 MOST_CONNECTIONS = 200
-MOST_HEAD = 16_384  # bytes of a request before its body
 MOST_BODY = 4_096
 SECONDS = 30.0  # for all of a request, from the end of the one before, and for taking a piece of the answer
 PIECE = 8_192
@@ -45,6 +44,7 @@ class Listening:
     key: str | None = None
     connections: int = MOST_CONNECTIONS
     seconds: float = SECONDS
+    hosts: tuple[str, ...] = ()  # by which it is asked, beside the names of this machine and the address that is asked
 
     def context(self) -> ssl.SSLContext | None:
         """What makes a connection one of TLS, if there is a certificate."""
@@ -85,15 +85,11 @@ class Timed(io.RawIOBase):
 
 
 class Bounded(io.BufferedReader):
-    """The same by lines, of which a head has so many bytes at the most."""
-    left = MOST_HEAD
+    """The same by lines, which are those of a head."""
+    head = Head()
 
     def readline(self, size: int | None = -1, /) -> bytes:
-        line = super().readline(self.left + 1)
-        self.left -= len(line)
-        if self.left < 0:
-            raise http.client.HTTPException(f"a head has at most {MOST_HEAD} bytes")
-        return line
+        return self.head.taken(super().readline(self.head.left + 1))
 
 
 class Handler(BaseHTTPRequestHandler):
@@ -119,7 +115,7 @@ class Handler(BaseHTTPRequestHandler):
     def handle_one_request(self) -> None:
         """Takes a request and answers it; what comes too late or not at all ends the connection."""
         self.timed.begin()
-        self.bounded.left = MOST_HEAD
+        self.bounded.head = Head()
         self.requestline, self.request_version, self.command = "", self.protocol_version, ""
         try:
             self.raw_requestline = self.bounded.readline()
@@ -127,9 +123,9 @@ class Handler(BaseHTTPRequestHandler):
                 self.close_connection = True
             elif self.parse_request():
                 self.answer(self.answered())
-        except http.client.HTTPException:
-            self.close_connection = True
-            self.answer(Refusal(431, "head", f"the head of a request has at most {MOST_HEAD} bytes").response(False))
+        except Refusal as refusal:  # of its head: where the next request begins isn't known
+            self.close_connection, self.request_version = True, self.protocol_version
+            self.answer(refusal.response(False))
         except OSError:  # too late, or gone
             self.close_connection = True
 
@@ -139,7 +135,7 @@ class Handler(BaseHTTPRequestHandler):
         asked = Request(self.command, self.path.partition("?")[0], head)
         try:
             asked = Request(asked.method, asked.path, head, self.body(), self.client_address[0])
-            self.site.see_that_it_is_own(asked)
+            self.site.see_that_it_is_own(asked, str(self.connection.getsockname()[0]))
             return self.site.answering(asked)
         except Refusal as refusal:
             return refusal.response(asked.wants_json())
@@ -157,6 +153,8 @@ class Handler(BaseHTTPRequestHandler):
         if not lengths and "Transfer-Encoding" not in self.headers:
             return b""
         self.close_connection, was_to_close = True, self.close_connection
+        if lengths and "Transfer-Encoding" in self.headers:
+            raise Refusal(400, "length", "a request has no `Content-Length` beside `Transfer-Encoding`")
         if "Transfer-Encoding" in self.headers:
             raise Refusal(411, "length", "a body has its length in `Content-Length`, and comes in one piece")
         if len(lengths) > 1 or not re.fullmatch("[0-9]{1,15}", lengths[0]):
@@ -235,15 +233,16 @@ class Site(ThreadingHTTPServer):
         shown = f"[{host!s}]" if ":" in str(host) else str(host)
         return f"http{'s' if self.context else ''}://{shown}:{port}"
 
-    def see_that_it_is_own(self, asked: Request) -> None:
-        """A Refusal for what the page of another site asks by a browser. On the loopback range that is seen by the name
-        of the host too, since a name of a stranger may stand for an address of this machine."""
+    def see_that_it_is_own(self, asked: Request, address: str) -> None:
+        """A Refusal for what the page of another site asks by a browser, at an address of this machine. That is seen by
+        the name of the host too, since a name of a stranger may stand for that address: then the two sites are one to
+        the browser, and the page may read what is answered."""
         host = asked.head.get("host", "")
+        if not is_own_name(host, (*self.listening.hosts, address)):
+            raise Refusal(421, "host", "nothing is here by the name of this `Host`: `--host` gives a name")
         origin = asked.head.get("origin")
         if origin is not None and origin.partition("://")[2].lower() != host.lower():
             raise Refusal(403, "origin", "the page of another site asked for this")
-        if not self.listening.is_beyond_allowed and not is_own_name(host):
-            raise Refusal(403, "host", "this is asked for by an address of the loopback range, or as `localhost`")
 
     def process_request(self, request: Any, client_address: Any) -> None:
         """Begins a thread for a connection, or turns it away."""
@@ -286,10 +285,19 @@ class Site(ThreadingHTTPServer):
             print(f"nrm-tools web: {text}", file=sys.stderr, flush=True)
 
 
-def is_own_name(host: str) -> bool:
-    """Whether the name of a host, with or without a port, is one of this machine alone."""
-    name = re.sub(r":[0-9]*$", "", host).strip("[]").lower()
+def is_own_name(host: str, names: Sequence[str] = ()) -> bool:
+    """Whether the name of a host, with or without a port, is one of this machine alone, or one of some names."""
+    name = plain(re.sub(r":[0-9]*$", "", host).strip("[]"))
     try:
-        return name == "localhost" or is_loopback(name)
+        return name in ("localhost", *map(plain, names)) or is_loopback(name)
     except ValueError:
         return False
+
+
+def plain(name: str) -> str:
+    """A name of a host in small letters; an address in its shortest form, and as one of IPv4 if it is one."""
+    try:
+        found = ipaddress.ip_address(name)
+    except ValueError:
+        return name.lower()
+    return str(getattr(found, "ipv4_mapped", None) or found)

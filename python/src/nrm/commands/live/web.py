@@ -1,10 +1,11 @@
 """A page, metrics, health and a door over HTTP, beside a server of many desks.
 
-    nrm-tools web JOURNAL --socket PATH --listen HOST:PORT [--page] [--door] [OPTION...]
+    nrm-tools web JOURNAL --socket PATH --listen HOST:PORT [--host NAME...] [--page] [--door] [OPTION...]
 
 JOURNAL is the journal that `nrm-tools serve` has, which is read and never written, and PATH the server's Unix socket.
-HOST:PORT must be of this machine's loopback range unless --beyond-this-machine is given. It is a process of its own:
-what it does can't hold up the server, and it may do there what a client of the socket may.
+HOST:PORT must be of this machine's loopback range unless --beyond-this-machine is given. Only requests are answered
+whose `Host` is `localhost`, an address of that range, the address that is asked, or a NAME of --host. It is a process
+of its own: what it does can't hold up the server, and it may do there what a client of the socket may.
 
 `/healthz` answers `ok`, or status 503 and what is wrong, and `/metrics` is for Prometheus, with Debian's
 python3-prometheus-client. With --page there is a page of all networks and of each, up to date within a second, with
@@ -23,6 +24,7 @@ SIGTERM, SIGINT and SIGHUP end it. The status is 0, 1 if it couldn't begin, and 
 from __future__ import annotations
 
 import argparse
+import re
 from typing import Sequence
 
 from nrm.commands.running import parser
@@ -32,6 +34,13 @@ from nrm.web.routes import Settings
 from nrm.web.serving import SECONDS, Listening
 
 
+def host(text: str) -> str:
+    """The name of a host, or its address, without a port."""
+    if not re.fullmatch(r"[0-9A-Za-z_.-]{1,253}|\[?[0-9A-Fa-f:.]{2,45}\]?", text):
+        raise ValueError
+    return text.strip("[]")
+
+
 def words_of(given: Sequence[str]) -> tuple[argparse.ArgumentParser, argparse.Namespace]:
     """What is asked."""
     words = parser("web", __doc__)
@@ -39,6 +48,8 @@ def words_of(given: Sequence[str]) -> tuple[argparse.ArgumentParser, argparse.Na
     words.add_argument("--socket", metavar="PATH", required=True, help="the server's Unix socket")
     words.add_argument("--listen", metavar="HOST:PORT", required=True, help="where it listens; port 0 is a free one")
     words.add_argument("--beyond-this-machine", action="store_true", help="lets --listen be beyond the loopback range")
+    words.add_argument("--host", type=host, action="append", default=[], metavar="NAME",
+                       help="a name by which browsers and others ask; may come several times")
     words.add_argument("--page", action="store_true", help="has the page on")
     words.add_argument("--why", action="store_true", help="has each line of the page explained, if somebody asks")
     words.add_argument("--door", action="store_true", help="has the door on, by which lines come")
@@ -65,5 +76,6 @@ def run(given: Sequence[str]) -> int:
     token = token_in(asked.token) if asked.token else None
     settings = Settings(asked.journal, asked.socket, token, asked.page, asked.door,
                         asked.tokens or asked.beyond_this_machine, asked.answer, asked.why)
-    listening = Listening(asked.listen, asked.beyond_this_machine, asked.certificate, asked.key, seconds=asked.slow)
+    listening = Listening(asked.listen, asked.beyond_this_machine, asked.certificate, asked.key, seconds=asked.slow,
+                          hosts=tuple(asked.host))
     return serve(settings, listening)
