@@ -3,7 +3,7 @@
 #
 #     tools/release.sh FOLDER
 #
-# FOLDER/nrm-VERSION gets the three programs, which are built first if need be; nrm-tools with the package in python/, and the wheel of it;
+# FOLDER/nrm-VERSION gets the four programs, which are built first if need be; nrm-tools with the package in python/, and the wheel of it;
 # README.md, CHANGELOG.md, all pages of docs/ with the man pages, examples/, bench/, LICENSE, licences/ of the kit's crates that the
 # programs have code of; VERSION, which says the version and the commit, and SHA256SUMS of all of them: `sha256sum -c SHA256SUMS` there
 # sees that they are as they were made. Of README.md stays what is for who has no checkout. It is made of what is committed, with the kit's

@@ -3,6 +3,7 @@ from __future__ import annotations
 
 import http.client
 import json
+import os
 import re
 import signal
 import socket
@@ -10,6 +11,8 @@ import ssl
 import subprocess
 import threading
 import time
+from pathlib import Path
+from typing import Sequence
 
 from desks.relay.serves import ONE
 from harness import SECONDS, needs, wait_for
@@ -178,9 +181,38 @@ class ServingTest(WebTest):
             connection.request("GET", "/healthz")
             self.assertEqual(connection.getresponse().status, 503)
             process.send_signal(sent)
-            self.assertEqual((process.wait(SECONDS), process.stderr.read()), (0, b""))
+            self.assertEqual(process.wait(SECONDS), 0)
+            for line in process.stderr.read().decode().splitlines():
+                self.assertRegex(line, "^nrm-tools web: (the (page|door) is off|there are no metrics)")
             process.stderr.close()
             connection.close()
+
+    def test_what_is_off_is_said_at_the_start(self) -> None:
+        """And how it is had; nothing is said of what is there."""
+        journal = self.journal(file=ONE.encode())
+        off = [f"nrm-tools web: the {it} is off: `--{it}` enables it" for it in ("page", "door")]
+        no_metrics, no_page = "there are no metrics, since", "there is no page, since"
+        for words, is_with_all, wanted in (((), True, off), (("--page", "--door"), True, []),
+                                           (("--page",), False, [off[1], no_metrics, no_page]),
+                                           (("--door",), False, [off[0], no_metrics])):
+            told = self.told_at_the_start(journal, words, "" if is_with_all else "raise ImportError")
+            self.assertEqual(len(told), len(wanted), told)
+            for line, it in zip(told, wanted):
+                self.want_in(line, it)
+
+    def told_at_the_start(self, journal: Path, words: Sequence[str], library: str) -> list[str]:
+        """What a web says behind where it listens, with a text in the place of each library."""
+        for name in ("jinja2", "prometheus_client"):
+            self.file(f"{name}.py", library)
+        process = self.process("web", journal, "--socket", "none", "--listen", "127.0.0.1:0", *words,
+                               stderr=subprocess.PIPE, env={**os.environ, "PYTHONPATH": str(self.folder)})
+        assert process.stderr
+        with process.stderr as lines:
+            self.want_in(lines.readline().decode(), "listening on http://")
+            process.terminate()
+            told = lines.read().decode().splitlines()
+        self.assertEqual(process.wait(SECONDS), 0)
+        return told
 
     def test_words_that_mean_nothing(self) -> None:
         journal, place = self.journal(file=ONE.encode()), ("--socket", "s", "--listen", "127.0.0.1:0")

@@ -1,8 +1,8 @@
 """Which path is for whom: the routes, as the description in openapi.json has them too, and what answers each.
 
-May use: nrm.desks.journals.networks, nrm.desks.status, nrm.web.asking.kept, nrm.web.asking.looks,
-nrm.web.asking.status, nrm.web.door.lines, nrm.web.following.journal, nrm.web.messages, nrm.web.metrics,
-nrm.web.showing.accounts, nrm.web.showing.pages.
+May use: nrm.desks.journals.networks, nrm.desks.status, nrm.telling.libraries, nrm.web.asking.kept,
+nrm.web.asking.looks, nrm.web.asking.status, nrm.web.door.lines, nrm.web.following.journal, nrm.web.messages,
+nrm.web.metrics, nrm.web.showing.accounts, nrm.web.showing.pages.
 """
 from __future__ import annotations
 
@@ -16,19 +16,21 @@ from urllib.parse import unquote
 
 from nrm.desks.journals.networks import NAME
 from nrm.desks.status import ask_status
+from nrm.telling.libraries import is_there, lacks
 from nrm.web.asking.kept import Kept, Who, desk_of_token, own_desk
 from nrm.web.asking.looks import Looks
 from nrm.web.asking.status import Asked
 from nrm.web.door.lines import Door, no_network
 from nrm.web.following.journal import Following
 from nrm.web.messages import JSON, Answer, Refusal, Request, Response
-from nrm.web.metrics import Watch
+from nrm.web.metrics import LIBRARY, Watch
 from nrm.web.showing.accounts import Accounts
 from nrm.web.showing.pages import Pages
 
+PAGES_LIBRARY = "jinja2"
 DESCRIPTION = Path(__file__).with_name("openapi.json")
 ALWAYS, PAGE, DOOR = "always", "page", "door"
-OFF = {PAGE: "the page isn't on: `--page` has it on", DOOR: "the door isn't on: `--door` has it on"}
+OFF = {PAGE: "the page is off: `--page` enables it", DOOR: "the door is off: `--door` enables it"}
 
 
 @dataclass(frozen=True)
@@ -104,6 +106,12 @@ class Web:
     def is_on(self, part: str) -> bool:
         """Whether a part is on."""
         return part == ALWAYS or (self.settings.has_page if part == PAGE else self.settings.has_door)
+
+    def lacks(self) -> list[str]:
+        """What isn't there of all that could be: a sentence each, which says how it is had."""
+        needed = [("are no metrics", LIBRARY), *([("is no page", PAGES_LIBRARY)] if self.is_on(PAGE) else [])]
+        return [*(OFF[it] for it in (PAGE, DOOR) if not self.is_on(it)),
+                *(f"there {what}, since {lacks([library])}" for what, library in needed if not is_there(library))]
 
     def tidy(self) -> None:
         """What is done beside following, a few times a second."""

@@ -49,7 +49,8 @@ def serve(settings: Settings, listening: Listening) -> int:
         follower.start()
         for it in ENDS:
             signal.signal(it, lambda *_: threading.Thread(target=site.shutdown, daemon=True).start())
-        print(f"nrm-tools web: listening on {site.where()}", file=sys.stderr, flush=True)
+        for said in (f"listening on {site.where()}", *web.lacks()):
+            print(f"nrm-tools web: {said}", file=sys.stderr, flush=True)
         manager.ready(signs.status())
         site.serve_forever(poll_interval=0.1)
         manager.stops()
