@@ -130,6 +130,25 @@ class Made(WithinTest):
         self.file("desks", "[[")
         self.stopped("token", "desks", "D1", "look", says="is no TOML")
 
+    def test_a_file_that_has_the_token_is_its_owners_alone(self) -> None:
+        """Whatever the umask, and though one that others may read was there."""
+        umask = os.umask(0)
+        self.addCleanup(os.umask, umask)
+        for words in (("C-7", "look"), ("C-7", "--again")):
+            self.assertEqual(self.told("token", "desks", *words, "--out", "made"), "")
+            found = os.stat("made").st_mode & 0o777, read_access("desks").named(Path("made").read_bytes().strip())
+            self.assertEqual((found[0], found[1] and found[1].name), (0o600, "C-7"))
+            os.chmod("made", 0o644)
+        self.assertEqual(sorted(os.listdir()), ["desks", "made"], "nothing is left beside them")
+        before = Path("desks").read_bytes()
+        os.symlink("made", "link")
+        for out, says in (("none/made", "--out none/made: No such file"), (".", "no plain file"),
+                          ("link", "no plain file"), ("./desks", "is the file of desks")):
+            self.stopped("token", "desks", "WEB", "look", "--out", out, says=says)
+        self.stopped("token", "desks", "WEB", "look", "--out", "", status=2)
+        self.stopped("token", "desks", "C-7", "look", "--out", "other", says="--again")
+        self.assertEqual((Path("desks").read_bytes(), sorted(os.listdir())), (before, ["desks", "link", "made"]))
+
     def test_it_is_whole_at_each_moment(self) -> None:
         """A fault before its end leaves the old one, and many at once lose nothing."""
         self.file("desks", entry())

@@ -165,6 +165,10 @@ class ServingTest(WebTest):
                     self.assertEqual((answer.status, len(answer.read()) > 1000), (200, True))
                 connection.close()
                 self.assertEqual(silent.recv(1), b"")
+            context.maximum_version = ssl.TLSVersion.TLSv1_2
+            context.set_ciphers("ECDHE-ECDSA-AES128-SHA:ECDHE-ECDSA-AES256-SHA384")
+            with self.assertRaises(OSError):
+                http.client.HTTPSConnection("localhost", web.port, timeout=SECONDS, context=context).connect()
             self.assertNotIn(b"200 OK", web.raw(b"GET /openapi.json HTTP/1.1\r\n" + HOST + b"\r\n"))
             self.assertEqual(web.site.where(), f"https://127.0.0.1:{web.port}")
 
@@ -222,8 +226,10 @@ class ServingTest(WebTest):
             self.stopped("web", journal, *words, status=2)
         self.stopped("web", "nowhere", *place, says="unable to open")
         self.stopped("web", journal, *place, "--token", self.file("empty", ""), says="has no token")
-        self.stopped("web", journal, *place, "--certificate", self.file("c", "x"), "--key", "c",
-                     says="no certificate")
+        os.chmod(self.file("c", "x"), 0o644)
+        self.stopped("web", journal, *place, "--certificate", "c", "--key", "c", says="c has the rights 0644, and")
+        os.chmod(self.folder / "c", 0o640)
+        self.stopped("web", journal, *place, "--certificate", "c", "--key", "c", says="no certificate")
 
 
 class StreamsTest(WebTest):

@@ -2,7 +2,8 @@
 
 `http.server` of Python's library takes the requests, a thread each, and this file bounds them: so many connections, of
 each a head and a body of so many bytes, and so many seconds for all of a request, however slowly its bytes come. What
-is answered is for `Answering` to say. May use: nrm, nrm.desks.places, nrm.web.messages.
+is answered is for `Answering` to say. May use: nrm, nrm.desks.places, nrm.desks.relay.doors.certificates,
+nrm.web.messages.
 """
 from __future__ import annotations
 
@@ -20,6 +21,7 @@ from typing import Any, Callable, Sequence, cast
 
 from nrm import Stop
 from nrm.desks.places import is_loopback, tcp_socket
+from nrm.desks.relay.doors.certificates import server_context
 from nrm.web.messages import PASSES, Answer, Head, Refusal, Request, Stream
 
 MOST_CONNECTIONS = 200
@@ -48,15 +50,7 @@ class Listening:
 
     def context(self) -> ssl.SSLContext | None:
         """What makes a connection one of TLS, if there is a certificate."""
-        if not self.certificate:
-            return None
-        context = ssl.SSLContext(ssl.PROTOCOL_TLS_SERVER)
-        context.minimum_version = ssl.TLSVersion.TLSv1_2
-        try:
-            context.load_cert_chain(self.certificate, self.key)
-        except (OSError, ssl.SSLError) as fault:
-            raise Stop(f"{self.certificate}, with the key {self.key}, is no certificate that can be used: {fault}")
-        return context
+        return server_context(self.certificate, self.key) if self.certificate and self.key else None
 
 
 class Timed(io.RawIOBase):

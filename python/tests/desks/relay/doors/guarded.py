@@ -50,7 +50,7 @@ class GuardedTest(ServeTest):
     @contextlib.contextmanager
     def guarded(self, journal: Path, *options: str) -> Iterator[Serve]:
         """A server that lets the desks of the file come."""
-        self.desks.touch()
+        self.desks.touch(0o600)
         with self.served(journal, "--desks", str(self.desks), *options) as serve:
             yield serve
 

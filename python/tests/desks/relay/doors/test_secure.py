@@ -12,7 +12,7 @@ import time
 
 from desks.relay.doors.guarded import ADDRESS, GuardedTest, port_of
 from desks.relay.doors.houses import House, Taken
-from desks.relay.serves import ONE, all_told, rows_in, talk
+from desks.relay.serves import ONE, Serve, all_told, rows_in, talk
 from desks.servers import answers
 from harness import SECONDS, meanwhile, wait_for
 from nrm import Stop
@@ -100,19 +100,29 @@ class Secured(GuardedTest):
             self.want_in(str(why), "mismatch")
             self.expect(ValueError, lambda: Desk(serve.path, "D1", tls=self.trusting()))
 
-    def test_versions_before_1_2_are_refused(self) -> None:
+    def test_old_versions_and_ciphers_are_refused(self) -> None:
+        """A version before 1.2, and in 1.2 what has CBC, or SHA-1, or no new key for each connection."""
+        gcm, cbc = "ECDHE-ECDSA-AES128-GCM-SHA256", "ECDHE-ECDSA-AES128-SHA"
         with self.secured(self.journal(file=ONE.encode())) as serve:
-            for version, is_taken in [("TLSv1_1", False), ("TLSv1_2", True), ("TLSv1_3", True)]:
-                context = self.trusting()
-                context.set_ciphers("ALL:@SECLEVEL=0")
-                context.minimum_version = ssl.TLSVersion.TLSv1
-                context.maximum_version = getattr(ssl.TLSVersion, version)
-                try:
-                    with self.by_tls(serve, context) as made:
-                        found = made.version() is not None
-                except OSError:
-                    found = False
-                self.assertEqual(found, is_taken, version)
+            for version, ciphers, taken in [
+                    ("TLSv1_1", "ALL", ""), ("TLSv1_2", cbc, ""), ("TLSv1_2", "ECDHE-ECDSA-AES256-SHA384", ""),
+                    ("TLSv1_2", "ALL:!AESGCM:!CHACHA20", ""), ("TLSv1_2", "kRSA:aNULL:kDHE", ""),
+                    ("TLSv1_2", f"{cbc}:{gcm}", gcm), ("TLSv1_2", "ALL:!AESGCM", "ECDHE-ECDSA-CHACHA20-POLY1305"),
+                    ("TLSv1_3", "ALL", "TLS_AES_256_GCM_SHA384")]:
+                self.assertEqual(self.cipher(serve, version, ciphers), taken, (version, ciphers))
+
+    def cipher(self, serve: Serve, version: str, ciphers: str) -> str:
+        """The cipher that a client of a version has, which offers some; none if it is refused."""
+        context = self.trusting()
+        context.set_ciphers(f"{ciphers}:@SECLEVEL=0")
+        context.minimum_version = ssl.TLSVersion.TLSv1
+        context.maximum_version = getattr(ssl.TLSVersion, version)
+        try:
+            with self.by_tls(serve, context) as made:
+                found = made.cipher()
+        except OSError:
+            return ""
+        return found[0] if found else ""
 
     def test_half_a_handshake_keeps_nobody_waiting(self) -> None:
         """Who stays in it is dropped, whatever has come of it, as is who never begins, or says nothing behind it."""
@@ -282,5 +292,6 @@ class Secured(GuardedTest):
         locked = str(self.folder / "locked")
         self.finished("openssl", "pkey", "-in", key, "-out", locked, "-aes128", "-passout", "pass:word")
         context_of(certificate, key)
+        os.chmod(certificate, 0o600)
         for other in (locked, certificate):
             self.want_in(str(self.expect(Stop, lambda: context_of(certificate, other))), "no certificate and its key")

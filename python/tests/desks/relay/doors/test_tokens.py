@@ -20,7 +20,7 @@ from nrm.desks.desk import Desk, Ended
 from nrm.desks.frames import WINDOW
 from nrm.desks.relay.clients import Client
 from nrm.desks.relay.doors.guards import Watched
-from nrm.desks.relay.doors.secure import RECORD
+from nrm.desks.relay.doors.secure import RECORD, context_of
 from nrm.desks.relay.doors.slowing import MOST_ADDRESSES
 from nrm.desks.relay.doors.tokens import HERE, Tokens
 from nrm.desks.relay.loop import LEFT, READ
@@ -175,7 +175,7 @@ class Known(GuardedTest):
         journal, place = self.journal(file=ONE.encode()), ("--socket", str(self.folder / "s"))
         run = ("--program", *self.desks_program.words)
         os.mkfifo(self.folder / "fifo")
-        self.file("odd", "[a b]")
+        os.chmod(self.file("odd", "[a b]"), 0o600)
         for words, status, says in [
                 (("--desks", "none"), 1, "none: No such file"), (("--desks", "fifo"), 1, "fifo is no plain file"),
                 (("--desks", "odd"), 1, "odd is no TOML at line 1"), (("--desks", ""), 2, "name of a file"),
@@ -186,6 +186,39 @@ class Known(GuardedTest):
                 (("--listen", "127.0.0.1:0", "--certificate", "odd", "--key", "fifo"), 1, "fifo is no plain file"),
                 (("--listen", "127.0.0.1:0", "--certificate", "odd", "--key", "odd"), 1, "no certificate and its key")]:
             self.stopped("serve", journal, *place, *words, *run, status=status, says=says)
+
+
+    def test_files_that_others_may_change(self) -> None:
+        """A file of desks that others write is refused, and so is a key that others write, or that is read by more than
+        a group. One that is opened to others while a server is at work counts as it was."""
+        token, journal = self.token("D1", "look"), self.journal(file=ONE.encode())
+        certificate, key = self.certified()
+        place, run = ("--socket", str(self.folder / "s")), ("--program", *self.desks_program.words)
+        by_port = ("--listen", "127.0.0.1:0", "--certificate", certificate, "--key", key)
+        for path, words, modes in [(str(self.desks), ("--desks", str(self.desks)), (0o620, 0o602, 0o666)),
+                                   (key, by_port, (0o604, 0o602, 0o620, 0o644, 0o666))]:
+            for mode in modes:
+                os.chmod(path, mode)
+                told = self.stopped("serve", journal, *place, *words, *run,
+                                    says=f"{path} has the rights 0{mode:o}, and ")
+                self.want_in(told, "`chmod ")
+            os.chmod(path, 0o600)
+        for mode in (0o400, 0o640, 0o600):
+            os.chmod(key, mode)
+            context_of(certificate, key)
+        self.desks.chmod(0o644)
+        with self.guarded(journal) as serve:
+            late = self.token("D2", "look")
+            wait_for(lambda: "desks-read" in serve.told(), "the new file")
+            self.desks.chmod(0o646)
+            self.desks.write_text("")
+            wait_for(lambda: f"{self.desks} has the rights 0646, and " in serve.told(), "what is told of the file")
+            self.want_in(serve.told(), "event=desks-fault")
+            for it, name in (token, b"D1"), (late, b"D2"):
+                self.assertEqual(talk(serve, b"token %s\n" % it), b"token %s\n" % name)
+            self.desks.chmod(0o600)
+            wait_for(lambda: serve.told().count("desks-read") == 2, "the file that is closed again")
+            self.assertEqual(talk(serve, b"token %s\n" % token), b"closed token\n")
 
 
 class Slowed(GuardedTest):

@@ -1,6 +1,6 @@
 """The files that say who may come to a server, and with which certificate it answers: read anew once they have changed.
 
-May use: nrm, nrm.desks.access, nrm.desks.relay.doors.secure.
+May use: nrm, nrm.desks.access, nrm.desks.relay.doors.certificates, nrm.desks.relay.doors.secure.
 """
 from __future__ import annotations
 
@@ -11,6 +11,7 @@ from typing import Callable, Generic, Sequence, Tuple, TypeVar
 
 from nrm import Stop
 from nrm.desks.access import Access, read_access
+from nrm.desks.relay.doors.certificates import WRITTEN_BY_OTHERS, see_that_it_is_closed
 from nrm.desks.relay.doors.secure import context_of
 
 Said = TypeVar("Said")
@@ -54,6 +55,13 @@ def stamp_of(path: str) -> Stamp | None:
     return found.st_ino, found.st_size, found.st_mtime_ns, found.st_ctime_ns
 
 
+def closed_access(path: str) -> Access:
+    """The desks of a file, which its owner alone may write."""
+    access = read_access(path)
+    see_that_it_is_closed(path, WRITTEN_BY_OTHERS, "those who write it can do everything at the server", "go-w")
+    return access
+
+
 @dataclass(frozen=True)
 class Guard:
     """The file of the desks that may come, and those of certificate and key, as far as they are named."""
@@ -63,7 +71,7 @@ class Guard:
 
     def access(self) -> Watched[Access] | None:
         """The desks that may come."""
-        return Watched("desks", [self.desks], read_access) if self.desks else None
+        return Watched("desks", [self.desks], closed_access) if self.desks else None
 
     def context(self) -> Watched[ssl.SSLContext] | None:
         """What TLS is spoken with."""

@@ -4,7 +4,7 @@
 another would wait it is a BlockingIOError. Two things differ from a socket. A call that reads may have to write before
 it can go on, as within the handshake: `watched` says what to watch for. And who reads less than a whole record leaves
 the rest of it where no epoll sees it: so there must be room for RECORD bytes at each read.
-May use: nrm, nrm.desks.access, nrm.desks.relay.loop.
+May use: nrm.desks.relay.doors.certificates, nrm.desks.relay.loop.
 """
 from __future__ import annotations
 
@@ -12,8 +12,7 @@ import contextlib
 import socket
 import ssl
 
-from nrm import Stop
-from nrm.desks.access import bytes_of_plain_file
+from nrm.desks.relay.doors.certificates import server_context
 from nrm.desks.relay.loop import READ, WRITE
 
 RECORD = 16_384  # the most bytes in a record of TLS
@@ -74,15 +73,8 @@ class Secure:
 
 
 def context_of(certificate: str, key: str) -> ssl.SSLContext:
-    """What a server speaks TLS with: the file of its certificate, with those above it, and the file of its key."""
-    for path in (certificate, key):
-        bytes_of_plain_file(path)
-    context = ssl.SSLContext(ssl.PROTOCOL_TLS_SERVER)
-    context.minimum_version = ssl.TLSVersion.TLSv1_2
+    """What a server speaks TLS with on connections that don't wait."""
+    context = server_context(certificate, key)
     # an end that isn't said by TLS is one too: whole lines are taken, as they are without TLS
     context.options |= ssl.OP_NO_RENEGOTIATION | getattr(ssl, "OP_IGNORE_UNEXPECTED_EOF", 0)
-    try:
-        context.load_cert_chain(certificate, key, "")  # one that is locked is refused, and no terminal asked for a word
-    except OSError:
-        raise Stop(f"{certificate} and {key} are no certificate and its key, or the key is locked by a word") from None
     return context
