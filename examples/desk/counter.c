@@ -3,8 +3,9 @@
        cc -o counter counter.c && ./counter /run/nrm/desks COUNTER-7 [NETWORK] < lines
 
    Each line has a number of the desk's own. If the connection is lost before its reply is there, the line is sent again on a new one, under
-   its number: it is carried out once. It ends with 0, or with 1 if it is turned away for good, as a line `closed WHY` tells, or if no
-   connection comes in some 30 seconds. */
+   its number: it is carried out once. Where several servers share the networks, it goes on at the one that `closed moved HOST:PORT` names.
+   It ends with 0, or with 1 if it is turned away for good, as a line `closed WHY` tells, or if no connection comes in some 30 seconds. */
+#include <netdb.h>
 #include <signal.h>
 #include <stdio.h>
 #include <stdlib.h>
@@ -20,6 +21,7 @@ static const char *name, *network = "";
 static FILE *say, *hear;
 static long long sequence; /* of the next line; 0 until the journal has told it */
 static char reply[4096];
+static char host[256], port[6]; /* of the server to which the next connection goes, if that was told; else empty */
 
 static void leave(void) {
     if (say)
@@ -27,13 +29,27 @@ static void leave(void) {
     say = hear = NULL;
 }
 
+/* Whether another server has the network, and where. */
+static int is_moved(void) {
+    static const char front[] = "closed moved ";
+    char *from = reply + sizeof front - 1, *colon = strrchr(reply, ':');
+    if (strncmp(reply, front, sizeof front - 1) != 0 || !colon || colon == from)
+        return 0;
+    from += *from == '[';
+    snprintf(host, sizeof host, "%.*s", (int)(colon - from) - (colon[-1] == ']'), from);
+    snprintf(port, sizeof port, "%.*s", (int)strcspn(colon + 1, "\n"), colon + 1);
+    return 1;
+}
+
 /* The next line that comes; 0 if the connection has ended or another may do, and no return if none will. */
 static int is_heard(void) {
-    static const char *passes[] = {"clients", "half", "idle", "journal", "stopping", "memory", "gone", "program"};
+    static const char *passes[] = {"clients", "half", "idle", "journal", "stopping", "memory", "gone", "wait", "program"};
     if (!fgets(reply, sizeof reply, hear) || !strchr(reply, '\n'))
         return 0;
     if (strncmp(reply, "closed ", 7) != 0)
         return 1;
+    if (is_moved())
+        return 0;
     for (size_t at = 0; at < sizeof passes / sizeof *passes; at++)
         if (strncmp(reply + 7, passes[at], strlen(passes[at])) == 0)
             return 0;
@@ -41,11 +57,34 @@ static int is_heard(void) {
     exit(1);
 }
 
+/* A connection to an address; -1 if there is none. */
+static int connected(int family, const struct sockaddr *address, socklen_t size) {
+    int server = socket(family, SOCK_STREAM, 0);
+    if (server >= 0 && connect(server, address, size) != 0)
+        close(server), server = -1;
+    return server;
+}
+
+/* A connection to the server that was told, else to the socket; -1 if there is none. */
+static int connected_once(void) {
+    struct addrinfo wanted = {.ai_socktype = SOCK_STREAM}, *found = NULL;
+    int server = -1;
+    if (!host[0])
+        return connected(AF_UNIX, (struct sockaddr *)&place, sizeof place);
+    if (getaddrinfo(host, port, &wanted, &found) == 0)
+        for (struct addrinfo *it = found; it && server < 0; it = it->ai_next)
+            server = connected(it->ai_family, it->ai_addr, it->ai_addrlen);
+    if (found)
+        freeaddrinfo(found);
+    host[0] = 0;
+    return server;
+}
+
 /* Connects and greets with the number of the next line. */
 static int is_connected(void) {
-    int server = socket(AF_UNIX, SOCK_STREAM, 0);
-    if (connect(server, (struct sockaddr *)&place, sizeof place) != 0)
-        return close(server), 0;
+    int server = connected_once();
+    if (server < 0)
+        return 0;
     say = fdopen(server, "w"), hear = fdopen(dup(server), "r");
     fprintf(say, "desk %s%s", network, name);
     fprintf(say, sequence ? " %lld\n" : "\n", sequence);

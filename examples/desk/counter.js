@@ -3,28 +3,35 @@
 //     node counter.js /run/nrm/desks COUNTER-7 [NETWORK] < lines
 //
 // Each line has a number of the desk's own. If the connection is lost before its reply is there, the line is sent again on
-// a new one, under its number: it is carried out once. It ends with 0, or with 1 if it is turned away for good, as a line
-// `closed WHY` tells, or if no connection comes in some 30 seconds.
+// a new one, under its number: it is carried out once. Where several servers share the networks, it goes on at the one that
+// `closed moved HOST:PORT` names. It ends with 0, or with 1 if it is turned away for good, as a line `closed WHY` tells, or if
+// no connection comes in some 30 seconds.
 "use strict";
 const net = require("net");
 const readline = require("readline");
 
 const TRIES = 300, PAUSE = 100; // milliseconds
-const PASSES = /^closed (clients|half|idle|journal|stopping|memory|gone|program .*)$/;
+const PASSES = /^closed (clients|half|idle|journal|stopping|memory|gone|wait|program .*)$/;
+const MOVED = /^closed moved \[?([^\s\]]+)\]?:(\d{1,5})$/; // the server that has its network
 const HAS_MORE = /^(value |leg .* sold [1-9])/; // up to an empty line
 
-class Lost extends Error {}
+class Lost extends Error {
+  constructor(why, place) {
+    super(why);
+    this.place = place; // where the next connection goes, if that was told
+  }
+}
 class Ended extends Error {}
 
 class Desk {
   constructor(path, name, network) {
-    Object.assign(this, { path, name, network, sequence: 0, socket: null, lines: [], left: "", wake: () => {} });
+    Object.assign(this, { path, name, network, place: { path }, sequence: 0, socket: null, lines: [], left: "", wake: () => {} });
   }
 
   // Connects and greets with the number of the next line.
   async connect() {
     Object.assign(this, { lines: [], left: "", isOver: false });
-    const socket = (this.socket = net.connect(this.path));
+    const socket = (this.socket = net.connect(this.place));
     const end = () => { if (this.socket === socket) { this.isOver = true; this.wake(); } };
     socket.setEncoding("latin1").on("error", end).on("close", end).on("data", (piece) => {
       const lines = (this.left + piece).split("\n");
@@ -46,6 +53,8 @@ class Desk {
       await new Promise((wake) => { this.wake = wake; });
     }
     const line = this.lines.shift();
+    const moved = MOVED.exec(line);
+    if (moved) throw new Lost(line, { host: moved[1], port: Number(moved[2]) });
     if (line.startsWith("closed ")) throw PASSES.test(line) ? new Lost(line) : new Ended(line);
     return line;
   }
@@ -65,6 +74,7 @@ class Desk {
       } catch (why) {
         this.close();
         if (!(why instanceof Lost) || tries === TRIES) throw why;
+        this.place = why.place || { path: this.path };
         await new Promise((done) => setTimeout(done, PAUSE));
       }
     }

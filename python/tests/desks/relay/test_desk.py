@@ -1,6 +1,7 @@
 """A desk in Python at a server of a journal: its answers, and that none of its lines is left unknown."""
 from __future__ import annotations
 
+import contextlib
 import os
 import shutil
 import signal
@@ -25,6 +26,11 @@ def answering(path: Path, *replies: bytes) -> threading.Thread:
     """A server in the place of one, which gives each connection a next reply to each piece, and then ends it."""
     listener = socket.socket(socket.AF_UNIX)
     listener.bind(str(path))
+    return answering_at(listener, *replies)
+
+
+def answering_at(listener: socket.socket, *replies: bytes) -> threading.Thread:
+    """The same with a socket that is bound."""
     listener.listen(8)
 
     def serve() -> None:
@@ -36,6 +42,14 @@ def answering(path: Path, *replies: bytes) -> threading.Thread:
                         made.sendall(part)
 
     return meanwhile(serve)
+
+
+def has_ipv6() -> bool:
+    """Whether this machine has the loopback address of IPv6."""
+    with contextlib.suppress(OSError), socket.socket(socket.AF_INET6) as made:
+        made.bind(("::1", 0))
+        return True
+    return False
 
 
 class Desks(ServeTest):
@@ -92,6 +106,10 @@ class Desks(ServeTest):
             yield [built]
         if shutil.which("node"):
             yield ["node", str(EXAMPLES / "desk" / "counter.js")]
+        for name, package in (("cc", "gcc"), ("node", "nodejs")):
+            with self.subTest(name):
+                if not shutil.which(name):
+                    self.skipTest(f"there is no {name} (Debian has {package})")
 
     def test_desks_in_other_languages_go_on_too(self) -> None:
         """While the server and the program are killed; with texts of several lines among their replies."""
@@ -122,6 +140,22 @@ class Desks(ServeTest):
             with self.served(journal) as serve:
                 done = self.finished(*words, serve.path, "D1", "none", input=b"plan\n")
                 self.assertEqual((done.out, done.status), ("closed network\n", 1))
+
+    def test_desks_in_other_languages_come_again_where_several_servers_are(self) -> None:
+        """After `wait`, and after `moved` at the server that it names; one that ends sends them back to the first."""
+        for at, words in enumerate(self.desks_of_others()):
+            for host, shown in [("127.0.0.1", "127.0.0.1"), *([("::1", "[::1]")] if has_ipv6() else [])]:
+                with socket.socket(socket.AF_INET6 if ":" in host else socket.AF_INET) as other:
+                    other.bind((host, 0))
+                    there = answering_at(other, b"at 4\n|ok 7\n")
+                    moved = f"closed moved {shown}:{other.getsockname()[1]}\n".encode()
+                    path = self.folder / f"socket-{at}-{len(host)}"
+                    here = answering(path, b"closed wait\n", b"at 4\n|closed wait\n", b"at 4\n|" + moved,
+                                     b"at 5\n|ok 8\n")
+                    done = self.finished(*words, path, "D1", input=b"book LOC 1\nbook LOC 2\n")
+                    self.assertEqual((done.out, done.status), ("ok 7\nok 8\n", 0), (words, host))
+                    there.join()
+                    here.join()
 
     def test_what_was_late_is_asked_again(self) -> None:
         journal = self.journal(file=ONE.encode())
