@@ -77,6 +77,18 @@ class Journals(ServeTest):
         self.stopped("journal", "open", "journal", "two", "bid", "none", *with_it, says="none")
         self.stopped("journal", "open", "journal", "two", "bid", network, "--program", "/bin/true", says="ended with")
 
+    def test_the_second_network_is_said_to_be_so(self) -> None:
+        """And no other, also where one before has ended: a desk has to name its own then, too."""
+        network, with_it = self.file("network.csv", ONE), ["--program", *self.desks_program.words]
+        self.told("journal", "begin", "journal")
+        for name, is_second in (("one", False), ("two", True), ("three", False)):
+            done = self.ran("journal", "open", "journal", name, "bid", network, *with_it)
+            says = f"{name} is the second network: from now on a desk that names none is answered `closed network`"
+            self.assertEqual((done.status, done.out, done.err),
+                             (0, "", f"nrm-tools journal: {says}\n" if is_second else ""))
+            if name == "one":
+                self.told("journal", "end", "journal", name)
+
     def test_lines_are_looked_up(self) -> None:
         journal = self.one()
         self.same(written(journal, *LINES))

@@ -14,7 +14,8 @@ it, when, and what was answered. `begin` makes one, a file for its owner alone; 
 `nrm_desks` has read its file and made the opening plan: the file byte for byte, the mode, and the checksum of that
 program, which is named by --program, or is that of this folder, or the one on the path. A server that is at work
 answers for it at once. The name begins with a small letter, and has at most 40 of `a` to `z`, `0` to `9`, `.`, `_` and
-`-`. `end` has a network looked at alone from now on.
+`-`. From the second network on, with which this is said, each desk has to name its own. `end` has a network looked at
+alone from now on.
 
 --departure says when it departs, and --begins, as often as there are such periods, when period K begins, from 2 to the
 last of the network file: `nrm-tools serve` then has a plan made for it. A TIME is as 2026-12-31T10:00+01:00 or
@@ -39,10 +40,10 @@ import re
 from typing import Sequence
 
 from nrm import bytes_in
-from nrm.commands.running import parser
+from nrm.commands.running import parser, tell
 from nrm.desks.earlier.importing import TextJournal, import_network
 from nrm.desks.journals.looking import Wanted, copy, lines_of, summary
-from nrm.desks.journals.networks import end_network, file_of, known, put_network, see_that_it_is_free
+from nrm.desks.journals.networks import end_network, file_of, known, networks_in, put_network, see_that_it_is_free
 from nrm.desks.journals.stores.choosing import store_of, using
 from nrm.desks.journals.times.said import Times, lines_of_times, see_that_it_has, set_times, times_in, times_of
 from nrm.desks.relay.programs import see_that_it_opens
@@ -114,7 +115,16 @@ def import_one(path: str, name: str, mode: str, file: str, old: str, program: Pr
     journal = TextJournal.at(old)
     count = import_network(path, name, mode, file, journal, program)
     left_out = journal.left_out(count)
-    print(f"{count} lines of {old} are in {path}{f'; left out: {left_out}' if left_out else ''}")
+    print(f"{count} lines of {old} are in {path}{f'; left out: {left_out}' if left_out else ''}", flush=True)
+
+
+def say_if_second(path: str, name: str) -> None:
+    """Says what is other once a network is the second of a journal."""
+    with using(path) as connection:
+        count = len(networks_in(connection))
+    if count == 2:
+        tell("journal", f"{name} is the second network: from now on a desk that names none is answered "
+                        "`closed network`")
 
 
 def look(words: argparse.ArgumentParser, asked: argparse.Namespace) -> None:
@@ -150,6 +160,7 @@ def run(given: Sequence[str]) -> int:
         else:
             name, mode, file, old = asked.words
             import_one(asked.journal, name, mode, file, old, program)
+        say_if_second(asked.journal, name)
     elif asked.way == "end":
         with using(asked.journal, is_to_write=True) as connection:
             end_network(connection, asked.words[0])
