@@ -179,3 +179,10 @@ class WithinTest(PlaceTest):
         with contextlib.redirect_stdout(out), contextlib.redirect_stderr(err):
             status = main([name, *map(str, words)])
         return Done(out.getvalue(), err.getvalue(), status)
+
+    def exited(self, *words: object) -> Done:
+        """A command whose words are refused before it begins."""
+        err = io.StringIO()
+        with contextlib.redirect_stderr(err), self.assertRaises(SystemExit) as ended:
+            main([*map(str, words)])
+        return Done("", err.getvalue(), int(ended.exception.code or 0))

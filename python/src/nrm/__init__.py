@@ -1,13 +1,15 @@
 """The tools beside `nrm`: network files read and explained, seasons played and shown, many desks at one controller.
 
-Holds the version, `Stop`, the one error of a user's mistake, and how a file is read and a folder made so that a fault
-is one. May use: nothing.
+Holds the version, `Stop`, the one error of a user's mistake, what is said of a name, and how a file is read and a
+folder made so that a fault is one. May use: nothing.
 """
 from __future__ import annotations
 
 import os
+import unicodedata
 
 __version__ = "v2.1.0"
+UNSEEN = ("Cc", "Cf", "Cs", "Zl", "Zp")  # kinds of characters in Unicode
 
 
 class Stop(Exception):
@@ -18,13 +20,20 @@ class Stop(Exception):
         self.status = status
 
 
+def said(name: object, but: str = "") -> str:
+    """A name of a file, or another text from elsewhere, as it is said: what isn't a sign of its own in it, such as a
+    control character or one that turns the line round, is written out, but for some that may stand."""
+    return "".join(it if it in but or unicodedata.category(it) not in UNSEEN else
+                   it.encode("unicode_escape", "surrogatepass").decode() for it in str(name))
+
+
 def bytes_in(path: str, most: int = -1) -> bytes:
     """The bytes of the file at a path, or the first of them."""
     try:
         with open(path, "rb") as file:
             return file.read(most)
     except OSError as fault:
-        raise Stop(f"{path}: {fault.strerror}")
+        raise Stop(f"{said(path)}: {fault.strerror}")
 
 
 def make_folder(path: str) -> None:
@@ -32,4 +41,4 @@ def make_folder(path: str) -> None:
     try:
         os.makedirs(path, exist_ok=True)
     except FileExistsError:
-        raise Stop(f"{path} is a file, and a folder is wanted")
+        raise Stop(f"{said(path)} is a file, and a folder is wanted")

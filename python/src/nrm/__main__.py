@@ -8,7 +8,7 @@ import importlib
 import sys
 from typing import Sequence
 
-from nrm import Stop, __version__
+from nrm import Stop, __version__, said
 from nrm.commands import ALONE, NAMED
 from nrm.commands.running import TOOLS, status_of
 from nrm.program import Program
@@ -47,7 +47,7 @@ def main(words: Sequence[str] | None = None) -> int:
     if name in ("-h", "--help", "--version"):
         return status_of(name, version if name == "--version" else help_of_all, rest)
     if name not in NAMED:
-        wrong = f"there is no command {name}" if name else "no command is named"
+        wrong = f"there is no command {said(name)}" if name else "no command is named"
         print(f"{USAGE}\n{TOOLS}: {wrong}; --help lists all", file=sys.stderr)
         return 2
     run = importlib.import_module(NAMED[name]).run

@@ -13,7 +13,7 @@ from fractions import Fraction
 from functools import cached_property
 from typing import Iterable, Iterator, Mapping, Sequence
 
-from nrm import Stop, bytes_in
+from nrm import Stop, bytes_in, said
 from nrm.limits import MOST_DEMAND
 
 NAME = re.compile(r"[A-Z0-9-]{1,12}")
@@ -182,7 +182,8 @@ class Network:
         try:
             return cls.of(rows_of(bytes_in(path)))
         except (ValueError, LookupError):
-            raise Stop(f"{path} is refused: `nrm-tools explain {path}` tells which rows, why, and how to mend them")
+            raise Stop(f"{said(path)} is refused: `nrm-tools explain {said(path)}` tells which rows, why, and how to "
+                       "mend them")
 
     @classmethod
     def of(cls, rows: Iterable[Row]) -> Network:

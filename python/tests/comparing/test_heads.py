@@ -6,6 +6,7 @@ import hashlib
 import os
 import sys
 import unittest
+from pathlib import Path
 from unittest import mock
 
 from nrm import Stop, __version__
@@ -21,7 +22,10 @@ class Heads(unittest.TestCase):
             checksum = hashlib.sha256(file.read()).hexdigest()
         self.assertEqual(lines_of(made), [
             "networks: a.csv (sha256 e3b0c44298fc..), b.csv (sha256 ba7816bf8f01..)", "date: 1970-01-02", "seed: 7",
-            f"versions: nrm-tools {__version__}, {sys.executable} (sha256 {checksum[:12]}..)"])
+            f"versions: nrm-tools {__version__}, {Path(sys.executable).name} (sha256 {checksum[:12]}..)"])
+
+    def test_where_the_program_lies_isnt_told(self) -> None:
+        self.assertNotIn(os.path.dirname(sys.executable), lines_of(made_of({}, Program((sys.executable,))))[-1])
 
     def test_where_there_is_no_seed_none_is_told(self) -> None:
         made = made_of({"network": {"a.csv": b""}}, Program((sys.executable,)))

@@ -16,6 +16,7 @@ from nrm import __version__
 from nrm.comparing.heads import today
 from nrm.comparing.pages import pictures
 from nrm.comparing.study import Study
+from nrm.files.writing import Output
 from nrm.network import Network
 from nrm.seasons.drawing import Settings
 from seasons.clusters import LOG, SECONDS, SimulateTest, by_one_process, needs_dask
@@ -40,9 +41,10 @@ class Several(unittest.TestCase):
         results = {it: results_of({"bid": [at + more for more in earned], "davn": [at + 2 * more for more in earned]})
                    for at, it in enumerate(networks)}
         found = list(pictures(Study(networks, Settings(modes=("bid", "davn")), results)))
-        with tempfile.TemporaryDirectory() as folder, warnings.catch_warnings():
+        with tempfile.TemporaryDirectory() as folder, warnings.catch_warnings(), Output() as output:
             warnings.simplefilter("error")
-            list(written([(it.name, it.draw) for it in found], folder, kinds=["svg"]))
+            list(written([(it.name, it.draw) for it in found], folder, output, kinds=["svg"]))
+        self.assertEqual([it.about for it in found if not it.about.endswith(".")], [])
         return [it.name for it in found]
 
     def test_networks_are_shown_beside_the_best(self) -> None:

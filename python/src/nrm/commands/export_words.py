@@ -1,6 +1,6 @@
 """The words with which an export is read: beside those of a log, its stops, fares, numbers and cancellations.
 
-May use: nrm, nrm.exports.bookings, nrm.logs.dates, nrm.logs.requests, nrm.network.
+May use: nrm, nrm.commands.running, nrm.exports.bookings, nrm.logs.dates, nrm.logs.requests.
 """
 from __future__ import annotations
 
@@ -9,10 +9,10 @@ import datetime
 from typing import Callable, Sequence
 
 from nrm import Stop
+from nrm.commands.running import whole_number
 from nrm.exports.bookings import Booking, ExportColumns, bookings_in
 from nrm.logs.dates import WEEKDAYS, Dates
 from nrm.logs.requests import Columns, Request
-from nrm.network import number
 
 
 def add_export(words: argparse.ArgumentParser) -> None:
@@ -31,7 +31,7 @@ def add_export(words: argparse.ArgumentParser) -> None:
     words.add_argument("--cancels", metavar=("COLUMN", "TEXT"), nargs="+", default=[])
     words.add_argument("--net", action="store_true")
     words.add_argument("--only", metavar=("COLUMN", "TEXT"), nargs="+", action="append", default=[])
-    words.add_argument("--leave-out", metavar="N", type=number, default=0)
+    words.add_argument("--leave-out", metavar="N", type=whole_number, default=0)
     words.add_argument("--until", metavar="DATE", type=day_of_word)
     words.add_argument("--stream", metavar=("DATE", "FILE"), nargs="+", default=[])
 

@@ -1,18 +1,18 @@
 """The words with which a log is read and cut into histories and periods: the same for each command that takes a log.
 
-May use: nrm, nrm.limits, nrm.logs.dates, nrm.logs.demand, nrm.logs.requests, nrm.network.
+May use: nrm, nrm.commands.running, nrm.limits, nrm.logs.dates, nrm.logs.demand, nrm.logs.requests.
 """
 from __future__ import annotations
 
 import argparse
 from typing import Callable, Iterable, Iterator, Mapping, Sequence
 
-from nrm import Stop
+from nrm import Stop, said
+from nrm.commands.running import whole_number
 from nrm.limits import MOST_HISTORIES, MOST_PRODUCTS
 from nrm.logs.dates import WEEKDAYS
 from nrm.logs.demand import Demand, cuts_of
 from nrm.logs.requests import Columns, Request, requests_in
-from nrm.network import number
 
 
 def add_log(words: argparse.ArgumentParser) -> None:
@@ -27,7 +27,7 @@ def add_log(words: argparse.ArgumentParser) -> None:
     words.add_argument("--network", metavar="FILE")
     words.add_argument("--names", metavar="FILE")
     words.add_argument("--weekday", choices=WEEKDAYS)
-    words.add_argument("--last", metavar="N", type=number)
+    words.add_argument("--last", metavar="N", type=whole_number)
     words.add_argument("--dates", choices=["dmy", "mdy"])
     words.add_argument("--multiline", action="store_true")
 
@@ -59,6 +59,6 @@ def names_told(names: Mapping[str, str], legs: Iterable[str], products: Sequence
                "files")
     made = [text for text in [*legs, *products] if names[text] != text]
     if path:
-        yield f"names made {len(made)}; {path} lists what they stand for"
+        yield f"names made {len(made)}; {said(path)} lists what they stand for"
     else:
         yield from (f"{names[text]} stands for {text!r}" for text in made)

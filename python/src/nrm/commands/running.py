@@ -1,6 +1,6 @@
 """How a command begins and ends: its words, its status, and how a mistake, a closed pipe or Ctrl-C is told.
 
-May use: nrm, nrm.logs.names, nrm.telling.libraries.
+May use: nrm, nrm.logs.names, nrm.network, nrm.telling.libraries.
 """
 from __future__ import annotations
 
@@ -9,13 +9,15 @@ import os
 import signal
 import subprocess
 import sys
-from typing import Callable, Sequence
+from typing import Callable, NoReturn, Sequence
 
-from nrm import Stop
+from nrm import Stop, said
 from nrm.logs.names import texts_in
+from nrm.network import number
 from nrm.telling.libraries import is_there, missing
 
 TOOLS = "nrm-tools"
+SEEN = "\n\t"  # what may stand in what is told
 Run = Callable[[Sequence[str]], int]
 
 
@@ -24,11 +26,40 @@ def title(name: str) -> str:
     return name if "/" in name else f"{TOOLS} {name}"
 
 
+class Words(argparse.ArgumentParser):
+    """A reader of words, which says what can't be seen in a word that is wrong."""
+
+    def error(self, message: str) -> NoReturn:
+        super().error(said(message, "\n"))
+
+
 def parser(name: str, manual: str) -> argparse.ArgumentParser:
     """A reader of the words of a command. The manual is the head of its file: a sentence, the usage, and the rest."""
     summary, usage, rest = manual.split("\n\n", 2)
-    return argparse.ArgumentParser(prog=title(name), usage=usage.strip(), description=f"{summary}\n\n{rest}",
-                                   formatter_class=argparse.RawDescriptionHelpFormatter)
+    return Words(prog=title(name), usage=usage.strip(), description=f"{summary}\n\n{rest}",
+                 formatter_class=argparse.RawDescriptionHelpFormatter)
+
+
+def refused_word(text: str, wanted: str) -> argparse.ArgumentTypeError:
+    """What is said of a word that isn't what is wanted."""
+    return argparse.ArgumentTypeError(f"{text!r}: {wanted} is wanted")
+
+
+def whole_number(text: str) -> int:
+    """The whole number that a word says."""
+    try:
+        return number(text)
+    except ValueError:
+        raise refused_word(text, "a whole number")
+
+
+def at_least(least: int, most: int) -> Callable[[str], int]:
+    """A reader of whole numbers within two limits."""
+    def within_limits(text: str) -> int:
+        if not least <= (found := whole_number(text)) <= most:
+            raise refused_word(text, f"a whole number from {least:,} to {most:,}")
+        return found
+    return within_limits
 
 
 def add_program(words: argparse.ArgumentParser) -> None:
@@ -72,14 +103,14 @@ def status_of(name: str, run: Run, words: Sequence[str]) -> int:
     except subprocess.CalledProcessError as fault:
         tell(name, f"`{' '.join(map(str, fault.cmd))}` ended with status {fault.returncode}")
     except OSError as fault:
-        tell(name, f"{f'{fault.filename}: ' if fault.filename else ''}{fault.strerror or fault}")
+        tell(name, f"{f'{said(fault.filename)}: ' if fault.filename else ''}{fault.strerror or fault}")
         forget_output()
     return status
 
 
 def tell(name: str, text: str) -> None:
     """Tells something on standard error, in the name of a command."""
-    print(f"{title(name)}: {text}", file=sys.stderr)
+    print(f"{title(name)}: {said(text, SEEN)}", file=sys.stderr)
 
 
 def lacking(name: str, *libraries: str) -> list[str]:

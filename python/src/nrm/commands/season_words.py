@@ -9,11 +9,13 @@ import argparse
 import functools
 import importlib.util
 import os
+import re
 from fractions import Fraction
 from typing import TYPE_CHECKING, Callable, ContextManager, Sequence
 
 from nrm import Stop, bytes_in
-from nrm.commands.running import tell
+from nrm.commands import running
+from nrm.commands.running import refused_word, tell
 from nrm.network import MOST_DIGITS, number
 from nrm.program import TOP, Program
 from nrm.seasons.drawing import DEMANDS, LARGEST_PARTY, ORDERS, Settings
@@ -25,39 +27,45 @@ if TYPE_CHECKING:
 DEBIANS_DASK = "/usr/lib/python3/dist-packages/distributed"
 SOURCES = TOP / "python" / "src"
 MOST_SEASONS = 10_000_000
+SHARE = "a number from 0 to 1, as 0.05,"
+EXACT = re.compile(r"[0-9]+\.?[0-9]*|\.[0-9]+")
 PATIENCE, MOST_PATIENCE = 300, 1_000_000  # seconds
 
 
 def read_parties(text: str) -> tuple[tuple[int, float], ...]:
     """Sizes of parties and their weights."""
-    pairs = tuple((number(size), number(weight)) for size, weight in (it.split(":") for it in text.split(",")))
+    wanted = f"a list of sizes from 1 to {LARGEST_PARTY}, each with its weight, as 1:80,2:15,4:5,"
+    try:
+        pairs = tuple((number(size), number(weight)) for size, weight in (it.split(":") for it in text.split(",")))
+    except ValueError:
+        raise refused_word(text, wanted)
     sizes, weights = zip(*pairs)
     if not (1 <= min(sizes) and max(sizes) <= LARGEST_PARTY and 0 <= min(weights) and 0 < max(weights)):
-        raise ValueError
+        raise refused_word(text, wanted)
     return pairs
 
 
 def probability(text: str) -> float:
     """A number from 0 to 1."""
-    if not 0 <= float(text) <= 1:
-        raise ValueError
-    return float(text)
+    try:
+        found = float(text)
+    except ValueError:
+        found = -1.0
+    if not 0 <= found <= 1:
+        raise refused_word(text, SHARE)
+    return found
 
 
 def exact_probability(text: str) -> Fraction:
     """A number from 0 to 1 as it is written, with digits and a point alone."""
-    if len(text) > MOST_DIGITS or not set(text) <= set("0123456789.") or not 0 <= Fraction(text) <= 1:
-        raise ValueError
+    if len(text) > MOST_DIGITS or not EXACT.fullmatch(text) or Fraction(text) > 1:
+        raise refused_word(text, SHARE)
     return Fraction(text)
 
 
 def at_least(least: int, most: int = MOST_SEASONS) -> Callable[[str], int]:
-    """A reader of whole numbers within two limits."""
-    def whole_number(text: str) -> int:
-        if not least <= number(text) <= most:
-            raise ValueError
-        return number(text)
-    return whole_number
+    """A reader of whole numbers within two limits, by default those of seasons."""
+    return running.at_least(least, most)
 
 
 def add_drawing(words: argparse.ArgumentParser) -> None:

@@ -9,7 +9,7 @@ import hashlib
 import os
 from typing import Mapping, Sequence
 
-from nrm import Stop, __version__
+from nrm import Stop, __version__, said
 from nrm.program import Program
 
 DIGITS = 12  # of a checksum that is shown
@@ -35,10 +35,11 @@ def checked(text: str, checksum: str) -> str:
 def made_of(kinds: Mapping[str, Mapping[str, bytes]], program: Program, seed: int | None = None) -> Made:
     """What something was made of: of each kind the files by their names, the day, the seed if there is one, and the
     versions."""
-    found = [(kind, ", ".join(checked(name, hashlib.sha256(data).hexdigest()) for name, data in files.items()))
+    found = [(kind, ", ".join(checked(said(name), hashlib.sha256(data).hexdigest()) for name, data in files.items()))
              for kind, files in kinds.items()]
     found += [("date", today()), *([] if seed is None else [("seed", str(seed))])]
-    return [*found, ("versions", f"nrm-tools {__version__}, {checked(program.words[0], program.checksum())}")]
+    runs = said(os.path.basename(program.words[0]))  # where it lies is nobody's affair who reads the page
+    return [*found, ("versions", f"nrm-tools {__version__}, {checked(runs, program.checksum())}")]
 
 
 def lines_of(made: Made) -> list[str]:

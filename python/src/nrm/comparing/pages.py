@@ -8,7 +8,6 @@ from __future__ import annotations
 
 import math
 from dataclasses import dataclass
-from pathlib import Path
 from typing import Any, Callable, Iterator, Mapping, Sequence
 
 from nrm.comparing.heads import Made
@@ -95,7 +94,7 @@ def of_shares(spans: Sequence[Span]) -> Picture:
     from nrm.telling import charts
     marks = "; ".join(f"{name} {per_cent(mark, 100)}" for name, _, _, mark in spans[:MOST_MEANS])
     words = ("From the 5th to the 95th of a hundred seasons thin, from the 25th to the 75th thick, the mark at the "
-             f"share of all seasons together: {marks}")
+             f"share of all seasons together: {marks}.")
     return Picture("shares", "Share of the bound by mode", words, lambda: charts.spans(spans, "share of the bound, %"))
 
 
@@ -104,7 +103,7 @@ def of_differences(name: str, title: str, mode: str, values: Sequence[int]) -> P
     from nrm.telling import charts
     words = (f"Differences from {min(values):,} to {max(values):,}, on the mean {amount(sum(values) / len(values))}, "
              f"which the broken line shows; {mode} is ahead in {per_cent(sum(v > 0 for v in values), len(values))} of "
-             "the seasons, which are blue")
+             "the seasons, which are blue.")
     return Picture(name, title, words, lambda: charts.histogram(values, "currency units", "seasons"))
 
 
@@ -114,7 +113,7 @@ def of_authorised(study: Study, leg: str, seats: Mapping[str, int]) -> Picture:
     courses = [(mode, sorted(points_of(it, seats))) for mode, it in study.rankings.items()]
     tops = "; ".join(f"under {mode} at {seats[it.best]}" for mode, it in study.rankings.items())
     words = ("What a season brings beside the authorised seats that earn most in each mode, with its interval at 95 "
-             f"per cent for all. Most is earned {tops}")
+             f"per cent for all. Most is earned {tops}.")
     return Picture("authorised", f"What is earned by the authorised seats of {with_text(leg, study.texts)}", words,
                    lambda: charts.courses(courses, f"authorised seats of {leg}", "beside the most, currency units"))
 
@@ -126,7 +125,7 @@ def of_networks(study: Study) -> Picture:
              for mode, it in study.rankings.items() for name in it.means]
     tops = "; ".join(f"under {mode} by {it.best}" for mode, it in study.rankings.items())
     words = ("What a season brings with each network beside the one that earns most in the mode, with its interval at "
-             f"95 per cent for all. Most is earned {tops}")
+             f"95 per cent for all. Most is earned {tops}.")
     return Picture("networks", "What each network earns beside the best", words,
                    lambda: charts.intervals(named, "beside the most, currency units a season"))
 
@@ -150,15 +149,15 @@ def points_of(ranking: Ranking, seats: Mapping[str, int]) -> Iterator[tuple[floa
 
 
 def page(first: str, made_of: Made, sentences: Sequence[str], tables: Sequence[Table], shown: Sequence[Picture],
-         paths: Mapping[str, str]) -> str:
-    """The page of a run, with what it says first and what it was made of at its front: its pictures are those whose SVG
-    files are at these paths, by their names."""
+         drawn: Mapping[str, str]) -> str:
+    """The page of a run, with what it says first and what it was made of at its front: its pictures are those of which
+    there is the text of an SVG file, by their names."""
     made = Page("Simulated seasons", first, made_of)
     made.text(" ".join(sentences))
-    if paths:
+    if drawn:
         made.heading("Pictures")
     for it in shown:
-        made.picture(Path(paths[it.name]).read_text(encoding="utf-8"), it.title, it.about)
+        made.picture(drawn[it.name], it.title, it.about)
     made.heading("Tables")
     for table in tables:
         made.table(table)

@@ -8,7 +8,7 @@ from __future__ import annotations
 from collections import defaultdict
 from typing import Mapping, Sequence
 
-from nrm import Stop
+from nrm import Stop, said
 from nrm.estimates.rates import Known
 from nrm.network import Network, Product
 from nrm.sales.sale import Sale
@@ -46,6 +46,6 @@ def before_of(sale: Sale, names: Mapping[str, str], path: str) -> dict[int, list
     """The mean demand of a network file, by the numbers of those products that it has."""
     network = Network.read(path)
     if network.periods != sale.periods:
-        raise Stop(f"{path} has {network.periods} periods, and --cuts makes {sale.periods}")
+        raise Stop(f"{said(path)} has {network.periods} periods, and --cuts makes {sale.periods}")
     means = network.mean_demand
     return {j: means[names[text]] for j, text in enumerate(sale.products) if names[text] in means}

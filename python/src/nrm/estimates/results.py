@@ -1,11 +1,11 @@
 """What an estimate makes: whole numbers, the rows of demand, the report, and what is told of it.
 
 What wasn't seen is drawn several times rather than rounded, so that the spread of the histories is that of demand;
-this is multiple imputation. May use: nrm, nrm.estimates.rates, nrm.limits, nrm.network, nrm.seasons.drawing.
+this is multiple imputation. May use: nrm, nrm.estimates.rates, nrm.limits, nrm.logs.names, nrm.network,
+nrm.seasons.drawing.
 """
 from __future__ import annotations
 
-import csv
 import itertools
 import math
 import random
@@ -15,6 +15,7 @@ from typing import Iterator, Mapping, Sequence
 from nrm import Stop
 from nrm.estimates.rates import Rates
 from nrm.limits import MOST_HISTORIES
+from nrm.logs.names import text_of_rows
 from nrm.network import demand_row
 from nrm.seasons.drawing import poisson
 
@@ -84,13 +85,10 @@ class Estimate:
 
     # The report
 
-    def write_report(self, path: str) -> None:
-        """Writes a row for each product: what was booked, how much of its demand came while it was open, the estimate,
-        its error."""
-        with open(path, "w", encoding="utf-8", newline="") as file:
-            writer = csv.writer(file, lineterminator="\n")
-            writer.writerow(HEADINGS)
-            writer.writerows(map(self.reported, self.rates.products))
+    def report(self) -> str:
+        """A row for each product: what was booked, how much of its demand came while it was open, the estimate, its
+        error."""
+        return text_of_rows([HEADINGS, *map(self.reported, self.rates.products)])
 
     def reported(self, j: int) -> list[str]:
         """The row of a product. Where it was never open in a period its error isn't known."""

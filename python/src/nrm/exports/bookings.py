@@ -12,7 +12,7 @@ from dataclasses import dataclass
 from decimal import Decimal
 from typing import Callable, Iterable, Iterator, Mapping, Sequence
 
-from nrm import Stop
+from nrm import Stop, said
 from nrm.exports.amounts import Amounts
 from nrm.logs.dates import Dates
 from nrm.logs.requests import Columns, Request, all_made, lines_told, rows_and_dates, tell_departures
@@ -206,7 +206,7 @@ def bookings_in(path: str, columns: ExportColumns, order: str | None, is_multili
     for text in pairing.told():
         tell(text)
     if not pairing.bookings:
-        raise Stop(f"{path} has no booking: each row cancels one")
+        raise Stop(f"{said(path)} has no booking: each row cancels one")
     tell_departures([it.request for it in pairing.bookings], tell)
     return pairing.bookings
 

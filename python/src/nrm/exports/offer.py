@@ -12,7 +12,7 @@ from dataclasses import dataclass
 from decimal import ROUND_HALF_UP, Decimal
 from typing import Callable, Iterable, Iterator, Mapping, Sequence
 
-from nrm import Stop
+from nrm import Stop, said
 from nrm.exports.bookings import Booking
 from nrm.exports.codes import Names, Parts
 from nrm.exports.lines import Leg, Lines
@@ -144,8 +144,8 @@ def seats_in(path: str) -> dict[str, tuple[int, int]]:
         if at == 0 and not any(map(is_whole, numbers)) or not any([what, *numbers]):
             continue
         if len(numbers) != 1 or not is_whole(numbers[0]) or int(numbers[0]) > MOST_SEATS or what in found:
-            raise Stop(f"{path}: line {reader.line_num} is to have a train or a leg of its own and its seats, 0 to "
-                       f"{MOST_SEATS}")
+            raise Stop(f"{said(path)}: line {reader.line_num} is to have a train or a leg of its own and its seats, "
+                       f"0 to {MOST_SEATS}")
         found[what] = int(numbers[0]), reader.line_num
     return found
 
@@ -162,7 +162,8 @@ def seats_of(path: str, offer: Offer, names: Mapping[str, str], tell: Callable[[
             seats[text] = there[key][0]
             used.add(key)
     if missing:
-        raise Stop(f"{path} has no seats for {some_of(missing)}: add a row for each, its train or leg and the number")
+        raise Stop(f"{said(path)} has no seats for {some_of(missing)}: add a row for each, its train or leg and the "
+                   "number")
     if idle := [f"{it!r} in line {line}" for it, (_, line) in there.items() if it not in used]:
-        tell(f"no leg of the export is {some_of(idle)} of {path}")
+        tell(f"no leg of the export is {some_of(idle)} of {said(path)}")
     return seats

@@ -8,7 +8,7 @@ import re
 from fractions import Fraction
 from typing import Iterator
 
-from nrm import Stop
+from nrm import Stop, said
 from nrm.network import MOST_DIGITS, Network
 
 DIGITS = 15  # that glpsol writes of a number
@@ -66,7 +66,7 @@ class Solution:
         try:
             return cls(network, text)
         except (ValueError, IndexError, ZeroDivisionError):
-            raise Stop(f"{path} has a line that neither `glpsol -w` nor `esolver -O` writes")
+            raise Stop(f"{said(path)} has a line that neither `glpsol -w` nor `esolver -O` writes")
 
     def is_none(self) -> Stop:
         """A Stop for a file that is no solution of the program."""

@@ -8,7 +8,7 @@ import datetime
 from collections import Counter
 from typing import Callable, Iterator, Mapping, Sequence
 
-from nrm import Stop
+from nrm import Stop, said
 from nrm.limits import MOST_HISTORIES, MOST_PERIODS
 from nrm.logs.dates import WEEKDAYS
 from nrm.logs.requests import Request
@@ -79,11 +79,11 @@ def completed(path: str, demand: Demand, names: Mapping[str, str],
     rows = fields_in(path)
     there = {row[1] for row in rows if row[0] == "product" and row[1:]}
     if not there:
-        raise Stop(f"{path} has no row of a product that can be read: "
-                   f"`nrm-tools explain {path}` tells what is wrong with it")
+        raise Stop(f"{said(path)} has no row of a product that can be read: "
+                   f"`nrm-tools explain {said(path)}` tells what is wrong with it")
     missing = [f"{names[it]}, which stands for {it!r}" for it in demand.products if names[it] not in there]
     if missing:
-        raise Stop("\n    ".join([f"{path} has no row for these products of the log; "
+        raise Stop("\n    ".join([f"{said(path)} has no row for these products of the log; "
                                   "add one for each, or take them out of the log", *missing]))
     if idle := sorted(there - {names[it] for it in demand.products}):
         tell(f"no request of the log is for {', '.join(idle)}")

@@ -1,5 +1,7 @@
 """The list of names at a path: which name of a network file stands for which text of a log.
 
+A spreadsheet takes a text that begins with `=`, `+`, `-`, `@` or a tab for a formula, and runs it. So a ' stands before
+such a text in the list, and is left out where the list is read.
 May use: nrm, nrm.limits, nrm.logs.rows, nrm.network.
 """
 from __future__ import annotations
@@ -7,14 +9,26 @@ from __future__ import annotations
 import csv
 import io
 import os
-from typing import Mapping
+import re
+from typing import Iterable, Mapping, Sequence
 
-from nrm import Stop, bytes_in
+from nrm import Stop, bytes_in, said
 from nrm.limits import MOST_NAME_BYTES
 from nrm.logs.rows import text_in
 from nrm.network import NAME
 
 HEADINGS = ["name", "stands for"]
+FORMULA = re.compile(r"'*[=+\-@\t\r]")
+
+
+def as_text(text: str) -> str:
+    """A text as it stands in a list: no spreadsheet takes it for a formula."""
+    return f"'{text}" if FORMULA.match(text) else text
+
+
+def as_meant(text: str) -> str:
+    """The text of a field of a list."""
+    return text[1:] if text.startswith("'") and FORMULA.match(text) else text
 
 
 def names_in(path: str | None) -> dict[str, str]:
@@ -26,13 +40,14 @@ def names_in(path: str | None) -> dict[str, str]:
     try:
         first, *rows = [(reader.line_num, row) for row in reader] or [(1, [])]
     except csv.Error:
-        raise Stop(f"{path} is no list of names: line {reader.line_num} or one above it has a quote that isn't closed")
+        raise Stop(f"{said(path)} is no list of names: line {reader.line_num} or one above it has a quote that isn't "
+                   "closed")
     if first[1] != HEADINGS:
-        raise Stop(f"{path} is no list of names: its first row is to be `name,stands for`")
+        raise Stop(f"{said(path)} is no list of names: its first row is to be `name,stands for`")
     names: dict[str, str] = {}
-    for line, (name, *stands_for) in ((line, row) for line, row in rows if row):
+    for line, (name, *stands_for) in ((line, list(map(as_meant, row))) for line, row in rows if row):
         if len(stands_for) != 1 or not NAME.fullmatch(name) or name in names.values() or stands_for[0] in names:
-            raise Stop(f"{path} is no list of names: line {line} is to have a name of its own, of 1 to "
+            raise Stop(f"{said(path)} is no list of names: line {line} is to have a name of its own, of 1 to "
                        f"{MOST_NAME_BYTES} of A-Z, 0-9 and -, and one text that it stands for")
         names[stands_for[0]] = name
     return names
@@ -45,9 +60,14 @@ def texts_in(path: str | None) -> dict[str, str]:
     return {name: text for text, name in names_in(path).items()}
 
 
-def write_names(path: str, names: Mapping[str, str]) -> None:
-    """Writes a list of names to a path, in their order."""
-    with open(path, "w", encoding="utf-8", newline="") as file:
-        writer = csv.writer(file, lineterminator="\n")
-        writer.writerow(HEADINGS)
-        writer.writerows(sorted((name, text) for text, name in names.items()))
+def list_of(names: Mapping[str, str]) -> str:
+    """The text of a list of names, in their order."""
+    rows = sorted((name, text) for text, name in names.items())
+    return text_of_rows([HEADINGS, *rows])
+
+
+def text_of_rows(rows: Iterable[Sequence[str]]) -> str:
+    """The text of a file for spreadsheets."""
+    text = io.StringIO()
+    csv.writer(text, lineterminator="\n").writerows([list(map(as_text, row)) for row in rows])
+    return text.getvalue()

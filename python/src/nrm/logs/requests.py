@@ -9,7 +9,7 @@ import re
 from dataclasses import dataclass
 from typing import Callable, Sequence, TypeVar
 
-from nrm import Stop
+from nrm import Stop, said
 from nrm.logs.dates import Dates, departures_told, has_short_year
 from nrm.logs.rows import Log, LogRow, cut_short, some_of
 
@@ -137,10 +137,10 @@ def all_made(log: Log, rows: Sequence[LogRow], make: Callable[[LogRow], Made], m
     told = [why for _, why in sorted(wrong)]
     if len(told) > most:
         more = [f"and {len(told) - MOST_TOLD} more"] if len(told) > MOST_TOLD else []
-        unread = f"{log.path} has rows that can't be read; mend them, or take them out"
+        unread = f"{said(log.path)} has rows that can't be read; mend them, or take them out"
         raise Stop("\n    ".join([unread, *told[:MOST_TOLD], *more]))
     if not made:
-        raise Stop(f"{log.path} has no request below its headings")
+        raise Stop(f"{said(log.path)} has no request below its headings")
     for text in told:
         tell(f"left out: {text}")
     return made

@@ -11,7 +11,7 @@ import itertools
 from dataclasses import dataclass
 from typing import Iterator, Sequence
 
-from nrm import Stop, bytes_in
+from nrm import Stop, bytes_in, said
 
 SEPARATORS = [",", ";", "\t", "|"]
 MOST_ABOVE = 100  # rows above the headings
@@ -25,8 +25,8 @@ def text_in(path: str) -> str:
     csv.field_size_limit(2**31 - 1)
     data = bytes_in(path)
     if data.startswith(OF_A_SPREADSHEET):
-        raise Stop(f"{path} is a spreadsheet's own file: save it as CSV, or "
-                   f"`soffice --headless --convert-to csv {path}`")
+        raise Stop(f"{said(path)} is a spreadsheet's own file: save it as CSV, or "
+                   f"`soffice --headless --convert-to csv {said(path)}`")
     if data.startswith((b"\xff\xfe", b"\xfe\xff")):
         return data.decode("utf-16", "replace")
     try:
@@ -66,9 +66,9 @@ class Log:
             found = ((it, self.headings(it, columns)) for it in SEPARATORS)
             separator, places = next((it for it in found if it[1]), ("", []))
         except csv.Error as fault:
-            raise Stop(f"{path} can't be read as fields with separators between them: {fault}")
+            raise Stop(f"{said(path)} can't be read as fields with separators between them: {fault}")
         if not places:
-            raise Stop(f"{path} {what_is_there(text, columns)}")
+            raise Stop(f"{said(path)} {what_is_there(text, columns)}")
         self.rows: list[LogRow] = []
         self.faults: list[tuple[int, str]] = []  # lines, and what is told of them
         self.empty = self.within = 0
@@ -139,7 +139,7 @@ class Log:
 
     def refused(self, line: int, why: str) -> Stop:
         """A Stop for a line."""
-        return Stop(f"{self.path}: {self.shown(line, why)}")
+        return Stop(f"{said(self.path)}: {self.shown(line, why)}")
 
     def told(self) -> str:
         """How many rows were read of how many lines, and what the other lines were."""

@@ -12,7 +12,7 @@ import os
 from fractions import Fraction
 from typing import ContextManager, Mapping, Sequence
 
-from nrm import Stop
+from nrm import Stop, said
 from nrm.network import Network, Product, text_of
 from nrm.program import Program
 from nrm.replies import plan_of
@@ -81,5 +81,5 @@ class Averaged:
             file.write("".join(f"{it}\n" for it in self.program.lines("plan", "bid", path)))
         told = self.program.lines("check", path, certificate)
         if told != ["optimal"]:
-            raise Stop(f"{certificate} isn't optimal for {path}: {' '.join(told)}")
+            raise Stop(f"{said(certificate)} isn't optimal for {path}: {' '.join(told)}")
         return path, certificate

@@ -10,7 +10,7 @@ from collections import Counter
 from dataclasses import dataclass, field
 from typing import Iterable, Iterator, Mapping, Sequence
 
-from nrm import Stop, bytes_in
+from nrm import Stop, bytes_in, said
 from nrm.limits import MOST_HISTORIES
 from nrm.network import Network, demand_row
 
@@ -41,16 +41,16 @@ class Asked:
 
     def told(self, path: str) -> Iterator[str]:
         """What a stream was read as, and what of it was left out."""
-        yield (f"{path}: requests {self.requests}, seats {sum(self.seats.values())}; cancellations passed over "
+        yield (f"{said(path)}: requests {self.requests}, seats {sum(self.seats.values())}; cancellations passed over "
                f"{self.cancels}")
         if self.unknown:
             names = sorted(self.unknown)
-            yield (f"{path}: seats left out {sum(self.unknown.values())}, of products that the network hasn't: "
+            yield (f"{said(path)}: seats left out {sum(self.unknown.values())}, of products that the network hasn't: "
                    f"{', '.join(names[:MOST_NAMED])}{', ..' if names[MOST_NAMED:] else ''}")
         for lines, which, why in ((self.others, "left out", "are none of a session"),
                                   (self.backward, "`reoptimise` passed over", "begin no later period of the network")):
             if lines:
-                yield f"{path}: lines {which} {len(lines)}, which {why}; the first is line {lines[0]}"
+                yield f"{said(path)}: lines {which} {len(lines)}, which {why}; the first is line {lines[0]}"
 
 
 def asked_in(path: str, network: Network) -> Asked:
@@ -89,8 +89,8 @@ def see_that_all_of_it_counts(path: str) -> None:
     nothing: they were sent again."""
     bytes_in(path, 1)
     if os.path.exists(f"{path}.void"):
-        raise Stop(f"{path}.void numbers lines of {path} that changed nothing: `nrm-tools journal import` leaves them "
-                   "out, and `nrm-tools journal look` writes the others")
+        raise Stop(f"{said(path)}.void numbers lines of {said(path)} that changed nothing: `nrm-tools journal import` "
+                   "leaves them out, and `nrm-tools journal look` writes the others")
 
 
 def histories_of(network: Network, asked: Sequence[Asked]) -> list[Mapping[str, Sequence[int]]]:

@@ -1,7 +1,7 @@
 """The times at which products were closed: rows that say them, or readings of availability between which they lie.
 
 A moment is in days, 0 at the beginning of the day of departure, and so below 0 before it.
-May use: nrm.logs.dates, nrm.logs.requests, nrm.logs.rows.
+May use: nrm, nrm.logs.dates, nrm.logs.requests, nrm.logs.rows.
 """
 from __future__ import annotations
 
@@ -12,6 +12,7 @@ from collections import defaultdict
 from dataclasses import dataclass
 from typing import Callable, Iterable, Iterator, Sequence, TypeVar
 
+from nrm import said
 from nrm.logs.dates import TIME, Dates
 from nrm.logs.requests import all_made, day_of
 from nrm.logs.rows import Log, LogRow, cut_short
@@ -119,7 +120,7 @@ class Times:
     def rows(self, of: Callable[[Dates, str, str, str, str], Made], tell: Callable[[str], None]) -> list[Made]:
         """What is made of each row; all that can't be read are told in one refusal. Tells what was read."""
         log = Log(self.path, [self.departs, *self.product, *self.others], self.is_multiline, gathers=True)
-        tell(f"{self.path}: {log.told()}")
+        tell(f"{said(self.path)}: {log.told()}")
         dates = Dates((text for it in log.rows for text in (it.fields[0], *it.fields[-2:])), self.order)
 
         def made_of(row: LogRow) -> Made:

@@ -1,6 +1,7 @@
 """Network files tried on the same seasons, and what each season earned by each; what was tried is kept in a file.
 
-Who plays is given, so that nothing here needs Dask. May use: nrm, nrm.network, nrm.seasons.drawing, nrm.seasons.rows.
+Who plays is given, so that nothing here needs Dask. May use: nrm, nrm.files.writing, nrm.network,
+nrm.seasons.drawing, nrm.seasons.rows.
 """
 from __future__ import annotations
 
@@ -12,7 +13,8 @@ import sys
 import time
 from typing import Callable, Iterator, Mapping, NamedTuple, Sequence
 
-from nrm import Stop, bytes_in
+from nrm import Stop, bytes_in, said
+from nrm.files.writing import Output, opened
 from nrm.network import text_of
 from nrm.seasons.drawing import Settings, network_in
 from nrm.seasons.rows import Batch, heads
@@ -68,10 +70,9 @@ class Tries:
         head = json.loads(json.dumps(made_by))
         if os.path.exists(path):
             self.read(path, head)
-        with open(path + ".new", "w", encoding="ascii") as file:
-            file.write(json.dumps(head) + "\n")
-            file.writelines(self.line(*key, earned) for key, earned in self.known.items())
-        os.replace(path + ".new", path)
+        lines = [json.dumps(head) + "\n", *(self.line(*key, earned) for key, earned in self.known.items())]
+        with Output() as output:
+            output.add(path, "".join(lines), "ascii")
 
     def read(self, path: str, head: Mapping[str, object]) -> None:
         """Takes the lines of a file; one that was cut at its end is left out."""
@@ -84,9 +85,10 @@ class Tries:
                 self.known[it["file"], it["first"], len(it["earned"])] = [
                     Earned(*pair) for pair in zip(it["earned"], it["denied"])]
         except (ValueError, LookupError, TypeError):
-            raise Stop(f"{path} isn't what a search writes")
+            raise Stop(f"{said(path)} isn't what a search writes")
         if differ:
-            raise Stop(f"{path} has tries of another run, which differs in: {', '.join(differ).replace('_', '-')}")
+            raise Stop(f"{said(path)} has tries of another run, which differs in: "
+                       f"{', '.join(differ).replace('_', '-')}")
 
     @staticmethod
     def line(file: str, first: int, _: int, earned: Sequence[Earned]) -> str:
@@ -100,8 +102,8 @@ class Tries:
         if key not in self.known:
             self.known[key] = list(play(text, numbers))
             if self.path is not None:
-                with open(self.path, "a", encoding="ascii") as file:
-                    file.write(self.line(*key, self.known[key]))
+                with opened(self.path, "ab") as file:
+                    file.write(self.line(*key, self.known[key]).encode("ascii"))
         return self.known[key]
 
 

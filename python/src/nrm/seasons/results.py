@@ -12,7 +12,7 @@ from collections import defaultdict
 from dataclasses import dataclass
 from typing import Iterator, Sequence
 
-from nrm import Stop
+from nrm import Stop, said
 from nrm.network import number
 
 NINETY_FIVE = 1.96  # standard errors on each side of a mean, between which 95 of 100 lie
@@ -69,7 +69,7 @@ class Results:
             with open(path, encoding="ascii", newline="") as file:
                 return cls.of(csv.reader(file))
         except (ValueError, LookupError, StopIteration, OverflowError):
-            raise Stop(f"{path} is no file of rows that simulate wrote")
+            raise Stop(f"{said(path)} is no file of rows that simulate wrote")
 
     @classmethod
     def of(cls, rows: Iterator[list[str]]) -> Results:

@@ -1,7 +1,8 @@
 """The rows that many seasons make: of a batch, which says who has played it, and of a network, kept as they come.
 
 A batch is played by this machine or another, so it comes with the checksums of the program and of this package there,
-and who asked for it compares. May use: nrm, nrm.network, nrm.program, nrm.seasons.drawing, nrm.seasons.playing.
+and who asked for it compares. May use: nrm, nrm.files.writing, nrm.network, nrm.program, nrm.seasons.drawing,
+nrm.seasons.playing.
 """
 from __future__ import annotations
 
@@ -20,7 +21,8 @@ from dataclasses import dataclass
 from pathlib import Path
 from typing import IO, TYPE_CHECKING, Any, Iterable, Iterator, Mapping, Sequence
 
-from nrm import Stop, bytes_in
+from nrm import Stop, bytes_in, said
+from nrm.files.writing import Output, opened
 from nrm.network import MOST_DIGITS, Network
 from nrm.program import Program
 from nrm.seasons.drawing import DrawnSeason, Settings
@@ -198,10 +200,10 @@ class Seasons:
         self.name, self.source, self.network = name, bytes_in(path), Network.read(path)
         self.settings, self.wanted = settings, wanted
         if settings.leave_out and self.network.histories < 2:
-            raise Stop(f"{path} has one history: --leave-out takes two, one to play and one to know")
+            raise Stop(f"{said(path)} has one history: --leave-out takes two, one to play and one to know")
         self.whole, self.part = (os.path.join(folder, f"{name}-seasons.{ending}") for ending in ("csv", "part"))
         self.size, self.rows = FIRST_TASK, dict[int, str]()
-        self.file: IO[str] | None = None
+        self.file: IO[bytes] | None = None
 
     def go_on(self) -> None:
         """Reads the rows that are there already."""
@@ -210,7 +212,7 @@ class Seasons:
                 with open(path, encoding="ascii", errors="replace") as file:
                     self.take(line for line in file if line.endswith("\n"))
         if max(self.rows, default=0) >= self.wanted:
-            raise Stop(f"{self.whole} has more seasons than the {self.wanted} that are asked for")
+            raise Stop(f"{said(self.whole)} has more seasons than the {self.wanted} that are asked for")
 
     def take(self, lines: Iterable[str]) -> None:
         """Takes rows, those of a season only if each mode is there."""
@@ -234,8 +236,8 @@ class Seasons:
         """Keeps the rows of a batch, and learns from it how many seasons fit into a task."""
         self.take(batch.rows.splitlines(keepends=True))
         if self.file is None:
-            self.file = open(self.part, "a", encoding="ascii")
-        self.file.write(batch.rows)
+            self.file = opened(self.part, "ab")
+        self.file.write(batch.rows.encode("ascii"))
         self.file.flush()
         self.size = max(1, min(LARGEST_TASK, round(SECONDS_OF_A_TASK * batch.seasons / batch.seconds)))
 
@@ -244,10 +246,9 @@ class Seasons:
         if self.file:
             self.file.close()
         if len(self.rows) == self.wanted:
-            with open(self.whole + ".new", "w", encoding="ascii") as file:
-                file.write(",".join(heads(self.network, self.settings)) + "\n")
-                file.writelines(self.rows[it] for it in range(self.wanted))
-            os.replace(self.whole + ".new", self.whole)
+            head = ",".join(heads(self.network, self.settings)) + "\n"
+            with Output() as output:
+                output.add(self.whole, head + "".join(self.rows[it] for it in range(self.wanted)), "ascii")
             with contextlib.suppress(FileNotFoundError):
                 os.remove(self.part)
 
@@ -266,8 +267,9 @@ def check_same(folder: str, settings: Settings, studies: Sequence[Seasons]) -> N
             differ = [it for it in now if now[it] != settled[it]]
             differ += [it for it in digests if known.get(it, digests[it]) != digests[it]]
         except (ValueError, LookupError, TypeError):
-            raise Stop(f"{path} isn't what simulate writes")
+            raise Stop(f"{said(path)} isn't what simulate writes")
         if differ:
-            raise Stop(f"{folder} has seasons of another run, which differs in: {', '.join(differ).replace('_', '-')}")
-    with open(path, "w", encoding="ascii") as file:
-        json.dump({"settings": now, "networks": {**known, **digests}}, file, indent=1)
+            raise Stop(f"{said(folder)} has seasons of another run, which differs in: "
+                       f"{', '.join(differ).replace('_', '-')}")
+    with Output() as output:
+        output.add(path, json.dumps({"settings": now, "networks": {**known, **digests}}, indent=1), "ascii")

@@ -9,7 +9,6 @@ from __future__ import annotations
 import re
 from dataclasses import dataclass, field
 from fractions import Fraction
-from pathlib import Path
 from typing import Iterator, Mapping, Sequence
 
 from nrm import Stop, bytes_in
@@ -231,14 +230,14 @@ def abouts(season: Season) -> dict[str, tuple[str, str]]:
 
 
 def page(season: Season, made_of: Made, told: Sequence[Table], left_out: Sequence[str],
-         pictures: Sequence[str]) -> str:
-    """The page of a season, with what it was made of, its pictures if there are some, the paths of SVG files, its
-    tables, and which tables are left out."""
+         pictures: Mapping[str, str]) -> str:
+    """The page of a season, with what it was made of, its pictures if there are some, the texts of SVG files by their
+    names, its tables, and which tables are left out."""
     made = Page("A season in three modes", verdict(season), made_of)
     if pictures:
         made.heading("Pictures")
-    for path in pictures:
-        made.picture(Path(path).read_text(encoding="utf-8"), *abouts(season)[Path(path).stem], is_large=True)
+    for name, svg in pictures.items():
+        made.picture(svg, *abouts(season)[name], is_large=True)
     made.heading("Tables")
     made.text("Each point of the season is behind a line of the stream: "
               + ", ".join(f"{name} {number:,}" for number, name in season.stream.points) + ".")

@@ -1,6 +1,6 @@
 """How the fares on each leg are divided into groups, by `nrm cuts`, and the tables of that.
 
-May use: nrm.network, nrm.program, nrm.replies, nrm.telling.tables.
+May use: nrm, nrm.network, nrm.program, nrm.replies, nrm.telling.tables.
 """
 from __future__ import annotations
 
@@ -8,6 +8,7 @@ import functools
 from dataclasses import dataclass
 from typing import Iterator, Mapping, Sequence
 
+from nrm import said
 from nrm.network import Network
 from nrm.program import Program
 from nrm.replies import Cuts, cuts_of
@@ -63,7 +64,8 @@ def verdict(path: str, found: Sequence[Grouping], rule: str) -> str:
     """What is said first of the thresholds that a rule gives the legs of the file at a path."""
     buckets = [len(it.cuts.thresholds) + 1 for it in found]
     each = "" if len(found) == 1 else f", {' to '.join(map(str, sorted({min(buckets), max(buckets)})))} on each"
-    return (f"On {counted(len(found), 'leg')} of {path} the thresholds {rule} make {counted(sum(buckets), 'bucket')}"
+    made = f"{rule} make {counted(sum(buckets), 'bucket')}"
+    return (f"On {counted(len(found), 'leg')} of {said(path)} the thresholds {made}"
             f"{each}; what they earn wasn't measured.")
 
 

@@ -1,10 +1,12 @@
 """What all pictures have in common: panels with a legend below, colours with marks, files that are the same each time.
 
 Colours are those of Okabe and Ito, which colour-blind readers tell apart; each has a mark, a dash or a hatch of its own
-too. It needs matplotlib: who draws asks `nrm.telling.libraries` first. May use: nrm.
+too. It needs matplotlib: who draws asks `nrm.telling.libraries` first. May use: nrm,
+nrm.files.writing.
 """
 from __future__ import annotations
 
+import io
 import os
 import textwrap
 from typing import Any, Callable, Iterable, Iterator
@@ -12,6 +14,7 @@ from typing import Any, Callable, Iterable, Iterator
 import matplotlib
 
 from nrm import make_folder
+from nrm.files.writing import Output
 
 matplotlib.use("Agg")
 import matplotlib.pyplot as pyplot  # noqa: E402, behind the choice of what draws
@@ -81,9 +84,9 @@ def in_few_numbers(axis: Any) -> None:
     axis.set_major_locator(matplotlib.ticker.MaxNLocator(4, integer=True))
 
 
-def written(figures: Iterable[tuple[str, Callable[[], Figure]]], folder: str,
+def written(figures: Iterable[tuple[str, Callable[[], Figure]]], folder: str, output: Output,
             kinds: Iterable[str] = tuple(WITHOUT_DATE)) -> Iterator[str]:
-    """Writes figures as they are made, each with its name, in files of these kinds, and gives the paths of these."""
+    """Draws figures, each with its name, has them written in files of these kinds, and gives the paths of these."""
     make_folder(folder)
     known = {name: value for name, value in SETTINGS.items() if name in matplotlib.rcParams}
     with matplotlib.rc_context(known):
@@ -91,6 +94,7 @@ def written(figures: Iterable[tuple[str, Callable[[], Figure]]], folder: str,
             figure = make()
             for kind in kinds:
                 path = os.path.join(folder, f"{name}.{kind}")
-                figure.savefig(path, metadata=WITHOUT_DATE[kind])
-                yield path
+                picture = io.BytesIO()
+                figure.savefig(picture, format=kind, metadata=WITHOUT_DATE[kind])
+                yield output.add(path, picture.getvalue())
             pyplot.close(figure)

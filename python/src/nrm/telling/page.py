@@ -81,8 +81,3 @@ def templates(*folders: Path) -> Any:
                               lstrip_blocks=True, undefined=jinja2.StrictUndefined)
 
 
-def write(path: str, text: str) -> str:
-    """Writes a file, and gives its path."""
-    with open(path, "w", encoding="utf-8") as file:
-        file.write(text)
-    return path

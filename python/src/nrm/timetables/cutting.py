@@ -1,6 +1,6 @@
 """A timetable cut into the files of a folder where no product joins its legs, and what is told of what is too large.
 
-May use: nrm, nrm.limits, nrm.network, nrm.timetables.leaving, nrm.timetables.parts.
+May use: nrm, nrm.files.writing, nrm.limits, nrm.network, nrm.timetables.leaving, nrm.timetables.parts.
 """
 from __future__ import annotations
 
@@ -9,7 +9,8 @@ import glob
 import os
 from typing import Iterator, Sequence
 
-from nrm import Stop, bytes_in, make_folder
+from nrm import Stop, bytes_in, make_folder, said
+from nrm.files.writing import Output
 from nrm.limits import MOST_LEGS, MOST_LEGS_OF_A_PRODUCT, MOST_PRODUCTS
 from nrm.network import Network, Product, text_of
 from nrm.timetables.leaving import Proposal, proposal, worth
@@ -28,8 +29,8 @@ def names_in(path: str) -> list[str]:
 class Cut:
     """A timetable as it is cut into the files of a folder, and what is told of it."""
 
-    def __init__(self, network: Network, folder: str, without: Sequence[str] = ()) -> None:
-        self.network, self.folder, self.without = network, folder, without
+    def __init__(self, network: Network, folder: str, output: Output, without: Sequence[str] = ()) -> None:
+        self.network, self.folder, self.output, self.without = network, folder, output, without
         unknown = [it for it in without if it not in network.products]
         if unknown:
             raise Stop(f"there is no product {unknown[0]}, which is to be left out")
@@ -47,22 +48,22 @@ class Cut:
         return not self.too_large_parts and not self.long
 
     def write(self) -> Iterator[str]:
-        """Writes the parts, and gives a line for each."""
+        """Makes the files of the parts, and gives a line for each."""
         make_folder(self.folder)
         yield from self.too_long()
-        with open(os.path.join(self.folder, "parts.csv"), "w", encoding="ascii") as list_of_products:
-            list_of_products.write(text_of([["product", "file"], *[[it, ""] for it in self.without]]))
-            for part in parts_of(self.network.legs, self.legs_of):
-                if part.is_too_large():
-                    self.too_large_parts += 1
-                    yield from self.too_large(part)
-                elif part.products:
-                    name = self.write_part(part)
-                    list_of_products.write(text_of([[it, name] for it in part.products]))
-                    yield (f"{self.written[-1]}: legs {len(part.legs)}, the first {part.legs[0]}; "
-                           f"products {len(part.products)}")
-                else:
-                    yield f"no product: the leg {part.legs[0]} is in no file"
+        places = [["product", "file"], *[[it, ""] for it in self.without]]
+        for part in parts_of(self.network.legs, self.legs_of):
+            if part.is_too_large():
+                self.too_large_parts += 1
+                yield from self.too_large(part)
+            elif part.products:
+                name = self.write_part(part)
+                places += [[it, name] for it in part.products]
+                yield (f"{said(self.written[-1])}: legs {len(part.legs)}, the first {part.legs[0]}; "
+                       f"products {len(part.products)}")
+            else:
+                yield f"no product: the leg {part.legs[0]} is in no file"
+        self.output.add(os.path.join(self.folder, "parts.csv"), text_of(places))
         if self.without:
             left_out = [self.network.products[it] for it in self.without]
             yield f"left out: products {len(left_out)}, {self.share(left_out)} of what was asked for at its fare"
@@ -77,8 +78,8 @@ class Cut:
         """How many products files have, and what of the others and of those that no file takes."""
         every, files = len(self.network.products), len(self.written)
         share = "all" if self.in_files == every else f"{self.in_files:,} of"
-        yield (f"{files:,} {'file has' if files == 1 else 'files have'} {share} {every:,} products of {path}" if files
-               else f"No file was written of {path}")
+        yield (f"{files:,} {'file has' if files == 1 else 'files have'} {share} {every:,} products of {said(path)}"
+               if files else f"No file was written of {said(path)}")
         if self.without:
             left_out = self.share([self.network.products[it] for it in self.without])
             yield f"left out: {len(self.without):,}, {left_out} of what was asked for at its fare"
@@ -109,8 +110,7 @@ class Cut:
         name = f"part-{len(self.written) + 1}.csv"
         self.written.append(os.path.join(self.folder, name))
         self.in_files += len(part.products)
-        with open(self.written[-1], "w", encoding="ascii") as file:
-            file.write(text_of(self.network.rows(part.legs, part.products)))
+        self.output.add(self.written[-1], text_of(self.network.rows(part.legs, part.products)))
         return name
 
     def too_large(self, part: Part) -> Iterator[str]:
@@ -141,17 +141,16 @@ class Cut:
         if not self.proposed:
             return
         histories = self.network.histories
-        with open(path, "w", encoding="ascii") as file:
-            file.write(text_of([["product", "legs", "a season", "share %"]]))
-            file.write(text_of([it.name, " ".join(it.legs), f"{worth(it) / histories:.2f}", self.share([it])[:-2]]
-                               for it in sorted(self.proposed, key=worth)))
-        yield f"{path}: what is proposed to be left out; with `--leave-out {path}` the rest is written"
+        rows = [[it.name, " ".join(it.legs), f"{worth(it) / histories:.2f}", self.share([it])[:-2]]
+                for it in sorted(self.proposed, key=worth)]
+        self.output.add(path, text_of([["product", "legs", "a season", "share %"], *rows]))
+        yield f"{said(path)}: what is proposed to be left out; with `--leave-out {said(path)}` the rest is written"
 
     def of_earlier_runs(self) -> Iterator[str]:
         """Which parts in the folder are of another timetable."""
         there = glob.glob(os.path.join(glob.escape(self.folder), "part-*.csv"))
         for path in sorted({*there} - {*self.written}):
-            yield f"{path}: not of this timetable; it was there before"
+            yield f"{said(path)}: not of this timetable; it was there before"
 
 def more_than(products: Sequence[Product]) -> str:
     """How many products there are beside those that are told."""

@@ -20,11 +20,11 @@ from __future__ import annotations
 
 from typing import Sequence
 
-from nrm import Stop
+from nrm import Stop, said
 from nrm.commands import running
-from nrm.commands.running import parser
+from nrm.commands.running import parser, whole_number
 from nrm.limits import MOST_HISTORIES
-from nrm.network import Network, number, text_of
+from nrm.network import Network, text_of
 from nrm.sales.asked import asked_in, histories_in, histories_of, rows_with
 
 
@@ -34,7 +34,7 @@ def run(given: Sequence[str]) -> int:
     words.add_argument("network")
     words.add_argument("streams", nargs="+", metavar="STREAM")
     words.add_argument("--add", action="store_true")
-    words.add_argument("--last", metavar="N", type=number)
+    words.add_argument("--last", metavar="N", type=whole_number)
     asked = words.parse_args(given)
     if asked.last is not None and not 1 <= asked.last <= MOST_HISTORIES:
         raise Stop(f"--last {asked.last}: a network file takes 1 to {MOST_HISTORIES} histories")
@@ -44,7 +44,7 @@ def run(given: Sequence[str]) -> int:
         for line in it.told(path):
             running.tell("asked", line)
         if not it.requests:
-            raise Stop(f"{path} asks for no product of {asked.network}: is it a stream?")
+            raise Stop(f"{said(path)} asks for no product of {said(asked.network)}: is it a stream?")
     histories = [*(histories_in(network) if asked.add else []), *histories_of(network, streams)]
     print(text_of(rows_with(network, histories[-(asked.last or len(histories)):])), end="")
     return 0

@@ -54,17 +54,21 @@ from typing import Callable, Sequence
 
 from nrm.commands import running
 from nrm.commands.log_words import add_log, demand_of, names_told, requests_of, see_limits
-from nrm.commands.running import parser
+from nrm.commands.running import at_least, parser
 from nrm.sales.closures import Closure, Times
 from nrm.estimates.days import estimated
 from nrm.estimates.products import known_of
 from nrm.estimates.results import Estimate, carried, copies_of, drawn
 from nrm.sales.sale import Calendar, Sale, opening_of
 from nrm.files.names import named
+from nrm.files.writing import Output
+from nrm.limits import MOST_HISTORIES
 from nrm.logs.demand import completed
-from nrm.logs.names import names_in, write_names
+from nrm.logs.names import list_of, names_in
 from nrm.logs.rows import Log
-from nrm.network import text_of, whole
+from nrm.network import text_of
+
+MOST_DAYS = 100_000  # before a departure
 
 
 def run(given: Sequence[str]) -> int:
@@ -78,8 +82,6 @@ def run(given: Sequence[str]) -> int:
     copies = 1 if asked.mean else copies_of(len(sale.departures), asked.copies)
     demand.products = sale.products  # those that have closures alone too
     names = named(sale.products, known_names)
-    if asked.names is not None:
-        write_names(asked.names, names)
     above: list[Sequence[object]] = [["periods", len(sale.departures), demand.periods]]
     if asked.network is not None:
         above = completed(asked.network, demand, names, tell)
@@ -89,9 +91,12 @@ def run(given: Sequence[str]) -> int:
     rows = [["periods", estimate.histories(), *above[0][2:]], *above[1:], *estimate.rows()]
     for line in [*names_told(names, [], sale.products, asked.names), *estimate.told()]:
         tell(line)
-    if asked.report is not None:
-        estimate.write_report(asked.report)
-    print(text_of(rows), end="")
+    with Output() as output:
+        if asked.names is not None:
+            output.add(asked.names, list_of(names))
+        if asked.report is not None:
+            output.add(asked.report, estimate.report())
+        print(text_of(rows), end="")
     return 0
 
 
@@ -100,7 +105,7 @@ def words_of(given: Sequence[str]) -> argparse.Namespace:
     words = parser("demand", __doc__)
     add_log(words)
     words.add_argument("--cancelled", metavar="COLUMN")
-    words.add_argument("--opens", metavar="DAYS", type=whole)
+    words.add_argument("--opens", metavar="DAYS", type=at_least(0, MOST_DAYS))
     times = words.add_mutually_exclusive_group(required=True)
     times.add_argument("--closures", metavar="FILE")
     times.add_argument("--readings", metavar="FILE")
@@ -108,9 +113,9 @@ def words_of(given: Sequence[str]) -> argparse.Namespace:
     words.add_argument("--read", metavar="COLUMN", default="read on")
     words.add_argument("--available", metavar="COLUMN", default="available")
     how = words.add_mutually_exclusive_group()
-    how.add_argument("--copies", type=whole, metavar="N")
+    how.add_argument("--copies", type=at_least(0, MOST_HISTORIES), metavar="N")
     how.add_argument("--mean", action="store_true")
-    words.add_argument("--seed", type=whole, default=1)
+    words.add_argument("--seed", type=at_least(0, 2 ** 63), default=1)
     words.add_argument("--before", metavar="NETWORK")
     words.add_argument("--like-class", action="store_true")
     words.add_argument("--report", metavar="FILE")

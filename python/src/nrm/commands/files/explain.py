@@ -16,7 +16,7 @@ from __future__ import annotations
 
 from typing import Mapping, Sequence
 
-from nrm import Stop
+from nrm import Stop, said
 from nrm.commands.running import add_names, parser
 from nrm.files.certificates import faults_of_certificate
 from nrm.files.explained import refusals_of
@@ -46,7 +46,7 @@ def explain(path: str, certificate: str | None = None, texts: Mapping[str, str] 
         named = [with_text(it, texts) for it in dict.fromkeys(refusal.row.fields[1:]) if texts and it in texts]
         print(*refusal.lines(), *(f"    {it}" for it in named), sep="\n")
     if refusals:
-        print(f"{path}: rows refused {len(refusals)}{'; the certificate was not read' if certificate else ''}")
+        print(f"{said(path)}: rows refused {len(refusals)}{'; the certificate was not read' if certificate else ''}")
         return REFUSED
     network = Network.of(rows_of(data))
     faults: list[tuple[str, str]] = []
@@ -54,10 +54,10 @@ def explain(path: str, certificate: str | None = None, texts: Mapping[str, str] 
         faults += faults_of_certificate(bytes_of(certificate, "refused certificate no file"), network)
     for words, advice in faults:
         print(f"{words}\n    {advice}")
-    print(f"{path}: no row is refused; legs {len(network.legs)}, products {len(network.products)}, "
+    print(f"{said(path)}: no row is refused; legs {len(network.legs)}, products {len(network.products)}, "
           f"histories {network.histories}, periods {network.periods}")
     if certificate is not None:
-        print(f"{certificate}: {f'faults {len(faults)}' if faults else 'no line is refused'}")
+        print(f"{said(certificate)}: {f'faults {len(faults)}' if faults else 'no line is refused'}")
     return REFUSED if faults else 0
 
 
@@ -68,7 +68,7 @@ def bytes_of(path: str, missing: str) -> bytes:
             return file.read(MOST_NETWORK_BYTES + 1)
     except FileNotFoundError:
         print(missing)
-        raise Stop(f"there is no file {path}", REFUSED)
+        raise Stop(f"there is no file {said(path)}", REFUSED)
     except OSError as fault:
         print("file fault")
-        raise Stop(f"{path} can't be read: {fault.strerror}", UNREADABLE)
+        raise Stop(f"{said(path)} can't be read: {fault.strerror}", UNREADABLE)

@@ -75,8 +75,11 @@ NAMES. A product whose text is no name of a network file gets one: in capitals, 
 shorter where it is too long, and a name of its own. With stops it is made of the train, the two stops and the class,
 each whole where there is room, and else the same few letters wherever it stands: 6607-PALY-FL. --names FILE writes the
 list, `name,stands for`; where FILE is there already the names in it stay, and new ones are added. So better ones may be
-written into it. `season`, `thresholds`, `simulate`, `optimum` and `explain` take it too, and show the texts beside the
-names.
+written into it. Before a text that a spreadsheet takes for a formula, as =A1, the list has a ', which isn't of the
+text. `season`, `thresholds`, `simulate`, `optimum` and `explain` take it too, and show the texts beside the names.
+
+WHAT IS WRITTEN comes at the end of a good run. Where a run is refused, no file is made or changed; nor is a file that a
+link leads to.
 
 What is written without stops is the demand, as rows `demand`, with the row of periods above them. With --network FILE,
 which has rows of legs and products, it is the whole network file: the demand and the periods of FILE are replaced; its
@@ -99,8 +102,9 @@ from nrm.exports.lines import Lines
 from nrm.exports.offer import Offer, fares_of, seats_of, with_fares
 from nrm.exports.streams import Stream
 from nrm.files.names import named
+from nrm.files.writing import Output
 from nrm.logs.demand import Demand, completed
-from nrm.logs.names import names_in, write_names
+from nrm.logs.names import list_of, names_in
 from nrm.logs.rows import some_of
 from nrm.network import text_of
 
@@ -115,14 +119,11 @@ def run(given: Sequence[str]) -> int:
     offer, day = offer_of(asked, bookings), day_of_word(asked.stream[0]) if asked.stream else None
     of_day = sorted({it.request.product for it in bookings if it.request.departs == day})
     if len(asked.stream) == 1:
-        write_stream(asked, bookings, offer.named(known) if offer else named(of_day, known))
+        print(stream_of(asked, bookings, offer.named(known) if offer else named(of_day, known)), end="")
         return 0
     demand = demand_of(asked, requests_until(read, asked.net, asked.until))
     names = offer.named(known) if offer else named([*demand.products, *of_day], known)
-    if asked.names is not None:
-        write_names(asked.names, names)
-    if asked.stream:
-        write_stream(asked, bookings, names)
+    stream = stream_of(asked, bookings, names) if asked.stream else ""
     fares = fares_of(bookings, asked.cents, tell) if asked.fare or asked.amount else {}
     rows = [*rows_above(asked, offer, demand, names, fares), *demand.rows(names)]
     tell(demand.told({it.request.departs for it in read}))
@@ -132,7 +133,12 @@ def run(given: Sequence[str]) -> int:
         tell_what_is_to_do(demand, names, fares)
     elif offer and (idle := sorted(names[it] for it in offer.products.keys() - set(demand.products))):
         tell(f"products that nobody asked for in these seasons {len(idle)}: {some_of(idle)}")
-    print(text_of(rows), end="")
+    with Output() as output:
+        if asked.names is not None:
+            output.add(asked.names, list_of(names))
+        if asked.stream:
+            output.add(asked.stream[1], stream, "ascii")
+        print(text_of(rows), end="")
     return 0
 
 
@@ -159,18 +165,12 @@ def offer_of(asked: argparse.Namespace, bookings: Sequence[Booking]) -> Offer | 
     return Offer(bookings, Lines(bookings, asked.line, asked.join, asked.stops is not None and asked.train is None))
 
 
-def write_stream(asked: argparse.Namespace, bookings: Sequence[Booking], names: Mapping[str, str]) -> None:
-    """Writes the stream of the day that is asked for, to a file if one is said."""
-    day, *path = asked.stream
-    stream = Stream(bookings, day_of_word(day), names, asked.net)
+def stream_of(asked: argparse.Namespace, bookings: Sequence[Booking], names: Mapping[str, str]) -> str:
+    """The stream of the day that is asked for. Tells what it has."""
+    stream = Stream(bookings, day_of_word(asked.stream[0]), names, asked.net)
     for text in stream.told():
         tell(text)
-    text = "".join(f"{it}\n" for it in stream.lines(asked.cuts))
-    if path:
-        with open(path[0], "w", encoding="ascii") as file:
-            file.write(text)
-    else:
-        print(text, end="")
+    return "".join(f"{it}\n" for it in stream.lines(asked.cuts))
 
 
 def rows_above(asked: argparse.Namespace, offer: Offer | None, demand: Demand, names: Mapping[str, str],

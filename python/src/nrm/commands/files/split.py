@@ -30,6 +30,7 @@ from __future__ import annotations
 from typing import Sequence
 
 from nrm.commands.running import parser
+from nrm.files.writing import Output
 from nrm.network import Network
 from nrm.timetables.cutting import Cut, names_in
 
@@ -41,7 +42,9 @@ def run(given: Sequence[str]) -> int:
     words.add_argument("folder")
     words.add_argument("--leave-out", metavar="LIST")
     asked = words.parse_args(given)
-    cut = Cut(Network.read(asked.timetable), asked.folder, names_in(asked.leave_out) if asked.leave_out else ())
-    told = list(cut.write())
-    print(cut.verdict(asked.timetable), "", *told, sep="\n")
+    with Output() as output:
+        without = names_in(asked.leave_out) if asked.leave_out else ()
+        cut = Cut(Network.read(asked.timetable), asked.folder, output, without)
+        told = list(cut.write())
+        print(cut.verdict(asked.timetable), "", *told, sep="\n")
     return 0 if cut.is_whole else 1

@@ -42,11 +42,12 @@ import os
 from pathlib import Path
 from typing import Sequence
 
-from nrm import bytes_in, make_folder
+from nrm import bytes_in, make_folder, said
 from nrm.commands.running import add_names, add_program, parser
 from nrm.commands.season_words import (add_drawing, add_search, add_workers, at_least, exact_probability, see_dask,
                                        see_workers, trials_of)
 from nrm.comparing.heads import lines_of, made_of
+from nrm.files.writing import Output
 from nrm.logs.names import texts_in
 from nrm.network import Network, text_of
 from nrm.program import Program
@@ -54,7 +55,6 @@ from nrm.replies import MODES
 from nrm.searches.authorised import FOUND, NAMES, OF_FILE, SIMPLE, Search, rows_with, tables, units_of
 from nrm.searches.overbooking import Boarding, by_rules
 from nrm.seasons.drawing import Settings
-from nrm.telling.page import write
 
 TRIES = "tries.jsonl"
 
@@ -80,9 +80,10 @@ def run(given: Sequence[str]) -> int:
     summary = "\n".join([*judged.sentences(), "", *made, "", *shown])
     print(summary, end="")
     if asked.out is not None:
-        print("\n" + write(os.path.join(asked.out, "summary.txt"), summary))
         new = os.path.join(asked.out, f"{Path(asked.network).stem}-authorised.csv")
-        print(write(new, text_of(rows_with(network, found))))
+        with Output() as output:
+            print("\n" + said(output.add(os.path.join(asked.out, "summary.txt"), summary)))
+            print(said(output.add(new, text_of(rows_with(network, found)))))
     return 0
 
 

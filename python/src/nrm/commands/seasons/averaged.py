@@ -24,10 +24,11 @@ import os
 import tempfile
 from typing import Sequence
 
-from nrm import Stop, bytes_in, make_folder
+from nrm import Stop, bytes_in, make_folder, said
 from nrm.commands.running import asked_with_texts, parser, tell
 from nrm.commands.season_words import add_drawing, at_least
 from nrm.comparing.heads import lines_of, made_of
+from nrm.files.writing import Output
 from nrm.network import Network
 from nrm.outside.averaged import AVERAGED, Averaged
 from nrm.outside.comparing import Compared, beside_plan, prices_table
@@ -54,7 +55,7 @@ def run(given: Sequence[str]) -> int:
     network, program = Network.read(asked.network), Program.found(asked.program)
     plan = program.told(plan_of, "plan", "bid", asked.network)
     if asked.leave_out and network.histories < 2:
-        raise Stop(f"{asked.network} has one history: --leave-out takes two, one to play and one to know")
+        raise Stop(f"{said(asked.network)} has one history: --leave-out takes two, one to play and one to know")
     with tempfile.TemporaryDirectory() as folder:
         averaged = Averaged(network, program, folder)
         mean = averaged.of(1, averaged.full)
@@ -72,9 +73,13 @@ def run(given: Sequence[str]) -> int:
 def certify(network: Network, program: Program, folder: str) -> None:
     """Writes each history's file and its certificate."""
     make_folder(folder)
-    averaged = Averaged(network, program, folder)
-    paths = [averaged.certified(it) for it in range(1, network.histories + 1)]
-    print(f"\n{paths[0][1]} to {os.path.basename(paths[-1][1])}: each is optimal for the file beside it")
+    with tempfile.TemporaryDirectory() as spare, Output() as output:
+        averaged, paths = Averaged(network, program, spare), list[str]()
+        for history in range(1, network.histories + 1):
+            paths += [output.add(os.path.join(folder, os.path.basename(it)), bytes_in(it))
+                      for it in averaged.certified(history)]
+        last = os.path.basename(paths[-1])
+        print(f"\n{said(paths[1])} to {last}: each is optimal for the file beside it")
 
 
 def compare(asked: argparse.Namespace, program: Program, folder: str) -> Compared:

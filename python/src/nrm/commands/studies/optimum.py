@@ -26,7 +26,9 @@ from __future__ import annotations
 
 from typing import Sequence
 
+from nrm import said
 from nrm.commands.running import asked_with_texts, lacking, parser
+from nrm.files.writing import Output
 from nrm.program import Program
 from nrm.studies.classes import LegAlone, remarks, tables, verdict
 
@@ -50,6 +52,7 @@ def run(given: Sequence[str]) -> int:
     from nrm.studies import pictures
     from nrm.telling.figures import written
     print()
-    for path in written([("optimum", lambda: pictures.optimum(leg.classes, leg.optimal, emsr))], asked.out):
-        print(path)
+    with Output() as output:
+        for path in written([("optimum", lambda: pictures.optimum(leg.classes, leg.optimal, emsr))], asked.out, output):
+            print(said(path))
     return 0

@@ -16,9 +16,9 @@ from fractions import Fraction
 from typing import Sequence
 
 from nrm import Stop, bytes_in
-from nrm.commands.running import add_program, parser
+from nrm.commands.running import add_program, parser, whole_number
 from nrm.comparing.heads import lines_of, made_of
-from nrm.network import Network, number
+from nrm.network import Network
 from nrm.program import Program
 from nrm.replies import MODES
 from nrm.seasons.drawing import Settings
@@ -32,7 +32,7 @@ def run(given: Sequence[str]) -> int:
     """Plays each history, and prints what they say together and a line for each and for all."""
     words = parser("replay", __doc__)
     words.add_argument("network")
-    words.add_argument("--seed", type=number, default=1)
+    words.add_argument("--seed", type=whole_number, default=1)
     add_program(words)
     asked = words.parse_args(given)
     if Network.read(asked.network).histories < 2:

@@ -26,14 +26,15 @@ away.
 from __future__ import annotations
 
 import os
+from pathlib import Path
 from typing import Iterator, Sequence
 
-from nrm import bytes_in, make_folder
+from nrm import bytes_in, make_folder, said
 from nrm.commands.running import asked_with_texts, lacking, parser
 from nrm.comparing.heads import lines_of, made_of
+from nrm.files.writing import Output
 from nrm.program import Program
 from nrm.studies.course import Season, page, tables, verdict
-from nrm.telling.page import write
 from nrm.telling.tables import told_of
 
 
@@ -58,19 +59,18 @@ def run(given: Sequence[str]) -> int:
     for table in told:
         table.show()
     missing = lacking("season", "matplotlib", "jinja2")
-    pictures: list[str] = []
-    for path in drawn(season, asked.out) if "matplotlib" not in missing else ():
-        print(path if pictures else f"\n{path}")
-        pictures.append(path)
-    if "jinja2" not in missing:
-        make_folder(asked.out)
-        print(write(os.path.join(asked.out, "season.html"),
-                    page(season, made, told, left_out, [it for it in pictures if it.endswith(".svg")])))
+    with Output() as output:
+        pictures = list(drawn(season, asked.out, output)) if "matplotlib" not in missing else []
+        print(*([""] if pictures else []), *map(said, pictures), sep="\n")
+        if "jinja2" not in missing:
+            make_folder(asked.out)
+            shown = {Path(it).stem: output.text(it) for it in pictures if it.endswith(".svg")}
+            print(said(output.add(os.path.join(asked.out, "season.html"), page(season, made, told, left_out, shown))))
     return 0
 
 
-def drawn(season: Season, folder: str) -> Iterator[str]:
-    """Draws the pictures, and gives the paths of the files as they are written."""
+def drawn(season: Season, folder: str, output: Output) -> Iterator[str]:
+    """Draws the pictures, and gives the paths of their files."""
     from nrm.studies.course_pictures import figures
     from nrm.telling.figures import written
-    yield from written(figures(season), folder)
+    yield from written(figures(season), folder, output)

@@ -61,13 +61,14 @@ import tempfile
 from pathlib import Path
 from typing import Iterator, Sequence
 
-from nrm import Stop, make_folder
+from nrm import Stop, make_folder, said
 from nrm.commands.running import add_names, add_program, lacking, parser, tell
 from nrm.commands.season_words import (add_drawing, add_workers, at_least, probability, see_dask, see_workers)
 from nrm.comparing.heads import lines_of, made_of
 from nrm.comparing.pages import Picture, about, page, pictures
 from nrm.comparing.study import Study
 from nrm.comparing.verdicts import verdict
+from nrm.files.writing import Output
 from nrm.logs.names import texts_in
 from nrm.network import Network
 from nrm.outside.averaged import AVERAGED
@@ -77,7 +78,6 @@ from nrm.seasons.coupled import together
 from nrm.seasons.drawing import Settings
 from nrm.seasons.results import Results
 from nrm.seasons.rows import Seasons, check_same
-from nrm.telling.page import write
 from nrm.telling.tables import told_of
 
 
@@ -141,7 +141,7 @@ def settings_of(asked: argparse.Namespace) -> Settings:
 
 def names_of(paths: Sequence[str]) -> list[str]:
     """A name for each path: that of the file without its ending, or the whole path if two files have one name."""
-    stems = [Path(it).stem for it in paths]
+    stems = [said(Path(it).stem) for it in paths]
     names = [stem if stems.count(stem) == 1 else re.sub(r"[^\w.-]+", "-", str(Path(path).with_suffix(""))).strip("-.")
              for stem, path in zip(stems, paths)]
     if len(set(names)) < len(names):
@@ -171,16 +171,19 @@ def show(asked: argparse.Namespace, settings: Settings, studies: Sequence[Season
     print(summary, end="")
     if not asked.out:
         return
-    print("\n" + write(os.path.join(asked.out, "summary.txt"), summary))
     missing = lacking("simulate", "matplotlib", "jinja2")
     shown = list(pictures(study)) if "matplotlib" not in missing else []
-    paths = {Path(it).stem: it for it in drawn(shown, asked.out)} if shown else {}
-    if "jinja2" not in missing:
-        print(write(os.path.join(asked.out, "simulate.html"), page(first, made, sentences, tables, shown, paths)))
-    print(*paths.values(), *(it.whole for it in studies), sep="\n")
+    with Output() as output:
+        print("\n" + said(output.add(os.path.join(asked.out, "summary.txt"), summary)))
+        paths = list(drawn(shown, asked.out, output)) if shown else []
+        if "jinja2" not in missing:
+            svgs = {Path(it).stem: output.text(it) for it in paths}
+            print(said(output.add(os.path.join(asked.out, "simulate.html"),
+                                  page(first, made, sentences, tables, shown, svgs))))
+        print(*map(said, [*paths, *(it.whole for it in studies)]), sep="\n")
 
 
-def drawn(shown: Sequence[Picture], folder: str) -> Iterator[str]:
+def drawn(shown: Sequence[Picture], folder: str, output: Output) -> Iterator[str]:
     """Draws pictures, and gives the paths of their files."""
     from nrm.telling.figures import written
-    yield from written([(it.name, it.draw) for it in shown], folder, kinds=["svg"])
+    yield from written([(it.name, it.draw) for it in shown], folder, output, kinds=["svg"])

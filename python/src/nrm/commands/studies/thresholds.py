@@ -38,12 +38,13 @@ from __future__ import annotations
 import argparse
 from typing import Mapping, Sequence
 
-from nrm import bytes_in
-from nrm.commands.running import asked_with_texts, lacking, parser
+from nrm import bytes_in, said
+from nrm.commands.running import asked_with_texts, at_least, lacking, parser
 from nrm.commands.season_words import add_drawing, add_search, add_workers, see_dask, see_workers, trials_of
 from nrm.comparing.heads import lines_of, made_of
+from nrm.files.writing import Output
 from nrm.limits import MOST_GROUPS
-from nrm.network import Network, fields_in, number, text_of, with_thresholds
+from nrm.network import Network, fields_in, text_of, with_thresholds
 from nrm.program import Program
 from nrm.searches.thresholds import FOUND, OF_FILE, ThresholdSearch, proposed, rows_of_thresholds, table_of_thresholds
 from nrm.seasons.drawing import Settings
@@ -59,7 +60,7 @@ def run(given: Sequence[str]) -> int:
     """It prints the groups, or what is found, and writes or draws them if that is asked for."""
     words = parser("thresholds", __doc__)
     words.add_argument("network")
-    words.add_argument("groups", type=number, choices=range(1, MOST_GROUPS + 1), metavar="GROUPS")
+    words.add_argument("groups", type=at_least(1, MOST_GROUPS), metavar="GROUPS")
     words.add_argument("--adjusted", choices=WAYS)
     words.add_argument("--out", metavar="FILE")
     words.add_argument("--pictures", metavar="FOLDER")
@@ -75,16 +76,18 @@ def run(given: Sequence[str]) -> int:
     if asked.search:
         see_dask("thresholds", given)
     network = Network.read(asked.network)
-    found = searched(asked, network, texts) if asked.search else by_a_rule(asked, network, texts)
-    if asked.out is not None:
-        rows = fields_in(asked.network)
-        with open(asked.out, "w", encoding="ascii") as file:
-            file.write(text_of(with_thresholds(rows, found)))
-        print(f"\n{asked.out}")
+    with Output() as output:
+        if asked.out is not None:
+            output.see(asked.out)
+        found = (searched(asked, network, texts) if asked.search else by_a_rule(asked, network, texts, output))
+        if asked.out is not None:
+            output.add(asked.out, text_of(with_thresholds(fields_in(asked.network), found)))
+            print(f"\n{said(asked.out)}")
     return 0
 
 
-def by_a_rule(asked: argparse.Namespace, network: Network, texts: Mapping[str, str]) -> Mapping[str, Sequence[int]]:
+def by_a_rule(asked: argparse.Namespace, network: Network, texts: Mapping[str, str],
+              output: Output) -> Mapping[str, Sequence[int]]:
     """The thresholds of each leg that a product uses by the rule that is asked for, which are told or drawn too."""
     program = Program.found(asked.program)
     found = list(adjusted_groupings(asked.network, network, asked.adjusted, asked.groups, program) if asked.adjusted
@@ -95,7 +98,7 @@ def by_a_rule(asked: argparse.Namespace, network: Network, texts: Mapping[str, s
     if unused:
         print(f"\nno product uses {', '.join(with_text(it, texts) for it in unused)}")
     if asked.pictures is not None:
-        draw(found, asked.pictures, texts)
+        draw(found, asked.pictures, texts, output)
     return {it.leg: it.cuts.thresholds for it in found}
 
 
@@ -129,7 +132,7 @@ def made_lines(asked: argparse.Namespace, program: Program, seed: int | None = N
     return lines_of(made_of({"network": {asked.network: bytes_in(asked.network)}}, program, seed))
 
 
-def draw(found: Sequence[Grouping], folder: str, texts: Mapping[str, str]) -> None:
+def draw(found: Sequence[Grouping], folder: str, texts: Mapping[str, str], output: Output) -> None:
     """Draws the fares, or tells them where there is no matplotlib."""
     if lacking("thresholds", "matplotlib"):
         for it in found:
@@ -138,5 +141,5 @@ def draw(found: Sequence[Grouping], folder: str, texts: Mapping[str, str]) -> No
     from nrm.studies import pictures
     from nrm.telling.figures import written
     print()
-    for path in written([("thresholds", lambda: pictures.thresholds(found, texts))], folder):
-        print(path)
+    for path in written([("thresholds", lambda: pictures.thresholds(found, texts))], folder, output):
+        print(said(path))

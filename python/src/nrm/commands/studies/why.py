@@ -35,17 +35,17 @@ from __future__ import annotations
 import argparse
 from typing import Sequence
 
-from nrm import Stop
+from nrm import Stop, said
 from nrm.accounts.asking import Asked, found
 from nrm.accounts.journals import AskedOfJournal
 from nrm.accounts.telling.pages import Told, html, text
 from nrm.accounts.telling.subjects import of_journal, of_stream
-from nrm.commands.running import add_program, lacking, parser, tell
+from nrm.commands.running import add_program, at_least, lacking, parser, tell
+from nrm.files.writing import Output
 from nrm.limits import LAST_LINE
 from nrm.network import is_whole
 from nrm.program import Program
 from nrm.replies import MODES
-from nrm.telling.page import write
 
 FORMS = "the words are JOURNAL NETWORK NUMBER, JOURNAL NETWORK with --booking N, or NETWORK MODE STREAM NUMBER"
 
@@ -61,7 +61,7 @@ def words_of(given: Sequence[str]) -> tuple[argparse.Namespace, Asked | AskedOfJ
     """What is asked, and of which line."""
     words = parser("why", __doc__)
     words.add_argument("words", nargs="*", metavar="WORD", help="where the line stands, as above")
-    words.add_argument("--booking", type=line_number, metavar="N", help="the line that sold this booking")
+    words.add_argument("--booking", type=at_least(1, LAST_LINE), metavar="N", help="the line that sold this booking")
     words.add_argument("--customer", action="store_true", help="the sentence alone")
     words.add_argument("--html", metavar="FILE", help="where the page is written as HTML")
     words.add_argument("--why", nargs="+", metavar="WORD", help="what runs `nrm_why`")
@@ -104,5 +104,7 @@ def run(given: Sequence[str]) -> int:
     else:
         print(text(told), end="")
     if asked.html and not lacking("why", "jinja2"):
-        tell("why", f"the page is in {write(asked.html, html(told))}")
+        with Output() as output:
+            output.add(asked.html, html(told))
+        tell("why", f"the page is in {said(asked.html)}")
     return 1 if told.fault else 0
