@@ -141,3 +141,78 @@ class LeftOut(ExportTest):
         self.file("seats.csv", "Köln-Bonn,8\nBonn-Cassel,5\n".encode("cp1252"))
         words = [*COLUMNS, *STOPS, *FARES, "--seats-of", "seats.csv", "--id", "no", "--leave-out", "1"]
         self.assertEqual(self.told("log", path, *words).splitlines()[1], "leg,KOL-BON,8")
+
+
+TWICE = """11;void;2025-03-01;2025-03-07;;Aachen;Bonn;Flex;2;80,00 €
+12;void;2025-03-02;2025-03-07;;Bonn;Cassel;Saver;4;82,00 €
+13;void;2025-03-03;2025-03-14;;Aachen;Cassel;Flex;1;93,00 €
+11;void;2025-03-05;2025-03-07;;Aachen;Bonn;Flex;-2;-80,00 €
+12;void;2025-03-05;2025-03-07;;Bonn;Cassel;Saver;-3;-61,50 €
+"""  # three bookings that are cancelled by their own row, of which two have refunds in rows of their own
+IN_ALL = 9 + 2 + 4 + 1  # seats of BOOKINGS and of these three
+
+
+class ToldTwice(ExportTest):
+    """A booking that is cancelled by its own row, whose refund stands in another one, was asked for once."""
+
+    def seats(self, *words: str, rows: str) -> int:
+        """The seats that count as demand."""
+        made = [it.split(",") for it in self.read(*words, rows=rows).out.splitlines() if it.startswith("demand")]
+        return sum(int(seats) for it in made for seats in it[3:])
+
+    def test_what_was_cancelled_counts_once_in_the_demand(self) -> None:
+        """Wherever the refunds stand; none of the seats is in what stands."""
+        rows = TWICE.splitlines(keepends=True)
+        for some in (TWICE, "".join(reversed(rows))):
+            self.assertEqual(self.seats(*OF_IDS, rows=BOOKINGS + some), IN_ALL)
+            self.assertEqual(self.seats(*OF_IDS, "--net", rows=BOOKINGS + some), 9)
+        err = self.read(*OF_IDS, rows=BOOKINGS + TWICE).err
+        self.want_in(err, "bookings 9, of them cancelled 3, by their own row (refunds that say so again 2, which don't "
+                     "count); without --net `nrm-tools simulate --cancel 0.3333` plays such seasons\n")
+        self.assertNotIn("cancellations without a booking", err)
+
+    def test_it_is_as_if_the_refunds_were_left_out(self) -> None:
+        """By a text that they alone have."""
+        rows = BOOKINGS + TWICE.replace("void;2025-03-05", "refund;2025-03-05")
+        out = self.read("--id", "No", "--cancels", "Status", "void", "refund", rows=rows).out
+        self.assertEqual(out, self.read("--id", "No", "--cancels", "Status", "void", "--without", "Status", "refund",
+                                        rows=rows).out)
+
+    def test_the_stream_has_the_day_of_the_refund(self) -> None:
+        """Three of the four seats of 12 were refunded on 5 March; on which day the fourth fell isn't said."""
+        made = self.read(*OF_IDS, "--stream", "2025-03-07", rows=BOOKINGS + TWICE)
+        self.assertEqual(sum(it.startswith("cancel ") for it in made.out.splitlines()), 3)
+        self.want_in(made.err, "requests 7, cancellations 3\n")
+        self.want_in(made.err, "cancellations of a day that the export doesn't say 1")
+
+    def test_a_number_of_several_rows_is_taken_row_by_row(self) -> None:
+        """Of one number a seat stands, and one of the same kind is cancelled by its own row and refunded."""
+        more = """21;sold;2025-03-01;2025-03-07;;Aachen;Bonn;Flex;1;40,00 €
+21;void;2025-03-01;2025-03-07;;Aachen;Bonn;Flex;1;40,00 €
+21;void;2025-03-04;2025-03-07;;Aachen;Bonn;Flex;-1;-40,00 €
+"""
+        self.assertEqual(self.seats(*OF_IDS, rows=BOOKINGS + TWICE + more), IN_ALL + 2)
+        self.assertEqual(self.seats(*OF_IDS, "--net", rows=BOOKINGS + TWICE + more), 9 + 1)
+
+    def test_a_cancellation_and_its_refund_in_rows_of_their_own(self) -> None:
+        """Beside their booking: it is cancelled once, and the second row is told."""
+        more = """21;void;2025-03-04;2025-03-07;;Aachen;Bonn;Flex;1;40,00 €
+21;void;2025-03-04;2025-03-07;;Aachen;Bonn;Flex;-1;-40,00 €
+"""
+        sold = "21;sold;2025-03-01;2025-03-07;;Aachen;Bonn;Flex;1;40,00 €\n"
+        self.assertEqual(self.seats(*OF_IDS, rows=BOOKINGS + sold + more), 9 + 1)
+        self.assertEqual(self.seats(*OF_IDS, "--net", rows=BOOKINGS + sold + more), 9)
+
+    def test_where_no_refund_has_a_number_it_is_refused(self) -> None:
+        """With what to say, by the texts if these differ; and what it says is right."""
+        rows = BOOKINGS + TWICE.replace("\n11;void;2025-03-05", "\n91;refund;2025-03-05").replace(
+            "\n12;void;2025-03-05", "\n92;refund;2025-03-05")
+        words = ["--id", "No", "--cancels", "Status", "void", "refund"]
+        says = ("3 rows cancel something and have no amount below 0, and no booking and no refund of their number: "
+                "lines 8, 9, 10. Others have seats or amounts below 0. If the 3 are bookings that are cancelled by their "
+                "own row, leave the refunds out, --without COLUMN TEXT, by refund; if they cancel bookings that the export "
+                "hasn't, leave them out, --leave-out 3")
+        self.refused(says, *words, rows=rows)
+        self.assertEqual(self.seats(*words, "--without", "Status", "refund", rows=rows), IN_ALL)
+        self.assertEqual(self.seats(*words, "--leave-out", "3", rows=rows), 9)
+        self.refused("by a text that they alone have in some column", *words, rows=rows.replace("refund", "void"))

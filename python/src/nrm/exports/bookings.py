@@ -21,6 +21,7 @@ from nrm.logs.rows import Log, LogRow, cut_short, some_of
 CANCELLED = re.compile(r"-\d.*|x|xx|hx|cxl|yes|ja|oui|si|sì|sí|"
                        r"(cancel|storn|annul|anul|refund|erstatt|rembours|rimbors|reembols)\w*", re.IGNORECASE)
 MOST_TEXTS = 9  # that are told of a column
+MOST_ALONE = 100  # bookings for each cancellation that may be without one, where its kind isn't sure
 JOINED_BY = (">", "→", "|", "/", " - ", " – ", "–", "-")  # the stops of a journey
 
 
@@ -54,12 +55,13 @@ class ExportColumns:
 
 @dataclass(frozen=True)
 class Cancellation:
-    """A cancellation: its line, the seats, the days before departure, if they are known, and whether its row shows by
-    an amount or by seats below 0 that it is one of its own."""
+    """A cancellation: its line, the seats, the days before departure, if they are known, whether its row shows by an
+    amount or by seats below 0 that it is one of its own, and the text that says that it is one."""
     line: int
     seats: int
     days: int | None
     is_below_0: bool = False
+    text: str = ""
 
 
 @dataclass(frozen=True)
@@ -74,6 +76,11 @@ class Booking:
     fare: Decimal | None
     number: str
     cancelled: tuple[Cancellation, ...] = ()
+
+    @property
+    def is_refund(self) -> bool:
+        """Whether it is a cancellation of another row's booking, as seats or an amount below 0 show."""
+        return any(it.is_below_0 for it in self.cancelled)
 
     @property
     def seats_cancelled(self) -> int:
@@ -153,12 +160,14 @@ class Reading:
 
     def cancellation(self, row: LogRow, request: Request) -> Cancellation:
         """The cancellation that the row of its booking says."""
-        day = self.day_in(self.field(row, self.columns.cancels[0]))
+        text = self.field(row, self.columns.cancels[0])
+        day = self.day_in(text)
         amounts = self.read.seats_of(row.fields), self.field(row, self.columns.fare)
         is_below_0 = any(it.startswith("-") for it in amounts)
         if is_below_0 and not self.columns.number:
             raise ValueError("it cancels a booking of another row: say --id, the column of the booking's number")
-        return Cancellation(row.line, request.seats, None if day is None else (request.departs - day).days, is_below_0)
+        days = None if day is None else (request.departs - day).days
+        return Cancellation(row.line, request.seats, days, is_below_0, text)
 
     def stops(self, row: LogRow) -> tuple[str, ...]:
         """The stops of the journey, from the first to the last."""
@@ -202,7 +211,7 @@ def bookings_in(path: str, columns: ExportColumns, order: str | None, is_multili
     reading = Reading(columns, dates, rows)
     if columns.cancels:
         tell(reading.texts_told(rows))
-    pairing = Pairing(all_made(log, rows, reading.booking, most, tell), bool(columns.number))
+    pairing = Pairing(all_made(log, rows, reading.booking, most, tell), bool(columns.number), most)
     for text in pairing.told():
         tell(text)
     if not pairing.bookings:
@@ -227,36 +236,48 @@ def each_once(rows: Sequence[LogRow], tell: Callable[[str], None]) -> list[LogRo
 
 
 class Pairing:
-    """The bookings of rows, and a cancellation in a row of its own with the booking of its number."""
+    """The bookings of rows, with their cancellations: by their own row, by another one of their number, or by both."""
 
-    def __init__(self, rows: Sequence[Booking], has_numbers: bool) -> None:
+    def __init__(self, rows: Sequence[Booking], has_numbers: bool, most: int = 0) -> None:
         self.alone: list[int] = []
-        self.paired = 0
-        lines: dict[str, list[int]] = defaultdict(list)
+        self.paired = self.refunds = 0
+        numbers: dict[str, list[Booking]] = defaultdict(list)
         for it in rows if has_numbers else ():
-            if not it.cancelled:
-                lines[it.number].append(it.line)
-        self.differing = sorted(line for of_number in lines.values() for line in of_number[1:])
-        self.are_rows = any(it.cancelled and (it.number in lines or it.cancelled[0].is_below_0) for it in rows)
-        self.bookings = self.paired_rows(rows, lines) if self.are_rows else list(rows)
+            numbers[it.number].append(it)
+        standing = [[it.line for it in some if not it.cancelled] for some in numbers.values()]
+        self.differing = sorted(line for lines in standing for line in lines[1:])
+        have_booking = {some[0].number for some, lines in zip(numbers.values(), standing) if lines}
+        self.are_rows = any(it.cancelled and (it.number in have_booking or it.is_refund) for it in rows)
+        in_rows = sum(map(is_cancelled_by_another_row, numbers.values()))
+        self.are_told_twice = sum(map(is_told_twice, numbers.values())) > in_rows
+        self.bookings = self.paired_rows(rows, numbers) if self.are_rows else list(rows)
+        if not (in_rows or self.are_told_twice):
+            alone = {*self.alone}
+            see_what_is_alone([it for it in rows if it.line in alone], rows,
+                              max(most, 1, len(self.bookings) // MOST_ALONE))
         late = [it.line for it in self.bookings if it.request.days < 0]
         if late:
             raise Stop(f"bookings that are cancelled were made after their departure, in {lines_told(late)}: mend "
                        "them, or take them out")
 
-    def paired_rows(self, rows: Sequence[Booking], lines: Mapping[str, Sequence[int]]) -> list[Booking]:
-        """The bookings, of which each number has some lines, with the cancellations of their number."""
-        bookings = {it.line: it for it in rows if not it.cancelled}
+    def paired_rows(self, rows: Sequence[Booking], numbers: Mapping[str, Sequence[Booking]]) -> list[Booking]:
+        """The bookings, with the cancellations in other rows of their number."""
+        own = {it.line: it for it in rows if self.are_told_twice and it.cancelled and not it.is_refund}
+        bookings = {it.line: dataclasses.replace(it, cancelled=()) for it in rows
+                    if not it.cancelled or it.line in own}
         for it in rows:
-            if it.cancelled:
-                found = next((bookings[at] for at in lines.get(it.number, ()) if is_of(it, bookings[at])), None)
+            if it.line not in bookings:
+                lines = sorted((row.line for row in numbers[it.number] if row.line in bookings),
+                               key=lambda line: line not in own)
+                found = next((bookings[line] for line in lines if is_of(it, bookings[line])), None)
                 if found is None:
                     self.alone.append(it.line)
                     continue
-                self.paired += 1
+                self.refunds += found.line in own
+                self.paired += found.line not in own
                 cancelled = (*found.cancelled, Cancellation(it.line, it.request.seats, it.request.days))
                 bookings[found.line] = dataclasses.replace(found, cancelled=cancelled)
-        return list(bookings.values())
+        return [by_own_row(own[line], it) if line in own else it for line, it in bookings.items()]
 
     def told(self) -> Iterator[str]:
         """What was paired and what counts once, in sentences."""
@@ -269,10 +290,57 @@ class Pairing:
         cancelled = sum(bool(it.cancelled) for it in self.bookings)
         if cancelled:
             how = f"in rows of their own, of which {self.paired} were paired" if self.are_rows else "by their own row"
+            if self.are_told_twice:
+                more = f", and {self.paired} more cancel others" if self.paired else ""
+                how = f"by their own row (refunds that say so again {self.refunds}, which don't count{more})"
             whole = sum(it.cancelled != () and not it.seats_standing for it in self.bookings)
             part = f", {cancelled - whole} more in part" if cancelled > whole else ""
             yield (f"bookings {len(self.bookings)}, of them cancelled {whole}{part}, {how}; without --net "
                    f"`nrm-tools simulate --cancel {whole / len(self.bookings):.4f}` plays such seasons")
+
+
+def is_like(cancellation: Booking, booking: Booking) -> bool:
+    """Whether a row is of the same departure and product as a booking, with no more seats than that had."""
+    wanted, there = cancellation.request, booking.request
+    return (wanted.departs, wanted.product) == (there.departs, there.product) and wanted.seats <= there.seats
+
+
+def is_cancelled_by_another_row(rows: Sequence[Booking]) -> bool:
+    """Whether, of the rows of a number, one that isn't below 0 cancels the booking of another."""
+    standing = [it for it in rows if not it.cancelled]
+    return any(is_like(it, booking) for it in rows if it.cancelled and not it.is_refund for booking in standing)
+
+
+def is_told_twice(rows: Sequence[Booking]) -> bool:
+    """Whether, of the rows of a number, one is a booking that is cancelled by its own row, and another its refund."""
+    own = [it for it in rows if it.cancelled and not it.is_refund]
+    return not is_cancelled_by_another_row(rows) and any(is_like(it, booking) for it in rows if it.is_refund
+                                                         for booking in own)
+
+
+def by_own_row(own: Booking, refunded: Booking) -> Booking:
+    """A booking that is cancelled by its own row: on the day that this says, or on the days of its refunds."""
+    if own.cancelled[0].days is not None:
+        return own
+    left = refunded.seats_standing
+    rest = (dataclasses.replace(own.cancelled[0], seats=left),) if left or not refunded.cancelled else ()
+    return dataclasses.replace(own, cancelled=(*refunded.cancelled, *rest))
+
+
+def see_what_is_alone(alone: Sequence[Booking], rows: Sequence[Booking], most: int) -> None:
+    """A Stop for more than so many rows that may be bookings, cancelled by their own row, or cancellations of bookings
+    that the export hasn't: none of them has a booking or a refund of its number."""
+    above = [it for it in alone if not it.is_refund]
+    if len(above) <= most:
+        return
+    texts = {it.cancelled[0].text for it in rows if it.is_refund}
+    others = {it.cancelled[0].text for it in above}
+    which = " or ".join(sorted(texts)) if not texts & others else "a text that they alone have in some column"
+    raise Stop(f"{len(above)} rows cancel something and have no amount below 0, and no booking and no refund of their "
+               f"number: {lines_told([it.line for it in above])}. Others have seats or amounts below 0. If the "
+               f"{len(above)} are bookings that are cancelled by their own row, leave the refunds out, --without "
+               f"COLUMN TEXT, by {which}; if they cancel bookings that the export hasn't, leave them out, --leave-out "
+               f"{len(above)}")
 
 
 def is_of(cancellation: Booking, booking: Booking) -> bool:

@@ -36,9 +36,11 @@ CANCELLATIONS. --cancels COLUMN says which rows are cancelled: by one of the tex
 as cancelled, storno, annulé or refund, by seats below 0, or by the day of the cancellation. With --id, the column of
 the booking's number, a cancellation may be a row of its own: it is paired with the booking of its number, departure,
 product and as many seats, or more; one that has none is told, and doesn't count. Where no such row has a booking, the
-row is the booking itself. How many were paired is told, and which share is `simulate --cancel`. A booking that was
-cancelled was asked for, so it counts in the demand; with --net it doesn't, and one that was cancelled in part counts
-with the seats that stand. With --id, rows that say the same in all columns that are read count once, which is told.
+row is the booking itself; and so it is where refunds, with seats or amounts below 0, have the numbers of such rows:
+these say the day, and don't count again. Where neither is shown, the log is refused. How many were paired is told, and
+which share is `simulate --cancel`. A booking that was cancelled was asked for, so it counts in the demand; with --net
+it doesn't, and one that was cancelled in part counts with the seats that stand. With --id, rows that say the same in
+all columns that are read count once, which is told.
 
 FAULTS. A row that can't be read has the log refused: the first 20 are told with their lines, and how many more there
 are. With --leave-out N up to N of them are left out, and each is told with its line.
