@@ -209,9 +209,9 @@ class ToldTwice(ExportTest):
             "\n12;void;2025-03-05", "\n92;refund;2025-03-05")
         words = ["--id", "No", "--cancels", "Status", "void", "refund"]
         says = ("3 rows cancel something and have no amount below 0, and no booking and no refund of their number: "
-                "lines 8, 9, 10. Others have seats or amounts below 0. If the 3 are bookings that are cancelled by their "
-                "own row, leave the refunds out, --without COLUMN TEXT, by refund; if they cancel bookings that the export "
-                "hasn't, leave them out, --leave-out 3")
+                "lines 8, 9, 10. Others have seats or amounts below 0. If the 3 are bookings that are cancelled by "
+                "their own row, leave the refunds out, --without COLUMN TEXT, by refund; if they cancel bookings that "
+                "the export hasn't, leave them out, --leave-out 3")
         self.refused(says, *words, rows=rows)
         self.assertEqual(self.seats(*words, "--without", "Status", "refund", rows=rows), IN_ALL)
         self.assertEqual(self.seats(*words, "--leave-out", "3", rows=rows), 9)

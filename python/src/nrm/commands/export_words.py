@@ -87,7 +87,7 @@ def requests_until(bookings: Sequence[Booking], is_net: bool, until: datetime.da
 
 def bookings_of(asked: argparse.Namespace, tell: Callable[[str], None]) -> list[Booking]:
     """The bookings of the export that the words name. Tells what was read and paired."""
-    log = Columns(asked.departs, asked.booked, asked.product, asked.seats, asked.without, asked.only)
+    log = Columns(asked.departs, asked.booked, asked.product, asked.seats, asked.without, asked.only, same=asked.same)
     stops = [it for it in (asked.stops, asked.first_stop, asked.last_stop) if it]
     columns = ExportColumns(log, asked.train, stops, asked.fare or asked.amount, asked.amount is not None, asked.id,
                             asked.cancels)

@@ -26,6 +26,7 @@ def add_log(words: argparse.ArgumentParser) -> None:
     words.add_argument("--without", metavar=("COLUMN", "TEXT"), nargs="+", action="append", default=[])
     words.add_argument("--network", metavar="FILE")
     words.add_argument("--names", metavar="FILE")
+    words.add_argument("--same", metavar="TRAIN", nargs="+", action="append", default=[])
     words.add_argument("--weekday", choices=WEEKDAYS)
     words.add_argument("--last", metavar="N", type=whole_number)
     words.add_argument("--dates", choices=["dmy", "mdy"])
@@ -36,13 +37,15 @@ def see_limits(asked: argparse.Namespace) -> None:
     """A Stop for words that are out of their limits."""
     if asked.last is not None and not 1 <= asked.last <= MOST_HISTORIES:
         raise Stop(f"--last {asked.last}: a network file takes 1 to {MOST_HISTORIES} histories")
+    if any(len(it) < 2 for it in asked.same):
+        raise Stop("--same wants two names of a train or more, the one that it has now at the end")
     if any(len(it) < 2 for it in asked.without):
         raise Stop("--without wants a column and one text or more, as --without status cancelled")
 
 
 def requests_of(asked: argparse.Namespace, tell: Callable[[str], None]) -> list[Request]:
     """The requests of the log that the words name. Tells what was read."""
-    columns = Columns(asked.departs, asked.booked, asked.product, asked.seats, asked.without)
+    columns = Columns(asked.departs, asked.booked, asked.product, asked.seats, asked.without, same=asked.same)
     return requests_in(asked.log, columns, asked.dates, asked.multiline, tell)
 
 

@@ -50,7 +50,7 @@ class ExportColumns:
 
     def read(self) -> Columns:
         """All columns that are read of the log."""
-        return dataclasses.replace(self.log, further=self.further())
+        return dataclasses.replace(self.log, further=self.further(), train=self.train)
 
 
 @dataclass(frozen=True)

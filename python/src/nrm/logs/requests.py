@@ -1,6 +1,6 @@
 """The requests of a log: of each its day of departure, the days before it, the product and the seats.
 
-May use: nrm, nrm.logs.dates, nrm.logs.rows.
+May use: nrm, nrm.logs.dates, nrm.logs.rows, nrm.logs.trains.
 """
 from __future__ import annotations
 
@@ -12,6 +12,7 @@ from typing import Callable, Sequence, TypeVar
 from nrm import Stop, said
 from nrm.logs.dates import Dates, departures_told, has_short_year
 from nrm.logs.rows import Log, LogRow, cut_short, some_of
+from nrm.logs.trains import with_last_names
 
 Made = TypeVar("Made")
 MOST_TOLD = 20  # rows that can't be read, and days without a departure
@@ -22,6 +23,7 @@ SEATS = re.compile(r"([0-9]{1,18})(?:[.,]0+)?")
 class Columns:
     """The headings of the columns that are read: those of the product are several, there may be none of the seats, and
     further ones mean something to who asks. Rows that have some texts in a column are left out, or are the only ones.
+    The train is in one of the columns, or in the first of several of the product; some of its names may be the same.
     """
     departs: str
     booked: str
@@ -30,6 +32,18 @@ class Columns:
     without: Sequence[Sequence[str]] = ()
     only: Sequence[Sequence[str]] = ()
     further: Sequence[str] = ()
+    train: str | None = None
+    same: Sequence[Sequence[str]] = ()
+
+    def train_at(self) -> int | None:
+        """Where the train stands in a row that is read; nowhere where no column is of it."""
+        column = self.train or (self.product[0] if len(self.product) > 1 else None)
+        return self.read().index(column) if column else None
+
+    def train_of(self, fields: Sequence[str]) -> str:
+        """The train of a row, which may be none."""
+        at = self.train_at()
+        return "" if at is None else fields[at]
 
     def read(self) -> list[str]:
         """The headings, in the order in which a row is read, those that leave rows out at the end."""
@@ -51,11 +65,13 @@ class Columns:
 
 @dataclass(frozen=True)
 class Request:
-    """The day of departure, the days before it on which it was made, the text of the product and the seats."""
+    """The day of departure, the days before it on which it was made, the text of the product, the seats, and the train
+    if a column says it."""
     departs: datetime.date
     days: int
     product: str
     seats: int
+    train: str = ""
 
     @classmethod
     def of(cls, dates: Dates, columns: Columns, fields: Sequence[str], is_cancelled: bool = False) -> Request:
@@ -70,7 +86,7 @@ class Request:
             raise ValueError("it names no product")
         if not (found := SEATS.fullmatch(seats.removeprefix("-") if is_cancelled else seats)):
             raise ValueError(f"{cut_short(seats)!r} is no number of seats")
-        return cls(departs, days, product, int(found[1]))
+        return cls(departs, days, product, int(found[1]), columns.train_of(fields))
 
 
 def day_of(dates: Dates, text: str, which: str) -> datetime.date:
@@ -118,10 +134,12 @@ def requests_in(path: str, columns: Columns, order: str | None, is_multiline: bo
 
 def rows_and_dates(log: Log, columns: Columns, order: str | None,
                    tell: Callable[[str], None]) -> tuple[Sequence[LogRow], Dates]:
-    """The rows of a log that aren't left out, and what reads their dates. Tells what was read."""
+    """The rows of a log that aren't left out, with one name for each train, and what reads their dates. Tells what was
+    read."""
     tell(log.told())
     rows = rows_kept(log.rows, columns.without, tell, columns.only)
-    return rows, Dates((text for it in rows for text in it.fields[:2]), order)
+    dates = Dates((text for it in rows for text in it.fields[:2]), order)
+    return with_last_names(rows, columns.train_at(), columns.same, dates), dates
 
 
 def all_made(log: Log, rows: Sequence[LogRow], make: Callable[[LogRow], Made], most: int,

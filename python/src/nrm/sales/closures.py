@@ -9,8 +9,8 @@ import datetime
 import math
 import re
 from collections import defaultdict
-from dataclasses import dataclass
-from typing import Callable, Iterable, Iterator, Sequence, TypeVar
+from dataclasses import dataclass, field
+from typing import Callable, Iterable, Iterator, Mapping, Sequence, TypeVar
 
 from nrm import said
 from nrm.logs.dates import TIME, Dates
@@ -109,13 +109,15 @@ def departure_of(dates: Dates, text: str, product: str) -> datetime.date:
 @dataclass(frozen=True)
 class Times:
     """A file of times: its path, the headings of the departure, of the product and of the two fields that say the
-    times, how its dates are read, and whether fields may have line feeds."""
+    times, how its dates are read, whether fields may have line feeds, and other names of trains, which are the first of
+    several fields of the product, by the ones that count."""
     path: str
     departs: str
     product: Sequence[str]
     others: Sequence[str]
     order: str | None
     is_multiline: bool
+    same: Mapping[str, str] = field(default_factory=dict)
 
     def rows(self, of: Callable[[Dates, str, str, str, str], Made], tell: Callable[[str], None]) -> list[Made]:
         """What is made of each row; all that can't be read are told in one refusal. Tells what was read."""
@@ -125,6 +127,7 @@ class Times:
 
         def made_of(row: LogRow) -> Made:
             departs, *product, first, last = row.fields
+            product[0] = self.same.get(product[0], product[0])
             return of(dates, departs, " ".join(filter(None, product)), first, last)
 
         return all_made(log, log.rows, made_of, 0, tell) if log.rows or log.faults else []

@@ -3,12 +3,12 @@
     nrm-tools demand LOG --departs COLUMN --booked COLUMN --product COLUMN.. [--seats COLUMN] --cuts DAYS,DAYS..
                      (--closures FILE [--closed FROM TO] | --readings FILE [--read COLUMN] [--available COLUMN])
                      [--opens DAYS] [--cancelled COLUMN] [--copies N | --mean] [--seed S] [--before NETWORK]
-                     [--like-class] [--report FILE] [--without COLUMN TEXT..] [--network FILE] [--names FILE]
-                     [--weekday DAY] [--last N] [--dates dmy|mdy] [--multiline] > NEW
+                     [--like-class] [--report FILE] [--same TRAIN TRAIN..] [--without COLUMN TEXT..] [--network FILE]
+                     [--names FILE] [--weekday DAY] [--last N] [--dates dmy|mdy] [--multiline] > NEW
 
-LOG has a row for each booking, as `nrm-tools log` reads it; what `nrm-tools log --help` says of columns, quotes,
-dates, seasons, periods and names holds here too. --cancelled COLUMN leaves out each booking that has something in that
-column, such as the day on which it was cancelled.
+LOG has a row for each booking, as `nrm-tools log` reads it; what `nrm-tools log --help` says of columns, quotes, dates,
+trains, seasons, periods and names holds here too, and --same is for the file of times as well. --cancelled COLUMN
+leaves out each booking that has something in that column, such as the day on which it was cancelled.
 
 CLOSURES. FILE has a row for each time at which a product of a departure couldn't be booked: the columns of the
 departure and of the product are those of LOG, and --closed names the two others, `closed from` and `closed to` if it
@@ -66,6 +66,7 @@ from nrm.limits import MOST_HISTORIES
 from nrm.logs.demand import completed
 from nrm.logs.names import list_of, names_in
 from nrm.logs.rows import Log
+from nrm.logs.trains import last_names, trains_of
 from nrm.network import text_of
 
 MOST_DAYS = 100_000  # before a departure
@@ -77,6 +78,9 @@ def run(given: Sequence[str]) -> int:
     known_names = names_in(asked.names)
     requests = requests_of(without_cancelled(asked), briefly(asked.cancelled))
     demand = demand_of(asked, requests)
+    for text in trains_of([(it.train, it.departs, it.product.removeprefix(it.train)) for it in requests],
+                          demand.departures, "products").told():
+        tell(text)
     calendar = Calendar(asked.cuts, opening_of(requests, asked.cuts, asked.opens))
     sale = Sale(requests, demand, closures_of(asked))
     copies = 1 if asked.mean else copies_of(len(sale.departures), asked.copies)
@@ -127,7 +131,7 @@ def words_of(given: Sequence[str]) -> argparse.Namespace:
 def closures_of(asked: argparse.Namespace) -> list[Closure]:
     """The closures that a file says, or that readings tell of."""
     path, others = (asked.closures, asked.closed) if asked.closures else (asked.readings, [asked.read, asked.available])
-    times = Times(path, asked.departs, asked.product, others, asked.dates, asked.multiline)
+    times = Times(path, asked.departs, asked.product, others, asked.dates, asked.multiline, last_names(asked.same))
     return times.closures(tell) if asked.closures else times.readings(tell)
 
 

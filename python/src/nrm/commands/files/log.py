@@ -1,7 +1,8 @@
 """From an export of bookings or a log of requests to a network file: its demand, and its legs, products and fares.
 
     nrm-tools log LOG --departs COLUMN --booked COLUMN --product COLUMN.. [--seats COLUMN] --cuts DAYS,DAYS..
-                  [--train COLUMN] [--from COLUMN --to COLUMN | --stops COLUMN] [--line STOP STOP..] [--join STOP..]
+                  [--train COLUMN] [--same TRAIN TRAIN..] [--from COLUMN --to COLUMN | --stops COLUMN]
+                  [--line STOP STOP..] [--join STOP..]
                   [--seats-of FILE] [--fare COLUMN | --amount COLUMN] [--cents] [--id COLUMN]
                   [--cancels COLUMN [TEXT..]] [--net] [--without COLUMN TEXT..] [--only COLUMN TEXT..] [--leave-out N]
                   [--network FILE] [--names FILE] [--weekday DAY] [--last N] [--until DATE] [--stream DATE [FILE]]
@@ -26,6 +27,11 @@ two neighbours that a journey has, and so it is for flights over a hub. The seat
 a train or a leg and a number. A train's number is for each of its legs; a leg is its stops, as ZRH-VIE, with the
 train's name and a blank before it as `7501 Paris - Lyon`, or its name in the network. More than 64 legs, 256 products,
 or four legs of a product are refused, with the numbers.
+
+TRAINS that depart on some of the seasons' days alone are told with the days, since they have no demand in the other
+seasons; the train is in the column --train, or in the first of several of --product. One that was renamed in between is
+proposed as one: --same 'ICE 571' 'ICE 1571' gives it the last of its names in all rows. Two that depart on one day are
+two trains, and refused.
 
 FARES. The fare of a product is the mean of the column --fare, the fare of a seat, over the seats that stand, or of
 --amount, what all seats of the row cost, over the seats; rounded to the nearest whole number, or in cents with --cents.
@@ -108,6 +114,7 @@ from nrm.files.writing import Output
 from nrm.logs.demand import Demand, completed
 from nrm.logs.names import list_of, names_in
 from nrm.logs.rows import some_of
+from nrm.logs.trains import trains_of
 from nrm.network import text_of
 
 Rows = Sequence[Sequence[object]]
@@ -129,6 +136,10 @@ def run(given: Sequence[str]) -> int:
     fares = fares_of(bookings, asked.cents, tell) if asked.fare or asked.amount else {}
     rows = [*rows_above(asked, offer, demand, names, fares), *demand.rows(names)]
     tell(demand.told({it.request.departs for it in read}))
+    for text in trains_of([(it.request.train, it.request.departs, stop) for it in bookings for stop in
+                           it.stops or [it.request.product.removeprefix(it.request.train)]],
+                          demand.departures, "stops" if offer else "products").told():
+        tell(text)
     for text in names_told(names, offer.legs if offer else [], demand.products, asked.names):
         tell(text)
     if asked.network is None and offer is None:
