@@ -85,7 +85,9 @@ class Offers(ExportTest):
         for rows, says in ((legs, "a network file takes: 65 legs, and it takes 64. "),
                            (products, "257 products, and it takes 256"),
                            (stops, "2 products of more than 4 legs, such as '1 S0 - S6 Y' of 6")):
-            self.refused(says, "--train", "Train", rows="".join(rows))
+            err = self.refused(says, "--train", "Train", rows="".join(rows))
+            alone = "Take each train alone, --only COLUMN TEXT..: where no product joins two trains, a file for each costs"
+            self.assertEqual(alone in err, rows is legs, err)
         self.file("seats.csv", "".join(f"{it},9\n" for it in range(64)))
         words = [*COLUMNS, *STOPS, *FARES, "--seats-of", "seats.csv", "--train", "Train"]
         for rows in (legs[:64], products[:256]):

@@ -1,7 +1,7 @@
 """What a run of many seasons says, in sentences that come first: which is best, by how much, and how sure that is.
 
 Each number is in the form that it has in the tables. May use: nrm.comparing.ranking, nrm.comparing.study,
-nrm.seasons.results.
+nrm.sales.joined, nrm.seasons.results.
 """
 from __future__ import annotations
 
@@ -9,17 +9,21 @@ from typing import Iterator, Sequence
 
 from nrm.comparing.ranking import Ranking
 from nrm.comparing.study import Study
+from nrm.sales.joined import said_of_joined, wanted_in_histories
 from nrm.seasons.results import Estimate, Results, amount, per_cent
 
 MOST_NAMED = 6
 
 
 def verdict(study: Study) -> str:
-    """What a run says first."""
+    """What a run says first, and of each network whose joined legs make it one of another train."""
     if len(study.results) > 1:
-        return " ".join(of_networks(study))
-    [it] = study.results.values()
-    return of_modes(it) if len(it.modes) > 1 else of_a_mode(it, it.modes[0])
+        first = " ".join(of_networks(study))
+    else:
+        [it] = study.results.values()
+        first = of_modes(it) if len(it.modes) > 1 else of_a_mode(it, it.modes[0])
+    return first + "".join(said_of_joined(it, study.texts, wanted_in_histories(it), f"histories of {name}")
+                           for name, it in study.networks.items())
 
 
 def of_a_mode(it: Results, mode: str) -> str:

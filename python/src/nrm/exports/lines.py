@@ -1,6 +1,6 @@
 """The stops of each train in their order, as the journeys on it show it, and the legs between neighbouring stops.
 
-May use: nrm, nrm.exports.bookings.
+May use: nrm, nrm.exports.bookings, nrm.logs.names, nrm.logs.rows.
 """
 from __future__ import annotations
 
@@ -10,18 +10,26 @@ from typing import Iterable, Iterator, Mapping, Sequence
 
 from nrm import Stop
 from nrm.exports.bookings import Booking
+from nrm.logs.names import JOINED_AT
+from nrm.logs.rows import some_of
 
 
 @dataclass(frozen=True)
 class Leg:
-    """A leg: its train, which may be none, and its two stops."""
+    """A leg: its train, which may be none, its two stops, and those between at which it was joined."""
     train: str
     first: str
     last: str
+    joined: tuple[str, ...] = ()
 
     @property
     def text(self) -> str:
         return " ".join(filter(None, [self.train, f"{self.first} - {self.last}"]))
+
+    @property
+    def listed(self) -> str:
+        """Its text in a list of names, by which others know that it was joined."""
+        return f"{self.text}{JOINED_AT}{', '.join(self.joined)}" if self.joined else self.text
 
 
 class Lines:
@@ -52,14 +60,28 @@ class Lines:
     def legs(self) -> Iterator[Leg]:
         """All legs, train by train."""
         for train, pairs in self.neighbours.items():
-            yield from (Leg(train, *pair) for pair in pairs)
+            yield from (self.leg(train, *pair) for pair in pairs)
+
+    def leg(self, train: str, first: str, last: str) -> Leg:
+        """The leg of a train between two of its stops."""
+        order = self.order.get(train, [first, last])
+        return Leg(train, first, last, tuple(order[order.index(first) + 1:order.index(last)]))
+
+    def ends_joined(self, joined: Sequence[str]) -> Iterator[str]:
+        """What is told of stops that were to be joined at which a train begins or ends: there is no other leg there."""
+        for stop in dict.fromkeys(joined):
+            trains = [train for train, order in self.order.items() if stop in order]
+            at_end = [it for it in trains if stop in (self.order[it][0], self.order[it][-1])]
+            if at_end:
+                which = f" of {some_of(at_end)}" if len(at_end) < len(trains) else ""
+                yield f"--join {stop} joins nothing{which}: it is an end of the line"
 
     def legs_of(self, train: str, stops: Sequence[str]) -> list[Leg]:
         """The legs of a journey, from its first stop to its last: all of a leg of which it needs a part."""
         if self.are_flights:
             return [Leg(train, *pair) for pair in zip(stops, stops[1:])]
         place = {it: at for at, it in enumerate(self.order[train])}
-        return [Leg(train, first, last) for first, last in self.neighbours[train]
+        return [self.leg(train, first, last) for first, last in self.neighbours[train]
                 if place[first] < place[stops[-1]] and place[stops[0]] < place[last]]
 
 

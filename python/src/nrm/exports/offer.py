@@ -1,7 +1,7 @@
 """What is sold, as an export shows it: the legs with their seats, and the products with their mean fares and legs.
 
-May use: nrm, nrm.exports.bookings, nrm.exports.codes, nrm.exports.lines, nrm.files.names, nrm.limits, nrm.logs.rows,
-nrm.network.
+May use: nrm, nrm.exports.bookings, nrm.exports.codes, nrm.exports.lines, nrm.files.names, nrm.limits, nrm.logs.names,
+nrm.logs.rows, nrm.network.
 """
 from __future__ import annotations
 
@@ -18,6 +18,7 @@ from nrm.exports.codes import Names, Parts
 from nrm.exports.lines import Leg, Lines
 from nrm.files.names import fitting, free_name
 from nrm.limits import MOST_FARE, MOST_LEGS, MOST_LEGS_OF_A_PRODUCT, MOST_PRODUCTS, MOST_SEATS
+from nrm.logs.names import JOINED_AT
 from nrm.logs.rows import SEPARATORS, some_of, text_in
 from nrm.network import is_whole
 
@@ -56,19 +57,28 @@ class Offer:
             found.append(f"{too_long} products of more than {MOST_LEGS_OF_A_PRODUCT} legs, such as {longest.text!r} of "
                          f"{len(longest.legs)}")
         if found:
-            raise Stop(f"the export is more than a network file takes: {'; '.join(found)}. Take some trains alone, "
-                       "--only COLUMN TEXT.., join the legs at stops that few use, --join STOP.., or leave products "
-                       "out, --without COLUMN TEXT..")
+            several = len({it.parts.train for it in self.products.values()}) > 1
+            alone = ("Take each train alone, --only COLUMN TEXT..: where no product joins two trains, a file for each "
+                     "costs nothing. Or join" if several else "Join")
+            raise Stop(f"the export is more than a network file takes: {'; '.join(found)}. {alone} the legs at stops "
+                       "that few use, --join STOP.., or leave products out, --without COLUMN TEXT..")
 
     def named(self, known: Mapping[str, str]) -> dict[str, str]:
         """A name for each leg and product: the one that is known, or one that its parts make."""
         parts = {text: Parts(it.train, it.first, it.last, "") for text, it in self.legs.items()}
         parts.update((text, it.parts) for text, it in self.products.items())
         made, names = Names(list(parts.values())), dict(known)
+        for leg in self.legs.values():
+            if earlier := next((it for it in known if it == leg.text or it.startswith(leg.text + JOINED_AT)), None):
+                names[leg.text] = names.pop(earlier)
         for text, it in parts.items():
             if text not in names:
                 names[text] = free_name(made.name(it) or fitting(text), set(names.values()))
         return names
+
+    def listed(self, names: Mapping[str, str]) -> dict[str, str]:
+        """The names as a list has them: by what they stand for, of a leg with the stops at which it was joined."""
+        return {self.legs[text].listed if text in self.legs else text: name for text, name in names.items()}
 
     def rows(self, names: Mapping[str, str], seats: Mapping[str, int],
              fares: Mapping[str, int]) -> Iterator[list[object]]:

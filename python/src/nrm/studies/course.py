@@ -1,8 +1,8 @@
 """The course of one season in the three modes: a stream with looks put in, what each mode answers, tables and page.
 
 How the replies to the lines put in are told apart is said by the manual of the command `season`.
-May use: nrm, nrm.comparing.heads, nrm.network, nrm.program, nrm.replies, nrm.seasons.results, nrm.telling.page,
-nrm.telling.tables.
+May use: nrm, nrm.comparing.heads, nrm.network, nrm.program, nrm.replies, nrm.sales.joined, nrm.seasons.results,
+nrm.telling.page, nrm.telling.tables.
 """
 from __future__ import annotations
 
@@ -16,6 +16,7 @@ from nrm.comparing.heads import Made
 from nrm.network import Network, whole
 from nrm.program import Program
 from nrm.replies import MODES, Cancelled, Hindsight, Leg, NoAnswer, NoFare, NoLeg, Plan, Sold, answer_of
+from nrm.sales.joined import said_of_joined
 from nrm.seasons.results import per_cent
 from nrm.telling.page import Page
 from nrm.telling.tables import Cell, Table, with_text
@@ -150,13 +151,19 @@ class Season:
 
 def leg_most_asked_for(network: Network, stream: LookedAt) -> str:
     """The leg of which most seats were asked for, sold or not."""
+    seats = seats_asked_for(network, stream)
+    return max(seats, key=lambda it: seats[it])
+
+
+def seats_asked_for(network: Network, stream: LookedAt) -> dict[str, int]:
+    """The seats of each leg that were asked for, sold or not."""
     seats = dict.fromkeys(network.legs, 0)
     for line in stream.lines:
         found = re.fullmatch(r"book (\S+) ([1-9][0-9]{0,2})", line)
         product = network.products.get(found[1]) if found else None
         for leg in product.legs if product else ():
             seats[leg] += int(found[2]) if found else 0
-    return max(seats, key=lambda it: seats[it])
+    return seats
 
 
 # Tables
@@ -200,7 +207,13 @@ def seats_table(season: Season, course: Course, decimal: bool) -> Table:
 
 
 def verdict(season: Season) -> str:
-    """What the season says first: what each mode earns, and its share of the bound, the most first."""
+    """What the season says first, and of a network whose joined legs make it one of another train."""
+    wanted = [seats_asked_for(season.network, season.stream)]
+    return of_modes(season) + said_of_joined(season.network, season.texts, wanted, "season")
+
+
+def of_modes(season: Season) -> str:
+    """What each mode earns, and its share of the bound, the most first."""
     ends = [(it.mode, it.points[-1]) for it in season.courses]
     if any(point.revenue is None or point.bound is None for _, point in ends):
         return ("The bound's linear program is too large for this season, so neither it nor revenues are told. One "

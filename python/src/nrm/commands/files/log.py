@@ -21,12 +21,13 @@ products too, and so the whole network file. The stops of a train, whose column 
 said, are put in the order that the journeys show, and there is a leg for each two neighbouring ones. A product is a
 train, a first and a last stop, and what stands in --product, the fare class; its legs are those between. Where the
 journeys don't show the order, --line STOP STOP.. says it, of one line or, said again, of several. --join STOP.. makes
-one leg of the two on each side of a stop: a journey from or to it takes a seat on all of that leg. --stops is for one
-column with all stops of the journey, as ZRH-VIE-BUD or Lyon > Dijon > Paris; without --train there is a leg for each
-two neighbours that a journey has, and so it is for flights over a hub. The seats are in the file of --seats-of: rows of
-a train or a leg and a number. A train's number is for each of its legs; a leg is its stops, as ZRH-VIE, with the
-train's name and a blank before it as `7501 Paris - Lyon`, or its name in the network. More than 64 legs, 256 products,
-or four legs of a product are refused, with the numbers.
+one leg of the two on each side of a stop: a journey from or to it takes a seat on all of that leg. Where what stood
+takes more seats of a leg than it has, that is told, with what was earned and, if it is less, a bound on what can be
+earned on such a network. --stops is for one column with all stops of the journey, as ZRH-VIE-BUD or Lyon > Dijon >
+Paris; without --train there is a leg for each two neighbours that a journey has, and so it is for flights over a hub.
+The seats are in the file of --seats-of: rows of a train or a leg and a number. A train's number is for each of its
+legs; a leg is its stops, as ZRH-VIE, with the train's name and a blank before it as `7501 Paris - Lyon`, or its name in
+the network. More than 64 legs, 256 products, or four legs of a product are refused, with the numbers.
 
 TRAINS that depart on some of the seasons' days alone are told with the days, since they have no demand in the other
 seasons; the train is in the column --train, or in the first of several of --product. One that was renamed in between is
@@ -116,6 +117,7 @@ from nrm.logs.names import list_of, names_in
 from nrm.logs.rows import some_of
 from nrm.logs.trains import trains_of
 from nrm.network import text_of
+from nrm.sales.joined import Stood
 
 Rows = Sequence[Sequence[object]]
 
@@ -134,11 +136,14 @@ def run(given: Sequence[str]) -> int:
     names = offer.named(known) if offer else named([*demand.products, *of_day], known)
     stream = stream_of(asked, bookings, names) if asked.stream else ""
     fares = fares_of(bookings, asked.cents, tell) if asked.fare or asked.amount else {}
-    rows = [*rows_above(asked, offer, demand, names, fares), *demand.rows(names)]
+    seats = seats_of(asked.seats_of, offer, names, tell) if offer else {}
+    rows = [*rows_above(asked, offer, demand, names, fares, seats), *demand.rows(names)]
     tell(demand.told({it.request.departs for it in read}))
     for text in trains_of([(it.request.train, it.request.departs, stop) for it in bookings for stop in
                            it.stops or [it.request.product.removeprefix(it.request.train)]],
                           demand.departures, "stops" if offer else "products").told():
+        tell(text)
+    for text in Stood(bookings, offer, seats, fares, demand).told() if offer else ():
         tell(text)
     for text in names_told(names, offer.legs if offer else [], demand.products, asked.names):
         tell(text)
@@ -148,7 +153,7 @@ def run(given: Sequence[str]) -> int:
         tell(f"products that nobody asked for in these seasons {len(idle)}: {some_of(idle)}")
     with Output() as output:
         if asked.names is not None:
-            output.add(asked.names, list_of(names))
+            output.add(asked.names, list_of(offer.listed(names) if offer else names))
         if asked.stream:
             output.add(asked.stream[1], stream, "ascii")
         print(text_of(rows), end="")
@@ -175,7 +180,10 @@ def offer_of(asked: argparse.Namespace, bookings: Sequence[Booking]) -> Offer | 
     """The legs and products that the stops of the bookings show, if a column has these."""
     if not (asked.stops or asked.first_stop):
         return None
-    return Offer(bookings, Lines(bookings, asked.line, asked.join, asked.stops is not None and asked.train is None))
+    lines = Lines(bookings, asked.line, asked.join, asked.stops is not None and asked.train is None)
+    for text in lines.ends_joined(asked.join):
+        tell(text)
+    return Offer(bookings, lines)
 
 
 def stream_of(asked: argparse.Namespace, bookings: Sequence[Booking], names: Mapping[str, str]) -> str:
@@ -187,10 +195,9 @@ def stream_of(asked: argparse.Namespace, bookings: Sequence[Booking], names: Map
 
 
 def rows_above(asked: argparse.Namespace, offer: Offer | None, demand: Demand, names: Mapping[str, str],
-               fares: Mapping[str, int]) -> Rows:
+               fares: Mapping[str, int], seats: Mapping[str, int]) -> Rows:
     """The rows above the demand: those of the offer, or of the network file that is completed."""
     if offer is not None:
-        seats = seats_of(asked.seats_of, offer, names, tell)
         return [["periods", len(demand.departures), demand.periods], *offer.rows(names, seats, fares)]
     if asked.network is not None:
         by_name = {names[it]: fare for it, fare in fares.items() if it in names}

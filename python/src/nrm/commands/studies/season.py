@@ -16,6 +16,9 @@ season.html too, a page that stands alone in one file, without scripts; it needs
 there is told, and the tables come in any case. LEG is the leg whose seats are drawn, by default the one of which most
 seats were asked for. With --decimal the tables have decimals in the place of fractions, as a spreadsheet wants them.
 
+JOINED LEGS. Where the list of --names says that a leg was joined at some stops, and the stream asks for more seats of
+it than it has, the first sentence says that the amounts are of another train than the one that ran.
+
 HOW REPLIES ARE TOLD APART. Before the first line, behind each line `reoptimise K` of a period that the network has, and
 behind the last line, the lines `plan`, `leg LEG` for each leg, and `hindsight` are put into the stream. None of them
 changes what any other line is answered. Each line has one reply, and each reply one line, but for two: the text of a
