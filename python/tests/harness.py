@@ -19,6 +19,7 @@ import time
 import unittest
 from pathlib import Path
 from typing import Callable, NamedTuple, TypeVar
+from unittest import mock
 
 from nrm import Stop
 from nrm.__main__ import main
@@ -176,7 +177,7 @@ class WithinTest(PlaceTest):
         if more:
             return super().ran(name, *words, **more)
         out, err = io.StringIO(), io.StringIO()
-        with contextlib.redirect_stdout(out), contextlib.redirect_stderr(err):
+        with contextlib.redirect_stdout(out), contextlib.redirect_stderr(err), mock.patch("os.execv"):
             status = main([name, *map(str, words)])
         return Done(out.getvalue(), err.getvalue(), status)
 

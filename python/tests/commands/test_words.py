@@ -1,8 +1,13 @@
 """A word that is wrong is told with what is wanted in its place, and never by the name of a function."""
 from __future__ import annotations
 
-from harness import WithinTest
+import os
+from unittest import mock
+
+from harness import EXAMPLES, SOURCES, WithinTest
 from logs.made_log import COLUMNS
+from nrm.__main__ import main
+from nrm.telling.libraries import DEBIANS_PYTHON
 
 AUTHORISE = ["authorise", "n.csv", "--show", "0.9", "--denied-cost", "5"]
 LOG = ["log", "l.csv", *COLUMNS, "--cuts", "7"]
@@ -42,3 +47,34 @@ class Words(WithinTest):
             self.assertEqual(done.status, 2, f"{words}: {done.err}")
             self.want_in(done.err, says)
             self.assertNotIn("invalid", done.err.splitlines()[-1])
+
+
+class Elsewhere(WithinTest):
+    """Where this Python lacks what draws, and Debian's has it, a command goes on under that one."""
+    SEASON = ["season", str(EXAMPLES / "log" / "network.csv"), str(EXAMPLES / "log" / "commands.txt")]
+
+    def goes_on(self, words: list[str], debian_has: bool = True) -> list[list[str]]:
+        """What a command is gone on as, under a Python that has none of the libraries."""
+        gone = mock.Mock(side_effect=SystemExit(0))
+        with mock.patch("os.execv", gone), mock.patch("importlib.util.find_spec", return_value=None), \
+                mock.patch("os.path.isdir", side_effect=lambda path: debian_has and "dist-packages" in path), \
+                mock.patch("os.access", return_value=True), \
+                mock.patch("nrm.commands.running.is_debians", return_value=False):
+            try:
+                with open(os.devnull, "w", encoding="ascii") as null, mock.patch("sys.stdout", null), \
+                        mock.patch("sys.stderr", null):
+                    main(words)
+            except SystemExit:
+                pass
+        return [it.args[1] for it in gone.call_args_list]
+
+    def test_season_goes_on_as_simulate_does(self) -> None:
+        network = self.SEASON[1]
+        for words in (self.SEASON, ["simulate", network, "--seasons", "2"],
+                      ["optimum", network, "ZRH-VIE", "--out", "o"], ["thresholds", network, "2", "--pictures", "o"]):
+            self.assertEqual(self.goes_on(words), [[DEBIANS_PYTHON, str(SOURCES), *words]])
+        for words in (["optimum", network, "ZRH-VIE"], ["thresholds", network, "2"]):
+            self.assertEqual(self.goes_on(words), [], "nothing is drawn")
+
+    def test_it_stays_where_debians_python_lacks_it_too(self) -> None:
+        self.assertEqual(self.goes_on([*self.SEASON, "--out", "o", *self.with_program], debian_has=False), [])

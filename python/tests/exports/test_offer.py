@@ -86,7 +86,7 @@ class Offers(ExportTest):
                            (products, "257 products, and it takes 256"),
                            (stops, "2 products of more than 4 legs, such as '1 S0 - S6 Y' of 6")):
             err = self.refused(says, "--train", "Train", rows="".join(rows))
-            alone = "Take each train alone, --only COLUMN TEXT..: where no product joins two trains, a file for each costs"
+            alone = "Take each train alone, --only COLUMN TEXT..: where no product joins two trains, a file for each "
             self.assertEqual(alone in err, rows is legs, err)
         self.file("seats.csv", "".join(f"{it},9\n" for it in range(64)))
         words = [*COLUMNS, *STOPS, *FARES, "--seats-of", "seats.csv", "--train", "Train"]

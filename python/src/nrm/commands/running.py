@@ -1,10 +1,11 @@
 """How a command begins and ends: its words, its status, and how a mistake, a closed pipe or Ctrl-C is told.
 
-May use: nrm, nrm.logs.names, nrm.network, nrm.telling.libraries.
+May use: nrm, nrm.logs.names, nrm.network, nrm.program, nrm.telling.libraries.
 """
 from __future__ import annotations
 
 import argparse
+import importlib.util
 import os
 import signal
 import subprocess
@@ -14,9 +15,11 @@ from typing import Callable, NoReturn, Sequence
 from nrm import Stop, said
 from nrm.logs.names import texts_in
 from nrm.network import number
-from nrm.telling.libraries import is_there, missing
+from nrm.program import TOP
+from nrm.telling.libraries import DEBIANS_PYTHON, is_debians, is_there, missing
 
 TOOLS = "nrm-tools"
+SOURCES, OF_DEBIAN = TOP / "python" / "src", "/usr/lib/python3/dist-packages"
 SEEN = "\n\t"  # what may stand in what is told
 Run = Callable[[Sequence[str]], int]
 
@@ -111,6 +114,14 @@ def status_of(name: str, run: Run, words: Sequence[str]) -> int:
 def tell(name: str, text: str) -> None:
     """Tells something on standard error, in the name of a command."""
     print(f"{title(name)}: {said(text, SEEN)}", file=sys.stderr)
+
+
+def see_libraries(name: str, given: Sequence[str], *libraries: str) -> None:
+    """Goes on under Debian's Python with a command where this Python lacks some libraries, and that one has them."""
+    is_in_debians = all(os.path.isdir(f"{OF_DEBIAN}/{it}") for it in libraries) and os.access(DEBIANS_PYTHON, os.X_OK)
+    if (not all(map(importlib.util.find_spec, libraries)) and is_in_debians and not is_debians()
+            and (SOURCES / "__main__.py").is_file()):
+        os.execv(DEBIANS_PYTHON, [DEBIANS_PYTHON, str(SOURCES), name, *given])
 
 
 def lacking(name: str, *libraries: str) -> list[str]:

@@ -8,7 +8,6 @@ from __future__ import annotations
 import argparse
 import functools
 import importlib.util
-import os
 import re
 from fractions import Fraction
 from typing import TYPE_CHECKING, Callable, ContextManager, Sequence
@@ -17,15 +16,13 @@ from nrm import Stop, bytes_in
 from nrm.commands import running
 from nrm.commands.running import refused_word, tell
 from nrm.network import MOST_DIGITS, number
-from nrm.program import TOP, Program
+from nrm.program import Program
 from nrm.seasons.drawing import DEMANDS, LARGEST_PARTY, ORDERS, Settings
-from nrm.telling.libraries import DEBIANS_PYTHON, is_debians, lacks
+from nrm.telling.libraries import lacks
 
 if TYPE_CHECKING:
     from nrm.searches.trials import Trials  # which needs Dask
 
-DEBIANS_DASK = "/usr/lib/python3/dist-packages/distributed"
-SOURCES = TOP / "python" / "src"
 MOST_SEASONS = 10_000_000
 SHARE = "a number from 0 to 1, as 0.05,"
 EXACT = re.compile(r"[0-9]+\.?[0-9]*|\.[0-9]+")
@@ -101,12 +98,9 @@ def see_workers(words: argparse.ArgumentParser, asked: argparse.Namespace) -> No
 
 def see_dask(name: str, given: Sequence[str]) -> None:
     """Sees that there is Dask for a command of some name, or goes on under Debian's Python if that one has it."""
-    if importlib.util.find_spec("distributed"):
-        return
-    is_in_debians = os.path.isdir(DEBIANS_DASK) and os.access(DEBIANS_PYTHON, os.X_OK) and not is_debians()
-    if is_in_debians and (SOURCES / "__main__.py").is_file():
-        os.execv(DEBIANS_PYTHON, [DEBIANS_PYTHON, str(SOURCES), name, *given])
-    raise Stop(lacks(["distributed"]))
+    running.see_libraries(name, given, "distributed")
+    if not importlib.util.find_spec("distributed"):
+        raise Stop(lacks(["distributed"]))
 
 
 def trials_of(name: str, asked: argparse.Namespace, settings: Settings, program: Program,

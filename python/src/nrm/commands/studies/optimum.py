@@ -27,7 +27,7 @@ from __future__ import annotations
 from typing import Sequence
 
 from nrm import said
-from nrm.commands.running import asked_with_texts, lacking, parser
+from nrm.commands.running import asked_with_texts, lacking, parser, see_libraries
 from nrm.files.writing import Output
 from nrm.program import Program
 from nrm.studies.classes import LegAlone, remarks, tables, verdict
@@ -40,6 +40,8 @@ def run(given: Sequence[str]) -> int:
     words.add_argument("leg", metavar="LEG")
     words.add_argument("--out", metavar="FOLDER")
     asked, texts = asked_with_texts(words, given)
+    if asked.out is not None:
+        see_libraries("optimum", given, "matplotlib")
     leg = LegAlone(asked.network, asked.leg, Program.found(asked.program))
     emsr = leg.emsr()
     print(verdict(leg, emsr))

@@ -12,9 +12,11 @@ seats. A table of nothing but zeros is left out, and named.
 
 The tables come on standard output; the pictures go to FOLDER, the current one where nothing is said, each as PNG and as
 SVG, and are the same each time. They need matplotlib (Debian's python3-matplotlib). Tables and pictures are in
-season.html too, a page that stands alone in one file, without scripts; it needs jinja2 (python3-jinja2). What isn't
-there is told, and the tables come in any case. LEG is the leg whose seats are drawn, by default the one of which most
-seats were asked for. With --decimal the tables have decimals in the place of fractions, as a spreadsheet wants them.
+season.html too, a page that stands alone in one file, without scripts; it needs jinja2 (python3-jinja2). If the Python
+that was asked lacks one and /usr/bin/python3 has both, a checkout's command goes on under that one, as `simulate` does.
+What isn't there is told, and the tables come in any case. LEG is the leg whose seats are drawn, by default the one of
+which most seats were asked for. With --decimal the tables have decimals in the place of fractions, as a spreadsheet
+wants them.
 
 JOINED LEGS. Where the list of --names says that a leg was joined at some stops, and the stream asks for more seats of
 it than it has, the first sentence says that the amounts are of another train than the one that ran.
@@ -33,12 +35,14 @@ from pathlib import Path
 from typing import Iterator, Sequence
 
 from nrm import bytes_in, make_folder, said
-from nrm.commands.running import asked_with_texts, lacking, parser
+from nrm.commands.running import asked_with_texts, lacking, parser, see_libraries
 from nrm.comparing.heads import lines_of, made_of
 from nrm.files.writing import Output
 from nrm.program import Program
 from nrm.studies.course import Season, page, tables, verdict
 from nrm.telling.tables import told_of
+
+LIBRARIES = ("matplotlib", "jinja2")
 
 
 def run(given: Sequence[str]) -> int:
@@ -50,6 +54,7 @@ def run(given: Sequence[str]) -> int:
     words.add_argument("--leg")
     words.add_argument("--decimal", action="store_true")
     asked, texts = asked_with_texts(words, given)
+    see_libraries("season", given, *LIBRARIES)
     program = Program.found(asked.program)
     season = Season.played(asked.network, asked.stream, asked.leg, program, texts)
     told, left_out = told_of(it.with_texts(texts) for it in tables(season, asked.decimal))
@@ -61,7 +66,7 @@ def run(given: Sequence[str]) -> int:
           sep="\n  ")
     for table in told:
         table.show()
-    missing = lacking("season", "matplotlib", "jinja2")
+    missing = lacking("season", *LIBRARIES)
     with Output() as output:
         pictures = list(drawn(season, asked.out, output)) if "matplotlib" not in missing else []
         print(*([""] if pictures else []), *map(said, pictures), sep="\n")

@@ -39,7 +39,7 @@ import argparse
 from typing import Mapping, Sequence
 
 from nrm import bytes_in, said
-from nrm.commands.running import asked_with_texts, at_least, lacking, parser
+from nrm.commands.running import asked_with_texts, at_least, lacking, parser, see_libraries
 from nrm.commands.season_words import add_drawing, add_search, add_workers, see_dask, see_workers, trials_of
 from nrm.comparing.heads import lines_of, made_of
 from nrm.files.writing import Output
@@ -71,6 +71,8 @@ def run(given: Sequence[str]) -> int:
     add_workers(words)
     asked, texts = asked_with_texts(words, given)
     see_workers(words, asked)
+    if asked.pictures is not None:
+        see_libraries("thresholds", given, "matplotlib")
     if asked.search and (asked.adjusted or asked.pictures is not None):
         words.error("--search tries all rules and draws nothing: without --adjusted and --pictures")
     if asked.search:
