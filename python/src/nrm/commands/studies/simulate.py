@@ -33,6 +33,9 @@ makes them anew at the start of each period, asks only for requests whose fare i
 has them sold by `nrm run first`. `nrm-tools averaged` says more of them. They take as many plans a season as there are
 histories times periods, and aren't played with --cancel.
 
+JOINED LEGS. Where the list of --names says that a leg was joined at some stops, and histories ask for more seats of it
+than it has, the first sentence says that the amounts are of another train than the one that ran.
+
 WHERE IT RUNS. It needs Dask (Debian's python3-distributed, which is for /usr/bin/python3: if the Python that was asked
 has no Dask and that one has, a checkout's command goes on under that one). It starts as many processes as there are
 processors, or --workers, on this machine. They talk by TLS, with keys that are made for the run and are in memory alone
