@@ -91,8 +91,7 @@ class Serving(ServeTest):
                 open_network(connection, "two", "first", ONE.encode(), self.desks_program.checksum())
             self.assertEqual(talk(serve, b"desk two D1\nbook LOC 1\n"), b"at 1\nok 1\n")
             self.told("journal", "end", "journal", "two")
-            os.kill(child_of(serve.process.pid), signal.SIGKILL)
-        with self.served(journal) as serve:
+            wait_for(lambda: "event=ended network=two" in serve.told(), "the end of its program")
             self.assertEqual(talk(serve, b"desk two D1\nbook LOC 1\nask LOC\n"), b"at 2\ndenied\nask LOC 299 leg AB\n")
 
     def test_half_a_line_is_never_given(self) -> None:

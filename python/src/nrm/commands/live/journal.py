@@ -3,6 +3,8 @@
     nrm-tools journal begin JOURNAL
     nrm-tools journal open JOURNAL NAME MODE FILE [--departure TIME [--begins K=TIME]...] [--program WORD...]
     nrm-tools journal times JOURNAL NAME [--departure TIME [--begins K=TIME]...]
+    nrm-tools journal freeze JOURNAL NAME
+    nrm-tools journal thaw JOURNAL NAME
     nrm-tools journal end JOURNAL NAME
     nrm-tools journal import JOURNAL NAME MODE FILE OLD [--program WORD...]
     nrm-tools journal look JOURNAL [NETWORK [NUMBER] [--desk NAME] [--booking NUMBER]]
@@ -14,8 +16,10 @@ it, when, and what was answered. `begin` makes one, a file for its owner alone; 
 `nrm_desks` has read its file and made the opening plan: the file byte for byte, the mode, and the checksum of that
 program, which is named by --program, or is that of this folder, or the one on the path. A server that is at work
 answers for it at once. The name begins with a small letter, and has at most 40 of `a` to `z`, `0` to `9`, `.`, `_` and
-`-`. From the second network on, with which this is said, each desk has to name its own. `end` has a network looked at
-alone from now on.
+`-`. From the second network on, with which this is said, each desk has to name its own. `freeze` has nothing booked in
+a network from now on: `book` and `reoptimise` are `denied`, bookings are cancelled and all is looked at. `thaw` has it
+sell again. `end` has a network looked at alone from now on, for good. A server that is at work carries out nothing
+behind these that they deny.
 
 --departure says when it departs, and --begins, as often as there are such periods, when period K begins, from 2 to the
 last of the network file: `nrm-tools serve` then has a plan made for it. A TIME is as 2026-12-31T10:00+01:00 or
@@ -27,7 +31,7 @@ and `tools/desks.py` before it; the mode and the network file are those of that 
 by the desk `IMPORT`, while no server is at work, but for those whose numbers stand in OLD.void, which were answered
 `memory` or `store` then. What has no row is told: these lines, those that change nothing, and half a line at the end.
 
-`look` tells all networks, a line each: name, mode, lines, when it was begun, whether it has ended or is halted and why,
+`look` tells all networks, a line each: name, mode, lines, when it was begun, whether it is frozen, has ended, or is halted and why,
 and the checksum of its program. With a network it writes its lines, with one tab between number, time, desk, the desk's
 own number, line and reply: all of them, the one of a number, those of a desk, or those of a booking. It and `backup`,
 which makes a copy that is a journal too, may be used while a server is at work, as `sqlite3 -readonly` may. `backup`
@@ -43,15 +47,17 @@ from nrm import bytes_in
 from nrm.commands.running import parser, tell
 from nrm.desks.earlier.importing import TextJournal, import_network
 from nrm.desks.journals.looking import Wanted, copy, lines_of, summary
-from nrm.desks.journals.networks import end_network, file_of, known, networks_in, put_network, see_that_it_is_free
+from nrm.desks.journals.networks import (end_network, file_of, freeze_network, known, networks_in, put_network,
+                                          see_that_it_is_free, thaw_network)
 from nrm.desks.journals.stores.choosing import store_of, using
 from nrm.desks.journals.times.said import Times, lines_of_times, see_that_it_has, set_times, times_in, times_of
 from nrm.desks.relay.programs import see_that_it_opens
 from nrm.program import Program
 from nrm.replies import MODES
 
-WAYS = {"begin": (0, 0), "open": (3, 3), "times": (1, 1), "end": (1, 1), "import": (4, 4), "look": (0, 2),
-        "backup": (1, 1)}  # and how many words follow
+WAYS = {"begin": (0, 0), "open": (3, 3), "times": (1, 1), "freeze": (1, 1), "thaw": (1, 1), "end": (1, 1),
+        "import": (4, 4), "look": (0, 2), "backup": (1, 1)}  # and how many words follow
+CHANGES = {"freeze": freeze_network, "thaw": thaw_network, "end": end_network}  # of what may be asked of a network
 FOR_FILES = "import", "backup"
 
 
@@ -161,9 +167,9 @@ def run(given: Sequence[str]) -> int:
             name, mode, file, old = asked.words
             import_one(asked.journal, name, mode, file, old, program)
         say_if_second(asked.journal, name)
-    elif asked.way == "end":
+    elif asked.way in CHANGES:
         with using(asked.journal, is_to_write=True) as connection:
-            end_network(connection, asked.words[0])
+            CHANGES[asked.way](connection, asked.words[0])
     elif asked.way == "look":
         look(words, asked)
     else:

@@ -46,9 +46,9 @@ def shown(field: bytes) -> str:
 
 def ended_at(connection: Tables, network: Opened) -> str | None:
     """Since when a network is only looked at, if it is."""
-    [ended] = connection.execute(f"SELECT {connection.time.format('ended')} FROM network WHERE network = ?",
-                                 [network.number]).fetchone()
-    return None if ended is None else str(ended)
+    row = connection.execute(f"SELECT {connection.time.format('ended')} FROM network WHERE network = ? AND ended > 0",
+                             [network.number]).fetchone()
+    return str(row[0]) if row else None
 
 
 def taken_out(network: Opened, number: int) -> Stop:

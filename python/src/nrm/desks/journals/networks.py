@@ -12,14 +12,13 @@ from nrm import Stop
 from nrm.desks.journals.stores.kinds import Opened, Tables, now
 
 NAME = re.compile(r"[a-z][a-z0-9._-]{0,39}")  # no desk has such a name
-COLUMNS = "network, name, mode, program, ended IS NOT NULL, halted, lines, epoch"
+COLUMNS = "network, name, mode, program, ended, halted, lines, epoch"
 MOST_NAMED = 20  # networks in a sentence
 
 
-def opened_of(row: tuple[int, str, str, str, int, str | None, int, int]) -> Opened:
+def opened_of(row: tuple[int, str, str, str, int | None, str | None, int, int]) -> Opened:
     """The network of a row of the columns."""
-    number, name, mode, program, is_ended, halted, lines, epoch = row
-    return Opened(number, name, mode, program, bool(is_ended), halted, lines, epoch)
+    return Opened(*row)
 
 
 def networks_in(connection: Tables) -> list[Opened]:
@@ -87,7 +86,41 @@ def end_network(connection: Tables, name: str) -> None:
     """Has a network looked at alone from now on."""
     with connection.change():
         found = known(connection, name)
-        connection.execute("UPDATE network SET ended = ? WHERE network = ? AND ended IS NULL", [now(), found.number])
+        if not found.is_ended:
+            set_ended(connection, found, now())
+
+
+def freeze_network(connection: Tables, name: str) -> None:
+    """Has nothing booked in a network from now on; it is looked at, and bookings are cancelled."""
+    with connection.change():
+        found = going_on(connection, name)
+        if not found.is_frozen:
+            set_ended(connection, found, -now())
+
+
+def thaw_network(connection: Tables, name: str) -> None:
+    """Has a network that is frozen sell again."""
+    with connection.change():
+        found = going_on(connection, name)
+        if not found.is_frozen:
+            raise Stop(f"{name} isn't frozen")
+        set_ended(connection, found, None)
+
+
+def going_on(connection: Tables, name: str) -> Opened:
+    """The network of a name; a Stop if it has ended, since that is for good."""
+    found = known(connection, name)
+    if found.is_ended:
+        raise Stop(f"{name} has ended, and is only looked at")
+    return found
+
+
+def set_ended(connection: Tables, network: Opened, ended: int | None) -> None:
+    """Changes what may be asked of a network, within a change: no row is written behind it by who doesn't know of
+    it."""
+    connection.execute("UPDATE network SET ended = ? WHERE network = ?", [ended, network.number])
+    if connection.lets_go:
+        connection.execute(connection.lets_go, [network.number])
 
 
 def rows_of(tables: Tables, network: int) -> Iterator[bytes]:

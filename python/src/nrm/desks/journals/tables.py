@@ -28,7 +28,7 @@ CREATE TABLE network (
     file BLOB NOT NULL,
     program TEXT NOT NULL,
     begun INTEGER NOT NULL,     -- as all times here, in milliseconds since 1970 began
-    ended INTEGER,              -- since when it is only looked at
+    ended INTEGER,              -- since when it is only looked at; below 0, since when it is frozen
     halted TEXT                 -- why nobody answers for it
 );
 
@@ -110,6 +110,7 @@ class Connection(sqlite3.Connection):
     faults: tuple[type[Exception], ...] = (sqlite3.Error,)
     lost: tuple[type[Exception], ...] = ()
     first_head = "INSERT INTO head SELECT ?, 0, coalesce(max(epoch), 0) FROM tenure"
+    lets_go: str | None = None  # the epoch is that of all networks, and each commit compares what a network's rights are
 
     @contextlib.contextmanager
     def change(self) -> Iterator[None]:

@@ -1,6 +1,6 @@
 """The writing of rows: those that wait, of all networks, in one commit, which nobody with an older epoch can make.
 
-May use: nrm, nrm.desks.journals.networks, nrm.desks.journals.stores.kinds, nrm.desks.journals.tables.
+May use: nrm, nrm.desks.journals.stores.kinds, nrm.desks.journals.tables.
 """
 from __future__ import annotations
 
@@ -11,11 +11,12 @@ import sqlite3
 from typing import Iterator, Sequence
 
 from nrm import Stop
-from nrm.desks.journals.networks import head_of
 from nrm.desks.journals.stores.kinds import Busy, Fenced, Given, Refused, now
 from nrm.desks.journals.tables import opened, using
 
-FENCE = "UPDATE head SET lines = lines + ? WHERE network = ? AND epoch = ? AND lines = ?"
+FENCE = ("UPDATE head SET lines = lines + ? WHERE network = ? AND epoch = ? AND lines = ?"
+         " AND EXISTS (SELECT * FROM network WHERE network.network = head.network AND ended IS ?)")
+KNOWN = "SELECT epoch, lines, ended FROM head JOIN network USING (network) WHERE network = ?"
 HALT = "UPDATE network SET halted = ? WHERE network = ? AND halted IS NULL"
 LOCKED = ("database is locked", "database table is locked")
 FIELDS, VALUES = 5, 8  # of a row as a program gives it out, and as the table has it
@@ -23,6 +24,10 @@ FIELDS, VALUES = 5, 8  # of a row as a program gives it out, and as the table ha
 # they may keep it waiting: so there are few for many rows
 PUTS = [(count, "INSERT INTO line (number, desk, sequence, line, reply, network, epoch, at) VALUES "
          + ", ".join([f"({', '.join('?' * VALUES)})"] * count)) for count in (100, 25, 5, 1)]
+
+
+class Changed(Exception):
+    """A network isn't there any more, or other things may be asked of it than when its program began."""
 
 
 @contextlib.contextmanager
@@ -65,31 +70,34 @@ class Writer:
         return int(epoch)
 
     def write(self, given: Sequence[Given]) -> dict[int, str | None]:
-        """Writes the rows of several networks in one commit. Gives why those of a network were refused, which halts it;
-        those of the others are written."""
+        """Writes the rows of several networks in one commit. Gives why those of a network were refused, which halts it,
+        or None where its rights have changed; those of the others are written."""
         try:
             with self.connection.change():
                 self.put_rows(given)
             return {}
-        except Refused:
+        except (Refused, Changed):
             with self.connection.change():
-                return {it.network: why for it in given if (why := self.put(it))}
+                return {network: why for it in given for network, why in self.put(it).items()}
         except sqlite3.OperationalError as fault:
             if str(fault) in LOCKED:
                 raise Busy(str(fault))
             raise
 
-    def put(self, given: Given) -> str | None:
-        """Writes the rows of a network, or halts it and gives why."""
+    def put(self, given: Given) -> dict[int, str | None]:
+        """Writes the rows of a network, or halts it and gives why, or None where nothing is to be halted."""
         self.connection.execute("SAVEPOINT network")
         try:
             self.put_rows([given])
         except Refused as refused:
             self.connection.execute("ROLLBACK TO network")
             self.halt(given.network, str(refused))
-            return str(refused)
+            return {given.network: str(refused)}
+        except Changed:
+            self.connection.execute("ROLLBACK TO network")
+            return {given.network: None}
         self.connection.execute("RELEASE network")
-        return None
+        return {}
 
     def put_rows(self, given: Sequence[Given]) -> None:
         """Writes the rows of networks, each behind the lines that it has."""
@@ -105,17 +113,24 @@ class Writer:
             raise Refused(given[0].refused(why))
 
     def pass_the_fence(self, given: Given) -> None:
-        """Counts up the lines of a network, if it is still this server's and has the lines that the program knew."""
-        moved = self.connection.execute(FENCE, [given.count(), given.network, self.epoch, given.before])
+        """Counts up the lines of a network, if it is still this server's and has the lines and the rights that the
+        program knew."""
+        moved = self.connection.execute(FENCE, [given.count(), given.network, self.epoch, given.before, given.ended])
         if moved.rowcount != 1:
             self.tell_of_the_fence(given)
 
     def tell_of_the_fence(self, given: Given) -> None:
-        """Why the fence let nothing through: another server's epoch, or other lines than the program was given."""
-        epoch, lines = head_of(self.connection, given.network)
+        """Why the fence let nothing through: another server's epoch, other lines than the program was given, or other
+        rights."""
+        found = self.connection.execute(KNOWN, [given.network]).fetchone()
+        if not found:
+            raise Changed
+        epoch, lines, _ = found
         if epoch != self.epoch:
             raise Fenced("another server has the journal now, and this one writes nothing more")
-        raise Refused(f"row {given.before + 1} was given out, and the journal has {lines} lines")
+        if lines != given.before:
+            raise Refused(f"row {given.before + 1} was given out, and the journal has {lines} lines")
+        raise Changed
 
     def halt(self, network: int, why: str) -> None:
         """Has nobody answer for a network any more, within a change."""
@@ -125,10 +140,11 @@ class Writer:
         """A number that is another one when another connection has written."""
         return self.connection.version()
 
-    def is_still(self, network: int, epoch: int, lines: int) -> bool:
-        """Whether a network is still this server's, and has these lines: by another connection than the one that may be
-        writing."""
-        return epoch == self.epoch and head_of(self.reader, network) == (epoch, lines)
+    def is_still(self, given: Given) -> bool:
+        """Whether a network is still this server's, and has the lines and the rights that its program knows: by another
+        connection than the one that may be writing."""
+        wanted = self.epoch, given.before, given.ended
+        return given.epoch == self.epoch and self.reader.execute(KNOWN, [given.network]).fetchone() == wanted
 
     def close(self) -> None:
         """Ends the writing."""

@@ -306,14 +306,16 @@ class Hall:
 
     def keep(self, session: Session, rows: bytes) -> None:
         """Has rows written with all others that wait. Where there are none, as behind a look, it is only seen that no
-        other server has written: so what is told is true of a moment after the question."""
+        other server has written, and that the network's rights are the same: so what is told is true of a moment after
+        the question."""
         network = session.network
         if session.lost:
             return
-        if not rows and self.writer.is_still(network.number, network.epoch, session.lines):
+        given = Given(network.number, session.run, session.lines, rows, network.epoch, network.ended)
+        if not rows and self.writer.is_still(given):
             session.kept(0)
             return
-        self.waiting.append((session, Given(network.number, session.run, session.lines, rows, network.epoch)))
+        self.waiting.append((session, given))
         if not self.in_writing:
             self.loop.soon.append(self.write)
 
@@ -366,7 +368,7 @@ class Hall:
         self.begin_some()
 
     def refused(self, session: Session, given: Given, why: str | None) -> None:
-        """A network's rows weren't written: it is halted now, or another server has it."""
+        """A network's rows weren't written: it is halted now, or another server has it, or its rights have changed."""
         if why is not None:
             self.halted(session, given.before + 1, why)
         elif session.run == given.run and not session.lost:
@@ -468,7 +470,8 @@ class Hall:
                 self.loop.is_over = True
 
     def look_at(self, session: Session) -> None:
-        """Ends a program that is silent for too long, or that has no clients."""
+        """Ends a program that is silent for too long, or that has no clients, or whose network has other rights now
+        while no line waits for a reply: else the next commit shows that, and what was written is answered before."""
         limits = self.limits
         session.silent += 1 if session.is_asked() else 0
         if session.silent == math.ceil(limits.answer) + 1:
@@ -477,6 +480,9 @@ class Hall:
         is_left = session.state == ANSWERS and not session.places
         if is_left and self.loop.now - session.rests_since > limits.linger:
             session.end()
+        is_idle = session.state == ANSWERS and not (session.lost or session.is_keeping or session.is_asked())
+        if is_idle and self.owning.has_changed(session.network):
+            self.owning.lost(session)
 
     def look_at_the_journal(self) -> None:
         """Tells, now and then, that another process holds the journal: nothing is answered until it lets go."""

@@ -25,6 +25,7 @@ FEW_HELD = 4_096  # bytes that may go to the program with the word that its rows
 FULL = 1_048_576  # bytes that wait for the program, beyond which its clients aren't read
 AT_END = 2  # the seconds in which a program ends whose output has ended
 RIGHTS_TO_LOOK = "look", "greet"
+RIGHTS_WHILE_FROZEN = (*RIGHTS_TO_LOOK, "cancel-own", "cancel-any")
 RESTS, WAITS, BEGINS, ANSWERS, ENDS, FOLLOWS = range(6)
 MEMORY = b"memory"  # the reply to a line for which there wasn't enough
 
@@ -119,9 +120,11 @@ class Session:
 
     def desk_of(self, client: Client, place: int) -> tuple[str, str]:
         """Whose desk a client is at a place, and what it may do: by its token, or else all. In a network that has ended
-        it may look alone."""
+        it may look alone, and in one that is frozen cancel too."""
         name, rights = (client.right.name, client.right.rights) if client.right else (f"AT-{place}", RIGHTS)
-        may = [it for it in rights if it in RIGHTS_TO_LOOK or not self.network.is_ended]
+        network = self.network
+        allowed = RIGHTS_TO_LOOK if network.is_ended else RIGHTS_WHILE_FROZEN if network.is_frozen else RIGHTS
+        may = [it for it in rights if it in allowed]
         return name, ",".join(may) or "none"
 
     def seat_all(self) -> None:

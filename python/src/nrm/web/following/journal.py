@@ -36,13 +36,14 @@ class Followed:
     lines: int
     fault: str | None = None  # why no further rows are read
     seen: Seen = field(default_factory=Seen)
+    is_frozen: bool = False
 
     @property
     def state(self) -> str:
         """What became of it, in words."""
         if self.halted:
             return f"halted: {self.halted}"
-        return self.fault or ("ended" if self.is_ended else "open")
+        return self.fault or ("ended" if self.is_ended else "frozen" if self.is_frozen else "open")
 
 
 class Following:
@@ -108,7 +109,7 @@ class Following:
         """A network with its next rows."""
         self.turns += 1
         made = Followed(opened.number, opened.name, opened.mode, opened.is_ended, opened.halted, opened.lines,
-                        old.fault if old else None, old.seen if old else Seen())
+                        old.fault if old else None, old.seen if old else Seen(), opened.is_frozen)
         if made.fault:
             return made
         try:
@@ -173,7 +174,8 @@ class Following:
 
 def is_same(old: Followed, now: Opened) -> bool:
     """Whether nothing of a network is new."""
-    return (old.is_ended, old.halted, old.lines) == (now.is_ended, now.halted, now.lines) and \
+    return (old.is_ended, old.is_frozen, old.halted, old.lines) == \
+        (now.is_ended, now.is_frozen, now.halted, now.lines) and \
         (bool(old.fault) or old.seen.lines == now.lines)
 
 

@@ -79,7 +79,8 @@ def sentence_of(it: Followed) -> str:
     """What is to be said of a network first."""
     seen = it.seen
     read = "" if it.fault or seen.lines >= it.lines else f" {seen.lines} of them are read so far."
-    state = "" if it.state == "open" else f" It is {it.state}." if it.halted or it.is_ended else f" {it.fault}."
+    is_one = it.halted or it.is_ended or it.is_frozen
+    state = "" if it.state == "open" else f" It is {it.state}." if is_one else f" {it.fault}."
     return (f"{seen.sold} of {seen.authorised} seats are sold, over all legs, by {it.lines} lines, and what stands "
             f"earns {amount(seen.revenue)}.{read}{state}")
 

@@ -9,6 +9,7 @@ COMMITS, LOOKING, TABLES, STANDING, WRITING = (
 HALL, SERVING, SESSIONS = (f"nrm/desks/relay/{it}.py" for it in ("hall", "serving", "sessions"))
 OF_MOMENTS, OF_PROMISES = "desks.relay.test_moments.Moments", "desks.relay.test_promises.Promises"
 OF_SESSIONS = "desks.relay.test_sessions.Places"
+OF_RIGHTS = "desks.relay.test_rights.Ending"
 OF_SERVING, OF_JOURNALS = "desks.relay.test_serving.Serving", "desks.journals.test_journal.Journals"
 SMALL = ("--networks", "3", "--desks", "30", "--pause", "0.3", "--copies", "0", "--kills", "4", "--troubles", "4")
 UNTRUE = r"was told '(leg|ask) .*', true of no moment"
@@ -66,7 +67,7 @@ FORMS = {
     "there is no lock": form("second", "a second server wasn't refused",
         (WRITING, "        fcntl.flock(file, fcntl.LOCK_EX | fcntl.LOCK_NB)\n", "")),
     "a look is answered by who has lost the journal": form("asleep", UNTRUE,
-        (HALL, "if not rows and self.writer.is_still(network.number, network.epoch, session.lines):", "if not rows:")),
+        (HALL, "if not rows and self.writer.is_still(given):", "if not rows:")),
     "who has lost the journal halts a network": form(
         f"{OF_MOMENTS}.test_one_that_reads_while_another_writes_halts_nothing", "AssertionError: .*halted",
         (HALL, "            if head_of(tables, number)[0] != epoch:\n", "            if False:\n")),
@@ -127,6 +128,11 @@ FORMS = {
 """, "")),
     "who has an older epoch may write": form(f"{OF_JOURNALS}.test_who_has_an_older_epoch_writes_nothing",
         "Fenced not raised", (WRITING, "AND epoch = ? AND lines = ?", "AND epoch >= ? AND lines = ?")),
+    "an end is looked at only when a program begins": form(
+        f"{OF_RIGHTS}.test_nothing_is_written_behind_the_end", "AssertionError: .*Denied",
+        (WRITING, " AND ended IS ?)", " AND (ended IS ? OR 1))"),
+        (WRITING, ".fetchone() == wanted", ".fetchone()[:2] == wanted[:2]"),
+        (HALL, "        if is_idle and self.owning.has_changed(session.network):\n", "        if False:\n")),
     "rows are put behind lines that the program wasn't given": form(
         f"{OF_PROMISES}.test_lines_that_are_gone_while_it_serves_halt_a_network", r"!= \[b'closed halted",
         (WRITING, "AND epoch = ? AND lines = ?", "AND epoch = ? AND lines <= ?")),

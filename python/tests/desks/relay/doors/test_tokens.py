@@ -92,8 +92,7 @@ class Known(GuardedTest):
                     wanted = MAY[right] & {*MAY["look"], "greet"} if is_ended else MAY[right]
                     self.assertEqual(may, wanted, (right, is_ended, told))
                 self.told("journal", "end", "journal", "hub")
-                os.kill(child_of(serve.process.pid), signal.SIGKILL)
-                wait_for(lambda: serve.told().count("program-ended") > is_ended, "the end of the program")
+                wait_for(lambda: "event=ended network=hub" in serve.told(), "the end of the program")
 
     def test_a_desk_that_greets_by_another_name(self) -> None:
         tokens = {it: self.token(it, "look", *(["greet"] if it == "B" else [])).decode() for it in "AB"}

@@ -84,6 +84,11 @@ class Tables(Protocol):
         """The statement that says of a new network, by number, that it has no lines, and whose it is."""
 
     @property
+    def lets_go(self) -> str | None:
+        """The statement, by number, by which no server has a network any more whose rights change; None where the
+        writing itself compares them."""
+
+    @property
     def faults(self) -> tuple[type[Exception], ...]:
         """What goes wrong with the store itself."""
 
@@ -144,15 +149,27 @@ class Lines:
 
 @dataclass(frozen=True)
 class Opened:
-    """A network of a journal, with the SHA-256 of its program, why it is halted, its lines, and whose it is."""
+    """A network of a journal, with the SHA-256 of its program, when it ended, why it is halted, its lines, and whose it
+    is. `ended` is below 0 where it is frozen since then: it is looked at and its bookings are cancelled, but nothing is
+    booked; an earlier release takes it for one that has ended."""
     number: int
     name: str
     mode: str
     program: str
-    is_ended: bool
+    ended: int | None
     halted: str | None
     lines: int
     epoch: int
+
+    @property
+    def is_ended(self) -> bool:
+        """Whether it is only looked at."""
+        return (self.ended or 0) > 0
+
+    @property
+    def is_frozen(self) -> bool:
+        """Whether it is looked at, and its bookings are cancelled, but nothing is booked."""
+        return (self.ended or 0) < 0
 
 
 # What writes
@@ -160,13 +177,15 @@ class Opened:
 
 @dataclass(frozen=True)
 class Given:
-    """Rows that a program has given out: of which network, by which run of its program, behind how many lines, and by
-    which taking of the network, where each has its own."""
+    """Rows that a program has given out: of which network, by which run of its program, behind how many lines, by which
+    taking of the network, where each has its own, and `ended` as it was when the program began: what it may carry out
+    hangs on that."""
     network: int
     run: int
     before: int
     rows: bytes
     epoch: int = 0
+    ended: int | None = None
 
     def count(self) -> int:
         """How many rows they are."""
@@ -184,14 +203,15 @@ class Writer(Protocol):
 
     def write(self, given: Sequence[Given]) -> dict[int, str | None]:
         """Writes the rows of several networks in one commit. Gives why those of a network were refused, which halts it,
-        or None for a network that another server has. Busy if nothing was written and it can be tried again, Unknown
+        or None for a network that another server has, or whose rights have changed since its program began. Busy if nothing was written and it can be tried again, Unknown
         if nobody knows, Fenced if another server has the whole journal."""
 
     def version(self) -> int:
         """A number that is another one when another process may have written the journal, and not this server."""
 
-    def is_still(self, network: int, epoch: int, lines: int) -> bool:
-        """Whether it is seen at once, without a commit, that a network is still this server's and has these lines."""
+    def is_still(self, given: Given) -> bool:
+        """Whether it is seen at once, without a commit, that a network is still this server's, and has the lines and
+        the rights that its program knows."""
 
     def close(self) -> None:
         """Ends the writing."""

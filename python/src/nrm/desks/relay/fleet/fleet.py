@@ -17,7 +17,7 @@ from nrm.desks.journals.stores.kinds import Head, Member, Named, Opened, Replace
 from nrm.desks.relay.fleet.asking import Asker, Feed, Rows, Worker
 from nrm.desks.relay.fleet.owning import MOVES, preferred, wanted_of
 from nrm.desks.relay.loop import Loop
-from nrm.desks.relay.sessions import FOLLOWS, RESTS, Session
+from nrm.desks.relay.sessions import ANSWERS, FOLLOWS, RESTS, Session
 from nrm.desks.relay.telling.counters import Counters
 from nrm.desks.relay.telling.events import Events
 from nrm.desks.status import Fleet as FleetStatus
@@ -216,10 +216,17 @@ class Fleet:
             self.keeper.events.tell("halted", network=head.name, row=head.lines + 1, why=why)
             self.forget(head, "halted")
             self.known.pop(head.number, None)
-        elif head.number in self.owned and head.epoch > self.owned[head.number]:
+        elif head.number in self.owned and head.epoch > self.owned[head.number] and not self.is_answering(head):
             self.forget(head, self.elsewhere_but_here(head))
         elif head.number in self.owned and head.halted:
             self.forget(head, "halted")
+
+    def is_answering(self, head: Head) -> bool:
+        """Whether a network that nobody else has, since its rights have changed, is answering lines: what was written
+        of them is answered yet, and the next commit shows the change."""
+        session = self.keeper.sessions.get(head.name)
+        is_busy = session is not None and session.state == ANSWERS and (session.is_keeping or session.is_asked())
+        return head.server is None and is_busy
 
     def remember(self, session: Session) -> None:
         """Notes how many lines of a network were answered here, as long as it is this server's."""
@@ -296,6 +303,11 @@ class Fleet:
             feed.more(network.lines, is_all=True)
         else:
             session.kill()
+
+    def has_changed(self, network: Opened) -> bool:
+        """Whether a network has other rights, by whose change nobody else has it: an earlier release ends one so."""
+        head = self.heads.get(network.name)
+        return head is not None and head.epoch == network.epoch and head.ended != network.ended
 
     def lost(self, session: Session) -> None:
         """The fence didn't let a network's rows through."""

@@ -45,8 +45,11 @@ class Owning(Protocol):
     def may_read(self) -> bool:
         """Whether the journal is reached, so that to ask it keeps nobody waiting."""
 
+    def has_changed(self, network: Opened) -> bool:
+        """Whether it is seen that a network isn't there any more, or has other rights than when its program began."""
+
     def lost(self, session: Session) -> None:
-        """Another server has a network."""
+        """Another server has a network, or it has changed."""
 
     def history_of(self, network: int) -> str | None:
         """The past of the store that rows of a network must be of, if there may be several."""
@@ -122,9 +125,20 @@ class Sole:
         """A file is always reached."""
         return True
 
+    def has_changed(self, network: Opened) -> bool:
+        """Whether the journal has other rights of a network, or no such network."""
+        row = self.tables.execute("SELECT ended FROM network WHERE network = ? AND name = ?",
+                                  [network.number, network.name]).fetchone()
+        return row is None or row[0] != network.ended
+
     def lost(self, session: Session) -> None:
-        """Another server has the journal, and so all networks."""
-        self.keeper.fail(Fenced(LOST))
+        """Another server has the journal, and so all networks; or it is this network alone that has changed: then its
+        program begins again with the next client, as the journal has it."""
+        found = network_in(self.tables, session.network.name)
+        if found and found.epoch != self.writer.epoch:
+            self.keeper.fail(Fenced(LOST))
+        else:
+            session.lose("wait" if found and found.number == session.network.number else "network")
 
     def history_of(self, network: int) -> str | None:
         """A file has one."""

@@ -176,7 +176,7 @@ class Clock:
                 continue
             self.due.remove(standing.network)
             network = network_in(self.hall.reader, standing.name)
-            if network and not network.is_ended and not network.halted and self.hall.is_answered(network):
+            if network and not network.ended and not network.halted and self.hall.is_answered(network):
                 self.ask(standing)
 
     def has_room(self) -> bool:

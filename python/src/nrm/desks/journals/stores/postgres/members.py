@@ -27,7 +27,7 @@ SELECT DISTINCT ON (name) server, name, address, program, leaving,
     EXISTS (SELECT FROM pg_locks WHERE locktype = 'advisory' AND classid = %s AND objid = server)
 FROM server WHERE seen > clock_timestamp() - %s * interval '1 second' ORDER BY name, server DESC"""
 HEADS = """
-SELECT coalesce(json_agg(json_build_array(network, name, mode, program, ended IS NOT NULL, halted, lines, epoch, server)
+SELECT coalesce(json_agg(json_build_array(network, name, mode, program, ended, halted, lines, epoch, server)
     ORDER BY name), '[]')::text, pg_total_relation_size('line')
 FROM network JOIN head USING (network)"""
 REPLACED = """

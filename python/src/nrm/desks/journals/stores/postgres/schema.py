@@ -21,7 +21,7 @@ CREATE TABLE network (
     file bytea NOT NULL,
     program text NOT NULL,
     begun bigint NOT NULL,      -- as all times here but `seen`, in milliseconds since 1970 began
-    ended bigint,               -- since when it is only looked at
+    ended bigint,               -- since when it is only looked at; below 0, since when it is frozen
     halted text                 -- why nobody answers for it
 );
 

@@ -175,6 +175,7 @@ class Tables:
     faults: tuple[type[Exception], ...] = (psycopg.Error,)
     lost: tuple[type[Exception], ...] = (psycopg.OperationalError,)
     first_head = "INSERT INTO head VALUES (?, 0, 0, NULL)"
+    lets_go = "UPDATE head SET epoch = epoch + 1, server = NULL WHERE network = ?"
 
     def __init__(self, link: Link) -> None:
         self.link, self.asked = link, 0

@@ -83,7 +83,7 @@ class Writer:
         self.looks += 1
         return self.looks // STALE
 
-    def is_still(self, network: int, epoch: int, lines: int) -> bool:
+    def is_still(self, given: Given) -> bool:
         """Only a commit tells."""
         return False
 
