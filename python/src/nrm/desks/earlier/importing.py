@@ -20,7 +20,7 @@ from nrm.desks.frames import ALL_AGAIN, END, KEPT, Frame, Frames, came, opened
 from nrm.desks.journals.networks import known, open_network, see_that_it_is_free
 from nrm.desks.journals.stores.kinds import Given
 from nrm.desks.journals.tables import using
-from nrm.desks.journals.writing import Writer, halt, locked
+from nrm.desks.journals.writing import HALT, Writer, locked
 from nrm.desks.relay.programs import begun, see_that_it_opens
 from nrm.program import PIECE, Program, ended
 
@@ -138,7 +138,7 @@ def import_network(path: str, name: str, mode: str, file: str, old: TextJournal,
         with using(path, is_to_write=True) as connection:
             open_network(connection, name, mode, network_file, program.checksum())
             network = known(connection, name).number
-        halt(path, network, UNDER_WAY)
+            connection.execute(HALT, [UNDER_WAY, network])
         writer = Writer(path, program.checksum())
         try:
             count = carried_out(program, begun(program.words, mode, network_file), writer, network, old.lines())

@@ -12,7 +12,7 @@ from typing import ContextManager, Iterator
 
 from nrm import Stop
 from nrm.desks.frames import pieces_of
-from nrm.desks.journals.stores.kinds import Lines, NoJournal, closed_at_the_end
+from nrm.desks.journals.stores.kinds import Busy, Lines, NoJournal, closed_at_the_end
 
 APPLICATION, VERSION = 0x6E726D6A, 1  # `nrmj`, and the version of the tables: both are in the head of the file
 LOGS = ("-wal", "-shm", "-journal")  # what SQLite has beside a file
@@ -108,7 +108,7 @@ class Connection(sqlite3.Connection):
     bytes_of = "CAST({} AS BLOB)"
     lines = Lines(ASKS_FOR_A_PLAN, PERIOD, "CROSS JOIN", "INDEXED BY plan_by_number", "INDEXED BY plan_by_period")
     faults: tuple[type[Exception], ...] = (sqlite3.Error,)
-    lost: tuple[type[Exception], ...] = ()
+    lost: tuple[type[Exception], ...] = (Busy,)
     first_head = "INSERT INTO head SELECT ?, 0, coalesce(max(epoch), 0) FROM tenure"
     lets_go: str | None = None  # the epoch is that of all networks, and each commit compares what a network's rights are
 

@@ -12,7 +12,7 @@ from typing import Iterator, Sequence
 
 from nrm import Stop
 from nrm.desks.journals.stores.kinds import Busy, Fenced, Given, Refused, now
-from nrm.desks.journals.tables import opened, using
+from nrm.desks.journals.tables import Connection, opened
 
 FENCE = ("UPDATE head SET lines = lines + ? WHERE network = ? AND epoch = ? AND lines = ?"
          " AND EXISTS (SELECT * FROM network WHERE network.network = head.network AND ended IS ?)")
@@ -89,13 +89,12 @@ class Writer:
         self.connection.execute("SAVEPOINT network")
         try:
             self.put_rows([given])
-        except Refused as refused:
+        except (Refused, Changed) as why:
             self.connection.execute("ROLLBACK TO network")
-            self.halt(given.network, str(refused))
-            return {given.network: str(refused)}
-        except Changed:
-            self.connection.execute("ROLLBACK TO network")
-            return {given.network: None}
+            if isinstance(why, Changed):
+                return {given.network: None}
+            self.halt(given.network, str(why))
+            return {given.network: str(why)}
         self.connection.execute("RELEASE network")
         return {}
 
@@ -175,14 +174,27 @@ def statements(values: list[object]) -> Iterator[tuple[str, list[object]]]:
             at += size
 
 
-def halt(path: str, network: int, why: str) -> None:
-    """Has nobody answer for a network of the journal at a path any more."""
-    with using(path, is_to_write=True) as connection, connection.change():
-        connection.execute(HALT, [why, network])
+@contextlib.contextmanager
+def changing(path: str) -> Iterator[Connection]:
+    """A change of the journal at a path, by a connection of its own; Busy if somebody else goes on writing."""
+    try:
+        with contextlib.closing(opened(path, is_to_write=True)) as connection, connection.change():
+            yield connection
+    except sqlite3.OperationalError as fault:
+        if str(fault) in LOCKED:
+            raise Busy(str(fault))
+        raise
+
+
+def halt(path: str, network: int, epoch: int, why: str) -> None:
+    """Has nobody answer for a network of the journal at a path any more, if its epoch is still this one."""
+    with changing(path) as connection:
+        connection.execute(f"{HALT} AND EXISTS (SELECT * FROM head WHERE head.network = network.network AND epoch = ?)",
+                           [why, network, epoch])
 
 
 def answer_by(path: str, network: int, program: str) -> None:
     """Has a network of the journal at a path, if it has no lines, answered by another program than it began with."""
-    with using(path, is_to_write=True) as connection, connection.change():
+    with changing(path) as connection:
         connection.execute("UPDATE network SET program = ? WHERE network = ? AND "
                            "NOT EXISTS (SELECT * FROM line WHERE network = ?)", [program, network, network])

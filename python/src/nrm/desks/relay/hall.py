@@ -77,6 +77,8 @@ class Hall:
             self.owning = Fleet(self, store, Named(sharing.name, sharing.address, answering.checksum), sharing)
         else:
             self.asker, self.owning = AtOnce(self.reader), Sole(self, store, self.reader, self.writer)
+        # who changes what isn't rows, which may have to wait until nobody else writes
+        self.changer: Asker = self.asker if store.is_shared else ByThread(self.loop, store.opened())
         self.commits = Commits(self.writer)
         self.commits.start()
         self.loop.want(self.commits.told, READ, self.written)
@@ -89,6 +91,7 @@ class Hall:
                              self.sessions, lambda: self.loop.now)
         self.to_begin: list[Session] = []
         self.reading: list[Session] = []  # whose network files are being read
+        self.halting: set[int] = set()  # networks that are halted, which isn't written yet
         self.waiting: list[tuple[Session, Given]] = []  # whose rows wait to be written
         self.in_writing: list[tuple[Session, Given]] = []
         self.stops = False
@@ -160,10 +163,15 @@ class Hall:
         return self.sessions.setdefault(network.name, Session(self, network))
 
     def refusal(self, session: Session) -> str | None:
-        """Why nobody is taken to a network, if it isn't answered: the journal is asked as long as no program runs."""
+        """Why nobody is taken to a network, if it isn't answered: the journal is asked as long as no program runs. One
+        that isn't there any more is forgotten."""
+        if session.network.number in self.halting:
+            return "halted"
         if session.state == RESTS:
             network = self.owning.network(session.network.name)
-            assert network
+            if not network:
+                self.sessions.pop(session.network.name, None)
+                return "network"
             session.network = network
         if session.network.halted:
             return "halted"
@@ -215,17 +223,22 @@ class Hall:
         """Reads what the journal has of a network whose program is to begin."""
         name = session.network.name
 
-        def read(tables: Tables) -> tuple[Opened, bytes]:
+        def read(tables: Tables) -> tuple[Opened, bytes] | None:
             network = network_in(tables, name)
-            assert network
-            return network, file_of(tables, network.number)
+            return (network, file_of(tables, network.number)) if network else None
+
+        def has_read(found: tuple[Opened, bytes] | None) -> None:
+            self.reading.remove(session)
+            if found:
+                self.start_on(session, *found)
+            elif session.state == WAITS:
+                self.turn_away(session, "network")
 
         self.reading.append(session)
-        self.asker.ask(read, lambda found: self.start_on(session, *found))
+        self.asker.ask(read, has_read)
 
     def start_on(self, session: Session, network: Opened, file: bytes) -> None:
         """Begins a program on what the journal has of its network, if that is still this server's."""
-        self.reading.remove(session)
         if self.stops or session.state != WAITS:
             return
         session.network = network
@@ -242,7 +255,10 @@ class Hall:
             self.turn_away(session, self.owning.unfit())
             return
         if not network.lines and network.program != self.answering.checksum:
-            self.store.answer_by(network.number, self.answering.checksum)
+            adopted = replace(network, program=self.answering.checksum)
+            self.changer.ask(lambda _: self.store.answer_by(adopted.number, adopted.program),
+                             lambda _: self.start_on(session, adopted, file))
+            return
         history = self.owning.history_of(network.number)
         rows = self.asker.rows(network.number, network.lines, session.flush, history,
                                lambda: self.owning.spoil(session))
@@ -382,8 +398,9 @@ class Hall:
     # What halts a network, and all
 
     def halt(self, session: Session, row: int, why: str) -> None:
-        """Has nobody answer for a network, whose row the program doesn't take. If another server has the journal, it
-        may have written while the rows were read: then it is this one that ends."""
+        """Has nobody answer for a network, whose row the program doesn't take: from now on, though others may hold the
+        journal, so that it is written later. If another server has the journal, it may have written while the rows were
+        read: then it is this one that ends."""
         number, epoch = session.network.number, session.network.epoch
 
         def halting(tables: Tables) -> str | None:
@@ -396,6 +413,7 @@ class Hall:
             return told
 
         def tell(told: str | None) -> None:
+            self.halting.discard(number)
             self.owning.given_up(number)
             if told is None:
                 session.network = replace(session.network, halted=None)
@@ -404,8 +422,9 @@ class Hall:
                 self.halted(session, row, told)
 
         session.network = replace(session.network, halted=why)  # so that nobody is told otherwise meanwhile
+        self.halting.add(number)
         self.owning.give_up(number)
-        self.asker.ask(halting, tell)
+        self.changer.ask(halting, tell)
 
     def halted(self, session: Session, row: int, why: str) -> None:
         """A network is halted in the journal: its program ends, and its clients are told."""
@@ -524,6 +543,8 @@ class Hall:
             it.close()
         self.owning.close()
         self.asker.close()
+        if self.changer is not self.asker:
+            self.changer.close()
         self.reader.close()
         if not self.commits.is_alive():
             self.writer.close()

@@ -1,7 +1,8 @@
 """A server of a journal from beginning to end: the doors by which clients come, signals, and the status.
 
-May use: nrm.desks.access, nrm.desks.journals.stores.kinds, nrm.desks.notify, nrm.desks.places, nrm.desks.relay.clients,
-nrm.desks.relay.doors.guards, nrm.desks.relay.doors.tokens, nrm.desks.relay.fleet.fleet, nrm.desks.relay.hall,
+May use: nrm, nrm.desks.access, nrm.desks.journals.stores.kinds, nrm.desks.notify, nrm.desks.places,
+nrm.desks.relay.clients, nrm.desks.relay.doors.guards, nrm.desks.relay.doors.tokens, nrm.desks.relay.fleet.fleet,
+nrm.desks.relay.hall,
 nrm.desks.relay.loop, nrm.desks.relay.telling.events.
 """
 from __future__ import annotations
@@ -14,6 +15,7 @@ import ssl
 from dataclasses import dataclass, field, replace
 from typing import Sequence
 
+from nrm import Stop
 from nrm.desks.access import Access
 from nrm.desks.journals.stores.kinds import Opened, Store
 from nrm.desks.notify import Manager
@@ -49,10 +51,15 @@ class Server:
     sharing: Sharing = field(default_factory=Sharing)
 
     def run(self) -> int:
-        """Serves until this process is told to end, or the journal can't be written, and gives the status."""
-        self.store.opened().close()  # it is one
+        """Serves until this process is told to end, or the journal can't be read or written, and gives the status. A
+        Stop if that shows before it serves."""
+        tables = self.store.opened()
+        tables.close()  # it is one
         with self.store.locked():
-            return self.run_alone()
+            try:
+                return self.run_alone()
+            except tables.faults as fault:
+                raise Stop(f"{self.store.place}: {fault}") from None
 
     def run_alone(self) -> int:
         """Serves, as the only server of the journal."""
@@ -90,7 +97,7 @@ class Server:
         hall.loop.looks += [*(it.open for it in doors), lambda: manager.works(status_of(hall))]
         manager.ready(status_of(hall))
         try:
-            hall.loop.run()
+            run_until_it_is_over(hall)
         finally:
             manager.stops()
             if path:
@@ -110,6 +117,17 @@ class Server:
                 hall.events.tell("halted", network=it.name, why=it.halted)
             elif not hall.fits(it):
                 hall.events.tell("version", network=it.name, began=it.program, answers=answers)
+
+
+def run_until_it_is_over(hall: Hall) -> None:
+    """Has the loop go on until it is over. What is wrong with the journal ends all: clients are told, and what is wrong
+    once more isn't waited for."""
+    while not hall.loop.is_over:
+        try:
+            hall.loop.run()
+        except hall.reader.faults as fault:
+            hall.loop.is_over = hall.fault is not None
+            hall.fail(fault)
 
 
 def address_of(listener: socket.socket) -> str:

@@ -94,7 +94,8 @@ class Tables(Protocol):
 
     @property
     def lost(self) -> tuple[type[Exception], ...]:
-        """What goes wrong with the connection alone, so that a question may be asked again."""
+        """What goes wrong with the connection alone, or is in the way for a while, so that a question may be asked
+        again."""
 
     def execute(self, statement: str, values: Values = (), /) -> Rows:
         """Carries out a statement."""
@@ -325,10 +326,11 @@ class Store(Protocol):
         """What this server tells others, and sees of them."""
 
     def halt(self, network: int, epoch: int, why: str) -> None:
-        """Has nobody answer for a network any more, if its epoch is still this one."""
+        """Has nobody answer for a network any more, if its epoch is still this one. Busy as long as somebody else
+        writes."""
 
     def answer_by(self, network: int, program: str) -> None:
-        """Has a network without lines answered by another program than it began with."""
+        """Has a network without lines answered by another program than it began with. Busy likewise."""
 
     def size(self) -> int:
         """The bytes that the journal takes."""

@@ -42,7 +42,7 @@ class Sqlite:
 
     def halt(self, network: int, epoch: int, why: str) -> None:
         """Has nobody answer for a network any more."""
-        writing.halt(self.place, network, why)
+        writing.halt(self.place, network, epoch, why)
 
     def answer_by(self, network: int, program: str) -> None:
         """Has a network without lines answered by another program than it began with."""

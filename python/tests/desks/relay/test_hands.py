@@ -1,0 +1,120 @@
+"""What hands do to a journal while it is served: somebody holds it, renames a network or takes it away, or the file is
+damaged. What one network suffers no other does, and the server ends in order or not at all."""
+from __future__ import annotations
+
+import contextlib
+import sqlite3
+import time
+from pathlib import Path
+from typing import Iterator
+
+from desks.relay.serves import ONE, ServeTest, all_told, rows_in, talk
+from desks.servers import answers
+from harness import SECONDS, wait_for
+from nrm.desks.status import ask_status
+
+SOON = 3.0  # seconds: well below those for which a connection waits until nobody else writes
+HALTED = "SELECT name, halted IS NOT NULL FROM network ORDER BY name"
+PAGE = 4096  # bytes
+
+
+class Hands(ServeTest):
+    @contextlib.contextmanager
+    def held(self, journal: Path) -> Iterator[None]:
+        """A journal that somebody holds, as who mends a row."""
+        with contextlib.closing(sqlite3.connect(journal, isolation_level=None)) as connection:
+            connection.execute("BEGIN IMMEDIATE")
+            yield
+            connection.execute("ROLLBACK")
+
+    def change(self, journal: Path, *changes: str) -> None:
+        """Changes the journal, as who may write the file can, and looks at no condition."""
+        with contextlib.closing(sqlite3.connect(journal, isolation_level=None)) as connection:
+            for it in changes:
+                connection.execute(it)
+
+    def test_a_halt_keeps_no_other_network_waiting(self) -> None:
+        """Somebody holds the journal: the network counts as halted, and the others are answered. It is written, with
+        the reason, once that is let go."""
+        journal = self.journal("one", "two", file=ONE.encode())
+        with self.served(journal) as serve:
+            self.assertEqual(talk(serve, b"desk one D1 1\nbook LOC 1\n"), b"at 1\nok 1\n")
+        self.change(journal, "DROP TRIGGER line_stays", "UPDATE line SET reply = 'ok 9'")
+        with self.served(journal) as serve, serve.connect() as other:
+            self.assertEqual(answers(other, b"desk two D1\nask LOC\n", 2), [b"at 1\n", b"ask LOC 300 leg AB\n"])
+            with self.held(journal):
+                begun = time.monotonic()
+                self.assertEqual(talk(serve, b"desk one D1\n"), b"closed halted\n")
+                self.assertEqual(answers(other, b"ask LOC\n", 1), [b"ask LOC 300 leg AB\n"])
+                self.assertEqual(talk(serve, b"desk one D1\n"), b"closed halted\n")
+                [one, _] = ask_status(serve.path, SECONDS).networks
+                self.assertLess(time.monotonic() - begun, SOON)
+                self.assertEqual((one.state, one.halted), ("rests", True))
+                self.assertEqual(rows_in(journal, HALTED), [("one", 0), ("two", 0)])
+            wait_for(lambda: rows_in(journal, HALTED) == [("one", 1), ("two", 0)], "a halt that is written")
+            self.assertEqual(talk(serve, b"desk one D1\n"), b"closed halted\n")
+            self.assertEqual(answers(other, b"desk D1\nbook LOC 1\n", 2)[1:], [b"ok 1\n"])
+            wait_for(lambda: "event=halted network=one row=1 why=" in serve.told(), "what is told")
+
+    def test_a_network_that_another_program_takes_keeps_no_other_waiting(self) -> None:
+        """That is written as its program begins, and somebody holds the journal."""
+        journal = self.journal("one", "two", file=ONE.encode())
+        self.change(journal, "UPDATE network SET program = 'another' WHERE name = 'one'")
+        with self.served(journal) as serve, serve.connect() as other, serve.connect() as client:
+            self.assertEqual(answers(other, b"desk two D1\nask LOC\n", 2), [b"at 1\n", b"ask LOC 300 leg AB\n"])
+            with self.held(journal):
+                begun = time.monotonic()
+                client.sendall(b"desk one D1 1\nbook LOC 1\n")
+                self.assertEqual(answers(other, b"ask LOC\n", 1), [b"ask LOC 300 leg AB\n"])
+                self.assertLess(time.monotonic() - begun, SOON)
+            self.assertEqual(answers(client, b"", 2), [b"at 1\n", b"ok 1\n"])
+
+    def test_a_network_that_is_renamed_or_taken_away_is_none(self) -> None:
+        """Whether its program runs or not; the others are answered, and so is it by its new name."""
+        changes = {"renamed": "UPDATE network SET name = 'three' WHERE name = 'one'",
+                   "gone": "DELETE FROM network WHERE name = 'one'"}
+        for kind, change in changes.items():
+            for is_running in (True, False):
+                with self.subTest(kind, is_running=is_running):
+                    journal = self.journal("one", "two", file=ONE.encode(), at=f"{kind}-{is_running}")
+                    linger = "600" if is_running else "0.1"
+                    with self.served(journal, "--linger", linger) as serve, serve.connect() as other:
+                        self.assertEqual(answers(other, b"desk two D1 1\nbook LOC 1\n", 2), [b"at 1\n", b"ok 1\n"])
+                        self.assertEqual(talk(serve, b"desk one D1 1\nbook LOC 1\n"), b"at 1\nok 1\n")
+                        if not is_running:
+                            wait_for(lambda: "event=ended network=one" in serve.told(), "the end of its program")
+                        self.change(journal, change)
+                        wait_for(lambda: "event=ended network=one" in serve.told(), "the end of its program")
+                        self.assertEqual(talk(serve, b"desk one D1\n"), b"closed network\n")
+                        self.assertEqual(answers(other, b"book LOC 1\n", 1), [b"ok 2\n"])
+                        if kind == "renamed":
+                            self.assertEqual(talk(serve, b"desk three D1\n"), b"at 2\n")
+                        self.assertNotIn("Traceback", serve.told())
+
+    def damaged(self, name: str, pages: range) -> Path:
+        """A journal with lines, with other bytes in the place of some of its pages."""
+        journal = self.journal("one", file=ONE.encode(), at=name)
+        with self.served(journal) as serve:
+            talk(serve, b"desk one D1 1\n" + b"book LOC 1\n" * 300)
+        self.change(journal, "PRAGMA wal_checkpoint(TRUNCATE)")
+        with open(journal, "r+b") as file:
+            for page in pages:
+                file.seek(page * PAGE)
+                file.write(b"\xa5" * PAGE)
+        return journal
+
+    def test_a_journal_that_is_damaged_ends_by_a_sentence(self) -> None:
+        """Behind its first page: as the server begins, or as a client comes, whom it tells."""
+        [(pages,)] = rows_in(self.damaged("whole", range(0)), "PRAGMA page_count")
+        journal = self.damaged("all", range(1, pages))
+        with self.serve(journal, status=1) as serve:
+            serve.end(1, None)
+        self.assertRegex(serve.told(), rf"^nrm-tools serve: {journal}: .*malformed\n$")
+        [(root,)] = rows_in(self.folder / "whole", "SELECT rootpage FROM sqlite_master WHERE name = 'line'")
+        journal = self.damaged("lines", range(root - 1, root))
+        with self.serve(journal) as serve, serve.connect() as client:
+            client.sendall(b"desk one D1\n")
+            self.assertEqual(all_told(client), b"closed journal\n")
+            serve.end(74, None)
+        self.assertNotIn("Traceback", serve.told())
+        self.assertRegex(serve.told(), r"event=journal-fault why=.*malformed")
