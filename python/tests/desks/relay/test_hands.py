@@ -3,10 +3,11 @@ damaged. What one network suffers no other does, and the server ends in order or
 from __future__ import annotations
 
 import contextlib
+import os
 import sqlite3
 import time
 from pathlib import Path
-from typing import Iterator
+from typing import Callable, Iterator
 
 from desks.relay.serves import ONE, ServeTest, all_told, rows_in, talk
 from desks.servers import answers
@@ -16,6 +17,20 @@ from nrm.desks.status import ask_status
 SOON = 3.0  # seconds: well below those for which a connection waits until nobody else writes
 HALTED = "SELECT name, halted IS NOT NULL FROM network ORDER BY name"
 PAGE = 4096  # bytes
+LOG = "-wal"
+# what is done to the journal at a path, and a pattern of what the server says then
+HANDS: dict[str, tuple[Callable[[str], object], str]] = {
+    "renamed": (lambda path: os.rename(path, f"{path}.old"), "renamed or taken away"),
+    "taken away": (os.unlink, "renamed or taken away"),
+    "replaced": (lambda path: os.replace(f"{path}.copy", path), "another file is at .* now"),
+    "named twice": (lambda path: os.link(path, f"{path}.too"), r"has 2 names \(hard links\) now"),
+    "cut": (lambda path: os.truncate(path, PAGE), "was cut from [0-9]* bytes to 4096"),
+    "its log renamed": (lambda path: os.rename(path + LOG, f"{path}.old"), "renamed or taken away"),
+    "its log taken away": (lambda path: os.unlink(path + LOG), "renamed or taken away"),
+    "its log named twice": (lambda path: os.link(path + LOG, f"{path}.too"), "has 2 names .* now"),
+    "its log cut": (lambda path: os.truncate(path + LOG, 2 * PAGE), "was cut from [0-9]* bytes to 8192"),
+    "its log emptied": (lambda path: os.truncate(path + LOG, 0), "was cut from [0-9]* bytes to 0"),
+}
 
 
 class Hands(ServeTest):
@@ -118,3 +133,86 @@ class Hands(ServeTest):
             serve.end(74, None)
         self.assertNotIn("Traceback", serve.told())
         self.assertRegex(serve.told(), r"event=journal-fault why=.*malformed")
+
+
+class Files(ServeTest):
+    """The journal's files are renamed, taken away, replaced, cut or named twice while a server is at work."""
+
+    def had(self, name: str) -> Path:
+        """A journal with a network, and a copy of it, beside which its log is to be large."""
+        journal = self.journal("one", file=ONE.encode(), at=name)
+        self.told("journal", "backup", str(journal), f"{journal}.copy")
+        return journal
+
+    def test_nothing_is_answered_into_files_that_are_gone(self) -> None:
+        """Neither lines nor looks behind them, and the clients are told."""
+        for name, (do, told) in HANDS.items():
+            with self.subTest(name):
+                journal = self.had(name.replace(" ", "-"))
+                with self.serve(journal) as serve, serve.connect() as client:
+                    answers(client, b"desk one D1 1\n" + b"book LOC 1\n" * 20, 21)
+                    do(str(journal))
+                    client.sendall(b"book LOC 1\n")
+                    self.assertEqual(all_told(client), b"closed journal\n")
+                    serve.end(74, None)
+                self.assertRegex(serve.told(), rf'event=journal-fault why=.*{told}"')
+                self.assertNotIn("Traceback", serve.told())
+
+    def test_that_is_seen_where_nobody_asks(self) -> None:
+        for name, (do, told) in HANDS.items():
+            with self.subTest(name):
+                journal = self.had(name.replace(" ", "-"))
+                with self.serve(journal) as serve:
+                    talk(serve, b"desk one D1 1\n" + b"book LOC 1\n" * 20)
+                    do(str(journal))
+                    serve.end(74, None)
+                self.assertRegex(serve.told(), rf'event=journal-fault why=.*{told}"')
+
+    def test_what_was_renamed_and_is_named_again_has_all(self) -> None:
+        """The file as well as its log: nothing of them is taken away at the end, nor what has the log's name then."""
+        for behind in "", LOG:
+            with self.subTest(behind):
+                journal = self.had(f"journal{behind}s")
+                with self.serve(journal) as serve:
+                    talk(serve, b"desk one D1 1\n" + b"book LOC 1\n" * 20)
+                    os.rename(f"{journal}{behind}", f"{journal}.old")
+                    Path(f"{journal}{behind}").write_bytes(b"of another")
+                    serve.end(74, None)
+                self.assertEqual(Path(f"{journal}{behind}").read_bytes(), b"of another")
+                os.replace(f"{journal}.old", f"{journal}{behind}")
+                with self.served(journal) as serve:
+                    self.assertEqual(talk(serve, b"desk one D1\nask LOC\n"), b"at 21\nask LOC 280 leg AB\n")
+
+    def test_a_file_of_two_names_isnt_begun_on(self) -> None:
+        journal = self.had("journal")
+        other = self.folder / "other"
+        os.link(journal, other)
+        for path in journal, other:
+            with self.serve(path, status=1) as serve:
+                serve.end(1, None)
+            self.assertEqual(serve.told(), f"nrm-tools serve: {path} is a file of 2 names (hard links), and a journal "
+                                           "must have one: take the others away\n")
+            self.stopped("journal", "end", str(path), "one", says="is a file of 2 names")
+        os.unlink(other)
+        with self.served(journal) as serve:
+            self.assertEqual(talk(serve, b"desk one D1\nbook LOC 1\n"), b"at 1\nok 1\n")
+
+    def test_what_others_may_do_ends_nothing(self) -> None:
+        """They empty the log, make the file smaller, copy it and write; a link that is followed is no other name."""
+        link = self.folder / "link"
+        os.symlink(self.had("journal"), link)
+        with self.served(link) as serve, serve.connect() as client, \
+                contextlib.closing(sqlite3.connect(link, isolation_level=None)) as other:
+            answers(client, b"desk one D1 1\n" + b"book LOC 1\n" * 20, 21)
+            sold = 20
+            for change in ("PRAGMA wal_checkpoint(TRUNCATE)", "CREATE TABLE large AS SELECT zeroblob(1000000)",
+                           "PRAGMA wal_checkpoint(TRUNCATE)", "DROP TABLE large", "VACUUM",
+                           "PRAGMA wal_checkpoint(PASSIVE)", "PRAGMA wal_checkpoint(RESTART)"):
+                other.execute(change).fetchall()
+                for _ in range(3):
+                    sold += 1
+                    self.assertEqual(answers(client, b"book LOC 1\n", 1), [b"ok %d\n" % sold], change)
+                time.sleep(1.2)  # it looks by itself, too
+            self.told("journal", "backup", str(link), str(self.folder / "copy"))
+            self.assertEqual(answers(client, b"book LOC 1\n", 1), [b"ok %d\n" % (sold + 1)])
+            self.assertNotIn("event=journal-fault", serve.told())

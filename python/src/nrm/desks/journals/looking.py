@@ -41,10 +41,11 @@ def summary(path: str) -> Iterator[str]:
     """Each network of a journal, with what became of it."""
     with using(path) as connection:
         time = connection.time
-        rows = connection.execute(f"SELECT name, mode, lines, {time.format('begun')}, "
-                                  f"{time.format('abs(ended)')}, ended < 0, halted, program FROM network JOIN head USING (network) ORDER BY name")
+        rows = connection.execute(f"SELECT name, mode, lines, {time.format('begun')}, {time.format('abs(ended)')}, "
+                                  "ended < 0, halted, program FROM network JOIN head USING (network) ORDER BY name")
         for name, mode, lines, begun, ended, is_frozen, halted, program in rows:
-            became = "".join([f", {'frozen' if is_frozen else 'ended'} {ended}" if ended else "", f", halted: {halted}" if halted else ""])
+            became = "".join([f", {'frozen' if is_frozen else 'ended'} {ended}" if ended else "",
+                              f", halted: {halted}" if halted else ""])
             yield f"{name} {mode}, {lines} lines, begun {begun}{became}, program {program}"
 
 

@@ -1,6 +1,6 @@
 """The tables of a journal in SQLite, and how its file is made and opened.
 
-May use: nrm, nrm.desks.frames, nrm.desks.journals.stores.kinds.
+May use: nrm, nrm.desks.frames, nrm.desks.journals.stores.files, nrm.desks.journals.stores.kinds.
 """
 from __future__ import annotations
 
@@ -12,6 +12,7 @@ from typing import ContextManager, Iterator
 
 from nrm import Stop
 from nrm.desks.frames import pieces_of
+from nrm.desks.journals.stores.files import see_that_it_has_one_name
 from nrm.desks.journals.stores.kinds import Busy, Lines, NoJournal, closed_at_the_end
 
 APPLICATION, VERSION = 0x6E726D6A, 1  # `nrmj`, and the version of the tables: both are in the head of the file
@@ -110,7 +111,7 @@ class Connection(sqlite3.Connection):
     faults: tuple[type[Exception], ...] = (sqlite3.Error,)
     lost: tuple[type[Exception], ...] = (Busy,)
     first_head = "INSERT INTO head SELECT ?, 0, coalesce(max(epoch), 0) FROM tenure"
-    lets_go: str | None = None  # the epoch is that of all networks, and each commit compares what a network's rights are
+    lets_go: str | None = None  # the epoch is that of all networks, and each commit compares a network's rights
 
     @contextlib.contextmanager
     def change(self) -> Iterator[None]:
@@ -143,6 +144,11 @@ class Connection(sqlite3.Connection):
         [version] = self.execute("PRAGMA data_version").fetchone()
         return int(version)
 
+    def least(self) -> int:
+        """The bytes that the file must have, once it has all that its log has."""
+        [pages], [size] = (self.execute(f"PRAGMA {it}").fetchone() for it in ("page_count", "page_size"))
+        return int(pages) * int(size)
+
 
 def connected(path: str, is_to_write: bool = False) -> Connection:
     """A connection to the file at a path, which is there, whatever is in it."""
@@ -158,8 +164,11 @@ def connected(path: str, is_to_write: bool = False) -> Connection:
 
 
 def opened(path: str, is_to_write: bool = False) -> Connection:
-    """A connection to the journal at a path; a Stop for what is none, of which nothing is changed. The file is read by
+    """A connection to the journal at a path; a Stop for what is none, of which nothing is changed, and if it is to be
+    written for a file of several names. The file is read by
     SQLite alone: a process that closes it otherwise would let go of the locks of all its connections."""
+    if is_to_write:
+        see_that_it_has_one_name(path)
     made = connected(path, is_to_write)
     try:
         [application] = made.execute("PRAGMA application_id").fetchone()

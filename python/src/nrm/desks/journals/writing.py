@@ -1,6 +1,6 @@
 """The writing of rows: those that wait, of all networks, in one commit, which nobody with an older epoch can make.
 
-May use: nrm, nrm.desks.journals.stores.kinds, nrm.desks.journals.tables.
+May use: nrm, nrm.desks.journals.stores.files, nrm.desks.journals.stores.kinds, nrm.desks.journals.tables.
 """
 from __future__ import annotations
 
@@ -11,7 +11,8 @@ import sqlite3
 from typing import Iterator, Sequence
 
 from nrm import Stop
-from nrm.desks.journals.stores.kinds import Busy, Fenced, Given, Refused, now
+from nrm.desks.journals.stores.files import Files
+from nrm.desks.journals.stores.kinds import Busy, Fenced, Given, Gone, Refused, now
 from nrm.desks.journals.tables import Connection, opened
 
 FENCE = ("UPDATE head SET lines = lines + ? WHERE network = ? AND epoch = ? AND lines = ?"
@@ -58,7 +59,8 @@ class Writer:
             self.connection.execute("PRAGMA wal_checkpoint(TRUNCATE)").fetchone()
             self.epoch = self.take(program)
             self.connection.execute("PRAGMA busy_timeout = 0")  # from here on the caller waits
-        except sqlite3.Error as fault:
+            self.files = Files(path, self.connection.version, self.connection.least)
+        except (sqlite3.Error, Gone) as fault:
             raise Stop(f"{path}: {fault}")
 
     def take(self, program: str) -> int:
@@ -73,16 +75,30 @@ class Writer:
         """Writes the rows of several networks in one commit. Gives why those of a network were refused, which halts it,
         or None where its rights have changed; those of the others are written."""
         try:
-            with self.connection.change():
+            with self.commit():
                 self.put_rows(given)
             return {}
         except (Refused, Changed):
-            with self.connection.change():
+            with self.commit():
                 return {network: why for it in given for network, why in self.put(it).items()}
         except sqlite3.OperationalError as fault:
             if str(fault) in LOCKED:
                 raise Busy(str(fault))
             raise
+
+    @contextlib.contextmanager
+    def commit(self) -> Iterator[None]:
+        """A change that counts only if it is in the files that were opened."""
+        with self.connection.change():
+            self.files.see_that_none_is_cut()  # before more is written behind what is missing
+            yield
+        self.files.see_that_they_are_there()
+        self.files.note()
+
+    def look(self) -> None:
+        """Gone if the files aren't those that were opened, or one was cut."""
+        self.files.see_that_they_are_there()
+        self.files.see_that_none_is_cut()
 
     def put(self, given: Given) -> dict[int, str | None]:
         """Writes the rows of a network, or halts it and gives why, or None where nothing is to be halted."""

@@ -20,7 +20,7 @@ from nrm import Stop
 from nrm.desks.access import Access
 from nrm.desks.journals.commits import Commits, Written, tried
 from nrm.desks.journals.networks import file_of, head_of, network_in
-from nrm.desks.journals.stores.kinds import Fenced, Given, Named, Opened, Store, Tables, Unknown
+from nrm.desks.journals.stores.kinds import Fenced, Given, Gone, Named, Opened, Store, Tables, Unknown
 from nrm.desks.relay.clients import Client, Limits
 from nrm.desks.relay.doors.tokens import Tokens
 from nrm.desks.relay.fleet.asking import Asker, AtOnce, ByThread
@@ -78,7 +78,7 @@ class Hall:
         else:
             self.asker, self.owning = AtOnce(self.reader), Sole(self, store, self.reader, self.writer)
         # who changes what isn't rows, which may have to wait until nobody else writes
-        self.changer: Asker = self.asker if store.is_shared else ByThread(self.loop, store.opened())
+        self.changer: Asker = self.asker if store.is_shared else ByThread(self, store.opened())
         self.commits = Commits(self.writer)
         self.commits.start()
         self.loop.want(self.commits.told, READ, self.written)
@@ -101,6 +101,7 @@ class Hall:
         self.gather = 0.0  # the seconds for which those who were just answered are waited for
         self.expected: set[Session] = set()  # those that were given lines, and have given out no rows since
         self.fault: str | None = None
+        self.are_files_gone = False
         self.status = 0
         self.clock = Clock(self, every)
 
@@ -436,6 +437,7 @@ class Hall:
         """Nothing more can be written, or nobody knows what was: all ends, and the next server sees what is there."""
         if self.fault:
             return
+        self.are_files_gone = isinstance(fault, Gone)
         self.fault = str(fault) if isinstance(fault, Stop) else f"{self.store.place}: {fault}"
         self.status = fault.status if isinstance(fault, Stop) else JOURNAL_FAULT
         if isinstance(fault, Stop):
@@ -477,11 +479,11 @@ class Hall:
 
     def look(self) -> None:
         """Who is to be cut off, which program is silent or isn't needed, and what is to be told?"""
+        self.look_at_the_journal()
         for client in [*self.clients]:
             client.look()
         for session in self.sessions.values():
             self.look_at(session)
-        self.look_at_the_journal()
         self.begin_some()
         if self.stops:
             self.end_if_done()
@@ -504,7 +506,13 @@ class Hall:
             self.owning.lost(session)
 
     def look_at_the_journal(self) -> None:
-        """Tells, now and then, that another process holds the journal: nothing is answered until it lets go."""
+        """Ends all if the journal's files aren't those any more that were opened. Tells, now and then, that another
+        process holds the journal: nothing is answered until it lets go."""
+        try:
+            if not self.in_writing:  # else the commit sees it
+                self.writer.look()
+        except Gone as fault:
+            self.fail(fault)
         now = self.loop.now
         if self.in_writing and now - max(self.writes_since, self.held_since) > self.limits.slow:
             self.events.tell("journal-held", seconds=now - self.writes_since)
@@ -537,8 +545,9 @@ class Hall:
         self.events.close()
         for session in self.sessions.values():
             session.kill()
-        self.commits.asked.put(None)
-        self.commits.join(self.limits.slow)
+        if not self.are_files_gone:  # the last one to close them takes away whatever log has the name of the journal's
+            self.commits.asked.put(None)
+            self.commits.join(self.limits.slow)
         for it in [*self.passed]:
             it.close()
         self.owning.close()

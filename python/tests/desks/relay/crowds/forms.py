@@ -9,6 +9,7 @@ COMMITS, LOOKING, TABLES, STANDING, WRITING = (
 HALL, SERVING, SESSIONS = (f"nrm/desks/relay/{it}.py" for it in ("hall", "serving", "sessions"))
 OF_MOMENTS, OF_PROMISES = "desks.relay.test_moments.Moments", "desks.relay.test_promises.Promises"
 OF_SESSIONS = "desks.relay.test_sessions.Places"
+OF_FILES = "desks.relay.test_hands.Files"
 OF_RIGHTS = "desks.relay.test_rights.Ending"
 OF_SERVING, OF_JOURNALS = "desks.relay.test_serving.Serving", "desks.journals.test_journal.Journals"
 SMALL = ("--networks", "3", "--desks", "30", "--pause", "0.3", "--copies", "0", "--kills", "4", "--troubles", "4")
@@ -54,6 +55,12 @@ FORMS = {
             self.epoch = self.take(program)
             self.connection.execute("PRAGMA synchronous = FULL")
 """)),
+    "nobody looks whether the journal's files are those that were opened": form(
+        f"{OF_FILES}.test_nothing_is_answered_into_files_that_are_gone", r"AssertionError: .*ok 21",
+        (WRITING, "        self.files.see_that_they_are_there()\n        self.files.note()\n", "")),
+    "nobody looks whether the log was cut": form(
+        f"{OF_FILES}.test_nothing_is_answered_into_files_that_are_gone", r"AssertionError: .*ok 21",
+        (WRITING, "            self.files.see_that_none_is_cut()  # before", "            # before")),
     "what can't be written is taken for written": form("full,force", LOST,
         (COMMITS, "        return Written(given, fault=fault)\n", "        return Written(given)\n")),
     "there is no fence": form("stopped", TWICE, (WRITING, """WHERE network = ? AND epoch = ? AND lines = ?"

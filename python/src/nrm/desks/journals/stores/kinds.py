@@ -35,6 +35,10 @@ class Unknown(Exception):
     machine's disk was cancelled."""
 
 
+class Gone(Exception):
+    """The files of a journal aren't those any more that were opened: what is written may be nowhere."""
+
+
 class Refused(Exception):
     """Why the tables don't take a row."""
 
@@ -206,6 +210,9 @@ class Writer(Protocol):
         """Writes the rows of several networks in one commit. Gives why those of a network were refused, which halts it,
         or None for a network that another server has, or whose rights have changed since its program began. Busy if nothing was written and it can be tried again, Unknown
         if nobody knows, Fenced if another server has the whole journal."""
+
+    def look(self) -> None:
+        """Gone if what was written isn't where the journal's name says. Nothing is being written meanwhile."""
 
     def version(self) -> int:
         """A number that is another one when another process may have written the journal, and not this server."""

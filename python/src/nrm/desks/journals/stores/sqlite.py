@@ -1,6 +1,7 @@
 """A journal in an SQLite file: one server at a time answers for all its networks.
 
-May use: nrm.desks.journals.stores.kinds, nrm.desks.journals.tables, nrm.desks.journals.writing.
+May use: nrm.desks.journals.stores.files, nrm.desks.journals.stores.kinds, nrm.desks.journals.tables,
+nrm.desks.journals.writing.
 """
 from __future__ import annotations
 
@@ -8,9 +9,8 @@ import os
 from typing import ContextManager
 
 from nrm.desks.journals import tables, writing
+from nrm.desks.journals.stores.files import LOG
 from nrm.desks.journals.stores.kinds import Members, Named
-
-LOG = "-wal"  # behind the name of a journal: what isn't in the file itself yet
 
 
 class Sqlite:

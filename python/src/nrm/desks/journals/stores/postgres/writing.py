@@ -78,6 +78,9 @@ class Writer:
         except psycopg.OperationalError as fault:
             raise Unknown(self.link.address.told(str(fault)))
 
+    def look(self) -> None:
+        """The database sees to its files."""
+
     def version(self) -> int:
         """Another number each few times, since the database tells of no change."""
         self.looks += 1
