@@ -34,6 +34,8 @@ class HealthTest(WebTest):
             for status, wanted in (
                     (STATUS.replace("stopping no", "stopping yes"), "the server is to end\n"),
                     (STATUS.replace("halted no", "halted yes"), "halted: hub\n"),
+                    (STATUS.replace("state answers", "state version"), "nobody answers, since the server has another "
+                                                                       "program than these began with: hub\n"),
                     ("server a\n\n", "no pairs: 'a'\n")):
                 told.append(status)
                 self.assertEqual(web.get("/healthz")[:2], (503, wanted))
@@ -96,11 +98,25 @@ class MetricsTest(WebTest):
         self.assertEqual(value("nrm_server_info", version="2.1.0", program="ab12", epoch="3"), 1)
         self.assertEqual(value("nrm_clients_closed_total", reason="program-137"), 4)
         self.assertEqual(value("nrm_memory_replies_total", network="hub"), 6)
+        self.assertEqual(value("nrm_network_answered", network="hub"), 1)
         self.assertEqual([value(it) for it in (
             "nrm_server_up", "nrm_rows_waiting", "nrm_rows_written_total", "nrm_desks_connected",
             "nrm_clients_turned_away_total", "nrm_commits_failed_total", "nrm_clients_unread_total",
             "nrm_time_jumps_total")],
             [1, 3, 9000, 12, 7, 1, 2, 5])
+
+    @needs("prometheus_client", "jinja2")
+    def test_that_the_server_has_another_program(self) -> None:
+        """Is told by health, metrics and both pages."""
+        status = STATUS.replace("state answers", "state version")
+        with self.stub(lambda _: status) as place, self.web(self.journal("hub", file=ONE.encode()), place) as web:
+            until_read(web, "hub", 0)
+            self.assertEqual(web.get("/healthz").status, 503)
+            answered = "nrm_network_answered", frozenset({("network", "hub")})
+            self.assertEqual(samples(web.get("/metrics").text)[answered], 0)  # type: ignore[index]
+            for path in "/", "/networks/hub":
+                wait_for(lambda: "Nobody answers for it, since the server has another program" in web.get(path).text,
+                         f"what {path} says")
 
     @needs("prometheus_client")
     def test_without_the_server_what_the_journal_tells(self) -> None:

@@ -20,6 +20,7 @@ PIECE = 65_536
 MOST_BYTES = 64_000_000  # of an answer
 MOST_SHOWN = 200  # characters of a strange line
 STATES = ("rests", "waits", "begins", "answers", "ends", "follows")
+UNFIT = "version"  # the state of a network that rests, and that no server here may answer for
 Part = TypeVar("Part")
 Path = Union[str, "os.PathLike[str]"]
 Place = Union[Path, Tuple[str, int]]
@@ -81,8 +82,9 @@ class Programs:
 
 @dataclass(frozen=True)
 class Network:
-    """A network of the journal: its name, its mode, what its program does, the clients there, its lines, whether it is
-    halted, and how often the reply was `memory`."""
+    """A network of the journal: its name, its mode, what its program does, or `version` if it hasn't ended and began
+    with another program than the server has, the clients there, its lines, whether it is halted, and how often the
+    reply was `memory`."""
     network: str
     mode: str
     state: str
@@ -131,6 +133,10 @@ class Status:
     networks: Tuple[Network, ...]
     fleet: Optional[Fleet] = None
     shares: Tuple[Share, ...] = ()
+
+    def unfit(self) -> list[str]:
+        """The networks that nobody answers for, since they began with another program."""
+        return [it.network for it in self.networks if it.state == UNFIT]
 
     def text(self) -> str:
         """The answer, with the empty line at its end."""

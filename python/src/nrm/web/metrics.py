@@ -9,7 +9,7 @@ from __future__ import annotations
 from dataclasses import dataclass
 from datetime import datetime, timezone
 from math import isinf
-from typing import Any, Iterator, cast
+from typing import Any, Iterator, Sequence, cast
 
 from nrm.desks.status import NoStatus, Status
 from nrm.telling.libraries import is_there, lacks
@@ -73,9 +73,16 @@ def what_is_wrong(following: Following, status: Status | NoStatus) -> Iterator[s
     told = () if isinstance(status, NoStatus) else status.networks
     halted = sorted({it.name for it in seen.values() if it.halted} | {it.network for it in told if it.halted})
     if halted:
-        more = f" and {len(halted) - MOST_NAMED} more" if len(halted) > MOST_NAMED else ""
-        yield f"halted: {', '.join(halted[:MOST_NAMED])}{more}"
+        yield f"halted: {named(halted)}"
+    if unfit := [] if isinstance(status, NoStatus) else status.unfit():
+        yield f"nobody answers, since the server has another program than these began with: {named(unfit)}"
     yield from (f"{it.name}: {it.fault}" for it in seen.values() if it.fault)
+
+
+def named(names: Sequence[str]) -> str:
+    """Some names of networks, as many as a sentence takes."""
+    more = f" and {len(names) - MOST_NAMED} more" if len(names) > MOST_NAMED else ""
+    return f"{', '.join(names[:MOST_NAMED])}{more}"
 
 
 # The families of what is counted
@@ -138,9 +145,13 @@ def of_server(status: Status) -> Iterator[Any]:
     yield counter("nrm_programs_begun", "Programs that were begun", programs.begun)
     memory = family("Counter", "nrm_memory_replies", "Replies `memory`, for which there was too little of it",
                     ("network",))
+    answered = family("Gauge", "nrm_network_answered", "Whether the server may answer for a network: it isn't halted, "
+                      "and began with the server's program or has ended", ("network",))
+    unfit = set(status.unfit())
     for it in status.networks:
         memory.add_metric([it.network], it.memory)
-    yield memory
+        answered.add_metric([it.network], int(not it.halted and it.network not in unfit))
+    yield from (memory, answered)
 
 
 def of_commits(status: Status) -> Iterator[Any]:

@@ -68,11 +68,12 @@ class Web:
         self.kept = Kept(settings.socket, settings.seconds)
         self.name: str | None = None
         self.naming = threading.Lock()
-        self.watch = Watch(self.following, Asked(partial(ask_status, settings.socket, settings.seconds)))
+        asked = Asked(partial(ask_status, settings.socket, settings.seconds))
+        self.watch = Watch(self.following, asked)
         self.door = Door(self.kept, self.following, self.own, settings.needs_token)
         self.looks = Looks(self.kept, self.own, self.following)
         self.pages = Pages(self.following, self.looks, settings.journal,
-                           Accounts(settings.journal, settings.has_accounts))
+                           Accounts(settings.journal, settings.has_accounts), asked)
         self.routes = [*watching(self.watch), *of_door(self.door), *of_page(self.pages)]
 
     def own(self, network: str) -> Who:

@@ -17,6 +17,7 @@ from harness import SECONDS, SOURCES, wait_for
 from nrm.desks.desk import Desk, Sold
 from nrm.desks.journals.networks import open_network
 from nrm.desks.journals.tables import using
+from nrm.desks.status import ask_status
 from nrm.program import Program
 
 HUB_LEG = b"leg FRA-NRT seats 80 authorised 80 sold 1 left 79\non FRA-NRT HN-Y 1\n\n"
@@ -200,12 +201,14 @@ class Serving(ServeTest):
                                        f"answers={other.checksum()}\n")
             self.assertEqual(talk(serve, b"desk one D1\nbook LOC 1\n"), b"closed version\n")
             self.assertEqual(talk(serve, b"desk two D1\nbook LOC 1\n"), b"at 1\nok 1\n")
+            self.assertEqual(ask_status(serve.path, SECONDS).unfit(), ["one"])
         self.same(rows_in(journal, "SELECT name, program FROM network"), ("one", self.desks_program.checksum()),
                   ("two", other.checksum()))
         self.told("journal", "end", "journal", "one")
         with self.served(journal, program=other) as serve:
             self.assertEqual(talk(serve, b"desk one D1\nbook LOC 1\nask LOC\n"),
                              b"at 2\ndenied\nask LOC 299 leg AB\n")
+            self.assertEqual(ask_status(serve.path, SECONDS).unfit(), [])
 
     def test_a_program_that_isnt_named_is_the_one_on_the_path(self) -> None:
         """Where nothing is built: another than a network began with doesn't answer for it, with lines or without."""

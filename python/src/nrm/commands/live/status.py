@@ -15,7 +15,8 @@ printed as it came: lines of words, a kind, and behind it pairs of a name and a 
     commits        count, seconds of all, longest, rows written, waiting (rows not written yet), failed
     commit-times   seconds, and how many commits took at most so long
     programs       now, begun, ended
-    network        its name, mode, state (rests, waits, begins, answers, ends), clients, lines, halted, memory (replies)
+    network        its name, mode, state (rests, waits, begins, answers, ends, follows; or version, where nobody is taken to it
+                   since it began with another program), clients, lines, halted, memory (replies)
 
 What is counted is counted since the server began. If no status comes within SECONDS, 10 if nothing is said, or what
 comes is none, a sentence tells it and the status is 1.

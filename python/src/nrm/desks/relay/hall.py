@@ -88,7 +88,7 @@ class Hall:
         self.loop.looks.append(self.tokens.tell_of_refused)
         self.passed: set[Passed] = set()  # clients that are passed on to other servers
         self.teller = Teller(self.owning, answering.checksum, self.writer.epoch, limits.clients, self.counters,
-                             self.sessions, lambda: self.loop.now)
+                             self.sessions, lambda: self.loop.now, self.fits)
         self.to_begin: list[Session] = []
         self.reading: list[Session] = []  # whose network files are being read
         self.halting: set[int] = set()  # networks that are halted, which isn't written yet

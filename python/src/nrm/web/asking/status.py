@@ -6,7 +6,7 @@ from __future__ import annotations
 
 import threading
 import time
-from typing import Callable
+from typing import Callable, Sequence
 
 from nrm.desks.status import NoStatus, Status
 
@@ -32,3 +32,11 @@ class Asked:
                     self.found = fault
                 self.at = time.monotonic()
             return self.found
+
+    def unfit(self) -> Sequence[str]:
+        """The networks that nobody answers for, since they began with another program: as the server said last, for
+        those who don't wait for it. It is asked again beside."""
+        if time.monotonic() - self.at >= self.every and not self.lock.locked():
+            threading.Thread(target=self.status, daemon=True).start()
+        found = self.found
+        return () if isinstance(found, NoStatus) else found.unfit()

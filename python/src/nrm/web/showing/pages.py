@@ -2,14 +2,15 @@
 
 May use: nrm, nrm.desks.journals.answered, nrm.desks.journals.networks, nrm.desks.journals.stores.choosing,
 nrm.desks.journals.stores.kinds, nrm.telling.libraries, nrm.telling.page, nrm.web.asking.looks,
-nrm.web.following.journal, nrm.web.messages, nrm.web.showing.accounts, nrm.web.showing.events, nrm.web.showing.views,
-nrm.web.showing.words.
+nrm.web.asking.status, nrm.web.following.journal, nrm.web.messages, nrm.web.showing.accounts, nrm.web.showing.events,
+nrm.web.showing.views, nrm.web.showing.words.
 """
 from __future__ import annotations
 
 import re
 import shlex
 import threading
+from dataclasses import replace
 from functools import cached_property
 from pathlib import Path
 from typing import Any
@@ -22,23 +23,26 @@ from nrm.desks.journals.stores.kinds import now
 from nrm.telling.libraries import is_there, lacks
 from nrm.telling.page import templates
 from nrm.web.asking.looks import Looks
+from nrm.web.asking.status import Asked
 from nrm.web.following.journal import Followed, Following
 from nrm.web.messages import HTML, Refusal, Request, Response, Stream
 from nrm.web.showing.accounts import Accounts
 from nrm.web.showing.events import Streams
-from nrm.web.showing.views import NetworkView, row_of, view_of
+from nrm.web.showing.views import NetworkRow, NetworkView, row_of, view_of
 from nrm.web.showing.words import amount, why
 
 STATIC = Path(__file__).with_name("static")
 CATCHES_UP = 3.0  # seconds for which what is in the journal already is waited for
+UNFIT = "Nobody answers for it, since the server has another program than it began with."
 PARTS = ("summary", "legs", "money", "products", "refusals")  # of the page of a network, in their order
 
 
 class Pages:
     """The pages, and the streams that keep them up to date."""
 
-    def __init__(self, following: Following, looks: Looks, journal: str, accounts: Accounts) -> None:
+    def __init__(self, following: Following, looks: Looks, journal: str, accounts: Accounts, status: Asked) -> None:
         self.following, self.looks, self.journal, self.accounts = following, looks, journal, accounts
+        self.status = status
         self.streams = Streams(following)
         self.lock = threading.Lock()
 
@@ -65,9 +69,7 @@ class Pages:
     def networks(self, asked: Request) -> Response:
         """The page of all networks."""
         self.following.wait_for_news(0, CATCHES_UP)
-        at = now()
-        rows = [row_of(it, at) for it in self.following.networks.values()]
-        return self.page("networks.html", rows=rows, fault=self.following.fault)
+        return self.page("networks.html", rows=self.rows(), fault=self.following.fault)
 
     def network(self, asked: Request, name: str) -> Response:
         """The page of a network."""
@@ -115,6 +117,16 @@ class Pages:
             raise Refusal(404, "network", "the journal has no network of this name")
         return found
 
+    def answered(self, network: Followed) -> Followed:
+        """A network as it is shown: with what is wrong, if the server may not answer for it."""
+        is_unfit = not network.fault and network.name in self.status.unfit()
+        return replace(network, fault=UNFIT) if is_unfit else network
+
+    def rows(self) -> list[NetworkRow]:
+        """The rows of the table of all networks."""
+        at = now()
+        return [row_of(self.answered(it), at) for it in self.following.networks.values()]
+
     def line_of(self, name: str, number: str) -> Line:
         """A line of a network, as the journal has it now."""
         self.see_that_it_can_be_made()
@@ -129,7 +141,7 @@ class Pages:
 
     def view(self, network: Followed) -> NetworkView:
         """What a network's page shows now."""
-        return view_of(network, self.looks.of(network), now())
+        return view_of(self.answered(network), self.looks.of(network), now())
 
     def parts_of(self, view: NetworkView) -> dict[str, str]:
         """The parts of a network's page, by their names."""
@@ -142,8 +154,7 @@ class Pages:
     def changed_rows(self, shown: dict[str, object]) -> Any:
         """A call that gives the rows that aren't as they were shown."""
         def changed() -> dict[str, object]:
-            at = now()
-            rows = {it.name: row_of(it, at) for it in self.following.networks.values()}
+            rows = {it.name: it for it in self.rows()}
             new = {name: row for name, row in rows.items() if shown.get(name) != row}
             shown.update(new)
             return {"rows": [list(it) for it in new.values()]} if new else {}

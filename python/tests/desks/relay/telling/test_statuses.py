@@ -6,7 +6,7 @@ from types import SimpleNamespace
 from unittest import mock
 
 from harness import PlaceTest
-from nrm.desks.journals.networks import open_network
+from nrm.desks.journals.networks import end_network, open_network
 from nrm.desks.journals.stores.sqlite import Sqlite
 from nrm.desks.journals.tables import begin, opened, using
 from nrm.desks.relay.fleet.sole import Sole
@@ -59,6 +59,21 @@ class Statuses(PlaceTest):
             self.assertEqual(self.networks(), [Network("one", "bid", word, 3, 0, False, 4)])
         self.sessions["one"] = self.session(3, process=1)
         self.assertEqual(self.networks(), [Network("one", "bid", "answers", 3, 9, False, 4)])
+
+    def test_a_network_of_another_program_has_a_word_too(self) -> None:
+        """Whether somebody came to it or not, unless it has ended, or a program runs."""
+        self.teller.fits = lambda network: network.program != "ab12"
+        self.assertEqual([it.state for it in self.networks()], ["version"])
+        for state, word in enumerate(("version", "waits", "begins", "answers")):
+            self.sessions["one"] = self.session(state)
+            self.assertEqual([it.state for it in self.networks()], [word])
+        self.assertEqual(status_of(self.teller.status(Now(0, 0, 0, False)).text()).unfit(), [])
+        self.sessions.clear()
+        self.assertEqual(status_of(self.teller.status(Now(0, 0, 0, False)).text()).unfit(), ["one"])
+        with using(self.journal, is_to_write=True) as connection:
+            end_network(connection, "one")
+        self.now += 2
+        self.assertEqual([it.state for it in self.networks()], ["rests"])
 
     def test_the_journal_is_asked_once_a_second(self) -> None:
         """So one that was put into it is there a second later; but a network that is halted is so at once."""

@@ -12,12 +12,13 @@ from typing import Callable, Mapping, Sequence
 from nrm import __version__
 from nrm.desks.journals.stores.kinds import Opened
 from nrm.desks.relay.fleet.sole import Owning
-from nrm.desks.relay.sessions import Session
+from nrm.desks.relay.sessions import RESTS, Session
 from nrm.desks.relay.telling.counters import Counters
 from nrm.desks.relay.telling.events import time_text
-from nrm.desks.status import STATES, Clients, Commits, Network, Programs, Server, Status
+from nrm.desks.status import STATES, UNFIT, Clients, Commits, Network, Programs, Server, Status
 
 SECOND = 1.0
+NOBODY = "none"  # the owner of a network that no server has
 
 
 @dataclass(frozen=True)
@@ -33,9 +34,10 @@ class Teller:
     """Makes the answers. The journal is asked for its networks, and for its size, at most once a second."""
 
     def __init__(self, owning: Owning, program: str, epoch: int, most: int, counters: Counters,
-                 sessions: Mapping[str, Session], clock: Callable[[], float]) -> None:
+                 sessions: Mapping[str, Session], clock: Callable[[], float],
+                 fits: Callable[[Opened], bool] = lambda _: True) -> None:
         self.owning, self.program, self.epoch, self.most = owning, program, epoch, most
-        self.counters, self.sessions, self.clock = counters, sessions, clock
+        self.counters, self.sessions, self.clock, self.fits = counters, sessions, clock, fits
         self.started = time_text(time.time_ns() // 1_000_000)
         self.looked: float | None = None
         self.networks: Sequence[Opened] = ()
@@ -45,6 +47,8 @@ class Teller:
         """The status at this moment."""
         self.look()
         counted = self.counters
+        fleet, shares = self.owning.fleet()
+        owned = {it.network for it in shares if it.owner != NOBODY}
         return Status(
             Server(__version__.lstrip("v"), self.program, self.started, self.epoch, self.size, counted.jumps,
                    now.is_stopping),
@@ -53,7 +57,8 @@ class Teller:
             {why.replace(" ", "-"): count for why, count in counted.closed.items()},
             Commits(counted.commits, counted.seconds, counted.longest, counted.rows, now.waiting, counted.failed),
             counted.within(), Programs(now.programs, counted.begun, counted.ended),
-            tuple(status_of(it, self.sessions.get(it.name)) for it in self.networks), *self.owning.fleet())
+            tuple(status_of(it, self.sessions.get(it.name), self.fits(it) or it.name in owned)
+                  for it in self.networks), fleet, shares)
 
     def look(self) -> None:
         """Asks the journal, unless that was done within the last second."""
@@ -62,11 +67,13 @@ class Teller:
             self.size = self.owning.size()
 
 
-def status_of(network: Opened, session: Session | None) -> Network:
-    """What is told of a network, and of its session if somebody came to it."""
+def status_of(network: Opened, session: Session | None, fits: bool = True) -> Network:
+    """What is told of a network, which a server may answer for or not, and of its session if somebody came to it."""
+    rests = STATES[RESTS] if fits or network.is_ended else UNFIT
     if not session:
-        return Network(network.name, network.mode, STATES[0], 0, network.lines, network.halted is not None, 0)
+        return Network(network.name, network.mode, rests, 0, network.lines, network.halted is not None, 0)
     lines = session.lines if session.process else network.lines
     is_halted = (session.network.halted or network.halted) is not None
-    return Network(network.name, network.mode, STATES[session.state], len(session.places) + len(session.coming), lines,
+    state = rests if session.state == RESTS else STATES[session.state]
+    return Network(network.name, network.mode, state, len(session.places) + len(session.coming), lines,
                    is_halted, session.memory)
