@@ -93,12 +93,11 @@ class Writer:
             self.files.see_that_none_is_cut()  # before more is written behind what is missing
             yield
         self.files.see_that_they_are_there()
-        self.files.note()
 
     def look(self) -> None:
         """Gone if the files aren't those that were opened, or one was cut."""
-        self.files.see_that_they_are_there()
         self.files.see_that_none_is_cut()
+        self.files.see_that_they_are_there()
 
     def put(self, given: Given) -> dict[int, str | None]:
         """Writes the rows of a network, or halts it and gives why, or None where nothing is to be halted."""

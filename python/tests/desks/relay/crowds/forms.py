@@ -57,7 +57,8 @@ FORMS = {
 """)),
     "nobody looks whether the journal's files are those that were opened": form(
         f"{OF_FILES}.test_nothing_is_answered_into_files_that_are_gone", r"AssertionError: .*ok 21",
-        (WRITING, "        self.files.see_that_they_are_there()\n        self.files.note()\n", "")),
+        (WRITING, "        self.files.see_that_they_are_there()\n\n    def look",
+         "        self.files.note()\n\n    def look")),
     "nobody looks whether the log was cut": form(
         f"{OF_FILES}.test_nothing_is_answered_into_files_that_are_gone", r"AssertionError: .*ok 21",
         (WRITING, "            self.files.see_that_none_is_cut()  # before", "            # before")),

@@ -43,9 +43,10 @@ class Files:
         self.sizes = {it: looked_at(it).st_size for it in self.sizes}
 
     def see_that_they_are_there(self) -> None:
-        """Gone if one isn't there any more by its name, or has another name too."""
+        """Gone if one isn't there any more by its name, or has another name too. Their sizes are taken for right."""
         for path, known in self.known.items():
             found = looked_at(path)
+            self.sizes[path] = found.st_size
             if (found.st_dev, found.st_ino) != known:
                 raise Gone(f"another file is at {path} now")
             if found.st_nlink != 1:
@@ -54,12 +55,13 @@ class Files:
     def see_that_none_is_cut(self) -> None:
         """Gone if one was made shorter by who isn't SQLite: that another connection empties the log shows by the
         version, and none takes pages off the end of the file that it needs."""
-        before, seen = self.sizes, self.seen
+        before, seen = dict(self.sizes), self.seen
         self.seen = self.version()  # before the sizes, so that what happens in between shows the next time
         self.note()
         for path in before:
             is_cut = self.sizes[path] < before[path] and self.version() == seen
             if is_cut and (path == self.log or self.sizes[path] < self.least()):
+                self.see_that_they_are_there()  # else it is a smaller one in its place
                 raise Gone(f"{path} was cut from {before[path]} bytes to {self.sizes[path]}")
 
 
