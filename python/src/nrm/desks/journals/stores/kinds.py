@@ -209,7 +209,8 @@ class Writer(Protocol):
     def write(self, given: Sequence[Given]) -> dict[int, str | None]:
         """Writes the rows of several networks in one commit. Gives why those of a network were refused, which halts it,
         or None for a network that another server has, or whose rights have changed since its program began. Busy if
-        nothing was written and it can be tried again, Unknown if nobody knows, Fenced if another server has the whole journal."""
+        nothing was written and it can be tried again, Unknown if nobody knows, Fenced if another server has the whole
+        journal."""
 
     def look(self) -> None:
         """Gone if what was written isn't where the journal's name says. Nothing is being written meanwhile."""
